@@ -1,0 +1,6 @@
+mod Copies
+mod Pieces
+pub mod LineLaws
+pub mod OneList
+pub mod Parts
+pub mod Readings

@@ -1,0 +1,10 @@
+-- What an answered line shows.
+use Rattle.std.specs.Prelude.{ℕ, List}
+use Rattle.io_edge.specs.Lines.{Shown, text, long}
+use Rattle.io_edge.specs.declared.under_way.Answer.{Answer}
+use Rattle.io_edge.specs.declared.under_way.Answer.TheVariants.{Whole, Long}
+
+-- the bytes of a whole line, and none of a long one
+abbrev pub shown_by : Answer → List ℕ → Shown
+shown_by Whole bytes = text bytes
+shown_by Long bytes = long

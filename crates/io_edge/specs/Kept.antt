@@ -1,0 +1,20 @@
+-- How a line under way is kept.
+use Rattle.std.specs.Prelude.{◌≡◌, ◌<◌, ◌≤◌, ◌+◌, ◌^◌, true, [], ◌++◌, replicate, vec_len, vec_capacity, if◌then◌else◌}
+use Rattle.io_edge.specs.declared.under_way.TheConstants.{MAX_LINE}
+use Rattle.io_edge.specs.Started.{Started}
+use Rattle.io_edge.specs.declared.under_way.UnderWay.TheInside.{Inside}
+
+-- the bytes kept, and as many zeros as were let go; a line that was answered is not under way
+abbrev pub started_of : Inside → Started
+started_of u = record {
+  start = if u.is_shown then [] else u.bytes.items ++ replicate u.beyond 0;
+  shown = u.bytes.items;
+}
+
+-- bytes are let go only of a line that is too long, and there is room for each other line
+pub record IsKept (u : Inside) : Type 0 where
+  pub fits : vec_len u.bytes ≤ MAX_LINE
+  pub room : MAX_LINE ≤ vec_capacity u.bytes
+  pub too_long : 0 < u.beyond → MAX_LINE < vec_len u.bytes + u.beyond
+  pub count : vec_len u.bytes + u.beyond < 2 ^ 63
+  pub over : u.is_shown ≡ true → u.beyond ≡ 0

@@ -1,0 +1,12 @@
+pub mod Answered
+pub mod Counts
+pub mod Ended
+pub mod Kept
+pub mod Lines
+pub mod Memory
+pub mod Reading
+pub mod RealFile
+pub mod Started
+pub mod Steps
+pub mod Told
+pub mod Written

@@ -1,0 +1,148 @@
+//! A source over a real file, or over standard input.
+ghost use Rattle.std.specs.Prelude.{◌≡◌, ◌<◌, None, Ok, length, IfOk};
+ghost use Rattle.std.specs.Io.{ReadsAtMost};
+ghost use Rattle.std.specs.Io.KnownBytes.{ReadConsumes};
+ghost use Rattle.io_edge.specs.Counts.{FailsByFault, EndsByEnd};
+ghost use Rattle.io_edge.specs.RealFile.{ReadsFile};
+
+use crate::{Failed, Source};
+use std::alloc::{AllocError, Global};
+use std::fs::File;
+use std::io;
+use std::io::Read;
+use std::marker::Model;
+use std::rt::Files;
+
+/// Opened at its first read into some room. Where that fails, the next read tries again.
+#[derive(Drop)]
+pub struct LazyFile<R: Files + Input + Drop> {
+    rt: R,
+    path: String,
+    opened: Option<Opened<R>>,
+    faults: u64,
+    ends: u64,
+}
+
+impl<R: Files + Input + Drop> Model for LazyFile<R> {
+    ghost use Rattle.std.specs.String.{string_bytes};
+    ghost use Rattle.io_edge.specs.RealFile.{FileSource};
+
+    ghost Value = { FileSource };
+
+    ghost view = { λ f. record {
+      path = string_bytes f.path;
+      faults = f.faults;
+      ends = f.ends;
+    } };
+}
+
+#[derive(Drop)]
+enum Opened<R: Files + Input + Drop> {
+    Input(R::Reader),
+    File(R::File),
+}
+
+impl<R: Files + Input + Drop> LazyFile<R> {
+    /// The path `-` is standard input.
+    pub fn new(rt: R, alloc: Global, path: &str) -> Result<Self, AllocError>
+        ensures { IfOk result (λ f. f ≡ record { path = path.now; faults = 0; ends = 0 }) }
+    {
+        Ok(LazyFile {
+            rt,
+            path: String::from_str(alloc, path)?,
+            opened: None,
+            faults: 0,
+            ends: 0,
+        })
+    }
+}
+
+impl<R: Files + Input + Drop> Source for LazyFile<R> {
+    ghost left = { λ _. None };
+
+    ghost faults = { λ f. f.faults };
+
+    ghost ends = { λ f. f.ends };
+
+    fn read(&mut self, buf: &mut [u8]) -> Result<usize, Failed>
+        ensures bound { ReadsAtMost result buf.new }
+        ensures bytes { ReadConsumes None None result buf.new }
+        ensures cause { FailsByFault self.old.faults self.new.faults result }
+        ensures end { EndsByEnd self.old.ends self.new.ends result (length buf.new) }
+        ensures no_room { length buf.new ≡ 0 → (result ≡ Ok 0) × (self.new ≡ self.old) }
+        ensures counts { 0 < length buf.new → ReadsFile self.old self.new result }
+    {
+        if buf.is_empty() {
+            return Ok(0);
+        }
+        match read_once(&self.rt, self.path.as_str(), &mut self.opened, buf) {
+            Ok(0) => {
+                self.ends = self.ends.saturating_add(1);
+                Ok(0)
+            }
+            Ok(count) => Ok(count),
+            Err(_) => {
+                self.faults = self.faults.saturating_add(1);
+                Err(Failed)
+            }
+        }
+    }
+}
+
+fn read_once<R: Files + Input + Drop>(
+    rt: &R,
+    path: &str,
+    opened: &mut Option<Opened<R>>,
+    buf: &mut [u8],
+) -> io::Result<usize>
+    ensures { ReadsAtMost result buf.new }
+{
+    match opened {
+        Some(opened) => opened.read(buf),
+        None => opened.insert(Opened::open(rt, path)?).read(buf),
+    }
+}
+
+impl<R: Files + Input + Drop> Opened<R> {
+    fn open(rt: &R, path: &str) -> io::Result<Self> {
+        match path {
+            "-" => Ok(Opened::Input(rt.reader())),
+            _ => Ok(Opened::File(File::open(rt, path)?)),
+        }
+    }
+
+    fn read(&mut self, buf: &mut [u8]) -> io::Result<usize>
+        ensures { ReadsAtMost result buf.new }
+    {
+        match self {
+            Opened::Input(input) => input.read(buf),
+            Opened::File(file) => file.read(buf),
+        }
+    }
+}
+
+#[cfg(test)]
+mod tests {
+    use super::*;
+    use std::fs;
+    use std::test::Fail;
+
+    #[test]
+    fn opens_a_file_at_a_read_and_reads_it_to_its_end(rt: HostRuntime) -> Result<(), Fail> {
+        let _ = fs::remove_file(&rt, "later");
+        let mut file = LazyFile::new(rt, rt.alloc(), "later")?;
+        let mut buf = [0; 4];
+        assert_eq!(rt; file.read(&mut []), Ok(0));
+        assert_eq!(rt; file.read(&mut buf), Err(Failed));
+        fs::write(&rt, "later", "hello")?;
+        assert_eq!(rt; file.read(&mut buf), Ok(4));
+        assert_eq!(rt; buf.as_slice(), b"hell".as_slice());
+        assert_eq!(rt; file.read(&mut buf), Ok(1));
+        assert_eq!(rt; buf.as_slice(), b"oell".as_slice());
+        assert_eq!(rt; (file.faults, file.ends), (1, 0));
+        assert_eq!(rt; file.read(&mut buf), Ok(0));
+        assert_eq!(rt; (file.faults, file.ends), (1, 1));
+        fs::remove_file(&rt, "later")?;
+        Ok(())
+    }
+}

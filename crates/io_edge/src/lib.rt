@@ -1,0 +1,23 @@
+//! The outside as the program sees it: sources and sinks of bytes, and the lines of a source.
+#![tactic(auto)]
+
+mod chunk;
+mod laws;
+mod lazy_file;
+mod lines;
+mod memory_sink;
+mod memory_source;
+mod remaining;
+mod sink;
+mod source;
+mod stdout_sink;
+mod under_way;
+
+pub use laws::one_list_of_lines;
+pub use lazy_file::LazyFile;
+pub use lines::{Line, LineStop, Lines};
+pub use memory_sink::MemorySink;
+pub use memory_source::MemorySource;
+pub use sink::{Sink, write_all};
+pub use source::{Failed, Source};
+pub use stdout_sink::StdoutSink;

@@ -1,0 +1,120 @@
+//! A sink over memory of a fixed size, whose writes may fail.
+ghost use Rattle.std.specs.Prelude.{◌≡◌, ◌<◌, ◌≤◌, ℕ, List, [], Option, Ok, Some, length, vec_len, vec_capacity, IfOk};
+ghost use Rattle.std.specs.Io.{WritesAtMost};
+ghost use Rattle.std.specs.Io.KnownBytes.{WriteAppends};
+ghost use Rattle.io_edge.specs.Counts.{FailsByFault, next_count};
+ghost use Rattle.io_edge.specs.Memory.{WritesFilled};
+
+use crate::{Failed, Sink};
+use std::alloc::{AllocError, Global};
+use std::marker::Model;
+
+/// Its memory is reserved when it is made, and no write takes more.
+#[derive(Drop)]
+pub struct MemorySink {
+    bytes: Vec<u8>,
+    room: usize,
+    fail_at: Vec<u64>,
+    calls: u64,
+    faults: u64,
+}
+
+impl Model for MemorySink {
+    ghost use Rattle.std.specs.Prelude.{◌≤◌, vec_len, vec_capacity};
+    ghost use Rattle.io_edge.specs.Memory.{Filled};
+
+    ghost Value = { Filled };
+
+    ghost view = { λ s. record {
+      taken = s.bytes.items;
+      room = s.room;
+      fail_at = s.fail_at.items;
+      calls = s.calls;
+      faults = s.faults;
+    } };
+
+    ghost invariant = { λ s. (vec_len s.bytes ≤ s.room) × (s.room ≤ vec_capacity s.bytes) };
+}
+
+impl MemorySink {
+    pub fn new(alloc: Global, room: usize, fail_at: &[u64]) -> Result<Self, AllocError>
+        ensures { IfOk result (λ s. s ≡ record {
+          taken = [];
+          room = room;
+          fail_at = fail_at.now;
+          calls = 0;
+          faults = 0;
+        }) }
+    {
+        Ok(MemorySink {
+            bytes: Vec::with_capacity(alloc, room)?,
+            room,
+            fail_at: Vec::from_slice(alloc, fail_at)?,
+            calls: 0,
+            faults: 0,
+        })
+    }
+
+    pub fn bytes(&self) -> &[u8]
+        ensures { result.now ≡ self.now.taken }
+    {
+        self.bytes.as_slice()
+    }
+
+    fn fault(&mut self) -> Failed
+        ensures { self.new ≡ record self.old { faults = next_count self.old.faults } }
+    {
+        self.faults = self.faults.saturating_add(1);
+        Failed
+    }
+}
+
+impl Sink for MemorySink {
+    ghost taken = { λ s. Some s.taken };
+
+    ghost faults = { λ s. s.faults };
+
+    fn write(&mut self, bytes: &[u8]) -> Result<usize, Failed>
+        ensures bound { WritesAtMost result bytes.now }
+        ensures some { 0 < length bytes.now → IfOk result (λ n. 0 < n) }
+        ensures bytes { WriteAppends (Some self.old.taken) (Some self.new.taken) result bytes.now }
+        ensures cause { FailsByFault self.old.faults self.new.faults result }
+        ensures nothing { length bytes.now ≡ 0 → (result ≡ Ok 0) × (self.new ≡ self.old) }
+        ensures filled { 0 < length bytes.now →
+            WritesFilled self.old self.new result (length bytes.now) }
+    {
+        if bytes.is_empty() {
+            return Ok(0);
+        }
+        self.calls = self.calls.saturating_add(1);
+        if self.fail_at.contains(&self.calls) {
+            return Err(self.fault());
+        }
+        let count = bytes.len().min(self.room - self.bytes.len());
+        if count == 0 {
+            return Err(self.fault());
+        }
+        if self.bytes.extend_from_slice(&bytes[..count]).is_err() {
+            unreachable!();
+        }
+        Ok(count)
+    }
+}
+
+#[cfg(test)]
+mod tests {
+    use super::*;
+    use std::test::Fail;
+
+    #[test]
+    fn takes_what_fits_and_fails_by_number(rt: HostRuntime) -> Result<(), Fail> {
+        let mut sink = MemorySink::new(rt.alloc(), 5, &[2])?;
+        for want in [Ok(3), Err(Failed), Ok(2), Err(Failed)] {
+            assert_eq!(rt; sink.write(b""), Ok(0));
+            assert_eq!(rt; sink.write(b"abc"), want);
+        }
+        assert_eq!(rt; sink.bytes(), b"abcab".as_slice());
+        assert_eq!(rt; sink.faults, 2);
+        Ok(())
+    }
+}

@@ -1,0 +1,61 @@
+//! A sink of bytes, whatever stands behind it.
+ghost use Rattle.std.specs.Prelude.{◌≡◌, ◌<◌, ℕ, List, Option, Ok, length, IfOk, MatchResult};
+ghost use Rattle.std.specs.Io.{WritesAtMost};
+ghost use Rattle.std.specs.Io.KnownBytes.{WriteAppends, Appends};
+ghost use Rattle.io_edge.specs.Counts.{FailsByFault};
+ghost use Rattle.io_edge.specs.Written.{AppendsSome};
+
+use crate::Failed;
+
+pub trait Sink {
+    /// The bytes that it took, where it tells them.
+    ghost taken: { Self → Option (List ℕ) };
+
+    /// How often it has failed, kept at 2^64-1.
+    ghost faults: { Self → ℕ };
+
+    /// Takes some of the bytes from the front, at least one where there are any.
+    fn write(&mut self, bytes: &[u8]) -> Result<usize, Failed>
+        ensures bound { WritesAtMost result bytes.now }
+        ensures some { 0 < length bytes.now → IfOk result (λ n. 0 < n) }
+        ensures bytes { WriteAppends (taken self.old) (taken self.new) result bytes.now }
+        ensures cause { FailsByFault (faults self.old) (faults self.new) result }
+        ensures nothing { length bytes.now ≡ 0 → (result ≡ Ok 0) × (self.new ≡ self.old) };
+}
+
+/// Writes all of the bytes. After a fault a part from their front was written.
+pub fn write_all<W: Sink>(out: &mut W, bytes: &[u8]) -> Result<(), Failed>
+    ensures written { MatchResult result
+        (λ _. Appends (W.taken out.old) (W.taken out.new) bytes.now)
+        (λ _. AppendsSome (W.taken out.old) (W.taken out.new) bytes.now) }
+    ensures cause { FailsByFault (W.faults out.old) (W.faults out.new) result }
+{
+    let mut done = 0;
+    'pieces: while done < bytes.len() {
+        done += out.write(&bytes[done..])?;
+    }
+    Ok(())
+}
+
+#[cfg(test)]
+mod tests {
+    use super::*;
+    use crate::MemorySink;
+    use std::test::Fail;
+
+    #[test]
+    fn all_is_written_or_a_part_from_the_front(rt: HostRuntime) -> Result<(), Fail> {
+        let cases: [(usize, &[u64], Result<(), Failed>, &[u8]); 4] = [
+            (5, &[], Ok(()), b"12\n34"),
+            (9, &[2], Ok(()), b"12\n34"),
+            (3, &[2], Err(Failed), b"12\n"),
+            (9, &[1], Err(Failed), b""),
+        ];
+        for (room, fail_at, want, taken) in cases {
+            let mut out = MemorySink::new(rt.alloc(), room, fail_at)?;
+            assert_eq!(rt; write_all(&mut out, b"12\n34"), want);
+            assert_eq!(rt; out.bytes(), taken, "room {room}");
+        }
+        Ok(())
+    }
+}
