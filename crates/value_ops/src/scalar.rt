@@ -1,0 +1,66 @@
+//! A number, or why there is none.
+ghost use Rattle.std.specs.Int.{w64};
+ghost use Rattle.std.specs.Prelude.{◌≡◌, ℤ, FitsSigned};
+ghost use Rattle.value_ops.specs.Scalar.{in_range};
+
+use std::ops::Add;
+
+/// What an expression gives.
+#[derive(Clone, Copy, Debug, PartialEq, Eq)]
+pub enum Scalar {
+    /// A number of 64 bits with a sign.
+    Number(i64),
+    /// A result was not from -2^63 to 2^63 - 1.
+    Overflow,
+    /// A divisor was zero.
+    DivZero,
+}
+
+impl Add for Scalar {
+    ghost use Rattle.value_ops.specs.Scalar.{add};
+
+    type Output = Scalar;
+
+    ghost add_gives = { λ first second sum. sum ≡ add first second };
+
+    fn add(self, other: Scalar) -> Scalar {
+        match (self, other) {
+            (Scalar::Number(first), Scalar::Number(second)) => {
+                first
+                    .checked_add(second)
+                    .map_or(Scalar::Overflow, Scalar::Number)
+            }
+            (Scalar::Number(_), failed) => failed,
+            (failed, _) => failed,
+        }
+    }
+}
+
+/// A sum that fits is kept, and any other is an overflow.
+pub fn sums_fit_or_overflow()
+    ensures fits { (sum : ℤ) → FitsSigned w64 sum → in_range sum ≡ Scalar.Number sum }
+    ensures beyond { (sum : ℤ) → ¬ (FitsSigned w64 sum) → in_range sum ≡ Scalar.Overflow }
+{}
+
+#[cfg(test)]
+mod tests {
+    use super::Scalar::{DivZero, Number, Overflow};
+    use super::*;
+
+    #[test]
+    fn adds_exactly_or_says_why_not(rt: HostRuntime) {
+        let cases = [
+            (Number(2), Number(-5), Number(-3)),
+            (Number(i64::MAX), Number(1), Overflow),
+            (Number(i64::MIN), Number(-1), Overflow),
+            (Number(i64::MIN), Number(i64::MAX), Number(-1)),
+            (Overflow, Number(1), Overflow),
+            (Number(1), DivZero, DivZero),
+            (DivZero, Overflow, DivZero),
+            (Overflow, DivZero, Overflow),
+        ];
+        for (first, second, sum) in cases {
+            assert_eq!(rt; first + second, sum, "{first:?} and {second:?}");
+        }
+    }
+}
