@@ -1,0 +1,4 @@
+mod Numbers
+mod Pieces
+mod Words
+mod Sums
