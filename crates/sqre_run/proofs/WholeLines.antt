@@ -1,0 +1,37 @@
+-- The lines that an LF ends come first among all lines, and so do the answers to them.
+use Rattle.std.proofs.Common.{◌≡◌, ℕ, Bool, true, false, cond, List, [], ◌∷◌, ◌++◌, Option, Some, None, refl, sym, ap, ◌∙◌, append-nil, ◌==◌}
+use Rattle.io_edge.specs.Lines.{Shown, ended_by_lf, last_line, lines_from}
+use Rattle.query_parser.specs.Sum.{Sum, sum_of}
+use Rattle.sqre_run.specs.Output.{answers, answers_after, output, output_lines, whole_output}
+use Rattle.sqre_run.proofs.Replies.{answers_after-append}
+
+-- the one list is the front of the other
+abbrev IsFront : List Shown → List Shown → Type 0
+IsFront front all = (more : List Shown) × (all ≡ front ++ more)
+
+-- where a line is ended, it stands before the lines behind it; where not, it goes on
+IsFront-next : (is_lf : Bool) (line : Shown) (whole all whole' all' : List Shown)
+    → IsFront whole all → IsFront whole' all'
+    → IsFront (cond is_lf (line ∷ whole) whole') (cond is_lf (line ∷ all) all')
+IsFront-next true line whole all whole' all' (more, is) goes_on = (more, ap (λ l. line ∷ l) is)
+IsFront-next false line whole all whole' all' ended goes_on = goes_on
+
+-- the lines that an LF ends come first
+lines_from-front : (start bytes : List ℕ)
+    → IsFront (lines_from start bytes false) (lines_from start bytes true)
+lines_from-front start [] = (last_line start true, refl)
+lines_from-front start (x ∷ bytes) =
+    IsFront-next (x == 10) (ended_by_lf start) _ _ _ _
+    (lines_from-front [] bytes) (lines_from-front (start ++ x ∷ []) bytes)
+
+-- what is written for them is the front of what is written
+output_lines-front : (sum : Option Sum) (whole all : List Shown) → IsFront whole all
+    → (rest : List ℕ) × (output_lines sum all ≡ output_lines sum whole ++ rest)
+output_lines-front (Some sum) whole all (more, is) =
+    (answers_after sum.first whole more, ap (answers sum.first) is ∙ answers_after-append sum.first [] whole more)
+output_lines-front None whole all front = ([], sym (append-nil _))
+
+-- the bytes for the lines that an LF ends are the front of all
+pub output-front : (query bytes : List ℕ)
+    → (rest : List ℕ) × (output query bytes ≡ whole_output query bytes ++ rest)
+output-front query bytes = output_lines-front (sum_of query) _ _ (lines_from-front [] bytes)

@@ -1,0 +1,18 @@
+use Rattle.std.proofs.Common.{◌≡◌, ◌-◌, ◌^◌}
+use Rattle.sqre_run.specs.Outside.{outside}
+use Rattle.sqre_run.specs.Running.{Running}
+use Rattle.sqre_run.proofs.run.run.Given as goal
+
+-- no object has failed, and the run so far is one from the call's beginning
+abbrev pub invariant-lines : goal.invariant-lines
+invariant-lines g l =
+    let at = outside g.S.Source.left g.S.Source.ends g.W.Sink.taken in
+    record {
+      running : Running l.fn.first (at l.fn.items l.fn.out) (at l.items l.out) l.lines l.tally;
+      items_calm : g.S.Source.faults l.items ≡ g.S.Source.faults l.fn.items;
+      sink_calm : g.W.Sink.faults l.out ≡ g.W.Sink.faults l.fn.out;
+    }
+
+-- each turn answers bytes, of which there are fewer than 2^63
+abbrev pub decreases-lines : goal.decreases-lines
+decreases-lines g l = 2 ^ 63 - l.lines.answered

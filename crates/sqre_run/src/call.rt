@@ -1,0 +1,59 @@
+//! The top call.
+ghost use Rattle.std.specs.Prelude.{◌≡◌, ◌↔◌, false, IfSome, map, string_bytes};
+ghost use Rattle.io_edge.specs.Counts.{Rose, FailsBy};
+ghost use Rattle.query_parser.specs.Sum.{sum_of};
+ghost use Rattle.sqre_run.specs.Words.{is_run};
+ghost use Rattle.sqre_run.specs.Outside.{outside};
+ghost use Rattle.sqre_run.specs.Call.{Completes, FirstFault, Outcome, Refuses, Untouched};
+
+use crate::Status;
+use crate::query::{QueryStop, compile};
+use crate::run::{hand_over, run};
+use crate::text::refusal_text;
+use crate::words::is_run;
+use io_edge::{Sink, Source};
+use query_parser::Refusal;
+use std::alloc::Global;
+
+/// Does what the words after the program's name ask for. `run QUERY ITEMS` compiles the query and
+/// answers every line of the items. What the words QUERY and ITEMS name is for the caller to open.
+pub fn sqre<Q: Source, S: Source, W: Sink>(
+    alloc: Global,
+    words: &[String],
+    query: &mut Q,
+    items: &mut S,
+    out: &mut W,
+) -> Status
+    ensures usage { result ≡ Status.Usage ↔ (is_run (map string_bytes words.now) ≡ false) }
+    ensures untouched { Untouched result query.old query.new items.old items.new out.old out.new }
+    ensures faults { FirstFault result (Q.faults query.old) (Q.faults query.new)
+        (S.faults items.old) (S.faults items.new) (W.faults out.old) (W.faults out.new) }
+    ensures ends { result ≡ Status.Done
+        → Rose (Q.ends query.old) (Q.ends query.new) × Rose (S.ends items.old) (S.ends items.new) }
+    ensures outcome { IfSome (Q.left query.old) (λ text. let at = outside S.left S.ends W.taken in
+        Outcome text result (at items.old out.old) (at items.new out.new)) }
+
+    // Where no count of faults rose, it is complete.
+    ensures complete { (Rose (Q.faults query.old) (Q.faults query.new) → ⊥)
+        → (Rose (S.faults items.old) (S.faults items.new) → ⊥)
+        → (Rose (W.faults out.old) (W.faults out.new) → ⊥)
+        → IfSome (Q.left query.old) (λ text. Completes (sum_of text) result) }
+{
+    if !is_run(words) {
+        return Status::Usage;
+    }
+    match compile(alloc, query) {
+        Ok(file) => run(alloc, file.first(), items, out),
+        Err(QueryStop::Failed) => Status::QueryFault,
+        Err(QueryStop::Refused(refusal)) => refuse(alloc, refusal, out),
+        Err(QueryStop::Memory) => Status::Memory,
+    }
+}
+
+// Writes the refusal.
+fn refuse<W: Sink>(alloc: Global, refusal: Refusal, out: &mut W) -> Status
+    ensures refuses { Refuses refusal result (W.taken out.old) (W.taken out.new) }
+    ensures cause { FailsBy (W.faults out.old) (W.faults out.new) (result ≡ Status.SinkFault) }
+{
+    hand_over(refusal_text(alloc, refusal), out).unwrap_or(Status::Refused)
+}

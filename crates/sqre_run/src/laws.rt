@@ -1,0 +1,9 @@
+//! What holds of the output of each query and each list of item bytes.
+ghost use Rattle.std.specs.Prelude.{◌≡◌, ℕ, List, ◌++◌};
+ghost use Rattle.sqre_run.specs.Output.{output, whole_output};
+
+/// What is written for the lines alone that an LF ends is the front of what is written.
+pub fn whole_lines_come_first()
+    ensures { (query bytes : List ℕ) → (rest : List ℕ)
+        × (output query bytes ≡ whole_output query bytes ++ rest) }
+{}

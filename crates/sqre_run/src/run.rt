@@ -1,0 +1,79 @@
+//! The loop over the lines of the items.
+ghost use Rattle.std.specs.Prelude.{◌≡◌, ◌<◌, ◌^◌, ℤ, IfNone, IfSome};
+ghost use Rattle.io_edge.specs.Counts.{FailsBy};
+ghost use Rattle.sqre_run.specs.Outside.{Outside, outside, Ended};
+ghost use Rattle.sqre_run.specs.Running.{Running};
+ghost use Rattle.sqre_run.specs.Handed.{HandedOver};
+
+use crate::Status;
+use crate::tally::Tally;
+use io_edge::{Line, LineStop, Lines, Sink, Source, write_all};
+use std::alloc::{AllocError, Global};
+
+/// Answers every line of the items, by the sum that begins with `first`.
+pub fn run<S: Source, W: Sink>(alloc: Global, first: i64, items: &mut S, out: &mut W) -> Status
+    ensures ended { let at = outside S.left S.ends W.taken in
+        Ended first result (at items.old out.old) (at items.new out.new) }
+    ensures item_faults { FailsBy (S.faults items.old) (S.faults items.new)
+        (result ≡ Status.ItemFault) }
+    ensures sink_faults { FailsBy (W.faults out.old) (W.faults out.new)
+        (result ≡ Status.SinkFault) }
+{
+    let mut lines = match Lines::new(alloc) {
+        Ok(lines) => lines,
+        Err(AllocError) => return Status::Memory,
+    };
+    let mut tally = Tally::new(first);
+    'lines: loop {
+        if let Some(status) = turn(alloc, &mut lines, &mut tally, items, out) {
+            return status;
+        }
+    }
+}
+
+// Answers one line: whatever run has come to here goes on, or ends.
+fn turn<S: Source, W: Sink>(
+    alloc: Global,
+    lines: &mut Lines,
+    tally: &mut Tally,
+    items: &mut S,
+    out: &mut W,
+) -> Option<Status>
+    ensures goes_on { let at = outside S.left S.ends W.taken in
+        IfNone result ((first : ℤ) (before : Outside)
+        → Running first before (at items.old out.old) lines.old tally.old
+        → Running first before (at items.new out.new) lines.new tally.new) }
+    ensures stops { let at = outside S.left S.ends W.taken in
+        IfSome result (λ status. (first : ℤ) (before : Outside)
+        → Running first before (at items.old out.old) lines.old tally.old
+        → Ended first status before (at items.new out.new)) }
+    ensures progress { IfNone result ((lines.old.answered < lines.new.answered)
+        × (lines.new.answered < 2 ^ 63)) }
+    ensures item_faults { FailsBy (S.faults items.old) (S.faults items.new)
+        (result ≡ Some Status.ItemFault) }
+    ensures sink_faults { FailsBy (W.faults out.old) (W.faults out.new)
+        (result ≡ Some Status.SinkFault) }
+{
+    match lines.next(items) {
+        Ok(Line::Whole(line)) => hand_over(tally.line(alloc, line), out),
+        Ok(Line::Long) => hand_over(tally.long_line(alloc), out),
+        Ok(Line::End) => Some(Status::Done),
+        Err(LineStop::Failed) => Some(Status::ItemFault),
+        Err(LineStop::Limit) => Some(Status::Limit),
+    }
+}
+
+// Writes a text whole, or says why not.
+pub fn hand_over<W: Sink>(reply: Result<String, AllocError>, out: &mut W) -> Option<Status>
+    ensures handed { HandedOver result reply (W.taken out.old) (W.taken out.new) }
+    ensures sink_faults { FailsBy (W.faults out.old) (W.faults out.new)
+        (result ≡ Some Status.SinkFault) }
+{
+    let Ok(reply) = reply else {
+        return Some(Status::Memory);
+    };
+    match write_all(out, reply.as_bytes()) {
+        Ok(()) => None,
+        Err(_) => Some(Status::SinkFault),
+    }
+}

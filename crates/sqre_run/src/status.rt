@@ -1,0 +1,22 @@
+//! How a run ended.
+
+/// How a run ended. Its number is the exit status of the program.
+#[derive(Clone, Copy, Debug, PartialEq, Eq)]
+pub enum Status {
+    /// All items were answered.
+    Done = 0,
+    /// The query was refused, and its refusal was written.
+    Refused = 1,
+    /// The words have no known form.
+    Usage = 2,
+    /// The query source failed.
+    QueryFault = 3,
+    /// The item source failed.
+    ItemFault = 4,
+    /// The sink failed.
+    SinkFault = 5,
+    /// Memory was wanting.
+    Memory = 6,
+    /// 2^63-1 item bytes were taken without an end.
+    Limit = 7,
+}
