@@ -27,6 +27,12 @@ impl Bytes {
         Ok(Bytes { bytes })
     }
 
+    pub fn from_vec(bytes: Vec<u8>) -> Bytes
+        ensures { result ≡ bytes.items }
+    {
+        Bytes { bytes }
+    }
+
     pub fn as_slice(&self) -> &[u8]
         ensures { result.now ≡ self.now }
     {
@@ -49,8 +55,10 @@ mod tests {
     fn copies_keep_the_bytes(rt: HostRuntime) -> Result<(), Fail> {
         let name = Bytes::from_slice(rt.alloc(), b"price")?;
         let copy = name.try_copy(rt.alloc())?;
+        let taken = Bytes::from_vec(b"price".to_vec(rt.alloc())?);
         assert_eq!(rt; name.as_slice(), b"price".as_slice());
         assert_eq!(rt; copy.as_slice(), b"price".as_slice());
+        assert_eq!(rt; taken.as_slice(), b"price".as_slice());
         Ok(())
     }
 }
