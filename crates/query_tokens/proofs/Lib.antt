@@ -1,0 +1,10 @@
+pub mod Blanks
+pub mod Closing
+pub mod FirstBytes
+pub mod Lengths
+pub mod NumberValue
+pub mod OneWay
+pub mod Parts
+pub mod Runs
+pub mod Steps
+pub mod TextBytes

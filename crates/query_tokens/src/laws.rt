@@ -1,0 +1,29 @@
+//! What a text says, it says in one way.
+ghost use Rattle.std.specs.Prelude.{◌≡◌, ℕ, List};
+ghost use Rattle.query_tokens.specs.declared.token.Token.{Token};
+ghost use Rattle.query_tokens.specs.Raw.{IsString};
+ghost use Rattle.query_tokens.specs.Tokens.{AreTokens, FaultAfter};
+
+/// A text has one list of tokens.
+pub fn one_list_of_tokens()
+    ensures { (at : ℕ) (text : List ℕ) (tokens others : List Token) → AreTokens at text tokens
+        → AreTokens at text others → others ≡ tokens }
+{}
+
+/// A text that has tokens has no fault.
+pub fn tokens_or_fault()
+    ensures { (at place : ℕ) (text : List ℕ) (tokens before : List Token) → AreTokens at text tokens
+        → FaultAfter at text before place → ⊥ }
+{}
+
+/// A text has one place of fault.
+pub fn one_fault()
+    ensures { (at place other : ℕ) (text : List ℕ) (before others : List Token)
+        → FaultAfter at text before place → FaultAfter at text others other → other ≡ place }
+{}
+
+/// A string stands for one list of bytes.
+pub fn one_text()
+    ensures { (raw bytes others : List ℕ) → IsString raw bytes → IsString raw others
+        → others ≡ bytes }
+{}
