@@ -1,0 +1,10 @@
+pub mod Places
+pub mod Fit
+pub mod Finish
+pub mod NoList
+pub mod Rows
+pub mod EndLemmas
+pub mod CallLemmas
+pub mod Firsts
+pub mod Reading
+pub mod Laws

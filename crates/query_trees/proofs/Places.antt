@@ -1,0 +1,46 @@
+-- Single steps of a reader of terms.
+use Rattle.std.proofs.Common.{◌≡◌, ℕ, suc, ◌-◌, true, List, [], ◌∷◌, Some, None, refl, arith}
+use Rattle.std.proofs.Math.Dec.{eqb-suc-zero}
+use Rattle.query_tokens.specs.declared.token.Token.{Token}
+use Rattle.query_tokens.specs.declared.token.TokenKind.{TokenKind}
+use Rattle.query_tokens.specs.declared.token.TokenKind.TheVariants.{Word, Number, Text, Close, Comma}
+use Rattle.query_trees.specs.declared.place.Place.{Place}
+use Rattle.query_trees.specs.declared.place.Place.TheVariants.{AfterTerm, AfterWord, Argument}
+use Rattle.query_trees.specs.Steps.{go_on_inside, go_on, step, walk, may_end}
+
+-- behind a term of some call
+pub go_on-suc : (n : ℕ) (kind : TokenKind) → go_on (suc n) kind ≡ go_on_inside n kind
+go_on-suc n kind = let e : suc n - 1 ≡ n = omega arith in rw (e, eqb-suc-zero n) refl
+
+-- where no place is left, none comes back
+pub walk-none : (tokens : List Token) → walk None tokens ≡ None
+walk-none [] = refl
+walk-none (token ∷ tokens) = walk-none tokens
+
+-- a place inside of one call more than `calls` where a term has ended
+pub record IsInside (place : Place) (calls : ℕ) : Type 0 where
+  pub comma : step place Comma ≡ Some (Argument calls)
+  pub close : step place Close ≡ Some (AfterTerm calls)
+
+-- behind a term
+pub IsInside-term : (calls : ℕ) → IsInside (AfterTerm (suc calls)) calls
+IsInside-term calls = record { comma = go_on-suc calls Comma; close = go_on-suc calls Close }
+
+-- behind a word
+pub IsInside-word : (calls : ℕ) → IsInside (AfterWord (suc calls)) calls
+IsInside-word calls = record { comma = go_on-suc calls Comma; close = go_on-suc calls Close }
+
+-- a place outside of calls where a term has ended
+pub record IsOutside (place : Place) : Type 0 where
+  pub word : step place Word ≡ Some (AfterWord 0)
+  pub number : step place Number ≡ Some (AfterTerm 0)
+  pub text : step place Text ≡ Some (AfterTerm 0)
+  pub end : may_end place ≡ true
+
+-- behind a term
+pub IsOutside-term : IsOutside (AfterTerm 0)
+IsOutside-term = record { word = refl; number = refl; text = refl; end = refl }
+
+-- behind a word
+pub IsOutside-word : IsOutside (AfterWord 0)
+IsOutside-word = record { word = refl; number = refl; text = refl; end = refl }

@@ -1,0 +1,10 @@
+-- the tokens behind, inside of so many calls, give what all of them give
+use Rattle.std.proofs.Common.{◌≡◌, ◌≤◌, drop}
+use Rattle.query_trees.specs.Ends.{closing}
+use Rattle.query_trees.proofs.closing.closing.Given as goal
+
+abbrev pub invariant-tokens : goal.invariant-tokens
+invariant-tokens l = record {
+  same : closing (drop l.token-index l.tokens) l.calls ≡ closing l.tokens 0;
+  few : l.calls ≤ l.token-index;
+}

@@ -1,0 +1,74 @@
+-- The steps of a reader of terms, which remembers no more than a place.
+use Rattle.std.specs.Prelude.{ℕ, ◌+◌, ◌-◌, Bool, false, ◌==◌, if◌then◌else◌, List, Option, Some, None, fold}
+use Rattle.query_tokens.specs.declared.token.Token.{Token}
+use Rattle.query_tokens.specs.declared.token.TokenKind.{TokenKind}
+use Rattle.query_tokens.specs.declared.token.TokenKind.TheVariants.{Word, Number, Text, Open, Close, Comma}
+use Rattle.query_trees.specs.declared.place.Place.{Place}
+use Rattle.query_trees.specs.declared.place.Place.TheVariants.{AfterTerm, AfterWord, Argument}
+
+-- the number that the place has
+abbrev pub calls_of : Place → ℕ
+calls_of (AfterTerm calls) = calls
+calls_of (AfterWord calls) = calls
+calls_of (Argument calls) = calls
+
+-- a token where a term has to come, inside of so many calls
+abbrev pub begin : ℕ → TokenKind → Option Place
+begin calls Word = Some (AfterWord calls)
+begin calls Number = Some (AfterTerm calls)
+begin calls Text = Some (AfterTerm calls)
+begin calls Open = None
+begin calls Close = None
+begin calls Comma = None
+
+-- a token behind an argument, inside of one call more than this number
+abbrev pub go_on_inside : ℕ → TokenKind → Option Place
+go_on_inside calls Word = None
+go_on_inside calls Number = None
+go_on_inside calls Text = None
+go_on_inside calls Open = None
+go_on_inside calls Close = Some (AfterTerm calls)
+go_on_inside calls Comma = Some (Argument calls)
+
+-- a token behind a term, inside of so many calls
+abbrev pub go_on : ℕ → TokenKind → Option Place
+go_on calls kind = if calls == 0 then begin 0 kind else go_on_inside (calls - 1) kind
+
+-- a token behind a word, inside of so many calls
+abbrev pub call_or_go_on : ℕ → TokenKind → Option Place
+call_or_go_on calls Open = Some (Argument calls)
+call_or_go_on calls Word = go_on calls Word
+call_or_go_on calls Number = go_on calls Number
+call_or_go_on calls Text = go_on calls Text
+call_or_go_on calls Close = go_on calls Close
+call_or_go_on calls Comma = go_on calls Comma
+
+-- the place behind a token of this kind, where it may come
+abbrev pub step : Place → TokenKind → Option Place
+step (AfterTerm calls) kind = go_on calls kind
+step (AfterWord calls) kind = call_or_go_on calls kind
+step (Argument calls) kind = begin (calls + 1) kind
+
+-- the place behind a token, where there still is one
+abbrev pub behind : Option Place → Token → Option Place
+behind None token = None
+behind (Some place) token = step place token.kind
+
+-- the place behind tokens that are read from this place, where they may come
+abbrev pub walk : Option Place → List Token → Option Place
+walk place tokens = fold behind place tokens
+
+-- the place at the start of a text
+abbrev pub start : Option Place
+start = Some (AfterTerm 0)
+
+-- whether the text may end there
+abbrev pub may_end : Place → Bool
+may_end (AfterTerm calls) = calls == 0
+may_end (AfterWord calls) = calls == 0
+may_end (Argument calls) = false
+
+-- whether a text may end after such a walk
+abbrev pub ends : Option Place → Bool
+ends None = false
+ends (Some place) = may_end place

@@ -1,0 +1,27 @@
+//! The pass over tokens that finds whether they are a list of terms.
+ghost use Rattle.std.specs.Prelude.{IfOk, IfErr};
+ghost use Rattle.query_trees.specs.Terms.{AreTerms, IsNoList};
+ghost use Rattle.query_trees.specs.Trees.{Trees};
+
+use crate::place::{Place, may_end, step};
+use query_model::Span;
+use query_tokens::Token;
+
+/// The text ends at `end`.
+pub(crate) fn check(tokens: &[Token], end: u32) -> Result<(), Span>
+    ensures terms { IfOk result (λ _. (trees : Trees) × AreTerms trees tokens.now) }
+    ensures no_list { IfErr result (IsNoList tokens.now end) }
+{
+    let mut place = Place::AfterTerm(0);
+    'tokens: for token in tokens {
+        match step(place, token.kind) {
+            Some(next) => place = next,
+            None => return Err(token.span),
+        }
+    }
+    if may_end(place) {
+        Ok(())
+    } else {
+        Err(Span { from: end, to: end })
+    }
+}

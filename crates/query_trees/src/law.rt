@@ -1,0 +1,16 @@
+//! The law of what tokens are read as.
+ghost use Rattle.std.specs.Prelude.{◌≡◌, ℕ, List};
+ghost use Rattle.query_model.specs.declared.span.Span.{Span};
+ghost use Rattle.query_tokens.specs.declared.token.Token.{Token};
+ghost use Rattle.query_trees.specs.Terms.{AreTerms, IsNoList};
+ghost use Rattle.query_trees.specs.Trees.{Trees};
+
+/// Tokens are one list of terms, or none, and then there is one place to name.
+pub fn one_list_of_terms()
+    ensures one { (a b : Trees) (tokens : List Token)
+        → AreTerms a tokens → AreTerms b tokens → b ≡ a }
+    ensures never { (trees : Trees) (tokens : List Token) (end : ℕ) (span : Span)
+        → AreTerms trees tokens → IsNoList tokens end span → ⊥ }
+    ensures place { (tokens : List Token) (end : ℕ) (a b : Span)
+        → IsNoList tokens end a → IsNoList tokens end b → b ≡ a }
+{}

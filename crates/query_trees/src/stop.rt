@@ -1,0 +1,23 @@
+//! Why no trees are read.
+use query_model::Span;
+use std::alloc::AllocError;
+
+#[derive(Debug, Drop)]
+pub enum TreeStop {
+    /// The tokens are no list of terms.
+    NoList(Span),
+    /// This term is too deep inside others.
+    Deep(Span),
+    Memory,
+}
+
+impl From<AllocError> for TreeStop {
+    ghost use Rattle.std.specs.Prelude.{◌≡◌};
+    ghost use Rattle.query_trees.specs.declared.stop.TreeStop.TheVariants.{Memory};
+
+    ghost from_gives = { λ _ stop. stop ≡ Memory };
+
+    fn from(_error: AllocError) -> TreeStop {
+        TreeStop::Memory
+    }
+}
