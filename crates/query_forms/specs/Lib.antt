@@ -1,0 +1,5 @@
+pub mod Terms
+pub mod Forms
+pub mod File
+pub mod Shown
+pub mod Tops
