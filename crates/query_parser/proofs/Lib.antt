@@ -1,4 +1,26 @@
-mod Numbers
-mod Pieces
-mod Words
-mod Sums
+pub mod Faults
+pub mod IsFile
+pub mod LiesAt
+pub mod LongestTokens
+pub mod OneReading
+pub mod OptionCases
+pub mod Passes
+pub mod PlacedFile
+pub mod PlacedForms
+pub mod Printed
+pub mod PrintedLayout
+pub mod PrintedNumbers
+pub mod PrintedTerms
+pub mod PrintedTokens
+pub mod PrintedTrees
+pub mod ReadStrings
+pub mod ReadTerms
+pub mod ReadTrees
+pub mod Readable
+pub mod ReadsBack
+pub mod Rows
+pub mod Saying
+pub mod StringParts
+pub mod TextTokens
+pub mod Within
+pub mod WritableTerms

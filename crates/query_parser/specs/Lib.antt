@@ -1,5 +1,7 @@
-pub mod Number
-pub mod Pieces
-pub mod Refused
-pub mod Sum
-pub mod Word
+pub mod Passed
+pub mod Plain
+pub mod Printing
+pub mod Reading
+pub mod Sayable
+pub mod Stop
+pub mod TermText

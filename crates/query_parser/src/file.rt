@@ -1,42 +1,47 @@
-//! The file that a text spells.
+//! A file of terms.
 ghost use Rattle.std.specs.Prelude.{◌≡◌};
+ghost use Rattle.query_parser.specs.Plain.{terms_of};
+ghost use Rattle.query_parser.specs.Printing.{IsFile};
 
+use crate::Term;
 use std::marker::Model;
-use value_ops::Bytes;
 
-/// The running sum of one column, from a first number on.
+/// Terms that have the form of a file, seen as their list.
 #[derive(Drop)]
 pub struct File {
-    name: Bytes,
-    first: i64,
+    terms: Vec<Term>,
 }
 
 impl Model for File {
-    ghost use Rattle.query_parser.specs.Sum.{Sum};
+    ghost use Rattle.std.specs.Prelude.{List};
+    ghost use Rattle.query_parser.specs.declared.term.Term.{Term};
+    ghost use Rattle.query_parser.specs.Plain.{terms_of};
+    ghost use Rattle.query_parser.specs.Printing.{IsFile};
 
-    ghost Value = { Sum };
+    ghost Value = { List Term };
 
-    ghost view = { λ file. record { name = file.name; first = file.first } };
+    ghost use Rattle.query_parser.specs.contracts.term.Term as coded_term;
+    ghost use Rattle.std.specs.Coded.{codes};
+
+    ghost coded = { Prim.hlevel (codes, coded_term.the_row.coded) };
+
+    ghost view = { λ file. file.terms.items };
+
+    ghost invariant = { λ file. IsFile (terms_of file.terms.items) };
 }
 
 impl File {
-    pub(crate) fn new(name: Bytes, first: i64) -> File
-        ensures { result ≡ record { name = name; first = first } }
+    pub(crate) fn new(terms: Vec<Term>) -> File
+        requires { IsFile (terms_of terms.items) }
+        ensures { result ≡ terms.items }
     {
-        File { name, first }
+        File { terms }
     }
 
-    /// The name of the column.
-    pub fn name(&self) -> &[u8]
-        ensures { result.now ≡ self.now.name }
+    pub fn terms(&self) -> &[Term]
+        ensures terms { result.now ≡ self.now }
+        ensures file { IsFile (terms_of self.now) }
     {
-        self.name.as_slice()
-    }
-
-    /// The number that the sum begins with.
-    pub fn first(&self) -> i64
-        ensures { result ≡ self.now.first }
-    {
-        self.first
+        &self.terms
     }
 }

@@ -1,17 +1,22 @@
-//! Reads the text of a query, for now that of one running sum, and refuses every other text.
+//! A query text read to its terms, or refused by its first broken rule; and a file printed.
 #![tactic(auto)]
 
+mod convert;
 mod file;
-mod number;
-mod parts;
-mod reading;
-mod refusal;
-mod span;
-#[cfg(test)]
-mod tests;
-mod word;
+mod laws;
+mod print;
+mod read;
+mod stop;
+mod string_text;
+mod term;
+mod term_text;
 
 pub use file::File;
-pub use reading::{MAX_TEXT, one_sum_per_text, read_file};
-pub use refusal::{ReadStop, Refusal, Rule};
-pub use span::Span;
+pub use laws::one_reading;
+pub use print::print_file;
+pub use read::read_file;
+pub use stop::ReadStop;
+pub use term::{Term, Terms};
+
+#[cfg(test)]
+mod tests;

@@ -1,86 +1,135 @@
-// What no clause says: that texts are read at all, and how the texts look, written out byte by byte.
-use crate::{ReadStop, Refusal, Rule, Span, read_file};
+// Each rule of reading at its edges, and the canonical text.
+use crate::{ReadStop, print_file, read_file};
 use std::alloc::{AllocError, Global};
 use std::test::Fail;
 
-const FORM_AT_START: ReadStop = ReadStop::Refused(Refusal {
-    rule: Rule::Form,
-    span: Span { from: 0, to: 0 },
-});
+/// A stream of 26 bytes.
+const STREAM: &[u8] = b"stream(plain, col(a, int))";
 
-// The text with these words at its three places.
-fn text_with(alloc: Global, name: &str, again: &str, first: &str) -> Result<String, AllocError> {
-    format!(in alloc;
-        "stream(plain, col({name}, int))\nmain(iter(atom(any, {again}), {first}, add(x, y)))\n"
-    )
+/// The number of the rule that refuses the text, and its place.
+fn refusal_of(alloc: Global, text: &[u8]) -> Option<(u8, u32, u32)> {
+    match read_file(alloc, text) {
+        Err(ReadStop::Refused(refusal)) => {
+            Some((refusal.rule as u8, refusal.span.from, refusal.span.to))
+        }
+        _ => None,
+    }
+}
+
+/// The same of a text behind the stream and a line feed, which are 27 bytes.
+fn refusal_behind_stream(alloc: Global, rest: &[u8]) -> Result<Option<(u8, u32, u32)>, AllocError> {
+    let mut text = Vec::from_slice(alloc, STREAM)?;
+    text.extend_from_slice(b"\n")?;
+    text.extend_from_slice(rest)?;
+    Ok(refusal_of(alloc, &text))
+}
+
+fn repeated(alloc: Global, piece: &[u8], count: u32) -> Result<Vec<u8>, AllocError> {
+    let mut text = Vec::new(alloc);
+    for _ in 0..count {
+        text.extend_from_slice(piece)?;
+    }
+    Ok(text)
 }
 
 #[test]
-fn sums_are_read(rt: HostRuntime) -> Result<(), Fail> {
-    for (name, spelling, first) in [
-        ("a", "0", 0),
-        ("_x9", "-9223372036854775808", i64::MIN),
-        ("Z_", "9223372036854775807", i64::MAX),
-        ("int", "-10", -10),
-    ] {
-        let text = text_with(rt.alloc(), name, name, spelling)?;
-        let file = read_file(rt.alloc(), text.as_bytes())?;
-        assert_eq!(rt; file.name(), name.as_bytes());
-        assert_eq!(rt; file.first(), first);
+fn refuses_by_the_first_rule_at_its_place(rt: HostRuntime) {
+    let cases = [
+        (b"@".as_slice(), (2, 0, 1)),
+        (b"a\x00", (2, 1, 2)),
+        (b"\x80", (2, 0, 1)),
+        (b"stream(\"a\\q\")", (2, 7, 8)),
+        (b"a(+-5)", (2, 2, 3)),
+        (b") @", (2, 2, 3)),
+        (b"@ )", (2, 0, 1)),
+        (b"a(", (3, 2, 2)),
+        (b"a()", (3, 2, 3)),
+        (b"a(,)", (3, 2, 3)),
+        (b")", (3, 0, 1)),
+        (b"a b c)", (3, 5, 6)),
+        (b"", (5, 0, 0)),
+        (b"# no file", (5, 9, 9)),
+        (b"main(a)", (5, 0, 7)),
+        (b"stream(plain)", (5, 0, 13)),
+        (STREAM, (5, 26, 26)),
+        (b"stream(plain,col(a,fixed(0)))", (5, 25, 26)),
+        (b"stream(plain,col(a,fixed(9)))", (5, 29, 29)),
+        (b"stream(plain,col(a,fixed(10)))", (5, 25, 27)),
+        (b"stream(plain,col(a,fixed(01)))", (5, 30, 30)),
+    ];
+    for (text, refusal) in cases {
+        assert_eq!(rt; refusal_of(rt.alloc(), text), Some(refusal));
+    }
+}
+
+#[test]
+fn refuses_forms_before_numbers(rt: HostRuntime) -> Result<(), Fail> {
+    let cases = [
+        (b"main(a)".as_slice(), None),
+        (b"main(a) main(a)", Some((5, 35, 42))),
+        (b"main(a) let(b, a)", Some((5, 35, 44))),
+        (b"main(or(or(1)))", Some((5, 32, 41))),
+        (b"let(b, eps(9223372036854775808))", Some((5, 59, 59))),
+        (b"main(eps(9223372036854775808))", Some((9, 36, 55))),
+        (b"main(eps(-9223372036854775809))", Some((9, 36, 56))),
+        (
+            b"main(eps(00000000009223372036854775808))",
+            Some((9, 36, 65)),
+        ),
+        (
+            b"main(eps(-00000000009223372036854775809))",
+            Some((9, 36, 66)),
+        ),
+        (b"main(eps(00000000009223372036854775807))", None),
+        (b"main(eps(-00000000009223372036854775808))", None),
+    ];
+    for (rest, refusal) in cases {
+        assert_eq!(rt; refusal_behind_stream(rt.alloc(), rest)?, refusal);
     }
     Ok(())
 }
 
 #[test]
-fn other_words_are_refused(rt: HostRuntime) -> Result<(), Fail> {
-    for (name, again, first) in [
-        ("a", "a", "9223372036854775808"),
-        ("a", "a", "-9223372036854775809"),
-        ("a", "a", "+0"),
-        ("a", "a", "00"),
-        ("a", "a", "-0"),
-        ("a", "a", ""),
-        ("a", "b", "0"),
-        ("a", "ab", "0"),
-        ("ab", "a", "0"),
-        ("9a", "9a", "0"),
-        ("", "", "0"),
-        ("a-b", "a-b", "0"),
-    ] {
-        let text = text_with(rt.alloc(), name, again, first)?;
-        let refused = read_file(rt.alloc(), text.as_bytes()).err();
-        assert_eq!(rt; refused, Some(FORM_AT_START), "at {name}, {again}, {first}");
+fn counts_bytes_columns_and_levels(rt: HostRuntime) -> Result<(), Fail> {
+    let alloc = rt.alloc();
+    let blank = repeated(alloc, b" ", 65_536)?;
+    assert_eq!(rt; refusal_of(alloc, &blank), Some((5, 65_536, 65_536)));
+    let blank = repeated(alloc, b" ", 65_537)?;
+    assert_eq!(rt; refusal_of(alloc, &blank), Some((1, 65_536, 65_537)));
+    for (columns, refusal) in [(32, (5, 365, 365)), (33, (5, 0, 376))] {
+        let mut stream = repeated(alloc, b"stream(plain", 1)?;
+        stream.extend_from_slice(&repeated(alloc, b",col(a,int)", columns)?)?;
+        stream.extend_from_slice(b")")?;
+        assert_eq!(rt; refusal_of(alloc, &stream), Some(refusal));
+    }
+    for (calls, refusal) in [(63, (5, 0, 190)), (64, (4, 128, 129))] {
+        let mut nested = repeated(alloc, b"a(", calls)?;
+        nested.extend_from_slice(b"a")?;
+        nested.extend_from_slice(&repeated(alloc, b")", calls)?)?;
+        assert_eq!(rt; refusal_of(alloc, &nested), Some(refusal));
     }
     Ok(())
 }
 
 #[test]
-fn other_texts_are_refused(rt: HostRuntime) {
-    for text in [
-        "",
-        "stream(plain, col(a, int))\nmain(iter(atom(any, a), 0, add(x, y)))",
-        "stream(plain, col(a, int))\nmain(iter(atom(any, a), 0, add(x, y)))\n\n",
-        "stream(plain, col(a, int))\nmain(iter(atom(any, a), 0, add(x, y)))\nx",
-        "stream(plain, col(a, int))\nmain(iter(atom(any, a),  0, add(x, y)))\n",
-        "stream(header, col(a, int))\nmain(iter(atom(any, a), 0, add(x, y)))\n",
-        "stream(plain, col(a, int))\r\nmain(iter(atom(any, a), 0, add(x, y)))\n",
-    ] {
-        let refused = read_file(rt.alloc(), text.as_bytes()).err();
-        assert_eq!(rt; refused, Some(FORM_AT_START), "at {text}");
+fn prints_the_canonical_text(rt: HostRuntime) -> Result<(), Fail> {
+    let cases = [
+        (
+            b"stream( plain,col(a,int) ) # sums\nmain(iter(atom(any,a),+00,add(x,y)))".as_slice(),
+            b"stream(plain, col(a, int))\nmain(iter(atom(any, a), 0, add(x, y)))\n".as_slice(),
+        ),
+        (
+            b"stream(plain,col(a,text))main(atom(eq(a,\"\\x0a\\\"\\\\~\\x7f\xff\"),-05))",
+            b"stream(plain, col(a, text))\nmain(atom(eq(a, \"\\x0A\\x22\\x5C~\\x7F\\xFF\"), -5))\n",
+        ),
+    ];
+    for (text, printed) in cases {
+        match read_file(rt.alloc(), text) {
+            Ok(file) => {
+                assert_eq!(rt; print_file(rt.alloc(), &file)?.as_slice(), printed);
+            }
+            Err(stop) => panic!(rt; "{stop:?}"),
+        }
     }
-}
-
-#[test]
-fn a_text_has_at_most_65_536_bytes(rt: HostRuntime) -> Result<(), Fail> {
-    let name = "n".repeat(rt.alloc(), 32_736)?;
-    let longest = text_with(rt.alloc(), &name, &name, "7")?;
-    assert_eq!(rt; longest.len(), 65_536);
-    assert_eq!(rt; read_file(rt.alloc(), longest.as_bytes())?.first(), 7);
-
-    let longer = text_with(rt.alloc(), &name, &name, "70")?;
-    assert_eq!(rt;
-        read_file(rt.alloc(), longer.as_bytes()).err(),
-        Some(FORM_AT_START)
-    );
     Ok(())
 }

@@ -1,5 +1,6 @@
+pub mod Compilations
+pub mod Firsts
 pub mod Outcomes
-pub mod Queries
 pub mod Replies
 pub mod Showing
 pub mod Takes

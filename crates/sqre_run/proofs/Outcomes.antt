@@ -1,40 +1,80 @@
--- From a refusal to the outcome of the call, for a query text that may be told.
-use Rattle.std.proofs.Common.{◌≡◌, ℕ, true, List, [], Option, Some, None, IfSome, refl, sym, ap, subst, ◌∙◌}
+-- From a run or a refusal to the outcome of the call, for a query text that may be told.
+use Rattle.std.proofs.Common.{◌≡◌, ℕ, ℤ, List, [], Option, Some, None, IfSome, inl, inr, refl, sym, ap, subst}
 use Rattle.std.proofs.KnownBytes.{Consumes-nil}
-use Rattle.std.specs.Io.KnownBytes.{Appends}
-use Rattle.io_edge.specs.Lines.{lines}
-use Rattle.query_parser.specs.Sum.{Sum, sum_of}
-use Rattle.query_parser.specs.Refused.{form_at_start}
-use Rattle.query_parser.specs.declared.refusal.Refusal.{Refusal}
-use Rattle.sqre_run.specs.Output.{output_lines}
-use Rattle.sqre_run.specs.Outside.{Outside}
-use Rattle.sqre_run.specs.Call.{Outcome, Refuses, WantsMemory}
+use Rattle.query_model.specs.declared.refusal.Refusal.{Refusal}
+use Rattle.sqre_run.specs.Compiled.{Query, sum, refused, Compiles}
+use Rattle.sqre_run.specs.Outside.{Outside, Ended}
+use Rattle.sqre_run.specs.Call.{Outcome, Refuses, Completes}
 use Rattle.sqre_run.specs.Stops.{IsStopOf}
 use Rattle.sqre_run.specs.declared.query.QueryStop.TheVariants.{Refused as Refusing}
 use Rattle.sqre_run.specs.declared.status.Status.{Status}
-use Rattle.sqre_run.specs.declared.status.Status.TheVariants.{Refused, SinkFault, Memory}
+use Rattle.sqre_run.specs.declared.status.Status.TheVariants.{Done, Refused, ItemFault, SinkFault, Memory, Limit}
+use Rattle.sqre_run.proofs.Compilations.{one_query}
 
--- a refusal that was written is the outcome for a text that is no sum, where no item was read
-Outcome-refused : (text : List ℕ) → sum_of text ≡ None
-    → (status : Status) (old : Outside) (taken : Option (List ℕ)) → Refuses form_at_start status old.taken taken
+-- how the run of a sum ended is the outcome of its text
+Outcome-ended : (text : List ℕ) (first : ℤ) → Compiles text (sum first) → (status : Status) (old new : Outside) → Ended first status old new → Outcome text status old new
+Outcome-ended text first compiles Done old new ended = (first, compiles, ended)
+Outcome-ended text first compiles ItemFault old new ended = (first, compiles, ended)
+Outcome-ended text first compiles SinkFault old new (got, read, some) = (sum first, got, compiles, read, some)
+Outcome-ended text first compiles Memory old new ended = inr (first, compiles, ended)
+Outcome-ended text first compiles Limit old new ended = (first, compiles, ended)
+Outcome-ended text first compiles status old new ended = absurd ended
+
+-- a refusal that was written is the outcome, where no item was read
+Outcome-refused : (text : List ℕ) (refusal : Refusal) → Compiles text (refused refusal)
+    → (status : Status) (old : Outside) (taken : Option (List ℕ)) → Refuses refusal status old.taken taken
     → Outcome text status old (record old { taken = taken })
-Outcome-refused text none Refused old taken refuses =
-    let written = ap (λ (query : Option Sum). output_lines query (lines [] true)) (sym none) in
-    (none, refl, subst (Appends old.taken taken) written refuses)
-Outcome-refused text none SinkFault old taken (front, rest, parts, appends) =
-    let written = ap (λ (query : Option Sum). output_lines query (lines [] true)) none in
-    ([], Consumes-nil old.left, (front, rest, written ∙ parts, appends))
-Outcome-refused text none Memory old taken refuses =
-    subst (λ (query : Option Sum). WantsMemory query old (record old { taken = taken })) (sym none)
-    (ap (λ (t : Option (List ℕ)). record old { taken = t }) refuses)
-Outcome-refused text none status old taken refuses = absurd refuses
+Outcome-refused text refusal compiles Refused old taken refuses = (refusal, compiles, refl, refuses)
+Outcome-refused text refusal compiles SinkFault old taken refuses = (refused refusal, [], compiles, Consumes-nil old.left, refuses)
+Outcome-refused text refusal compiles Memory old taken refuses =
+    inl (ap (λ (t : Option (List ℕ)). record old { taken = t }) refuses)
+Outcome-refused text refusal compiles status old taken refuses = absurd refuses
 
--- the same for a query source that may tell its text
-pub told_refused : (query : Option (List ℕ)) (refusal : Refusal)
-    → (status : Status) (old : Outside) (taken : Option (List ℕ))
+-- a run that met no fault is complete, and so is a refusal
+Completes-ended : (first : ℤ) (status : Status) (old new : Outside) → Ended first status old new
+    → (status ≡ ItemFault → ⊥) → (status ≡ SinkFault → ⊥) → Completes (sum first) status
+Completes-ended first Done old new ended no_items no_sink = tt
+Completes-ended first ItemFault old new ended no_items no_sink = absurd (no_items refl)
+Completes-ended first SinkFault old new ended no_items no_sink = absurd (no_sink refl)
+Completes-ended first Memory old new ended no_items no_sink = tt
+Completes-ended first Limit old new ended no_items no_sink = tt
+Completes-ended first status old new ended no_items no_sink = absurd ended
+
+Completes-refused : (refusal : Refusal) (status : Status) (old new : Option (List ℕ)) → Refuses refusal status old new
+    → (status ≡ SinkFault → ⊥) → Completes (refused refusal) status
+Completes-refused refusal Refused old new refuses no_sink = tt
+Completes-refused refusal SinkFault old new refuses no_sink = absurd (no_sink refl)
+Completes-refused refusal Memory old new refuses no_sink = tt
+Completes-refused refusal status old new refuses no_sink = absurd refuses
+
+-- what completes a text's query completes each query that the text is compiled to
+only_query : (text : List ℕ) (query : Query) (status : Status) → Compiles text query → Completes query status
+    → (other : Query) → Compiles text other → Completes other status
+only_query text query status compiles completes other compiles' =
+    subst (λ (q : Query). Completes q status) (sym (one_query text query other compiles compiles')) completes
+
+module _ (first : ℤ) (status : Status) (old new : Outside) (ended : Ended first status old new) where
+  -- the same for a query source that may tell its text
+  pub told_ended : (query : Option (List ℕ)) → IfSome query (λ text. Compiles text (sum first)) → IfSome query (λ text. Outcome text status old new)
+  told_ended None compiles = tt
+  told_ended (Some text) compiles = Outcome-ended text first compiles status old new ended
+
+  pub told_complete : (query : Option (List ℕ)) → IfSome query (λ text. Compiles text (sum first)) → (status ≡ ItemFault → ⊥) → (status ≡ SinkFault → ⊥)
+      → IfSome query (λ text. (compiled : Query) → Compiles text compiled → Completes compiled status)
+  told_complete None compiles no_items no_sink = tt
+  told_complete (Some text) compiles no_items no_sink =
+      only_query text (sum first) status compiles (Completes-ended first status old new ended no_items no_sink)
+
+-- the same for a refusal
+pub told_refused : (query : Option (List ℕ)) (refusal : Refusal) (status : Status) (old : Outside) (taken : Option (List ℕ))
     → IsStopOf query (Refusing refusal) → Refuses refusal status old.taken taken
     → IfSome query (λ text. Outcome text status old (record old { taken = taken }))
 told_refused None refusal status old taken stop refuses = tt
-told_refused (Some text) refusal status old taken stop refuses =
-    let at_start = subst (λ (r : Refusal). Refuses r status old.taken taken) stop.0 refuses in
-    Outcome-refused text stop.1 status old taken at_start
+told_refused (Some text) refusal status old taken stop refuses = Outcome-refused text refusal stop status old taken refuses
+
+pub told_refused_complete : (query : Option (List ℕ)) (refusal : Refusal) (status : Status) (old new : Option (List ℕ))
+    → IsStopOf query (Refusing refusal) → Refuses refusal status old new → (status ≡ SinkFault → ⊥)
+    → IfSome query (λ text. (compiled : Query) → Compiles text compiled → Completes compiled status)
+told_refused_complete None refusal status old new stop refuses no_sink = tt
+told_refused_complete (Some text) refusal status old new stop refuses no_sink =
+    only_query text (refused refusal) status stop (Completes-refused refusal status old new refuses no_sink)

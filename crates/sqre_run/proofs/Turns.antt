@@ -1,5 +1,5 @@
 -- One turn of the run: how it goes on, and how it ends.
-use Rattle.std.proofs.Common.{◌≡◌, ◌≤◌, ℕ, ℤ, true, false, List, [], ◌∷◌, ◌++◌, length, Option, Some, None, Result, Ok, Err, IfOk, IfNone, IfSome, String, string_bytes, refl, sym, ap, subst, ◌∙◌, append_assoc, arith}
+use Rattle.std.proofs.Common.{◌≡◌, ◌≤◌, ℕ, ℤ, true, false, List, [], ◌∷◌, ◌++◌, length, Option, Some, None, Result, Ok, Err, IfOk, IfNone, IfSome, refl, sym, ap, subst, ◌∙◌, append_assoc, arith}
 use Rattle.std.proofs.KnownBytes.{Appends-trans, Consumes-trans, Appends-nil, Consumes-nil}
 use Rattle.std.specs.declared.alloc.AllocError.{AllocError}
 use Rattle.std.specs.Io.KnownBytes.{Appends, Consumes}
@@ -151,29 +151,29 @@ module _ (first : ℤ) (old now new : Outside) (reading next : Reading) (value :
           let wrote = Wrote-waiting taken.0 taken.1 taken.2.0 going same run in
           (run.got ++ taken.0, sym wrote.0 ∙ taken.2.1, wrote.1)
 
-module _ (now new : Outside) (reading next : Reading) (value value' : Scalar) (line : Shown) {A : Type 0} where
+module _ (now new : Outside) (reading next : Reading) (value value' : Scalar) (line : Shown) where
   -- where the text was written, whatever run there is goes on
-  pub Handed-goes_on : (status : Option Status) (reply : Result (String A) AllocError)
+  pub Handed-goes_on : (status : Option Status) (reply : Result (List ℕ) AllocError)
       → TakesLine now.left new.left now.ends new.ends reading next line
-      → IfOk reply (λ said. RepliesTo line (string_bytes said) value value')
+      → IfOk reply (λ said. RepliesTo line said value value')
       → HandedOver status reply now.taken new.taken
       → IfNone status ((first : ℤ) (old : Outside)
       → Running first old now reading value → Running first old new next value')
   Handed-goes_on None (Ok said) takes replies handed = λ first old run.
-      Running-line first old now new reading next value value' line (string_bytes said) takes replies handed run
+      Running-line first old now new reading next value value' line said takes replies handed run
   Handed-goes_on None (Err error) takes replies handed = absurd handed
   Handed-goes_on (Some status) reply takes replies handed = tt
 
   -- and ends where it was not
-  pub Handed-stops : (status : Option Status) (reply : Result (String A) AllocError)
+  pub Handed-stops : (status : Option Status) (reply : Result (List ℕ) AllocError)
       → TakesLine now.left new.left now.ends new.ends reading next line
-      → IfOk reply (λ said. RepliesTo line (string_bytes said) value value')
+      → IfOk reply (λ said. RepliesTo line said value value')
       → HandedOver status reply now.taken new.taken
       → IfSome status (λ status. (first : ℤ) (old : Outside)
       → Running first old now reading value → Ended first status old new)
   Handed-stops None reply takes replies handed = tt
   Handed-stops (Some SinkFault) (Ok said) takes replies handed = λ first old run.
-      Ended-cut_short first old now new reading next value value' line (string_bytes said) takes replies handed run
+      Ended-cut_short first old now new reading next value value' line said takes replies handed run
   Handed-stops (Some Memory) (Err error) takes replies handed = λ first old run.
       Ended-no_memory first old now new reading next value line takes handed run
   Handed-stops (Some status) reply takes replies handed = absurd handed

@@ -1,13 +1,13 @@
 -- What a call of `sqre` did, by its status.
-use Rattle.std.specs.Prelude.{◌≡◌, ℕ, ◌-◌, ◌^◌, List, [], length, Option, Some, None, IsSome, IfSome}
+use Rattle.std.specs.Prelude.{◌≡◌, ◌⊎◌, ℕ, ℤ, ◌-◌, ◌^◌, List, [], length, Option, IfSome}
 use Rattle.std.specs.Io.KnownBytes.{Appends, Consumes}
 use Rattle.io_edge.specs.Counts.{FailsBy, Rose}
 use Rattle.io_edge.specs.Written.{AppendsSome}
-use Rattle.query_parser.specs.Sum.{Sum, sum_of}
-use Rattle.query_parser.specs.declared.refusal.Refusal.{Refusal}
+use Rattle.query_model.specs.declared.refusal.Refusal.{Refusal}
+use Rattle.report_writer.specs.Texts.{refusal_text}
+use Rattle.sqre_run.specs.Compiled.{Query, sum, refused, Compiles}
 use Rattle.sqre_run.specs.Output.{output, whole_output}
 use Rattle.sqre_run.specs.Outside.{Outside, Wrote, WroteLines}
-use Rattle.sqre_run.specs.Texts.{refused_text}
 use Rattle.sqre_run.specs.declared.status.Status.{Status}
 use Rattle.sqre_run.specs.declared.status.Status.TheVariants.{Done, Refused, Usage, QueryFault, ItemFault, SinkFault, Memory, Limit}
 
@@ -30,43 +30,38 @@ Untouched _ query query' items items' out out' = Unit {0}
 
 -- a refusal was written whole, in part, or not at all
 abbrev pub Refuses : Refusal → Status → Option (List ℕ) → Option (List ℕ) → Type 0
-Refuses refusal Refused old new = Appends old new (refused_text refusal)
-Refuses refusal SinkFault old new = AppendsSome old new (refused_text refusal)
+Refuses refusal Refused old new = Appends old new (refusal_text refusal)
+Refuses refusal SinkFault old new = AppendsSome old new (refusal_text refusal)
 Refuses refusal Memory old new = new ≡ old
 Refuses refusal _ old new = ⊥
 
--- the text is a query, and not refused
-abbrev pub IsQuery : List ℕ → Type 0
-IsQuery query = IsSome (sum_of query)
-
--- where memory was wanting, the answers to some whole lines were written and no part of another's,
--- and of a refusal nothing
-abbrev pub WantsMemory : Option Sum → Outside → Outside → Type 0
-WantsMemory (Some sum) old new = (got : List ℕ) × WroteLines sum.first old new got
-WantsMemory None old new = new ≡ old
+-- the text is a query of the number that its sum begins with, and it went on so
+abbrev pub Runs : List ℕ → (ℤ → Type 0) → Type 0
+Runs text goes_on = (first : ℤ) × Compiles text (sum first) × goes_on first
 
 -- What was read of the items and written for a query text, by the status.
 abbrev pub Outcome : List ℕ → Status → Outside → Outside → Type 0
-Outcome query Done old new = IsQuery query × Rose old.ends new.ends
-    × IfSome old.left (λ bytes. Appends old.taken new.taken (output query bytes))
-Outcome query Refused old new = (sum_of query ≡ None) × (new.left ≡ old.left)
-    × Appends old.taken new.taken (output query [])
-Outcome query Usage old new = new ≡ old
-Outcome query QueryFault old new = new ≡ old
-Outcome query ItemFault old new = IsQuery query
-    × ((got : List ℕ) × Wrote old new got (whole_output query got))
-Outcome query SinkFault old new = (got : List ℕ) × Consumes old.left new.left got
-    × AppendsSome old.taken new.taken (output query got)
-Outcome query Memory old new = WantsMemory (sum_of query) old new
-Outcome query Limit old new = IsQuery query
-    × ((got : List ℕ) × (length got ≡ 2 ^ 63 - 1) × Wrote old new got (whole_output query got))
+Outcome text Done old new = Runs text (λ first. Rose old.ends new.ends
+    × IfSome old.left (λ bytes. Appends old.taken new.taken (output (sum first) bytes)))
+Outcome text Refused old new = (refusal : Refusal) × Compiles text (refused refusal)
+    × (new.left ≡ old.left) × Appends old.taken new.taken (output (refused refusal) [])
+Outcome text Usage old new = new ≡ old
+Outcome text QueryFault old new = new ≡ old
+Outcome text ItemFault old new = Runs text (λ first.
+    (got : List ℕ) × Wrote old new got (whole_output (sum first) got))
+Outcome text SinkFault old new = (query : Query) × (got : List ℕ) × Compiles text query
+    × Consumes old.left new.left got × AppendsSome old.taken new.taken (output query got)
+Outcome text Memory old new = (new ≡ old)
+    ⊎ Runs text (λ first. (got : List ℕ) × WroteLines first old new got)
+Outcome text Limit old new = Runs text (λ first.
+    (got : List ℕ) × (length got ≡ 2 ^ 63 - 1) × Wrote old new got (whole_output (sum first) got))
 
 -- How a call ends where no count of faults rose: a query at the end of its items or after 2^63-1
 -- bytes of them, and any other text with its refusal. Usage and Memory may come with both.
-abbrev pub Completes : Option Sum → Status → Type 0
+abbrev pub Completes : Query → Status → Type 0
 Completes query Usage = Unit {0}
 Completes query Memory = Unit {0}
-Completes (Some sum) Done = Unit {0}
-Completes (Some sum) Limit = Unit {0}
-Completes None Refused = Unit {0}
+Completes (sum first) Done = Unit {0}
+Completes (sum first) Limit = Unit {0}
+Completes (refused refusal) Refused = Unit {0}
 Completes query _ = ⊥

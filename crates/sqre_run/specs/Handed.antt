@@ -1,5 +1,5 @@
 -- What came of handing a text to the sink.
-use Rattle.std.specs.Prelude.{◌≡◌, ℕ, List, Option, Some, None, Result, Ok, Err, string_bytes, String}
+use Rattle.std.specs.Prelude.{◌≡◌, ℕ, List, Option, Some, None, Result, Ok, Err}
 use Rattle.std.specs.declared.alloc.AllocError.{AllocError}
 use Rattle.std.specs.Io.KnownBytes.{Appends}
 use Rattle.io_edge.specs.Written.{AppendsSome}
@@ -8,9 +8,9 @@ use Rattle.sqre_run.specs.declared.status.Status.TheVariants.{SinkFault, Memory}
 
 -- nothing is answered where the text was written whole, Memory where there is no text, and
 -- SinkFault where a part of it was written
-abbrev pub HandedOver : {A : Type 0} → Option Status → Result (String A) AllocError
+abbrev pub HandedOver : Option Status → Result (List ℕ) AllocError
     → Option (List ℕ) → Option (List ℕ) → Type 0
-HandedOver None (Ok text) old new = Appends old new (string_bytes text)
-HandedOver (Some SinkFault) (Ok text) old new = AppendsSome old new (string_bytes text)
+HandedOver None (Ok text) old new = Appends old new text
+HandedOver (Some SinkFault) (Ok text) old new = AppendsSome old new text
 HandedOver (Some Memory) (Err error) old new = new ≡ old
 HandedOver _ _ old new = ⊥

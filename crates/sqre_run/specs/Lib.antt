@@ -1,8 +1,10 @@
-pub mod Words
-pub mod Texts
+pub mod Built
+pub mod Call
+pub mod Compiled
+pub mod Handed
 pub mod Output
 pub mod Outside
-pub mod Handed
 pub mod Running
-pub mod Call
 pub mod Stops
+pub mod Texts
+pub mod Words

@@ -1,4 +1,4 @@
--- What a run writes, as a function of the query text and the item bytes.
+-- What a run writes, as a function of the query and the item bytes.
 use Rattle.std.specs.Prelude.{◌≡◌, ℕ, ℤ, true, false, List, [], ◌∷◌, ◌++◌, Option, Some, None, option_to_list}
 use Rattle.std.specs.List.{flat_map}
 use Rattle.io_edge.specs.Lines.{Shown, text, long, lines}
@@ -6,9 +6,9 @@ use Rattle.value_ops.specs.declared.scalar.Scalar.{Scalar}
 use Rattle.value_ops.specs.declared.scalar.Scalar.TheVariants.{Number}
 use Rattle.value_ops.specs.Scalar.{total}
 use Rattle.item_schema.specs.Item.{item_of, no_number}
-use Rattle.query_parser.specs.Refused.{form_at_start}
-use Rattle.query_parser.specs.Sum.{Sum, sum_of}
-use Rattle.sqre_run.specs.Texts.{value_text, skipped_text, refused_text}
+use Rattle.report_writer.specs.Texts.{answer_text, refusal_text}
+use Rattle.sqre_run.specs.Compiled.{Query, sum, refused}
+use Rattle.sqre_run.specs.Texts.{skipped_text}
 
 -- the item of a line, where it has one; an empty line has none
 abbrev pub items_of_line : Shown → List ℤ
@@ -26,7 +26,7 @@ value_after first shown = total (Number first) (items_of shown)
 
 -- what is written for a line that is not empty, where its item and the value after it are these
 abbrev pub reply : Option ℤ → Scalar → List ℕ
-reply (Some item) value = value_text value
+reply (Some item) value = answer_text (Some value)
 reply None value = skipped_text no_number
 
 -- what is written for a line that comes after these lines; nothing for an empty one
@@ -51,15 +51,15 @@ answers_after first before (line ∷ rest) =
 abbrev pub answers : ℤ → List Shown → List ℕ
 answers first shown = answers_after first [] shown
 
--- what is written for the sum that the query spells, if it is one, and these lines
-abbrev pub output_lines : Option Sum → List Shown → List ℕ
-output_lines (Some sum) shown = answers sum.first shown
-output_lines None shown = refused_text form_at_start
+-- what is written for a query and these lines
+abbrev pub output_lines : Query → List Shown → List ℕ
+output_lines (sum first) shown = answers first shown
+output_lines (refused refusal) shown = refusal_text refusal
 
--- what a run writes for a query text and item bytes
-abbrev pub output : List ℕ → List ℕ → List ℕ
-output query bytes = output_lines (sum_of query) (lines bytes true)
+-- what a run writes for a query and item bytes
+abbrev pub output : Query → List ℕ → List ℕ
+output query bytes = output_lines query (lines bytes true)
 
 -- what it writes for the lines alone that an LF ends
-abbrev pub whole_output : List ℕ → List ℕ → List ℕ
-whole_output query bytes = output_lines (sum_of query) (lines bytes false)
+abbrev pub whole_output : Query → List ℕ → List ℕ
+whole_output query bytes = output_lines query (lines bytes false)

@@ -1,7 +1,7 @@
 //! The top call.
 ghost use Rattle.std.specs.Prelude.{◌≡◌, ◌↔◌, false, IfSome, map, string_bytes};
 ghost use Rattle.io_edge.specs.Counts.{Rose, FailsBy};
-ghost use Rattle.query_parser.specs.Sum.{sum_of};
+ghost use Rattle.sqre_run.specs.Compiled.{Query, Compiles};
 ghost use Rattle.sqre_run.specs.Words.{is_run};
 ghost use Rattle.sqre_run.specs.Outside.{outside};
 ghost use Rattle.sqre_run.specs.Call.{Completes, FirstFault, Outcome, Refuses, Untouched};
@@ -9,10 +9,10 @@ ghost use Rattle.sqre_run.specs.Call.{Completes, FirstFault, Outcome, Refuses, U
 use crate::Status;
 use crate::query::{QueryStop, compile};
 use crate::run::{hand_over, run};
-use crate::text::refusal_text;
 use crate::words::is_run;
 use io_edge::{Sink, Source};
-use query_parser::Refusal;
+use query_model::Refusal;
+use report_writer::refusal_text;
 use std::alloc::Global;
 
 /// Does what the words after the program's name ask for. `run QUERY ITEMS` compiles the query and
@@ -37,13 +37,14 @@ pub fn sqre<Q: Source, S: Source, W: Sink>(
     ensures complete { (Rose (Q.faults query.old) (Q.faults query.new) → ⊥)
         → (Rose (S.faults items.old) (S.faults items.new) → ⊥)
         → (Rose (W.faults out.old) (W.faults out.new) → ⊥)
-        → IfSome (Q.left query.old) (λ text. Completes (sum_of text) result) }
+        → IfSome (Q.left query.old) (λ text. (compiled : Query) → Compiles text compiled
+        → Completes compiled result) }
 {
     if !is_run(words) {
         return Status::Usage;
     }
     match compile(alloc, query) {
-        Ok(file) => run(alloc, file.first(), items, out),
+        Ok(sum) => run(alloc, sum, items, out),
         Err(QueryStop::Failed) => Status::QueryFault,
         Err(QueryStop::Refused(refusal)) => refuse(alloc, refusal, out),
         Err(QueryStop::Memory) => Status::Memory,

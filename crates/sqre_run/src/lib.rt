@@ -1,7 +1,9 @@
 //! One run of the program: from its words, a query and items to a status and what was written.
 #![tactic(auto)]
 
+mod built;
 mod call;
+mod first;
 mod laws;
 mod query;
 mod run;

@@ -3,12 +3,14 @@ ghost use Rattle.std.specs.Prelude.{◌≡◌, ◌≤◌, ◌<◌, Some, Ok, Err
 ghost use Rattle.std.specs.Io.KnownBytes.{Consumes, IsAtEnd};
 ghost use Rattle.io_edge.specs.Counts.{FailsBy, FailsByFault, Rose};
 ghost use Rattle.io_edge.specs.Ended.{MeetsEnd};
-ghost use Rattle.query_parser.specs.Sum.{sum_of};
+ghost use Rattle.sqre_run.specs.Compiled.{Compiles, sum};
 ghost use Rattle.sqre_run.specs.Stops.{IsStopOf, IsNoRefusal};
 ghost use Rattle.sqre_run.specs.declared.query.QueryStop.TheVariants.{Failed, Memory};
 
+use crate::built::{Sum, sum_of};
 use io_edge::{Failed, Source};
-use query_parser::{File, ReadStop, Refusal, read_file};
+use query_model::{Refusal, Rule};
+use query_parser::{ReadStop, read_file};
 use std::alloc::{AllocError, Global};
 
 /// The most bytes that are read of a query: one more than a query may have.
@@ -39,19 +41,35 @@ impl From<AllocError> for QueryStop {
 }
 
 /// Reads the query to its end, or until it is longer than a query may be, and compiles it.
-pub fn compile<Q: Source>(alloc: Global, query: &mut Q) -> Result<File, QueryStop>
-    ensures accepted { IfOk result (λ sum.
-        IfSome (Q.left query.old) (λ text. sum_of text ≡ Some sum)) }
+pub fn compile<Q: Source>(alloc: Global, query: &mut Q) -> Result<Sum, QueryStop>
+    ensures accepted { IfOk result (λ compiled.
+        IfSome (Q.left query.old) (λ text. Compiles text (sum compiled.first))) }
     ensures refused { IfErr result (IsStopOf (Q.left query.old)) }
     ensures end { OnOk result (Rose (Q.ends query.old) (Q.ends query.new)) }
     ensures cause { FailsBy (Q.faults query.old) (Q.faults query.new)
         (result ≡ Err QueryStop.Failed) }
 {
     let text = read_text(alloc, query)?;
-    match read_file(alloc, text.as_slice()) {
-        Ok(file) => Ok(file),
-        Err(ReadStop::Refused(refusal)) => Err(QueryStop::Refused(refusal)),
-        Err(ReadStop::Memory) => Err(QueryStop::Memory),
+    compile_text(alloc, text.as_slice())
+}
+
+// Compiles a text.
+fn compile_text(alloc: Global, text: &[u8]) -> Result<Sum, QueryStop>
+    ensures accepted { IfOk result (λ compiled. Compiles text.now (sum compiled.first)) }
+    ensures refused { IfErr result (IsStopOf (Some text.now)) }
+    ensures not_failed { result ≡ Err QueryStop.Failed → ⊥ }
+{
+    let file = match read_file(alloc, text) {
+        Ok(file) => file,
+        Err(ReadStop::Refused(refusal)) => return Err(QueryStop::Refused(refusal)),
+        Err(ReadStop::Memory) => return Err(QueryStop::Memory),
+    };
+    match sum_of(file.terms()) {
+        Ok(sum) => Ok(sum),
+        Err(span) => {
+            let rule = Rule::Form;
+            Err(QueryStop::Refused(Refusal { rule, span }))
+        }
     }
 }
 

@@ -6,14 +6,16 @@ ghost use Rattle.sqre_run.specs.Running.{Running};
 ghost use Rattle.sqre_run.specs.Handed.{HandedOver};
 
 use crate::Status;
+use crate::built::Sum;
 use crate::tally::Tally;
 use io_edge::{Line, LineStop, Lines, Sink, Source, write_all};
 use std::alloc::{AllocError, Global};
+use value_ops::Bytes;
 
-/// Answers every line of the items, by the sum that begins with `first`.
-pub fn run<S: Source, W: Sink>(alloc: Global, first: i64, items: &mut S, out: &mut W) -> Status
+/// Answers every line of the items.
+pub fn run<S: Source, W: Sink>(alloc: Global, sum: Sum, items: &mut S, out: &mut W) -> Status
     ensures ended { let at = outside S.left S.ends W.taken in
-        Ended first result (at items.old out.old) (at items.new out.new) }
+        Ended sum.first result (at items.old out.old) (at items.new out.new) }
     ensures item_faults { FailsBy (S.faults items.old) (S.faults items.new)
         (result ≡ Status.ItemFault) }
     ensures sink_faults { FailsBy (W.faults out.old) (W.faults out.new)
@@ -23,7 +25,7 @@ pub fn run<S: Source, W: Sink>(alloc: Global, first: i64, items: &mut S, out: &m
         Ok(lines) => lines,
         Err(AllocError) => return Status::Memory,
     };
-    let mut tally = Tally::new(first);
+    let mut tally = Tally::new(sum);
     'lines: loop {
         if let Some(status) = turn(alloc, &mut lines, &mut tally, items, out) {
             return status;
@@ -64,7 +66,7 @@ fn turn<S: Source, W: Sink>(
 }
 
 // Writes a text whole, or says why not.
-pub fn hand_over<W: Sink>(reply: Result<String, AllocError>, out: &mut W) -> Option<Status>
+pub fn hand_over<W: Sink>(reply: Result<Bytes, AllocError>, out: &mut W) -> Option<Status>
     ensures handed { HandedOver result reply (W.taken out.old) (W.taken out.new) }
     ensures sink_faults { FailsBy (W.faults out.old) (W.faults out.new)
         (result ≡ Some Status.SinkFault) }
@@ -72,7 +74,7 @@ pub fn hand_over<W: Sink>(reply: Result<String, AllocError>, out: &mut W) -> Opt
     let Ok(reply) = reply else {
         return Some(Status::Memory);
     };
-    match write_all(out, reply.as_bytes()) {
+    match write_all(out, reply.as_slice()) {
         Ok(()) => None,
         Err(_) => Some(Status::SinkFault),
     }

@@ -1,14 +1,16 @@
 //! The value of the query on the items so far.
-ghost use Rattle.std.specs.Prelude.{◌≡◌, IfOk, string_bytes};
+ghost use Rattle.std.specs.Prelude.{◌≡◌, IfOk};
 ghost use Rattle.io_edge.specs.Lines.{text, long};
 ghost use Rattle.value_ops.specs.declared.scalar.Scalar.TheVariants.{Number};
 ghost use Rattle.sqre_run.specs.Output.{RepliesTo};
 
-use crate::text::{answer_text, skip_text};
+use crate::built::Sum;
+use crate::text::skip_text;
 use item_schema::{Cause, ItemStop, Skip, read_item};
+use report_writer::answer_text;
 use std::alloc::{AllocError, Global};
 use std::marker::Model;
-use value_ops::Scalar;
+use value_ops::{Bytes, Scalar};
 
 /// How a line that is too long is skipped.
 const TOO_LONG: Skip = Skip {
@@ -33,35 +35,35 @@ impl Model for Tally {
 impl Tally {
     ghost use Rattle.std.specs.Prelude.{◌≡◌};
 
-    pub fn new(first: i64) -> Tally
-        ensures { result ≡ Number first }
+    pub fn new(sum: Sum) -> Tally
+        ensures { result ≡ Number sum.first }
     {
         Tally {
-            value: Scalar::Number(first),
+            value: Scalar::Number(sum.first),
         }
     }
 
     /// Takes a line and gives what is written for it. For want of memory there may be no text, and
     /// the line may still be counted.
-    pub fn line(&mut self, alloc: Global, line: &[u8]) -> Result<String, AllocError>
+    pub fn line(&mut self, alloc: Global, line: &[u8]) -> Result<Bytes, AllocError>
         ensures { IfOk result (λ reply.
-            RepliesTo (text line.now) (string_bytes reply) self.old self.new) }
+            RepliesTo (text line.now) reply self.old self.new) }
     {
         if line.is_empty() {
-            return Ok(String::new(alloc));
+            return Ok(Bytes::from_vec(Vec::new(alloc)));
         }
         match read_item(line) {
             Ok(number) => {
                 self.value = self.value + Scalar::Number(number);
-                answer_text(alloc, self.value)
+                answer_text(alloc, Some(self.value))
             }
             Err(ItemStop::Skip(skip)) => skip_text(alloc, skip),
         }
     }
 
     /// Takes a line that is too long and gives what is written for it.
-    pub fn long_line(&mut self, alloc: Global) -> Result<String, AllocError>
-        ensures { IfOk result (λ reply. RepliesTo long (string_bytes reply) self.old self.new) }
+    pub fn long_line(&mut self, alloc: Global) -> Result<Bytes, AllocError>
+        ensures { IfOk result (λ reply. RepliesTo long reply self.old self.new) }
     {
         skip_text(alloc, TOO_LONG)
     }

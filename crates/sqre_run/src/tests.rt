@@ -93,6 +93,54 @@ fn the_cuts_of_the_reads_change_nothing(rt: HostRuntime) -> Result<(), Fail> {
     Ok(())
 }
 
+#[test]
+fn a_query_is_spelled_freely_and_judged_by_its_first_departure(
+    rt: HostRuntime,
+) -> Result<(), Fail> {
+    let table: [(&[u8], Status, &[u8]); 6] = [
+        (
+            b"stream( plain,col(a,int) ) # sums\nmain(iter(atom(any,a),+00,add(x,y)))",
+            Status::Done,
+            b"5\n12\n",
+        ),
+        (
+            b"stream(header, col(a, int))\nmain(eps(0))",
+            Status::Refused,
+            b"refused form 7..13\n",
+        ),
+        (
+            b"stream(plain, col(a, int), col(b, int))\nmain(eps(0))",
+            Status::Refused,
+            b"refused form 0..39\n",
+        ),
+        (
+            b"stream(plain, col(a, int))\nmain(iter(atom(any, b), 0, add(x, y)))",
+            Status::Refused,
+            b"refused form 47..48\n",
+        ),
+        (
+            b"stream(plain, col(a, int))\nmain(iter(atom(any, a), 0, add(y, x)))",
+            Status::Refused,
+            b"refused form 58..59\n",
+        ),
+        (
+            b"stream(plain, col(a, int))\nmain(atom(any, 9223372036854775808))\n",
+            Status::Refused,
+            b"refused literal 42..61\n",
+        ),
+    ];
+    for (query, wanted, written) in table {
+        let given = Given {
+            query,
+            ..sum_over(b"5\n7\n")
+        };
+        let (status, bytes) = outcome(rt.alloc(), given)?;
+        assert_eq!(rt; status, wanted, "at {query:?}");
+        assert_eq!(rt; bytes.as_slice(), written, "at {query:?}");
+    }
+    Ok(())
+}
+
 // Where it is read at all, the source fails at once.
 #[test]
 fn a_run_that_is_not_begun_reads_nothing(rt: HostRuntime) -> Result<(), Fail> {

@@ -8,7 +8,7 @@ abbrev pub invariant-lines : goal.invariant-lines
 invariant-lines g l =
     let at = outside g.S.Source.left g.S.Source.ends g.W.Sink.taken in
     record {
-      running : Running l.fn.first (at l.fn.items l.fn.out) (at l.items l.out) l.lines l.tally;
+      running : Running l.fn.sum.first (at l.fn.items l.fn.out) (at l.items l.out) l.lines l.tally;
       items_calm : g.S.Source.faults l.items ≡ g.S.Source.faults l.fn.items;
       sink_calm : g.W.Sink.faults l.out ≡ g.W.Sink.faults l.fn.out;
     }

@@ -1,0 +1,120 @@
+-- The tokens of a text, and those of the terms that they are.
+use Rattle.std.proofs.Common.{◌≡◌, ℕ, List, [], ◌∷◌, ◌++◌, length, refl, sym, ap, ◌∙◌, subst, arith, length-append, append_assoc, append-nil}
+use Rattle.std.specs.List.{AllByRecursion}
+use Rattle.query_tokens.specs.declared.token.Token.{Token}
+use Rattle.query_tokens.specs.declared.token.TokenKind.TheVariants.{Word}
+use Rattle.query_tokens.specs.Raw.{IsRaw}
+use Rattle.query_tokens.specs.Tokens.{AreTokens}
+use Rattle.query_trees.specs.Trees.{Trees, none, leaf, call}
+use Rattle.query_trees.specs.Terms.{AreMore, AreArguments, AreTerms}
+use Rattle.query_forms.specs.Terms.{bytes_at}
+use Rattle.query_parser.proofs.LiesAt.{LiesAt, LiesAt-first, LiesAt-rest, LiesAt-slice}
+
+-- the bytes at a token's place are a token of its kind
+abbrev pub IsTokenAt : List ℕ → Token → Type 0
+IsTokenAt text token = IsRaw token.kind (bytes_at text token.span)
+
+-- the tokens of what lies at the end of a text are at their places
+tokens-at : (tokens : List Token) (at : ℕ) (whole front text : List ℕ) → whole ≡ front ++ text → at ≡ length front
+    → AreTokens at text tokens → AllByRecursion (IsTokenAt whole) tokens
+tokens-at [] at whole front text split place are = tt
+tokens-at (token ∷ tokens) at whole front text split place (rest, stands, are) =
+    let lies : LiesAt whole at (stands.blank ++ (stands.raw ++ rest)) = record {
+      front = front;
+      behind = [];
+      split = split ∙ ap (λ l. front ++ l) (stands.split ∙ sym (append-nil _));
+      place = place;
+    } in
+    let raw_lies = LiesAt-rest whole at token.span.from stands.blank (stands.raw ++ rest) lies stands.from in
+    let bytes = LiesAt-slice whole token.span.from token.span.to stands.raw
+    (LiesAt-first whole token.span.from stands.raw rest raw_lies) stands.to in (
+      subst (IsRaw token.kind) bytes stands.is_token.token,
+      tokens-at tokens token.span.to whole (front ++ (stands.blank ++ stands.raw)) rest
+          (split ∙ ap (λ l. front ++ l) (stands.split ∙ sym (append_assoc stands.blank stands.raw rest))
+          ∙ sym (append_assoc front (stands.blank ++ stands.raw) rest))
+          (omega (
+            arith,
+            stands.to,
+            stands.from,
+            place,
+            length-append front (stands.blank ++ stands.raw),
+            length-append stands.blank stands.raw,
+          ))
+          are,
+    )
+
+-- the tokens of a text are at their places
+pub AreTokens-at : (tokens : List Token) (text : List ℕ) → AreTokens 0 text tokens → AllByRecursion (IsTokenAt text) tokens
+AreTokens-at tokens text are = tokens-at tokens 0 text [] text refl refl are
+
+-- there is a tree
+abbrev pub HasTree : Trees → Type 0
+HasTree none = ⊥
+HasTree _ = Unit {0}
+
+-- tokens of trees of which something holds, where each call has a word and an argument
+abbrev pub AreTrees : (Token → Type 0) → Trees → Type 0
+AreTrees P none = Unit {0}
+AreTrees P (leaf token rest) = P token × AreTrees P rest
+AreTrees P (call head arguments span rest) =
+    P head × (head.kind ≡ Word) × HasTree arguments × AreTrees P arguments × AreTrees P rest
+
+-- what holds of all holds of those in front
+all-front : (P : Token → Type 0) (front behind : List Token) → AllByRecursion P (front ++ behind) → AllByRecursion P front
+all-front P [] behind all = tt
+all-front P (token ∷ front) behind all = (all.0, all-front P front behind all.1)
+
+-- and of those behind
+all-behind : (P : Token → Type 0) (front behind : List Token) → AllByRecursion P (front ++ behind) → AllByRecursion P behind
+all-behind P [] behind all = all
+all-behind P (token ∷ front) behind all = all-behind P front behind all.1
+
+-- arguments are one or more
+arguments-some : (trees : Trees) (tokens : List Token) → AreArguments trees tokens → HasTree trees
+arguments-some none tokens are = are
+arguments-some (leaf token rest) tokens are = tt
+arguments-some (call head arguments span rest) tokens are = tt
+
+-- the trees behind an argument
+more-trees : (P : Token → Type 0) (rest : Trees) (tokens : List Token) → AreMore (AreArguments rest) rest tokens
+    → AllByRecursion P tokens
+    → ((more : List Token) → AreArguments rest more → AllByRecursion P more → AreTrees P rest) → AreTrees P rest
+more-trees P none tokens are all trees = tt
+more-trees P (leaf token rest) tokens (comma, more, split, is, are) all trees =
+    trees more are (subst (AllByRecursion P) split all).1
+more-trees P (call head arguments span rest) tokens (comma, more, split, is, are) all trees =
+    trees more are (subst (AllByRecursion P) split all).1
+
+-- the trees of arguments
+arguments-trees : (P : Token → Type 0) (trees : Trees) (tokens : List Token) → AreArguments trees tokens
+    → AllByRecursion P tokens → AreTrees P trees
+arguments-trees P none tokens are all = absurd are
+arguments-trees P (leaf token rest) tokens (others, split, is, more) all =
+    let parts = subst (AllByRecursion P) split all in
+    (parts.0, more-trees P rest others more parts.1 (arguments-trees P rest))
+arguments-trees P (call head arguments span rest) tokens (others, calls, more) all =
+    let parts = subst (AllByRecursion P) calls.split all in
+    let behind = all-behind P calls.inner (calls.close ∷ others) parts.1.1 in (
+      parts.0,
+      calls.word,
+      arguments-some arguments calls.inner calls.holds,
+      arguments-trees P arguments calls.inner calls.holds (all-front P calls.inner (calls.close ∷ others) parts.1.1),
+      more-trees P rest others more behind.1 (arguments-trees P rest),
+    )
+
+-- the trees of a list
+pub terms-trees : (P : Token → Type 0) (trees : Trees) (tokens : List Token) → AreTerms trees tokens
+    → AllByRecursion P tokens → AreTrees P trees
+terms-trees P none tokens are all = tt
+terms-trees P (leaf token rest) tokens (others, split, is, more) all =
+    let parts = subst (AllByRecursion P) split all in
+    (parts.0, terms-trees P rest others more parts.1)
+terms-trees P (call head arguments span rest) tokens (others, calls, more) all =
+    let parts = subst (AllByRecursion P) calls.split all in
+    let behind = all-behind P calls.inner (calls.close ∷ others) parts.1.1 in (
+      parts.0,
+      calls.word,
+      arguments-some arguments calls.inner calls.holds,
+      arguments-trees P arguments calls.inner calls.holds (all-front P calls.inner (calls.close ∷ others) parts.1.1),
+      terms-trees P rest others more behind.1,
+    )

@@ -1,0 +1,10 @@
+//! The texts that a run writes. Each is one line and ends with an LF.
+#![tactic(auto)]
+
+mod answer;
+mod refusal;
+#[cfg(test)]
+mod tests;
+
+pub use answer::answer_text;
+pub use refusal::refusal_text;
