@@ -1,0 +1,16 @@
+-- Which values and fields take no memory.
+use Rattle.value_ops.specs.declared.field.Field.{Field}
+use Rattle.value_ops.specs.declared.field.Field.TheVariants.{Int, Text, Val}
+use Rattle.value_ops.specs.declared.value.Value.{Value}
+use Rattle.value_ops.specs.declared.value.Value.TheVariants.{Scalar, Table}
+
+-- the value is a scalar
+abbrev pub IsNoTable : Value → Type 0
+IsNoTable (Scalar scalar) = Unit {0}
+IsNoTable (Table entries) = ⊥
+
+-- the field is a number, or a value that is a scalar
+abbrev pub TakesNoMemory : Field → Type 0
+TakesNoMemory (Int number) = Unit {0}
+TakesNoMemory (Text bytes) = ⊥
+TakesNoMemory (Val value) = IsNoTable value

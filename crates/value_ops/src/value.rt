@@ -1,0 +1,33 @@
+//! A value that a query gives.
+ghost use Rattle.std.specs.Prelude.{◌≡◌, IsOk, IfOk};
+
+use crate::{Scalar, Table};
+use std::alloc::{AllocError, Global};
+
+/// A scalar, or a table of them.
+#[derive(Drop)]
+pub enum Value {
+    Scalar(Scalar),
+    Table(Table),
+}
+
+/// Whether values are scalars or tables.
+#[derive(Clone, Copy, Debug, PartialEq, Eq)]
+pub enum ValueType {
+    Number,
+    Table,
+}
+
+impl Value {
+    ghost use Rattle.value_ops.specs.Values.{IsNoTable};
+
+    pub fn try_copy(&self, alloc: Global) -> Result<Value, AllocError>
+        ensures equal { IfOk result (λ copy. copy ≡ self.now) }
+        ensures no_memory { IsNoTable self.now → IsOk result }
+    {
+        match self {
+            Value::Scalar(scalar) => Ok(Value::Scalar(*scalar)),
+            Value::Table(table) => Ok(Value::Table(table.try_copy(alloc)?)),
+        }
+    }
+}
