@@ -7,6 +7,7 @@ pub mod Memory
 pub mod Reading
 pub mod RealFile
 pub mod Started
+pub mod Steady
 pub mod Steps
 pub mod Told
 pub mod Written

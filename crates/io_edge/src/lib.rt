@@ -11,6 +11,8 @@ mod remaining;
 mod sink;
 mod source;
 mod stdout_sink;
+mod steady_sink;
+mod steady_source;
 mod under_way;
 
 pub use laws::one_list_of_lines;
@@ -21,3 +23,5 @@ pub use memory_source::MemorySource;
 pub use sink::{Sink, write_all};
 pub use source::{Failed, Source};
 pub use stdout_sink::StdoutSink;
+pub use steady_sink::SteadySink;
+pub use steady_source::SteadySource;

@@ -1,0 +1,75 @@
+//! A sink that takes every piece whole and counts its bytes.
+ghost use Rattle.std.specs.Prelude.{◌≡◌, ◌<◌, ℕ, List, Option, None, Ok, length, IfOk};
+ghost use Rattle.std.specs.Io.{WritesAtMost};
+ghost use Rattle.std.specs.Io.KnownBytes.{WriteAppends};
+ghost use Rattle.io_edge.specs.Counts.{FailsByFault};
+ghost use Rattle.io_edge.specs.Steady.{WritesSteadily};
+
+use crate::{Failed, Sink};
+use std::marker::Model;
+
+/// Keeps no byte, only their number, seen as that number.
+#[derive(Drop)]
+pub struct SteadySink {
+    count: u64,
+}
+
+impl Model for SteadySink {
+    ghost use Rattle.std.specs.Prelude.{ℕ};
+
+    ghost Value = { ℕ };
+
+    ghost view = { λ s. s.count };
+}
+
+impl SteadySink {
+    pub fn new() -> Self
+        ensures { result ≡ 0 }
+    {
+        SteadySink { count: 0 }
+    }
+
+    /// How many bytes it took, kept at `u64::MAX` once that is reached.
+    pub fn count(&self) -> u64
+        ensures { result ≡ self.now }
+    {
+        self.count
+    }
+}
+
+impl Sink for SteadySink {
+    ghost taken = { λ _. None };
+
+    ghost faults = { λ _. 0 };
+
+    fn write(&mut self, bytes: &[u8]) -> Result<usize, Failed>
+        ensures bound { WritesAtMost result bytes.now }
+        ensures some { 0 < length bytes.now → IfOk result (λ n. 0 < n) }
+        ensures bytes { WriteAppends None None result bytes.now }
+        ensures cause { FailsByFault 0 0 result }
+        ensures nothing { length bytes.now ≡ 0 → (result ≡ Ok 0) × (self.new ≡ self.old) }
+        ensures steady { WritesSteadily self.old self.new result (length bytes.now) }
+    {
+        self.count = self.count.saturating_add(bytes.len() as u64);
+        Ok(bytes.len())
+    }
+}
+
+#[cfg(test)]
+mod tests {
+    use super::*;
+
+    #[test]
+    fn counts_bytes_up_to_the_greatest_count(rt: HostRuntime) {
+        let mut sink = SteadySink::new();
+        assert_eq!(rt; sink.count(), 0);
+        assert_eq!(rt; sink.write(b""), Ok(0));
+        assert_eq!(rt; sink.write(b"12\n34"), Ok(5));
+        assert_eq!(rt; sink.count(), 5);
+        sink.count = u64::MAX - 1;
+        for _ in 0..2 {
+            assert_eq!(rt; sink.write(b"12\n"), Ok(3));
+            assert_eq!(rt; sink.count(), u64::MAX);
+        }
+    }
+}
