@@ -1,98 +1,96 @@
--- What the tests of `item_of` find is what an item is, and what `parse` reads.
-use Rattle.std.proofs.Common.{◌≡◌, ℕ, ℤ, pos, negsuc, Bool, true, false, cond, ◌==◌, nat_lt, List, [], ◌∷◌, length, drop, Some, None, Result, Ok, Err, refl, sym, arith, FitsSigned, w64}
-use Rattle.std.specs.Result.{result_ok}
-use Rattle.std.specs.Str.{all_ascii_digits, IsAscii, IsUtf8}
-use Rattle.std.specs.Str.Parse.{AllDigits, IsNumeral, ParsesSigned, digits_value, without_leading_sign, signed_digits_value}
-use Rattle.std.proofs.lemmas.Bool.{and_parts, and_from}
-use Rattle.std.proofs.lemmas.Bool.Decides.{nat_tests}
+-- What an item of a line is.
+use Rattle.std.proofs.Common.{◌≡◌, ℕ, ◌+◌, ◌==◌, ℤ, pos, negsuc, Bool, true, false, if◌then◌else◌, List, [], ◌∷◌, length, nat_lt, Option, Some, None, Result, Ok, Err, refl, arith, FitsSigned, w64}
+use Rattle.std.specs.List.{list_any}
+use Rattle.std.specs.Str.Parse.{signed_digits_value, without_leading_sign}
 use Rattle.std.proofs.lemmas.Grind.{common_steps}
-use Rattle.std.proofs.lemmas.Str.{IsUtf8-from_ascii}
-use Rattle.std.proofs.lemmas.Str.Ascii.{IsAscii-nil, IsAscii-cons}
-use Rattle.std.proofs.lemmas.Str.Parse.{IsNumeralModel, digit_from_value, numerals_by_value, tells_all_ascii_digits}
-use Rattle.item_schema.specs.Item.{IsItem, is_numeral, stored, item_of}
-
--- the test of all bytes finds the digits
-digits_are : IsNumeralModel (λ digits. all_ascii_digits digits ≡ true) (digits_value 10)
-digits_are = numerals_by_value _ tells_all_ascii_digits
-
--- what passes the test is a numeral
-numeral_from_test : (digits : List ℕ) → is_numeral digits ≡ true → IsNumeral 10 digits
-numeral_from_test digits passes =
-    let parts = and_parts (nat_lt 0 (length digits)) (all_ascii_digits digits) passes in
-    (grind (arith, nat_tests), digits_are.to digits parts.1)
-
--- a numeral passes the test
-numeral_passes : (digits : List ℕ) → IsNumeral 10 digits → is_numeral digits ≡ true
-numeral_passes digits numeral =
-    and_from (nat_lt 0 (length digits)) (all_ascii_digits digits) (grind (arith, nat_tests)) (digits_are.from digits numeral.1)
-
--- a number that fits is stored
-stored_from : (number : ℤ) → FitsSigned w64 number → stored number ≡ Some number
-stored_from (pos n) fits = grind (arith, nat_tests)
-stored_from (negsuc n) fits = grind (arith, nat_tests)
-
--- one that does not fit is not
-stored_none : (number : ℤ) → ¬ (FitsSigned w64 number) → stored number ≡ None
-stored_none (pos n) beyond = grind (arith, common_steps)
-stored_none (negsuc n) beyond = grind (arith, common_steps)
+use Rattle.value_ops.specs.declared.field.Field.{Field}
+use Rattle.value_ops.specs.declared.field.Field.TheVariants as field
+use Rattle.item_schema.specs.declared.column.Column.{Column}
+use Rattle.item_schema.specs.declared.column.Kind.{Kind}
+use Rattle.item_schema.specs.declared.column.Kind.TheVariants.{Int, Fixed, Text, Number, Table}
+use Rattle.item_schema.specs.declared.stop.Cause.{Cause}
+use Rattle.item_schema.specs.declared.stop.Skip.{Skip}
+use Rattle.item_schema.specs.Items.{IsFieldOf, IsItemOf}
+use Rattle.item_schema.specs.Reading.{field_of, fields_of, fraction_of, in_column, is_decimal, is_numeral, item_of, item_of_record, record_of, signed, stored, units, whole_of, with_field}
 
 -- what is stored is the number itself, and fits
-stored_some : (value number : ℤ) → stored value ≡ Some number → (number ≡ value) × FitsSigned w64 value
-stored_some (pos n) number is = grind (arith, common_steps)
-stored_some (negsuc n) number is = grind (arith, common_steps)
+pub stored_is : (number : ℤ) (kept : Field) → stored number ≡ Ok kept → (kept ≡ field.Int number) × FitsSigned w64 number
+stored_is (pos n) kept is = grind (arith, common_steps)
+stored_is (negsuc n) kept is = grind (arith, common_steps)
 
--- the two tests together, where no number passes both
-none_of_tests : (numeral : Bool) (value : ℤ) → ¬ ((numeral ≡ true) × FitsSigned w64 value) → cond numeral (stored value) None ≡ None
-none_of_tests false value excluded = refl
-none_of_tests true value excluded = stored_none value (λ fits. excluded (refl, fits))
+-- a number that fits is stored
+pub stored_fits : (number : ℤ) → FitsSigned w64 number → stored number ≡ Ok (field.Int number)
+stored_fits (pos n) fits = grind (arith, common_steps)
+stored_fits (negsuc n) fits = grind (arith, common_steps)
 
--- and where they give a number
-some_of_tests : (numeral : Bool) (value number : ℤ) → cond numeral (stored value) None ≡ Some number → (numeral ≡ true) × (stored value ≡ Some number)
-some_of_tests false value number is = absurd (cc)
-some_of_tests true value number is = (refl, is)
+-- what is given where a test passes
+pub passes_is : {A E : Type 0} (test : Bool) (given : Result A E) (error : E) (value : A)
+    → (if test then given else Err error) ≡ Ok value → (test ≡ true) × (given ≡ Ok value)
+passes_is true given error value is = (refl, is)
+passes_is false given error value is = absurd (cc)
 
--- a line whose number is an item's is that item
-pub item_from_tests : (line : List ℕ) (number : ℤ) → item_of line ≡ Some number → IsItem line number
-unfolding item_of
-item_from_tests line number is =
-    let passes = some_of_tests (is_numeral (without_leading_sign line)) (signed_digits_value 10 line) number is in
-    let kept = stored_some (signed_digits_value 10 line) number passes.1 in
-    record { numeral = numeral_from_test _ passes.0; writes = kept.0; fits = rw kept.0 kept.1 }
+-- and where it fails
+pub fails_is : {A E : Type 0} (test : Bool) (given : Result A E) (error : E) (value : A)
+    → (if test then Err error else given) ≡ Ok value → (test ≡ false) × (given ≡ Ok value)
+fails_is true given error value is = absurd (cc)
+fails_is false given error value is = (refl, is)
 
--- an item is found
-pub item_passes : (line : List ℕ) (number : ℤ) → IsItem line number → item_of line ≡ Some number
-unfolding item_of
-item_passes line number item =
-    rw (numeral_passes (without_leading_sign line) item.numeral, ← item.writes) (stored_from number item.fits)
+-- the first field and the others, where there is no cause
+pub with_field_is : (first : Result Field Skip) (others : Result (List Field) Skip) (fields : List Field) → with_field first others ≡ Ok fields
+    → (field : Field) × (rest : List Field) × (first ≡ Ok field) × (others ≡ Ok rest) × (fields ≡ field ∷ rest)
+with_field_is (Ok field) (Ok rest) fields is = (field, rest, refl, refl, cc)
+with_field_is (Ok field) (Err stop) fields is = absurd (cc)
+with_field_is (Err stop) others fields is = absurd (cc)
 
--- a line that is no numeral, or whose number does not fit, is no item
-pub item_none : (line : List ℕ) → ¬ (IsNumeral 10 (without_leading_sign line) × FitsSigned w64 (signed_digits_value 10 line)) → item_of line ≡ None
-unfolding item_of
-item_none line excluded =
-    none_of_tests (is_numeral (without_leading_sign line)) (signed_digits_value 10 line) (λ (passes, fits). excluded (numeral_from_test _ passes, fits))
+-- a field in a column
+pub in_column_is : (column : ℕ) (given : Result Field Cause) (field : Field) → in_column column given ≡ Ok field → given ≡ Ok field
+in_column_is column (Ok field) kept is = cc
+in_column_is column (Err cause) kept is = absurd (cc)
 
--- digits are ASCII
-digits_ascii : (digits : List ℕ) → AllDigits 10 digits → IsAscii digits
-digits_ascii [] all = IsAscii-nil
-digits_ascii (c ∷ cs) all = IsAscii-cons c cs (omega (arith, digit_from_value c all.0)) (digits_ascii cs all.1)
+-- a stored number is a field of a column of whole numbers
+int_is_of : (number : ℤ) (kept : Field) → stored number ≡ Ok kept → IsFieldOf Int kept
+int_is_of number kept is =
+    let parts = stored_is number kept is in
+    rw parts.0 parts.1
 
--- and so is a sign before them
-signed_ascii : (c : ℕ) (cs : List ℕ) (minus plus : Bool) → (c == 45) ≡ minus → (c == 43) ≡ plus → AllDigits 10 (cond minus (drop 1 (c ∷ cs)) (drop (cond plus 1 0) (c ∷ cs))) → IsAscii (c ∷ cs)
-signed_ascii c cs true plus m p all = IsAscii-cons c cs (grind (arith, nat_tests)) (digits_ascii cs all)
-signed_ascii c cs false true m p all = IsAscii-cons c cs (grind (arith, nat_tests)) (digits_ascii cs all)
-signed_ascii c cs false false m p all = digits_ascii (c ∷ cs) all
+-- and of one of fixed point
+fixed_is_of : (places : ℕ) (number : ℤ) (kept : Field) → stored number ≡ Ok kept → IsFieldOf (Fixed places) kept
+fixed_is_of places number kept is =
+    let parts = stored_is number kept is in
+    rw parts.0 parts.1
 
--- a numeral with a sign or none is a text
-numeral_is_text : (line : List ℕ) → IsNumeral 10 (without_leading_sign line) → IsUtf8 line
-numeral_is_text [] numeral = IsUtf8-from_ascii [] IsAscii-nil
-numeral_is_text (c ∷ cs) numeral = IsUtf8-from_ascii (c ∷ cs) (signed_ascii c cs (c == 45) (c == 43) refl refl numeral.1)
+-- a field that a text writes is one of its column
+pub field_is_of : (kind : Kind) (bytes : List ℕ) (kept : Field) → field_of kind bytes ≡ Ok kept → IsFieldOf kind kept
+field_is_of Int bytes kept is =
+    int_is_of (signed_digits_value 10 bytes) kept (passes_is (is_numeral (without_leading_sign bytes)) _ _ kept is).1
+field_is_of (Fixed places) bytes kept is =
+    let form = (passes_is (is_decimal bytes) _ _ kept is).1 in
+    fixed_is_of places (signed bytes (units places (whole_of bytes) (fraction_of bytes))) kept
+    (fails_is (nat_lt places (length (fraction_of bytes))) _ _ kept form).1
+field_is_of Text bytes kept is =
+    let same : kept ≡ field.Text bytes = cc in
+    rw same tt
+field_is_of Number bytes kept is = absurd (cc)
+field_is_of Table bytes kept is = absurd (cc)
 
--- bytes that are no text are no item
-pub item_of_no_text : (line : List ℕ) → ¬ (IsUtf8 line) → item_of line ≡ None
-item_of_no_text line broken = item_none line (λ (numeral, fits). broken (numeral_is_text line numeral))
+-- fields that texts write are those of an item of the columns
+pub fields_are_of : (at : ℕ) (columns : List Column) (texts : List (List ℕ)) (fields : List Field)
+    → fields_of at columns texts ≡ Ok fields → IsItemOf columns fields
+fields_are_of at [] [] fields is = let none : fields ≡ [] = cc in rw none tt
+fields_are_of at (column ∷ columns) (bytes ∷ texts) fields is =
+    let (first, rest, reads, others, both) = with_field_is (in_column at (field_of column.kind bytes)) (fields_of (at + 1) columns texts) fields is in
+    rw both (field_is_of column.kind bytes first (in_column_is at _ first reads), fields_are_of (at + 1) columns texts rest others)
+fields_are_of at [] (bytes ∷ texts) fields is = absurd (cc)
+fields_are_of at (column ∷ columns) [] fields is = absurd (cc)
 
--- what `parse` reads is the item
-pub item_of_parsed : {E : Type 0} (line : List ℕ) (r : Result ℤ E) → ParsesSigned w64 10 line r → result_ok r ≡ item_of line
-item_of_parsed line (Ok number) parses =
-    sym (item_passes line number (record { numeral = parses.0.0; writes = parses.1; fits = rw parses.1 parses.0.1 }))
-item_of_parsed line (Err error) parses = sym (item_none line parses)
+-- a row with an item has texts that are read
+pub row_is : (columns : List Column) (row : Option (List (List ℕ))) (fields : List Field) → item_of_record columns row ≡ Ok fields
+    → (texts : List (List ℕ)) × (row ≡ Some texts) × (fields_of 1 columns texts ≡ Ok fields)
+row_is columns None fields is = absurd (cc)
+row_is columns (Some texts) fields is = (texts, refl, (passes_is (length texts == length columns) _ _ fields is).1)
+
+-- the item of a line is one of the columns
+pub item_is_of : (columns : List Column) (line : List ℕ) (fields : List Field) → item_of columns line ≡ Ok fields → IsItemOf columns fields
+item_is_of columns line fields is =
+    let (texts, row, reads) = row_is columns (record_of line) fields (fails_is (list_any (λ b. b == 13) line) _ _ fields is).1 in
+    fields_are_of 1 columns texts fields reads

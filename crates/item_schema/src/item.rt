@@ -1,79 +1,127 @@
-//! An item that is one number, as it stands in a line.
-ghost use Rattle.std.specs.Prelude.{◌≡◌, ◌↔◌, ℕ, ℤ, List, IfOk, IfErr};
-ghost use Rattle.item_schema.specs.Item.{IsItem, item_of, no_number};
+//! An item of a stream.
+ghost use Rattle.std.specs.Prelude.{◌≡◌, [], ◌∷◌, IsOk, IfOk};
+ghost use Rattle.value_ops.specs.Values.{IsNoTable};
 
-use crate::stop::{Cause, ItemStop, Skip};
+use std::alloc::{AllocError, Global};
+use std::marker::Model;
+use value_ops::{Field, Value};
 
-/// Reads a line that is one number: a sign or none, and digits.
-pub fn read_item(line: &[u8]) -> Result<i64, ItemStop>
-    ensures item { IfOk result (λ number. item_of line.now ≡ Some number) }
-    ensures skipped { IfErr result (λ stop. (item_of line.now ≡ None) × (stop ≡ ItemStop.Skip no_number)) }
-{
-    number_of(line).ok_or(ItemStop::Skip(Skip {
-        cause: Cause::Number,
-        column: 1,
-    }))
+/// A field for each column of a stream, seen as the list of these.
+#[derive(Drop)]
+pub struct Item {
+    fields: Fields,
 }
 
-#[tactic(auto, using(crate::proofs::Items::item_of_no_text))]
-fn number_of(line: &[u8]) -> Option<i64>
-    ensures { result ≡ item_of line.now }
-{
-    let Ok(text) = str::from_utf8(line) else {
-        return None;
-    };
-    text.parse().ok()
+// One field takes no memory.
+#[derive(Drop)]
+enum Fields {
+    One([Field; 1]),
+    Many(Vec<Field>),
 }
 
-/// A line is an item of at most one number, the one that `read_item` gives.
-pub fn one_number_per_line()
-    ensures { (line : List ℕ) (number : ℤ) →
-        (item_of line ≡ Some number) ↔ IsItem line number }
-{}
+impl Model for Item {
+    ghost use Rattle.std.specs.Prelude.{List};
+    ghost use Rattle.value_ops.specs.declared.field.Field.{Field};
+
+    ghost Value = { List Field };
+
+    ghost use Rattle.item_schema.specs.Fields.{list_of};
+
+    ghost view = { λ i. list_of i.fields };
+}
+
+impl Item {
+    /// The item of a stream of values.
+    pub fn of_value(alloc: Global, value: &Value) -> Result<Item, AllocError>
+        ensures item { IfOk result (λ item. item ≡ Field.Val value.now ∷ []) }
+        ensures no_memory { IsNoTable value.now → IsOk result }
+    {
+        Ok(Item {
+            fields: Fields::One([Field::Val(value.try_copy(alloc)?)]),
+        })
+    }
+
+    pub fn from_fields(fields: Vec<Field>) -> Item
+        ensures { result ≡ fields.items }
+    {
+        Item {
+            fields: Fields::Many(fields),
+        }
+    }
+
+    pub fn fields(&self) -> &[Field]
+        ensures { result.now ≡ self.now }
+    {
+        match &self.fields {
+            Fields::One(field) => field,
+            Fields::Many(fields) => fields,
+        }
+    }
+
+    pub fn try_copy(&self, alloc: Global) -> Result<Item, AllocError>
+        ensures { IfOk result (λ copy. copy ≡ self.now) }
+    {
+        Ok(Item {
+            fields: self.fields.try_copy(alloc)?,
+        })
+    }
+}
+
+impl Fields {
+    ghost use Rattle.item_schema.specs.Fields.{list_of};
+
+    fn try_copy(&self, alloc: Global) -> Result<Fields, AllocError>
+        ensures { IfOk result (λ copy. list_of copy ≡ list_of self.now) }
+    {
+        match self {
+            Fields::One([field]) => Ok(Fields::One([field.try_copy(alloc)?])),
+            Fields::Many(fields) => Ok(Fields::Many(copied(alloc, fields)?)),
+        }
+    }
+}
+
+fn copied(alloc: Global, fields: &[Field]) -> Result<Vec<Field>, AllocError>
+    ensures { IfOk result (λ copy. copy.items ≡ fields.now) }
+{
+    let mut copy = Vec::with_capacity(alloc, fields.len())?;
+    'fields: for field in fields {
+        copy.push(field.try_copy(alloc)?)?;
+    }
+    Ok(copy)
+}
 
 #[cfg(test)]
 mod tests {
     use super::*;
+    use std::test::Fail;
+    use value_ops::{Bytes, Scalar};
 
-    fn cause_and_column(ItemStop::Skip(skip): ItemStop) -> (u8, u32) {
-        (skip.cause as u8, skip.column)
+    #[test]
+    fn an_item_of_a_value_has_it_alone(rt: HostRuntime) -> Result<(), Fail> {
+        let item = Item::of_value(rt.alloc(), &Value::Scalar(Scalar::Number(-7)))?;
+        let copy = item.try_copy(rt.alloc())?;
+        for item in [&item, &copy] {
+            assert_eq!(rt; item.fields().len(), 1);
+            let alone = item.fields().first();
+            assert!(rt; matches!(alone, Some(Field::Val(Value::Scalar(Scalar::Number(-7))))));
+        }
+        Ok(())
     }
 
     #[test]
-    fn reads_what_is_a_number_of_64_bits(rt: HostRuntime) {
-        let cases = [
-            (b"5".as_slice(), 5),
-            (b"+5", 5),
-            (b"007", 7),
-            (b"-2", -2),
-            (b"-0", 0),
-            (b"9223372036854775807", i64::MAX),
-            (b"-9223372036854775808", i64::MIN),
-        ];
-        for (line, number) in cases {
-            assert_eq!(rt; read_item(line), Ok(number));
+    fn an_item_has_its_fields_in_order(rt: HostRuntime) -> Result<(), Fail> {
+        let mut fields = Vec::new(rt.alloc());
+        fields.push(Field::Text(Bytes::from_slice(rt.alloc(), b"north")?))?;
+        fields.push(Field::Int(3))?;
+        let item = Item::from_fields(fields);
+        let copy = item.try_copy(rt.alloc())?;
+        for item in [&item, &copy] {
+            let both = match item.fields() {
+                [Field::Text(name), Field::Int(number)] => Some((name.as_slice(), *number)),
+                _ => None,
+            };
+            assert_eq!(rt; both, Some((b"north".as_slice(), 3)));
         }
-    }
-
-    #[test]
-    fn skips_every_other_line(rt: HostRuntime) {
-        let lines = [
-            b"".as_slice(),
-            b"x",
-            b"-",
-            b"+-5",
-            b" 1",
-            b"1 ",
-            b"1,2",
-            b"1\r2",
-            b"9223372036854775808",
-            b"-9223372036854775809",
-            b"\xff",
-            b"1e3",
-            b"5.0",
-        ];
-        for line in lines {
-            assert_eq!(rt; read_item(line).map_err(cause_and_column), Err((4, 1)));
-        }
+        Ok(())
     }
 }

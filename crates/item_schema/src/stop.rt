@@ -1,17 +1,31 @@
 //! Why a line gives no item.
+ghost use Rattle.std.specs.Prelude.{◌≡◌};
+ghost use Rattle.item_schema.specs.Reading.{skip};
 
-/// What is wrong with a field.
+use std::alloc::AllocError;
+
+/// What is wrong with a line.
 #[derive(Clone, Copy, Debug, PartialEq, Eq)]
 pub enum Cause {
-    /// It is not a number that can be stored.
+    /// It has more than 65,536 bytes.
+    Long = 1,
+    /// A CR is left in it.
+    Cr = 2,
+    /// It has not a field for each column.
+    Columns = 3,
+    /// A field has not the form of a number of its column.
     Number = 4,
+    /// A number does not fit 64 bits.
+    Range = 5,
+    /// A number has more digits behind the point than its column.
+    Digits = 6,
 }
 
-/// A line that is left out, for the cause that is found in a column.
+/// A line that is left out, for a cause that is found in a column.
 #[derive(Clone, Copy, Debug, PartialEq, Eq)]
 pub struct Skip {
     pub cause: Cause,
-    /// Counted from 1.
+    /// Counted from 1, and 0 where the cause is one of the whole line.
     pub column: u32,
 }
 
@@ -19,4 +33,23 @@ pub struct Skip {
 #[derive(Clone, Copy, Debug, PartialEq, Eq)]
 pub enum ItemStop {
     Skip(Skip),
+    Memory,
+}
+
+impl ItemStop {
+    pub(crate) fn skip(cause: Cause, column: u32) -> ItemStop
+        ensures { result ≡ ItemStop.Skip (skip cause column) }
+    {
+        ItemStop::Skip(Skip { cause, column })
+    }
+}
+
+impl From<AllocError> for ItemStop {
+    ghost use Rattle.item_schema.specs.declared.stop.ItemStop.TheVariants.{Memory};
+
+    ghost from_gives = { λ _ stop. stop ≡ Memory };
+
+    fn from(_error: AllocError) -> ItemStop {
+        ItemStop::Memory
+    }
 }

@@ -1,0 +1,10 @@
+use Rattle.std.proofs.Common.{◌==◌, arith}
+use Rattle.std.proofs.lemmas.Bool.Decides.{nat_tests}
+use Rattle.std.proofs.lemmas.Grind.{common_steps}
+use Rattle.item_schema.proofs.Cuts.{is_found}
+use Rattle.item_schema.proofs.cut.cut_at.Goals as goal
+
+pub returns-in-Some-clause-behind : goal.returns-in-Some-clause-behind
+returns-in-Some-clause-behind c =
+    let found = is_found (λ at. at == c.args.byte) c.args.text.now in
+    grind (arith, nat_tests, common_steps)

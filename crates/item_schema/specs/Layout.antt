@@ -1,0 +1,61 @@
+-- The columns of a stream.
+use Rattle.std.specs.Prelude.{◌≤◌, ◌<◌, ◌&&◌, not, nat_le, nat_lt, ℕ, Bool, true, false, List, [], ◌∷◌, length, codes, IsTrue}
+use Rattle.std.specs.List.{list_all, list_any}
+use Rattle.std.specs.Str.{bytes_eq}
+use Rattle.value_ops.specs.declared.value.ValueType.{ValueType}
+use Rattle.value_ops.specs.declared.value.ValueType.TheVariants as values
+use Rattle.item_schema.specs.declared.column.Column.{Column}
+use Rattle.item_schema.specs.declared.column.Kind.{Kind}
+use Rattle.item_schema.specs.declared.column.Kind.TheVariants.{Int, Fixed, Text, Number, Table}
+
+-- the columns, and whether a header line comes before the items
+pub record Layout : Type 0 where
+  pub has_header : Bool
+  pub columns : List Column
+
+-- a fixed point has 1 to 9 digits behind it
+abbrev pub has_digits : Kind → Bool
+has_digits Int = true
+has_digits (Fixed digits) = nat_le 1 digits && nat_le digits 9
+has_digits Text = true
+has_digits Number = true
+has_digits Table = true
+
+-- fields of this kind are read from lines
+abbrev pub is_read : Kind → Bool
+is_read Int = true
+is_read (Fixed digits) = true
+is_read Text = true
+is_read Number = false
+is_read Table = false
+
+-- no two columns have one name
+abbrev pub are_distinct : List Column → Bool
+are_distinct [] = true
+are_distinct (column ∷ columns) =
+    not (list_any (λ c. bytes_eq column.name c.name) columns) && are_distinct columns
+
+-- 1 to 32 columns with names of their own
+pub record IsLayout (columns : List Column) : Type 0 where
+  pub some : 0 < length columns
+  pub few : length columns ≤ 32
+  pub distinct : IsTrue (are_distinct columns)
+  pub digits : IsTrue (list_all (λ c. has_digits c.kind) columns)
+
+-- the same as a test, of columns that are all read from lines
+abbrev pub are_columns : List Column → Bool
+are_columns columns =
+    nat_lt 0 (length columns) && nat_le (length columns) 32 && are_distinct columns
+    && list_all (λ c. has_digits c.kind && is_read c.kind) columns
+
+-- the kind of a column that has values of this type
+abbrev pub kind_of_values : ValueType → Kind
+kind_of_values values.Number = Number
+kind_of_values values.Table = Table
+
+-- a stream of values that another query gives: no header, and one column, `value`
+abbrev pub derived_layout : ValueType → Layout
+derived_layout ty = record {
+  has_header = false;
+  columns = record { name = codes "value"; kind = kind_of_values ty } ∷ [];
+}

@@ -1,0 +1,60 @@
+//! The row that `csv` reads of a line.
+ghost use Rattle.std.specs.Prelude.{◌≡◌, ◌+◌, ◌<◌, ◌∷◌, Ok, IfErr, IfOk, drop, length, option_map};
+ghost use Rattle.csv.specs.Records as csv;
+ghost use Rattle.item_schema.specs.Reading.{IsStopOf, fields_of, record_of};
+
+use crate::field::push_field;
+use crate::{ItemStop, Schema};
+use csv::{ByteRecord, Error, ReaderBuilder};
+use std::alloc::{AllocError, Global};
+use value_ops::Field;
+
+/// The first row of the line, if it has one.
+pub(crate) fn read_row(alloc: Global, line: &[u8]) -> Result<Option<ByteRecord>, AllocError>
+    ensures { IfOk result (λ row. option_map csv.fields_of row ≡ record_of line.now) }
+{
+    first_row(alloc, line).map_err(|_| AllocError)
+}
+
+fn first_row(alloc: Global, line: &[u8]) -> Result<Option<ByteRecord>, Error>
+    ensures { IfOk result (λ row. option_map csv.fields_of row ≡ record_of line.now) }
+{
+    let mut reader = ReaderBuilder::new()
+        .has_headers(false)
+        .flexible(true)
+        .from_reader(alloc, line);
+    let mut row = ByteRecord::new(alloc);
+    if reader.read_byte_record(&mut row)? {
+        Ok(Some(row))
+    } else {
+        Ok(None)
+    }
+}
+
+/// The fields of the columns, from left to right.
+pub(crate) fn row_fields(
+    alloc: Global,
+    schema: &Schema,
+    row: &ByteRecord,
+) -> Result<Vec<Field>, ItemStop>
+    requires { length (csv.fields_of row.now) ≡ length schema.now.columns }
+    ensures fields { IfOk result (λ fields.
+        fields_of 1 schema.now.columns (csv.fields_of row.now) ≡ Ok fields.items) }
+    ensures stopped { IfErr result
+        (IsStopOf (fields_of 1 schema.now.columns (csv.fields_of row.now))) }
+{
+    let mut fields = Vec::with_capacity(alloc, row.len())?;
+    for index in 0..row.len() {
+        push_field(alloc, schema, &mut fields, text_at(row, index))?;
+    }
+    Ok(fields)
+}
+
+// What stands in the row at this place.
+fn text_at(row: &ByteRecord, index: usize) -> &[u8]
+    requires { index < length (csv.fields_of row.now) }
+    ensures { drop index (csv.fields_of row.now)
+        ≡ result.now ∷ drop (index + 1) (csv.fields_of row.now) }
+{
+    row.get(index).unwrap()
+}

@@ -1,0 +1,172 @@
+//! The columns of a stream.
+ghost use Rattle.std.specs.Prelude.{◌≡◌, ◌↔◌, IsTrue, IfOk};
+ghost use Rattle.item_schema.specs.Items.{IsItemOf};
+ghost use Rattle.item_schema.specs.Layout.{IsLayout, are_columns, derived_layout};
+
+use crate::{Column, Item, Kind};
+use std::alloc::{AllocError, Global};
+use std::marker::Model;
+use value_ops::{Bytes, Field, ValueType};
+
+/// The columns of a stream, and whether a header line comes before its items.
+#[derive(Drop)]
+pub struct Schema {
+    has_header: bool,
+    columns: Vec<Column>,
+}
+
+impl Model for Schema {
+    ghost use Rattle.item_schema.specs.Layout.{Layout, IsLayout};
+
+    ghost Value = { Layout };
+
+    ghost view = { λ s. record { has_header = s.has_header; columns = s.columns.items } };
+
+    ghost invariant = { λ s. IsLayout s.columns.items };
+}
+
+impl Schema {
+    /// A schema of columns that lines are read to.
+    pub fn new(has_header: bool, columns: Vec<Column>) -> Schema
+        requires { IsTrue (are_columns columns.items) }
+        ensures { result ≡ record { has_header = has_header; columns = columns.items } }
+    {
+        Schema {
+            has_header,
+            columns,
+        }
+    }
+
+    /// The schema of a stream of values that another query gives.
+    pub fn derived(alloc: Global, ty: ValueType) -> Result<Schema, AllocError>
+        ensures { IfOk result (λ schema. schema ≡ derived_layout ty) }
+    {
+        let kind = match ty {
+            ValueType::Number => Kind::Number,
+            ValueType::Table => Kind::Table,
+        };
+        let mut columns = Vec::with_capacity(alloc, 1)?;
+        columns.push(Column {
+            name: Bytes::from_slice(alloc, b"value")?,
+            kind,
+        })?;
+        Ok(Schema {
+            has_header: false,
+            columns,
+        })
+    }
+
+    pub fn has_header(&self) -> bool
+        ensures { result ≡ self.now.has_header }
+    {
+        self.has_header
+    }
+
+    pub fn columns(&self) -> &[Column]
+        ensures columns { result.now ≡ self.now.columns }
+        ensures layout { IsLayout self.now.columns }
+    {
+        &self.columns
+    }
+
+    /// Whether the item is one of these columns.
+    pub fn has_item(&self, item: &Item) -> bool
+        ensures { IsTrue result ↔ IsItemOf self.now.columns item.now }
+    {
+        have_fields(&self.columns, item.fields())
+    }
+
+    pub fn try_copy(&self, alloc: Global) -> Result<Schema, AllocError>
+        ensures { IfOk result (λ copy. copy ≡ self.now) }
+    {
+        let mut columns = Vec::with_capacity(alloc, self.columns.len())?;
+        'columns: for column in &self.columns {
+            columns.push(column.try_copy(alloc)?)?;
+        }
+        Ok(Schema {
+            has_header: self.has_header,
+            columns,
+        })
+    }
+}
+
+fn have_fields(columns: &[Column], fields: &[Field]) -> bool
+    ensures { IsTrue result ↔ IsItemOf columns.now fields.now }
+{
+    'fields: for (column, field) in columns.iter().zip(fields) {
+        if !column.kind.has_field(field) {
+            return false;
+        }
+    }
+    columns.len() == fields.len()
+}
+
+#[cfg(test)]
+mod tests {
+    use super::*;
+    use std::test::Fail;
+    use value_ops::{Scalar, Table, Value};
+
+    #[test]
+    fn a_derived_stream_has_values_alone(rt: HostRuntime) -> Result<(), Fail> {
+        let number = Item::of_value(rt.alloc(), &Value::Scalar(Scalar::Overflow))?;
+        let table = Item::of_value(rt.alloc(), &Value::Table(Table::new(rt.alloc())))?;
+        let none = Item::from_fields(Vec::new(rt.alloc()));
+        for (ty, kind) in [
+            (ValueType::Number, Kind::Number),
+            (ValueType::Table, Kind::Table),
+        ] {
+            let schema = Schema::derived(rt.alloc(), ty)?;
+            assert!(rt; !schema.has_header());
+            assert_eq!(rt; schema.columns().len(), 1);
+            assert_eq!(rt; schema.columns()[0].name.as_slice(), b"value".as_slice());
+            assert_eq!(rt; schema.columns()[0].kind, kind);
+            assert_eq!(rt; schema.has_item(&number), ty == ValueType::Number);
+            assert_eq!(rt; schema.has_item(&table), ty == ValueType::Table);
+            assert!(rt; !schema.has_item(&none));
+        }
+        Ok(())
+    }
+
+    fn item_with(alloc: Global, kinds: &[Kind]) -> Result<Item, AllocError> {
+        let mut fields = Vec::new(alloc);
+        for kind in kinds {
+            fields.push(match kind {
+                Kind::Text => Field::Text(Bytes::from_slice(alloc, b"east")?),
+                _ => Field::Int(-250),
+            })?;
+        }
+        Ok(Item::from_fields(fields))
+    }
+
+    #[test]
+    fn an_item_has_a_field_for_each_column(rt: HostRuntime) -> Result<(), Fail> {
+        let mut columns = Vec::new(rt.alloc());
+        let name = Bytes::from_slice(rt.alloc(), b"gauge")?;
+        columns.push(Column {
+            name,
+            kind: Kind::Text,
+        })?;
+        let name = Bytes::from_slice(rt.alloc(), b"rain")?;
+        columns.push(Column {
+            name,
+            kind: Kind::Fixed(2),
+        })?;
+        let schema = Schema::new(true, columns);
+        let copy = schema.try_copy(rt.alloc())?;
+        let cases: [(&[Kind], bool); 5] = [
+            (&[Kind::Text, Kind::Fixed(2)], true),
+            (&[Kind::Fixed(2), Kind::Text], false),
+            (&[Kind::Text], false),
+            (&[Kind::Text, Kind::Fixed(2), Kind::Int], false),
+            (&[], false),
+        ];
+        for (kinds, wanted) in cases {
+            let item = item_with(rt.alloc(), kinds)?;
+            assert_eq!(rt; schema.has_item(&item), wanted, "{kinds:?}");
+            assert_eq!(rt; copy.has_item(&item), wanted, "{kinds:?}");
+        }
+        assert!(rt; copy.has_header());
+        Ok(())
+    }
+}
