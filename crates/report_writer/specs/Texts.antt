@@ -3,6 +3,9 @@ use Rattle.std.specs.Prelude.{ℕ, List, ◌++◌, codes, decimal, Option, Some,
 use Rattle.std.specs.Fmt.{signed_decimal}
 use Rattle.value_ops.specs.declared.scalar.Scalar.{Scalar}
 use Rattle.value_ops.specs.declared.scalar.Scalar.TheVariants.{Number, Overflow, DivZero}
+use Rattle.item_schema.specs.declared.stop.Cause.{Cause}
+use Rattle.item_schema.specs.declared.stop.Cause.TheVariants as cause
+use Rattle.item_schema.specs.declared.stop.Skip.{Skip}
 use Rattle.query_model.specs.declared.refusal.Refusal.{Refusal}
 use Rattle.query_model.specs.declared.rule.Rule.{Rule}
 use Rattle.query_model.specs.declared.rule.Rule.TheVariants.{Long, Token, Term, Depth, Form, Name, Nested, Size, Literal, Type_, Cells, Empty, Choice, Split, Iter, Reach, Rates, Compose}
@@ -13,6 +16,20 @@ answer_text (Some (Number number)) = signed_decimal number ++ codes "\n"
 answer_text (Some Overflow) = codes "overflow\n"
 answer_text (Some DivZero) = codes "divzero\n"
 answer_text None = codes "undefined\n"
+
+-- a cause by its name
+abbrev pub cause_name : Cause → List ℕ
+cause_name cause.Long = codes "long"
+cause_name cause.Cr = codes "cr"
+cause_name cause.Columns = codes "columns"
+cause_name cause.Number = codes "number"
+cause_name cause.Range = codes "range"
+cause_name cause.Digits = codes "digits"
+
+-- a line that is left out: the cause, and the column
+abbrev pub skip_text : Skip → List ℕ
+skip_text skip =
+    codes "skipped " ++ cause_name skip.cause ++ codes " " ++ decimal skip.column ++ codes "\n"
 
 -- a rule by its name
 abbrev pub rule_name : Rule → List ℕ

@@ -3,8 +3,10 @@
 
 mod answer;
 mod refusal;
+mod skip;
 #[cfg(test)]
 mod tests;
 
 pub use answer::answer_text;
 pub use refusal::refusal_text;
+pub use skip::skip_text;

@@ -1,5 +1,6 @@
 // What no clause says: that texts are made at all, and how they look, written out.
-use crate::{answer_text, refusal_text};
+use crate::{answer_text, refusal_text, skip_text};
+use item_schema::{Cause, Skip};
 use query_model::{Refusal, Rule, Span};
 use std::test::Fail;
 use value_ops::Scalar;
@@ -14,6 +15,22 @@ fn answers_are_values_or_none(rt: HostRuntime) -> Result<(), Fail> {
         (None, "undefined\n"),
     ] {
         let text = answer_text(rt.alloc(), answer)?;
+        assert_eq!(rt; text.as_slice(), wanted.as_bytes());
+    }
+    Ok(())
+}
+
+#[test]
+fn a_skip_names_its_cause_and_column(rt: HostRuntime) -> Result<(), Fail> {
+    for (cause, column, wanted) in [
+        (Cause::Long, 0, "skipped long 0\n"),
+        (Cause::Cr, 0, "skipped cr 0\n"),
+        (Cause::Columns, 0, "skipped columns 0\n"),
+        (Cause::Number, 1, "skipped number 1\n"),
+        (Cause::Range, 12, "skipped range 12\n"),
+        (Cause::Digits, 32, "skipped digits 32\n"),
+    ] {
+        let text = skip_text(rt.alloc(), Skip { cause, column })?;
         assert_eq!(rt; text.as_slice(), wanted.as_bytes());
     }
     Ok(())
