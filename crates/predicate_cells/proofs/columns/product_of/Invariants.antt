@@ -1,0 +1,8 @@
+use Rattle.std.proofs.Common.{◌≡◌, ◌*◌, drop}
+use Rattle.predicate_cells.specs.Ranks.{cells_in}
+use Rattle.predicate_cells.proofs.columns.product_of.Given as goal
+
+-- the product so far times that of the other columns is the product of all
+abbrev pub invariant-loop-classes : goal.invariant-loop-classes
+invariant-loop-classes l =
+    l.count * cells_in (drop l.classes-index l.columns) ≡ cells_in l.columns

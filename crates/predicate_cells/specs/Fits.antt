@@ -1,0 +1,48 @@
+-- Which predicates are ones on the items of a stream.
+use Rattle.std.specs.Prelude.{ℕ, Bool, true, false, ◌&&◌, List, slice_get}
+use Rattle.item_schema.specs.declared.column.Column.{Column}
+use Rattle.item_schema.specs.declared.column.Kind.{Kind}
+use Rattle.item_schema.specs.declared.column.Kind.TheVariants.{Int, Fixed, Text, Number, Table}
+use Rattle.predicate_cells.specs.Predicates.{Predicate, any, eq, ne, lt, le, gt, ge, between, eq_text, ne_text, is_num, conjunction, disjunction, negation}
+use Rattle.predicate_cells.specs.Truth.{passes}
+
+-- a number can stand in a column of this kind
+abbrev pub is_number : Kind → Bool
+is_number Int = true
+is_number (Fixed digits) = true
+is_number Text = false
+is_number Number = true
+is_number Table = false
+
+-- a text can
+abbrev pub is_text : Kind → Bool
+is_text Int = false
+is_text (Fixed digits) = false
+is_text Text = true
+is_text Number = false
+is_text Table = false
+
+-- the column is there and has numbers
+abbrev pub has_numbers : List Column → ℕ → Bool
+has_numbers columns column = passes (λ c. is_number c.kind) (slice_get columns column)
+
+-- the column is there and has texts
+abbrev pub has_texts : List Column → ℕ → Bool
+has_texts columns column = passes (λ c. is_text c.kind) (slice_get columns column)
+
+-- each test's column exists and has the test's kind
+abbrev pub fits : List Column → Predicate → Bool
+fits columns any = true
+fits columns (eq column number) = has_numbers columns column
+fits columns (ne column number) = has_numbers columns column
+fits columns (lt column number) = has_numbers columns column
+fits columns (le column number) = has_numbers columns column
+fits columns (gt column number) = has_numbers columns column
+fits columns (ge column number) = has_numbers columns column
+fits columns (between column low high) = has_numbers columns column
+fits columns (eq_text column text) = has_texts columns column
+fits columns (ne_text column text) = has_texts columns column
+fits columns (is_num column) = has_numbers columns column
+fits columns (conjunction first second) = fits columns first && fits columns second
+fits columns (disjunction first second) = fits columns first && fits columns second
+fits columns (negation inner) = fits columns inner

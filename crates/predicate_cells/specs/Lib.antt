@@ -1,0 +1,12 @@
+pub mod CellSets
+pub mod Cells
+pub mod Classes
+pub mod Coding
+pub mod Fits
+pub mod Plain
+pub mod Predicates
+pub mod Ranks
+pub mod Rising
+pub mod Truth
+pub mod Samples
+pub mod Equal

@@ -1,0 +1,82 @@
+//! The classes of all columns, and the cells that they make.
+ghost use Rattle.std.specs.Prelude.{◌≡◌, ◌<◌, ◌≤◌, ◌*◌, ◌^◌, length, map, slice_get, IfOk, IfSome, IfNone};
+ghost use Rattle.std.specs.Option.{option_map_or};
+ghost use Rattle.predicate_cells.specs.Plain.{plain_of};
+ghost use Rattle.predicate_cells.specs.Ranks.{ranks_from, class_in, cells_in, cell_in};
+
+use crate::Pred;
+use crate::classes::Classes;
+use item_schema::Column;
+use std::alloc::{AllocError, Global};
+use value_ops::Field;
+
+/// More cells are not made.
+const MAX_CELLS: usize = 4096;
+
+/// The classes of each column.
+pub(crate) fn classes_of(
+    alloc: Global,
+    columns: &[Column],
+    preds: &[Pred],
+) -> Result<Vec<Classes>, AllocError>
+    requires { length columns.now < 2 ^ 32 }
+    ensures { IfOk result (λ classes. classes.items ≡ ranks_from 0 columns.now (map plain_of preds.now)) }
+{
+    let mut classes = Vec::with_capacity(alloc, columns.len())?;
+    for (at, column) in columns.iter().enumerate() {
+        classes.push(Classes::new(alloc, preds, at as u32, column.kind)?)?;
+    }
+    Ok(classes)
+}
+
+/// How many cells there are, unless they are too many.
+pub(crate) fn count_of(columns: &[Classes]) -> Option<u32>
+    ensures few { IfSome result (λ count. (count ≡ cells_in columns.now) × (count ≤ 4096)) }
+    ensures many { IfNone result (4096 < cells_in columns.now) }
+{
+    let mut count = 1;
+    for classes in columns {
+        count = times(count, classes.count())?;
+    }
+    Some(count as u32)
+}
+
+/// How many cells a part of the columns makes.
+pub(crate) fn product_of(columns: &[Classes]) -> usize
+    requires { cells_in columns.now ≤ 4096 }
+    ensures { result ≡ cells_in columns.now }
+{
+    let mut count = 1;
+    for classes in columns {
+        count *= classes.count();
+    }
+    count
+}
+
+fn times(count: usize, classes: usize) -> Option<usize>
+    ensures few { IfSome result (λ product. (product ≡ count * classes) × (product ≤ 4096)) }
+    ensures many { IfNone result (4096 < count * classes) }
+{
+    count
+        .checked_mul(classes)
+        .filter(|product| *product <= MAX_CELLS)
+}
+
+/// The cell of these fields.
+pub(crate) fn cell_among(columns: &[Classes], fields: &[Field]) -> u32
+    requires { cells_in columns.now ≤ 4096 }
+    ensures { result ≡ cell_in columns.now fields.now }
+{
+    let mut cell = 0;
+    for (at, classes) in columns.iter().enumerate() {
+        cell = cell * classes.count() + class_at(classes, fields, at);
+    }
+    cell as u32
+}
+
+// An item with too few fields is in the first class of each further column.
+fn class_at(classes: &Classes, fields: &[Field], at: usize) -> usize
+    ensures { result ≡ option_map_or (class_in classes.now) (slice_get fields.now at) 0 }
+{
+    fields.get(at).map_or(0, |field| classes.class_of(field))
+}

@@ -1,0 +1,68 @@
+//! Where the classes of a column's numbers begin.
+ghost use Rattle.std.specs.Prelude.{◌≡◌, [], ◌∷◌, ◌++◌, map, filter, pos, ◌+ℤ◌, OnOk, IfOk};
+ghost use Rattle.std.specs.List.{flat_map};
+ghost use Rattle.std.specs.Ordering.{int_cmp};
+ghost use Rattle.predicate_cells.specs.Classes.{beginnings, begins_class, next};
+ghost use Rattle.predicate_cells.specs.Plain.{plain_of};
+ghost use Rattle.predicate_cells.specs.Rising.{rising};
+
+use crate::Pred;
+use std::alloc::{AllocError, Global};
+
+/// The beginnings but for that of the first class, from the least to the greatest.
+pub(crate) fn starts_of(alloc: Global, preds: &[Pred], column: u32) -> Result<Vec<i64>, AllocError>
+    ensures { IfOk result (λ starts. starts.items
+        ≡ rising int_cmp (filter begins_class (flat_map (beginnings column) (map plain_of preds.now)))) }
+{
+    let mut starts = Vec::new(alloc);
+    for pred in preds {
+        push_starts(pred, column, &mut starts)?;
+    }
+    starts.sort_unstable();
+    starts.dedup();
+    Ok(starts)
+}
+
+fn push_starts(pred: &Pred, column: u32, starts: &mut Vec<i64>) -> Result<(), AllocError>
+    ensures { OnOk result (starts.new.items
+        ≡ starts.old.items ++ filter begins_class (beginnings column (plain_of pred.now))) }
+{
+    match pred {
+        Pred::Eq(tested, n) | Pred::Ne(tested, n) if *tested == column => {
+            push_start(*n, starts)?;
+            push_next(*n, starts)
+        }
+        Pred::Lt(tested, n) | Pred::Ge(tested, n) if *tested == column => push_start(*n, starts),
+        Pred::Le(tested, n) | Pred::Gt(tested, n) if *tested == column => push_next(*n, starts),
+        Pred::Between(tested, low, high) if *tested == column => {
+            push_start(*low, starts)?;
+            push_next(*high, starts)
+        }
+        Pred::And(first, second) | Pred::Or(first, second) => {
+            push_starts(first, column, starts)?;
+            push_starts(second, column, starts)
+        }
+        Pred::Not(inner) => push_starts(inner, column, starts),
+        _ => Ok(()),
+    }
+}
+
+// A class begins at each number but the least.
+fn push_start(number: i64, starts: &mut Vec<i64>) -> Result<(), AllocError>
+    ensures { OnOk result (starts.new.items ≡ starts.old.items ++ filter begins_class (number ∷ [])) }
+{
+    if number > i64::MIN {
+        starts.push(number)?;
+    }
+    Ok(())
+}
+
+// Nothing is behind the greatest number.
+fn push_next(number: i64, starts: &mut Vec<i64>) -> Result<(), AllocError>
+    ensures { OnOk result (starts.new.items ≡ starts.old.items ++ filter begins_class (next number ∷ [])) }
+{
+    if let Some(next) = number.checked_add(1) {
+        starts.push(next)?;
+    }
+    Ok(())
+}
