@@ -1,0 +1,16 @@
+pub mod Automata
+pub mod Bounds
+pub mod Choices
+pub mod Deciding
+pub mod Ends
+pub mod Exact
+pub mod Follows
+pub mod Linking
+pub mod Made
+pub mod Masks
+pub mod Meetings
+pub mod Numbers
+pub mod PathSteps
+pub mod Sequences
+pub mod Spelled
+pub mod Stars

@@ -1,0 +1,17 @@
+-- The words of a rate, as a textbook has those of a regular expression.
+use Rattle.std.specs.Prelude.{◌≡◌, ◌⊎◌, true, List, [], ◌∷◌, ◌++◌}
+use Rattle.std.specs.List.{AllByRecursion}
+use Rattle.value_ops.specs.declared.field.Field.{Field}
+use Rattle.predicate_cells.specs.Truth.{holds}
+use Rattle.rate_expr.specs.Rates.{Expression, empty, one, sequence, choice, star}
+use Rattle.rate_expr.specs.Words.{Word, join}
+
+-- the word is in the rate
+abbrev pub In : Expression → Word → Type 0
+In empty word = word ≡ []
+In (one pred) word = (item : List Field) × (word ≡ item ∷ []) × (holds pred item ≡ true)
+In (sequence first second) word =
+    (u : Word) × (v : Word) × (word ≡ u ++ v) × In first u × In second v
+In (choice first second) word = In first word ⊎ In second word
+In (star inner) word =
+    (pieces : List Word) × (word ≡ join pieces) × AllByRecursion (In inner) pieces

@@ -1,0 +1,27 @@
+-- Rates, without where they lie in memory.
+use Rattle.std.specs.Prelude.{ℕ, ◌+◌, List, [], ◌∷◌, ◌++◌}
+use Rattle.predicate_cells.specs.Predicates.{Predicate}
+
+-- a regular expression over predicates on items
+pub data Expression : Type 0 where
+  empty : Expression
+  one : Predicate → Expression
+  sequence : Expression → Expression → Expression
+  choice : Expression → Expression → Expression
+  star : Expression → Expression
+
+-- the predicates of the one-item parts, from left to right
+abbrev pub preds_of : Expression → List Predicate
+preds_of empty = []
+preds_of (one pred) = pred ∷ []
+preds_of (sequence first second) = preds_of first ++ preds_of second
+preds_of (choice first second) = preds_of first ++ preds_of second
+preds_of (star inner) = preds_of inner
+
+-- how many one-item parts there are
+abbrev pub size_of : Expression → ℕ
+size_of empty = 0
+size_of (one pred) = 1
+size_of (sequence first second) = size_of first + size_of second
+size_of (choice first second) = size_of first + size_of second
+size_of (star inner) = size_of inner

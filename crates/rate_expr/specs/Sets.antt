@@ -1,0 +1,26 @@
+-- The sets of a position automaton.
+use Rattle.std.specs.Prelude.{◌≡◌, ◌≤◌, ◌<◌, ◌^◌, ℕ, Bool, List, length}
+use Rattle.std.specs.Int.{bit_at}
+use Rattle.std.specs.List.{AllByRecursion}
+use Rattle.predicate_cells.specs.Predicates.{Predicate}
+
+-- whether the empty word is a word, where words begin and end, where they go on behind each
+-- position, and what an item meets at each; a set of positions is a mask
+pub record Sets : Type 0 where
+  pub nullable : Bool
+  pub first : ℕ
+  pub last : ℕ
+  pub follow : List ℕ
+  pub preds : List Predicate
+
+-- the position is in the mask
+abbrev pub Has : ℕ → ℕ → Type 0
+Has mask position = bit_at mask position ≡ 1
+
+-- at most 128 positions, and no others in any set
+pub record AreSets (sets : Sets) : Type 0 where
+  pub few : length sets.preds ≤ 128
+  pub each : length sets.follow ≡ length sets.preds
+  pub first : sets.first < 2 ^ length sets.preds
+  pub last : sets.last < 2 ^ length sets.preds
+  pub follow : AllByRecursion (λ mask. mask < 2 ^ length sets.preds) sets.follow

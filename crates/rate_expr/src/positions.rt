@@ -1,0 +1,141 @@
+//! The positions of a rate: its one-item parts, from left to right, and how words go through them.
+ghost use Rattle.std.specs.Prelude.{◌≡◌, ◌<◌, ◌≤◌, Some, IfOk, length, map, slice_get};
+ghost use Rattle.predicate_cells.specs.Plain.{plain_of};
+ghost use Rattle.rate_expr.specs.Paths.{AreOf};
+ghost use Rattle.rate_expr.specs.Plain as rates;
+ghost use Rattle.rate_expr.specs.Rates.{preds_of, size_of};
+ghost use Rattle.rate_expr.specs.Sets.{AreSets};
+
+use crate::build::add;
+use crate::rate::Rate;
+use predicate_cells::Pred;
+use std::alloc::{AllocError, Global};
+use std::marker::Model;
+
+/// The position automaton of a rate. A set of positions is a mask, in which position p has the bit
+/// 2^p.
+#[derive(Drop)]
+pub struct Positions {
+    nullable: bool,
+    first: u128,
+    last: u128,
+    follow: Vec<u128>,
+    preds: Vec<Pred>,
+}
+
+impl Model for Positions {
+    ghost use Rattle.std.specs.Prelude.{map};
+    ghost use Rattle.std.specs.Coded.{codes};
+    ghost use Rattle.predicate_cells.specs.Coding.{coded_predicate};
+    ghost use Rattle.predicate_cells.specs.Plain.{plain_of};
+    ghost use Rattle.rate_expr.specs.Sets.{Sets, AreSets};
+
+    ghost Value = { Sets };
+
+    ghost coded = { Prim.hlevel (codes, coded_predicate) };
+
+    ghost view = { λ p. record {
+      nullable = p.nullable;
+      first = p.first;
+      last = p.last;
+      follow = p.follow.items;
+      preds = map plain_of p.preds.items;
+    } };
+
+    ghost invariant = { λ p. AreSets (record {
+      nullable = p.nullable;
+      first = p.first;
+      last = p.last;
+      follow = p.follow.items;
+      preds = map plain_of p.preds.items;
+    }) };
+}
+
+impl Positions {
+    /// The position automaton of a rate.
+    pub fn of(alloc: Global, rate: &Rate) -> Result<Positions, AllocError>
+        requires { size_of (rates.plain_of rate.now) ≤ 128 }
+        ensures spells { IfOk result (λ sets. AreOf sets (rates.plain_of rate.now)) }
+        ensures preds { IfOk result (λ sets. sets.preds ≡ preds_of (rates.plain_of rate.now)) }
+    {
+        let mut follow = Vec::new(alloc);
+        let mut preds = Vec::new(alloc);
+        let part = add(alloc, rate, &mut follow, &mut preds)?;
+        Ok(Positions {
+            nullable: part.nullable,
+            first: part.first,
+            last: part.last,
+            follow,
+            preds,
+        })
+    }
+
+    /// An equal automaton.
+    pub fn try_copy(&self, alloc: Global) -> Result<Positions, AllocError>
+        ensures { IfOk result (λ copy. copy ≡ self.now) }
+    {
+        Ok(Positions {
+            nullable: self.nullable,
+            first: self.first,
+            last: self.last,
+            follow: Vec::from_slice(alloc, &self.follow)?,
+            preds: copies_of(alloc, &self.preds)?,
+        })
+    }
+
+    /// How many positions there are.
+    pub fn count(&self) -> u32
+        ensures count { result ≡ length self.now.preds }
+        ensures sets { AreSets self.now }
+    {
+        self.preds.len() as u32
+    }
+
+    /// Whether the empty word is in the rate.
+    pub fn nullable(&self) -> bool
+        ensures { result ≡ self.now.nullable }
+    {
+        self.nullable
+    }
+
+    /// Where a word may begin.
+    pub fn first(&self) -> u128
+        ensures { result ≡ self.now.first }
+    {
+        self.first
+    }
+
+    /// Where a word may end.
+    pub fn last(&self) -> u128
+        ensures { result ≡ self.now.last }
+    {
+        self.last
+    }
+
+    /// Where a word may go on behind a position.
+    pub fn follow(&self, position: u32) -> u128
+        requires { position < length self.now.preds }
+        ensures { slice_get self.now.follow position ≡ Some result }
+    {
+        self.follow[position as usize]
+    }
+
+    /// What an item meets at a position.
+    pub fn pred(&self, position: u32) -> &Pred
+        requires { position < length self.now.preds }
+        ensures { slice_get self.now.preds position ≡ Some (plain_of result.now) }
+    {
+        &self.preds[position as usize]
+    }
+}
+
+/// Equal predicates.
+fn copies_of(alloc: Global, preds: &[Pred]) -> Result<Vec<Pred>, AllocError>
+    ensures { IfOk result (λ copies. map plain_of copies.items ≡ map plain_of preds.now) }
+{
+    let mut copies = Vec::with_capacity(alloc, preds.len())?;
+    for pred in preds {
+        copies.push(pred.try_copy(alloc)?)?;
+    }
+    Ok(copies)
+}

@@ -1,0 +1,59 @@
+//! Regular expressions over predicates on items.
+ghost use Rattle.std.specs.Prelude.{◌≡◌, ◌-◌, ◌^◌, min, IfOk};
+
+use predicate_cells::Pred;
+use std::alloc::{AllocError, Global};
+
+/// A set of words of items.
+#[derive(Drop)]
+pub enum Rate {
+    /// The empty word alone.
+    Empty,
+    /// The words of one item, which meets the predicate.
+    One(Pred),
+    /// A word of the first, and then a word of the second.
+    Seq(Box<Rate>, Box<Rate>),
+    /// The words of either.
+    Alt(Box<Rate>, Box<Rate>),
+    /// The words of the inner rate one after the other, none included.
+    Star(Box<Rate>),
+}
+
+impl Rate {
+    ghost use Rattle.rate_expr.specs.Plain.{plain_of};
+    ghost use Rattle.rate_expr.specs.Rates.{size_of};
+
+    /// How many one-item parts there are, and 2^32 - 1 where there are more.
+    pub fn positions(&self) -> u32
+        ensures { result ≡ min (size_of (plain_of self.now)) (2 ^ 32 - 1) }
+    {
+        match self {
+            Rate::Empty => 0,
+            Rate::One(_) => 1,
+            Rate::Seq(first, second) => first.positions().saturating_add(second.positions()),
+            Rate::Alt(first, second) => first.positions().saturating_add(second.positions()),
+            Rate::Star(inner) => inner.positions(),
+        }
+    }
+
+    /// An equal rate.
+    pub fn try_copy(&self, alloc: Global) -> Result<Rate, AllocError>
+        ensures { IfOk result (λ copy. plain_of copy ≡ plain_of self.now) }
+    {
+        match self {
+            Rate::Empty => Ok(Rate::Empty),
+            Rate::One(pred) => Ok(Rate::One(pred.try_copy(alloc)?)),
+            Rate::Seq(first, second) => {
+                let first = Box::new(alloc, first.try_copy(alloc)?)?;
+                let second = Box::new(alloc, second.try_copy(alloc)?)?;
+                Ok(Rate::Seq(first, second))
+            }
+            Rate::Alt(first, second) => {
+                let first = Box::new(alloc, first.try_copy(alloc)?)?;
+                let second = Box::new(alloc, second.try_copy(alloc)?)?;
+                Ok(Rate::Alt(first, second))
+            }
+            Rate::Star(inner) => Ok(Rate::Star(Box::new(alloc, inner.try_copy(alloc)?)?)),
+        }
+    }
+}

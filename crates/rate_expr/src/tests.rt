@@ -1,0 +1,143 @@
+// The masks were found by hand. A rate is written behind its parts: `e` is the empty word, `a` an
+// item, `ab;` a sequence, `ab|` a choice and `a*` a star; every letter but `e` is any item.
+use crate::{Positions, Rate, each_word_is_in_or_not};
+use predicate_cells::Pred;
+use std::alloc::{AllocError, Global};
+use std::test::Fail;
+
+fn last(rates: &mut Vec<Rate>) -> Rate {
+    rates.pop().unwrap_or(Rate::Empty)
+}
+
+fn seq(alloc: Global, first: Rate, second: Rate) -> Result<Rate, AllocError> {
+    let first = Box::new(alloc, first)?;
+    Ok(Rate::Seq(first, Box::new(alloc, second)?))
+}
+
+fn joined(alloc: Global, byte: u8, rates: &mut Vec<Rate>) -> Result<Rate, AllocError> {
+    let second = last(rates);
+    match byte {
+        b'*' => Ok(Rate::Star(Box::new(alloc, second)?)),
+        b';' => seq(alloc, last(rates), second),
+        _ => {
+            let first = Box::new(alloc, last(rates))?;
+            Ok(Rate::Alt(first, Box::new(alloc, second)?))
+        }
+    }
+}
+
+fn rate(alloc: Global, text: &str) -> Result<Rate, AllocError> {
+    let mut rates = Vec::new(alloc);
+    for byte in text.as_bytes() {
+        let next = match *byte {
+            b'e' => Rate::Empty,
+            b'a'..=b'd' => Rate::One(Pred::Any),
+            byte => joined(alloc, byte, &mut rates)?,
+        };
+        rates.push(next)?;
+    }
+    Ok(last(&mut rates))
+}
+
+// Items one behind the other.
+fn items(alloc: Global, count: u32) -> Result<Rate, AllocError> {
+    let mut rate = Rate::Empty;
+    for _ in 0..count {
+        rate = seq(alloc, rate, Rate::One(Pred::Any))?;
+    }
+    Ok(rate)
+}
+
+// Whether the rate, through a copy, has these sets.
+fn sets_are(
+    alloc: Global,
+    rate: &Rate,
+    nullable: bool,
+    ends: (u128, u128),
+    follow: &[u128],
+) -> Result<bool, AllocError> {
+    if rate.positions() > 128 {
+        return Ok(false);
+    }
+    let sets = Positions::of(alloc, rate)?.try_copy(alloc)?;
+    let mut masks = Vec::new(alloc);
+    for position in 0..sets.count() {
+        masks.push(sets.follow(position))?;
+    }
+    let same = sets.nullable() == nullable && (sets.first(), sets.last()) == ends;
+    Ok(same && masks.as_slice() == follow)
+}
+
+#[test]
+fn parts_begin_end_and_go_on(rt: HostRuntime) -> Result<(), Fail> {
+    let alloc = rt.alloc();
+    for (text, nullable, ends, follow) in [
+        ("e", true, (0, 0), &[][..]),
+        ("a", false, (1, 1), &[0][..]),
+        ("ab;", false, (0b_01, 0b_10), &[0b_10, 0][..]),
+        ("ab|", false, (0b_11, 0b_11), &[0, 0][..]),
+        ("ab;*", true, (0b_01, 0b_10), &[0b_10, 0b_01][..]),
+        ("a*b;", false, (0b_11, 0b_10), &[0b_11, 0][..]),
+        ("ea|eb|;", true, (0b_11, 0b_11), &[0b_10, 0][..]),
+        (
+            "ab*ec|;;",
+            false,
+            (0b_001, 0b_111),
+            &[0b_110, 0b_110, 0][..],
+        ),
+        (
+            "abc*;|*",
+            true,
+            (0b_011, 0b_111),
+            &[0b_011, 0b_111, 0b_111][..],
+        ),
+        ("a****", true, (1, 1), &[1][..]),
+    ] {
+        let rate = rate(alloc, text)?;
+        assert!(rt; sets_are(alloc, &rate, nullable, ends, follow)?, "{text}");
+    }
+    Ok(())
+}
+
+#[test]
+fn a_rate_may_have_128_positions(rt: HostRuntime) -> Result<(), Fail> {
+    let alloc = rt.alloc();
+    let rate = items(alloc, 128)?;
+    assert!(rt; rate.positions() <= 128);
+    let sets = Positions::of(alloc, &rate)?;
+    assert_eq!(rt;
+        (sets.count(), sets.first(), sets.last()),
+        (128, 1, 1 << 127)
+    );
+    for position in 0..sets.count() {
+        let next = if position < 127 {
+            1 << (position + 1)
+        } else {
+            0
+        };
+        assert_eq!(rt; sets.follow(position), next, "at {position}");
+    }
+    Ok(())
+}
+
+#[test]
+fn positions_are_counted_in_a_copy_too(rt: HostRuntime) -> Result<(), Fail> {
+    let alloc = rt.alloc();
+    let rate = items(alloc, 300)?;
+    let both = seq(alloc, rate.try_copy(alloc)?, rate)?;
+    assert_eq!(rt; both.positions(), 600);
+    Ok(())
+}
+
+#[test]
+fn predicates_stand_from_left_to_right(rt: HostRuntime) -> Result<(), Fail> {
+    let alloc = rt.alloc();
+    let rate = seq(alloc, Rate::One(Pred::Lt(0, 5)), Rate::One(Pred::IsNum(3)))?;
+    assert!(rt; rate.positions() <= 128);
+    let sets = Positions::of(alloc, &rate)?;
+    assert!(rt; sets.count() == 2);
+    assert!(rt; matches!(sets.pred(0), Pred::Lt(0, 5)));
+    assert!(rt; matches!(sets.pred(1), Pred::IsNum(3)));
+    each_word_is_in_or_not();
+    Ok(())
+}
