@@ -1,8 +1,14 @@
+pub mod Columns
 pub mod Compilations
 pub mod Firsts
 pub mod Outcomes
+pub mod PredicateTerms
+pub mod Repeats
 pub mod Replies
+pub mod Resolving
 pub mod Showing
+pub mod SomeItem
 pub mod Takes
+pub mod Tallying
 pub mod Turns
 pub mod WholeLines

@@ -1,9 +1,10 @@
 -- From a run or a refusal to the outcome of the call, for a query text that may be told.
-use Rattle.std.proofs.Common.{◌≡◌, ℕ, ℤ, List, [], Option, Some, None, IfSome, inl, inr, refl, sym, ap, subst}
+use Rattle.std.proofs.Common.{◌≡◌, ℕ, List, [], Option, Some, None, IfSome, inl, inr, refl, sym, ap, subst}
 use Rattle.std.proofs.KnownBytes.{Consumes-nil}
 use Rattle.query_model.specs.declared.refusal.Refusal.{Refusal}
 use Rattle.sqre_run.specs.Compiled.{Query, sum, refused, Compiles}
 use Rattle.sqre_run.specs.Outside.{Outside, Ended}
+use Rattle.sqre_run.specs.Plan.{Plan}
 use Rattle.sqre_run.specs.Call.{Outcome, Refuses, Completes}
 use Rattle.sqre_run.specs.Stops.{IsStopOf}
 use Rattle.sqre_run.specs.declared.query.QueryStop.TheVariants.{Refused as Refusing}
@@ -12,13 +13,13 @@ use Rattle.sqre_run.specs.declared.status.Status.TheVariants.{Done, Refused, Ite
 use Rattle.sqre_run.proofs.Compilations.{one_query}
 
 -- how the run of a sum ended is the outcome of its text
-Outcome-ended : (text : List ℕ) (first : ℤ) → Compiles text (sum first) → (status : Status) (old new : Outside) → Ended first status old new → Outcome text status old new
-Outcome-ended text first compiles Done old new ended = (first, compiles, ended)
-Outcome-ended text first compiles ItemFault old new ended = (first, compiles, ended)
-Outcome-ended text first compiles SinkFault old new (got, read, some) = (sum first, got, compiles, read, some)
-Outcome-ended text first compiles Memory old new ended = inr (first, compiles, ended)
-Outcome-ended text first compiles Limit old new ended = (first, compiles, ended)
-Outcome-ended text first compiles status old new ended = absurd ended
+Outcome-ended : (text : List ℕ) (plan : Plan) → Compiles text (sum plan) → (status : Status) (old new : Outside) → Ended plan status old new → Outcome text status old new
+Outcome-ended text plan compiles Done old new ended = (plan, compiles, ended)
+Outcome-ended text plan compiles ItemFault old new ended = (plan, compiles, ended)
+Outcome-ended text plan compiles SinkFault old new (got, read, some) = (sum plan, got, compiles, read, some)
+Outcome-ended text plan compiles Memory old new ended = inr (plan, compiles, ended)
+Outcome-ended text plan compiles Limit old new ended = (plan, compiles, ended)
+Outcome-ended text plan compiles status old new ended = absurd ended
 
 -- a refusal that was written is the outcome, where no item was read
 Outcome-refused : (text : List ℕ) (refusal : Refusal) → Compiles text (refused refusal)
@@ -31,14 +32,14 @@ Outcome-refused text refusal compiles Memory old taken refuses =
 Outcome-refused text refusal compiles status old taken refuses = absurd refuses
 
 -- a run that met no fault is complete, and so is a refusal
-Completes-ended : (first : ℤ) (status : Status) (old new : Outside) → Ended first status old new
-    → (status ≡ ItemFault → ⊥) → (status ≡ SinkFault → ⊥) → Completes (sum first) status
-Completes-ended first Done old new ended no_items no_sink = tt
-Completes-ended first ItemFault old new ended no_items no_sink = absurd (no_items refl)
-Completes-ended first SinkFault old new ended no_items no_sink = absurd (no_sink refl)
-Completes-ended first Memory old new ended no_items no_sink = tt
-Completes-ended first Limit old new ended no_items no_sink = tt
-Completes-ended first status old new ended no_items no_sink = absurd ended
+Completes-ended : (plan : Plan) (status : Status) (old new : Outside) → Ended plan status old new
+    → (status ≡ ItemFault → ⊥) → (status ≡ SinkFault → ⊥) → Completes (sum plan) status
+Completes-ended plan Done old new ended no_items no_sink = tt
+Completes-ended plan ItemFault old new ended no_items no_sink = absurd (no_items refl)
+Completes-ended plan SinkFault old new ended no_items no_sink = absurd (no_sink refl)
+Completes-ended plan Memory old new ended no_items no_sink = tt
+Completes-ended plan Limit old new ended no_items no_sink = tt
+Completes-ended plan status old new ended no_items no_sink = absurd ended
 
 Completes-refused : (refusal : Refusal) (status : Status) (old new : Option (List ℕ)) → Refuses refusal status old new
     → (status ≡ SinkFault → ⊥) → Completes (refused refusal) status
@@ -53,17 +54,17 @@ only_query : (text : List ℕ) (query : Query) (status : Status) → Compiles te
 only_query text query status compiles completes other compiles' =
     subst (λ (q : Query). Completes q status) (sym (one_query text query other compiles compiles')) completes
 
-module _ (first : ℤ) (status : Status) (old new : Outside) (ended : Ended first status old new) where
+module _ (plan : Plan) (status : Status) (old new : Outside) (ended : Ended plan status old new) where
   -- the same for a query source that may tell its text
-  pub told_ended : (query : Option (List ℕ)) → IfSome query (λ text. Compiles text (sum first)) → IfSome query (λ text. Outcome text status old new)
+  pub told_ended : (query : Option (List ℕ)) → IfSome query (λ text. Compiles text (sum plan)) → IfSome query (λ text. Outcome text status old new)
   told_ended None compiles = tt
-  told_ended (Some text) compiles = Outcome-ended text first compiles status old new ended
+  told_ended (Some text) compiles = Outcome-ended text plan compiles status old new ended
 
-  pub told_complete : (query : Option (List ℕ)) → IfSome query (λ text. Compiles text (sum first)) → (status ≡ ItemFault → ⊥) → (status ≡ SinkFault → ⊥)
+  pub told_complete : (query : Option (List ℕ)) → IfSome query (λ text. Compiles text (sum plan)) → (status ≡ ItemFault → ⊥) → (status ≡ SinkFault → ⊥)
       → IfSome query (λ text. (compiled : Query) → Compiles text compiled → Completes compiled status)
   told_complete None compiles no_items no_sink = tt
   told_complete (Some text) compiles no_items no_sink =
-      only_query text (sum first) status compiles (Completes-ended first status old new ended no_items no_sink)
+      only_query text (sum plan) status compiles (Completes-ended plan status old new ended no_items no_sink)
 
 -- the same for a refusal
 pub told_refused : (query : Option (List ℕ)) (refusal : Refusal) (status : Status) (old : Outside) (taken : Option (List ℕ))

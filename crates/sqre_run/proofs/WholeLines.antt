@@ -1,4 +1,4 @@
--- The lines that an LF ends come first among all lines, and so do the answers to them.
+-- The lines that an LF ends come plan among all lines, and so do the answers to them.
 use Rattle.std.proofs.Common.{◌≡◌, ℕ, Bool, true, false, cond, List, [], ◌∷◌, ◌++◌, refl, sym, ap, ◌∙◌, append-nil, ◌==◌}
 use Rattle.io_edge.specs.Lines.{Shown, ended_by_lf, last_line, lines_from}
 use Rattle.sqre_run.specs.Compiled.{Query, sum, refused}
@@ -16,7 +16,7 @@ IsFront-next : (is_lf : Bool) (line : Shown) (whole all whole' all' : List Shown
 IsFront-next true line whole all whole' all' (more, is) goes_on = (more, ap (λ l. line ∷ l) is)
 IsFront-next false line whole all whole' all' ended goes_on = goes_on
 
--- the lines that an LF ends come first
+-- the lines that an LF ends come plan
 lines_from-front : (start bytes : List ℕ)
     → IsFront (lines_from start bytes false) (lines_from start bytes true)
 lines_from-front start [] = (last_line start true, refl)
@@ -27,8 +27,8 @@ lines_from-front start (x ∷ bytes) =
 -- what is written for them is the front of what is written
 output_lines-front : (query : Query) (whole all : List Shown) → IsFront whole all
     → (rest : List ℕ) × (output_lines query all ≡ output_lines query whole ++ rest)
-output_lines-front (sum first) whole all (more, is) =
-    (answers_after first whole more, ap (answers first) is ∙ answers_after-append first [] whole more)
+output_lines-front (sum plan) whole all (more, is) =
+    (answers_after plan whole more, ap (answers plan) is ∙ answers_after-append plan [] whole more)
 output_lines-front (refused refusal) whole all front = ([], sym (append-nil _))
 
 -- the bytes for the lines that an LF ends are the front of all

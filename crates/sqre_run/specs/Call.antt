@@ -1,5 +1,5 @@
 -- What a call of `sqre` did, by its status.
-use Rattle.std.specs.Prelude.{◌≡◌, ◌⊎◌, ℕ, ℤ, ◌-◌, ◌^◌, List, [], length, Option, IfSome}
+use Rattle.std.specs.Prelude.{◌≡◌, ◌⊎◌, ℕ, ◌-◌, ◌^◌, List, [], length, Option, IfSome}
 use Rattle.std.specs.Io.KnownBytes.{Appends, Consumes}
 use Rattle.io_edge.specs.Counts.{FailsBy, Rose}
 use Rattle.io_edge.specs.Written.{AppendsSome}
@@ -8,6 +8,7 @@ use Rattle.report_writer.specs.Texts.{refusal_text}
 use Rattle.sqre_run.specs.Compiled.{Query, sum, refused, Compiles}
 use Rattle.sqre_run.specs.Output.{output, whole_output}
 use Rattle.sqre_run.specs.Outside.{Outside, Wrote, WroteLines}
+use Rattle.sqre_run.specs.Plan.{Plan}
 use Rattle.sqre_run.specs.declared.status.Status.{Status}
 use Rattle.sqre_run.specs.declared.status.Status.TheVariants.{Done, Refused, Usage, QueryFault, ItemFault, SinkFault, Memory, Limit}
 
@@ -35,33 +36,33 @@ Refuses refusal SinkFault old new = AppendsSome old new (refusal_text refusal)
 Refuses refusal Memory old new = new ≡ old
 Refuses refusal _ old new = ⊥
 
--- the text is a query of the number that its sum begins with, and it went on so
-abbrev pub Runs : List ℕ → (ℤ → Type 0) → Type 0
-Runs text goes_on = (first : ℤ) × Compiles text (sum first) × goes_on first
+-- the text is a sum of this plan, and it went on so
+abbrev pub Runs : List ℕ → (Plan → Type 0) → Type 0
+Runs text goes_on = (plan : Plan) × Compiles text (sum plan) × goes_on plan
 
 -- What was read of the items and written for a query text, by the status.
 abbrev pub Outcome : List ℕ → Status → Outside → Outside → Type 0
-Outcome text Done old new = Runs text (λ first. Rose old.ends new.ends
-    × IfSome old.left (λ bytes. Appends old.taken new.taken (output (sum first) bytes)))
+Outcome text Done old new = Runs text (λ plan. Rose old.ends new.ends
+    × IfSome old.left (λ bytes. Appends old.taken new.taken (output (sum plan) bytes)))
 Outcome text Refused old new = (refusal : Refusal) × Compiles text (refused refusal)
     × (new.left ≡ old.left) × Appends old.taken new.taken (output (refused refusal) [])
 Outcome text Usage old new = new ≡ old
 Outcome text QueryFault old new = new ≡ old
-Outcome text ItemFault old new = Runs text (λ first.
-    (got : List ℕ) × Wrote old new got (whole_output (sum first) got))
+Outcome text ItemFault old new = Runs text (λ plan.
+    (got : List ℕ) × Wrote old new got (whole_output (sum plan) got))
 Outcome text SinkFault old new = (query : Query) × (got : List ℕ) × Compiles text query
     × Consumes old.left new.left got × AppendsSome old.taken new.taken (output query got)
 Outcome text Memory old new = (new ≡ old)
-    ⊎ Runs text (λ first. (got : List ℕ) × WroteLines first old new got)
-Outcome text Limit old new = Runs text (λ first.
-    (got : List ℕ) × (length got ≡ 2 ^ 63 - 1) × Wrote old new got (whole_output (sum first) got))
+    ⊎ Runs text (λ plan. (got : List ℕ) × WroteLines plan old new got)
+Outcome text Limit old new = Runs text (λ plan.
+    (got : List ℕ) × (length got ≡ 2 ^ 63 - 1) × Wrote old new got (whole_output (sum plan) got))
 
 -- How a call ends where no count of faults rose: a query at the end of its items or after 2^63-1
 -- bytes of them, and any other text with its refusal. Usage and Memory may come with both.
 abbrev pub Completes : Query → Status → Type 0
 Completes query Usage = Unit {0}
 Completes query Memory = Unit {0}
-Completes (sum first) Done = Unit {0}
-Completes (sum first) Limit = Unit {0}
+Completes (sum plan) Done = Unit {0}
+Completes (sum plan) Limit = Unit {0}
 Completes (refused refusal) Refused = Unit {0}
 Completes query _ = ⊥

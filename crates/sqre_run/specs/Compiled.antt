@@ -1,22 +1,42 @@
 -- What a query text is compiled to.
-use Rattle.std.specs.Prelude.{◌≡◌, ℕ, ℤ, List, Ok, Err}
+use Rattle.std.specs.Prelude.{◌≡◌, ◌≤◌, ◌<◌, ℕ, false, true, List, [], ◌∷◌, Ok, Err}
+use Rattle.value_ops.specs.declared.field.Field.{Field}
+use Rattle.item_schema.specs.Items.{IsItemOf}
+use Rattle.predicate_cells.specs.Cells.{cell_count}
+use Rattle.predicate_cells.specs.Truth.{holds}
 use Rattle.query_model.specs.declared.refusal.Refusal.{Refusal}
-use Rattle.query_model.specs.declared.rule.Rule.TheVariants.{Form}
-use Rattle.query_model.specs.declared.span.Span.{Span}
+use Rattle.query_model.specs.declared.rule.Rule.TheVariants.{Cells, Empty}
 use Rattle.query_forms.specs.Terms.{Terms}
 use Rattle.query_parser.specs.Reading.{IsFileOf, IsRefused}
-use Rattle.sqre_run.specs.Built.{sum_of}
+use Rattle.sqre_run.specs.Plan.{Plan}
+use Rattle.sqre_run.specs.Resolved.{Resolution, resolved, refusal}
 
--- a sum by the number that it begins with, or a refusal
+-- a sum, or a refusal
 pub data Query : Type 0 where
-  sum : ℤ → Query
+  sum : Plan → Query
   refused : Refusal → Query
 
--- the text is compiled to this: a file of the shape that is built, or refused by the first rule that it breaks,
--- or else by the form of the first term that departs from that shape
+-- how many cells the items have under the sum's predicate
+abbrev pub cells_of : Plan → ℕ
+cells_of plan = cell_count (record { layout = plan.layout; preds = plan.predicate ∷ [] })
+
+-- some item meets the predicate
+abbrev pub HasItem : Plan → Type 0
+HasItem plan = (item : List Field) × IsItemOf plan.layout.columns item × (holds plan.predicate item ≡ true)
+
+-- no item does
+abbrev pub HasNoItem : Plan → Type 0
+HasNoItem plan = (item : List Field) → IsItemOf plan.layout.columns item → holds plan.predicate item ≡ false
+
+-- the text is compiled to this: a file that is resolved to a sum of at most 4,096 cells, some item of which
+-- meets its predicate, or a refusal by the first rule that the text breaks
 pub data Compiles (text : List ℕ) : Query → Type 0 where
-  built : (terms : Terms) (first : ℤ) → IsFileOf text terms → sum_of terms ≡ Ok first
-      → Compiles text (sum first)
-  broken : (refusal : Refusal) → IsRefused text refusal → Compiles text (refused refusal)
-  departed : (terms : Terms) (span : Span) → IsFileOf text terms → sum_of terms ≡ Err span
-      → Compiles text (refused (record { rule = Form; span = span }))
+  built : (terms : Terms) (found : Resolution) → IsFileOf text terms → resolved terms ≡ Ok found
+      → cells_of found.plan ≤ 4096 → HasItem found.plan → Compiles text (sum found.plan)
+  broken : (why : Refusal) → IsRefused text why → Compiles text (refused why)
+  unresolved : (terms : Terms) (why : Refusal) → IsFileOf text terms → resolved terms ≡ Err why
+      → Compiles text (refused why)
+  many_cells : (terms : Terms) (found : Resolution) → IsFileOf text terms → resolved terms ≡ Ok found
+      → 4096 < cells_of found.plan → Compiles text (refused (refusal Cells found.stream))
+  empty : (terms : Terms) (found : Resolution) → IsFileOf text terms → resolved terms ≡ Ok found
+      → cells_of found.plan ≤ 4096 → HasNoItem found.plan → Compiles text (refused (refusal Empty found.atom))

@@ -1,59 +1,85 @@
 -- What a run writes, as a function of the query and the item bytes.
-use Rattle.std.specs.Prelude.{◌≡◌, ℕ, ℤ, true, false, List, [], ◌∷◌, ◌++◌, Option, Some, None, option_to_list}
-use Rattle.std.specs.List.{flat_map}
+use Rattle.std.specs.Prelude.{◌≡◌, ℕ, ◌&&◌, Bool, true, false, List, [], ◌∷◌, ◌++◌, drop, Option, Some, None, Result, Ok, Err, option_to_list, if◌then◌else◌}
+use Rattle.std.specs.List.{flat_map, list_all}
 use Rattle.io_edge.specs.Lines.{Shown, text, long, lines}
+use Rattle.value_ops.specs.declared.field.Field.{Field}
 use Rattle.value_ops.specs.declared.scalar.Scalar.{Scalar}
 use Rattle.value_ops.specs.declared.scalar.Scalar.TheVariants.{Number}
 use Rattle.value_ops.specs.Scalar.{total}
-use Rattle.item_schema.specs.Item.{item_of, no_number}
-use Rattle.report_writer.specs.Texts.{answer_text, refusal_text}
+use Rattle.item_schema.specs.declared.column.Column.{Column}
+use Rattle.item_schema.specs.declared.stop.Skip.{Skip}
+use Rattle.item_schema.specs.declared.stop.Cause.TheVariants as cause
+use Rattle.item_schema.specs.Reading.{item_of, skip}
+use Rattle.predicate_cells.specs.Truth.{holds, number_in}
+use Rattle.report_writer.specs.Texts.{answer_text, refusal_text, skip_text}
 use Rattle.sqre_run.specs.Compiled.{Query, sum, refused}
-use Rattle.sqre_run.specs.Texts.{skipped_text}
+use Rattle.sqre_run.specs.Plan.{Plan}
 
--- the item of a line, where it has one; an empty line has none
-abbrev pub items_of_line : Shown → List ℤ
-items_of_line (text []) = []
-items_of_line (text (b ∷ bytes)) = option_to_list (item_of (b ∷ bytes))
-items_of_line long = []
+-- what a line behind the header gives: an item or the cause why it is skipped, and nothing where it is
+-- empty
+abbrev pub read_of : List Column → Shown → Option (Result (List Field) Skip)
+read_of columns (text []) = None
+read_of columns (text (b ∷ bytes)) = Some (item_of columns (b ∷ bytes))
+read_of columns long = Some (Err (skip cause.Long 0))
+
+-- the item that was read, if one was
+abbrev pub item_in : Option (Result (List Field) Skip) → List (List Field)
+item_in (Some (Ok item)) = item ∷ []
+item_in _ = []
+
+-- the lines behind the header, if there is one
+abbrev pub body_of : Bool → List Shown → List Shown
+body_of true shown = drop 1 shown
+body_of false shown = shown
 
 -- the items of lines
-abbrev pub items_of : List Shown → List ℤ
-items_of shown = flat_map items_of_line shown
+abbrev pub items_of : Plan → List Shown → List (List Field)
+items_of plan shown =
+    flat_map (λ line. item_in (read_of plan.layout.columns line)) (body_of plan.layout.has_header shown)
 
--- the value of the query on all items of these lines: their sum, begun with its first number
-abbrev pub value_after : ℤ → List Shown → Scalar
-value_after first shown = total (Number first) (items_of shown)
+-- the value of the query on items: the sum of their column, begun with its first number, where all of
+-- them meet the predicate
+abbrev pub value_of : Plan → List (List Field) → Option Scalar
+value_of plan items =
+    if list_all (holds plan.predicate) items
+    then Some (total (Number plan.first)
+    (flat_map (λ item. option_to_list (number_in item plan.column)) items))
+    else None
 
--- what is written for a line that is not empty, where its item and the value after it are these
-abbrev pub reply : Option ℤ → Scalar → List ℕ
-reply (Some item) value = answer_text (Some value)
-reply None value = skipped_text no_number
+-- the value on all items of these lines
+abbrev pub value_after : Plan → List Shown → Option Scalar
+value_after plan shown = value_of plan (items_of plan shown)
 
--- what is written for a line that comes after these lines; nothing for an empty one
-abbrev pub answer : ℤ → List Shown → Shown → List ℕ
-answer first before (text []) = []
-answer first before (text (b ∷ bytes)) =
-    reply (item_of (b ∷ bytes)) (value_after first (before ++ text (b ∷ bytes) ∷ []))
-answer first before long = skipped_text no_number
+-- the line behind these lines is the header
+abbrev pub is_header : Plan → List Shown → Bool
+is_header plan [] = plan.layout.has_header
+is_header plan (line ∷ before) = false
 
--- after whatever lines have the value `old`, this is written for the line, and all have `new`
-abbrev pub RepliesTo : Shown → List ℕ → Scalar → Scalar → Type 0
-RepliesTo line written old new = (first : ℤ) (before : List Shown) → old ≡ value_after first before
-    → (written ≡ answer first before line) × (new ≡ value_after first (before ++ line ∷ []))
+-- what is written for a line that gave this, where the value after it is this
+abbrev pub reply_to : Option (Result (List Field) Skip) → Option Scalar → List ℕ
+reply_to None value = []
+reply_to (Some (Ok item)) value = answer_text value
+reply_to (Some (Err why)) value = skip_text why
+
+-- what is written for a line that comes after these lines; nothing for the header
+abbrev pub answer : Plan → List Shown → Shown → List ℕ
+answer plan before line =
+    if is_header plan before then []
+    else reply_to (read_of plan.layout.columns line) (value_after plan (before ++ line ∷ []))
 
 -- what is written for lines that come after these lines
-abbrev pub answers_after : ℤ → List Shown → List Shown → List ℕ
-answers_after first before [] = []
-answers_after first before (line ∷ rest) =
-    answer first before line ++ answers_after first (before ++ line ∷ []) rest
+abbrev pub answers_after : Plan → List Shown → List Shown → List ℕ
+answers_after plan before [] = []
+answers_after plan before (line ∷ rest) =
+    answer plan before line ++ answers_after plan (before ++ line ∷ []) rest
 
 -- what is written for all lines of an input
-abbrev pub answers : ℤ → List Shown → List ℕ
-answers first shown = answers_after first [] shown
+abbrev pub answers : Plan → List Shown → List ℕ
+answers plan shown = answers_after plan [] shown
 
 -- what is written for a query and these lines
 abbrev pub output_lines : Query → List Shown → List ℕ
-output_lines (sum first) shown = answers first shown
+output_lines (sum plan) shown = answers plan shown
 output_lines (refused refusal) shown = refusal_text refusal
 
 -- what a run writes for a query and item bytes

@@ -1,10 +1,11 @@
 -- What item source and sink tell at a moment, and how a run ended between two moments.
-use Rattle.std.specs.Prelude.{◌≡◌, ℕ, ℤ, ◌-◌, ◌^◌, true, false, List, ◌++◌, length, Option, IfSome}
+use Rattle.std.specs.Prelude.{◌≡◌, ℕ, ◌-◌, ◌^◌, true, false, List, ◌++◌, length, Option, IfSome}
 use Rattle.std.specs.Io.KnownBytes.{Appends, Consumes}
 use Rattle.io_edge.specs.Counts.{Rose}
 use Rattle.io_edge.specs.Lines.{Shown, lines}
 use Rattle.io_edge.specs.Written.{AppendsSome}
 use Rattle.sqre_run.specs.Output.{answers}
+use Rattle.sqre_run.specs.Plan.{Plan}
 use Rattle.sqre_run.specs.declared.status.Status.{Status}
 use Rattle.sqre_run.specs.declared.status.Status.TheVariants.{Done, Refused, Usage, QueryFault, ItemFault, SinkFault, Memory, Limit}
 
@@ -27,24 +28,23 @@ pub record Wrote (old new : Outside) (got written : List ℕ) : Type 0 where
   pub wrote : Appends old.taken new.taken written
 
 -- for the bytes read, the answers to whole lines among them were written, and no part of a line's
-pub record WroteLines (first : ℤ) (old new : Outside) (got : List ℕ) : Type 0 where
+pub record WroteLines (plan : Plan) (old new : Outside) (got : List ℕ) : Type 0 where
   pub some : List Shown
   pub others : List Shown
   pub whole : lines got false ≡ some ++ others
-  pub wrote : Wrote old new got (answers first some)
+  pub wrote : Wrote old new got (answers plan some)
 
--- How a run of the sum that begins with `first` ended, by its status. A run knows no query text, and
--- a call's `Outcome` says the same by that text. Usage, a fault of the query and a refusal come before
--- any run.
-abbrev pub Ended : ℤ → Status → Outside → Outside → Type 0
-Ended first Done old new = Rose old.ends new.ends
-    × IfSome old.left (λ bytes. Appends old.taken new.taken (answers first (lines bytes true)))
-Ended first ItemFault old new = (got : List ℕ) × Wrote old new got (answers first (lines got false))
-Ended first SinkFault old new = (got : List ℕ) × Consumes old.left new.left got
-    × AppendsSome old.taken new.taken (answers first (lines got true))
-Ended first Memory old new = (got : List ℕ) × WroteLines first old new got
-Ended first Limit old new = (got : List ℕ) × (length got ≡ 2 ^ 63 - 1)
-    × Wrote old new got (answers first (lines got false))
-Ended first Usage old new = ⊥
-Ended first QueryFault old new = ⊥
-Ended first Refused old new = ⊥
+-- How a run of a sum ended, by its status. A run knows no query text, and a call's `Outcome` says the
+-- same by that text. Usage, a fault of the query and a refusal come before any run.
+abbrev pub Ended : Plan → Status → Outside → Outside → Type 0
+Ended plan Done old new = Rose old.ends new.ends
+    × IfSome old.left (λ bytes. Appends old.taken new.taken (answers plan (lines bytes true)))
+Ended plan ItemFault old new = (got : List ℕ) × Wrote old new got (answers plan (lines got false))
+Ended plan SinkFault old new = (got : List ℕ) × Consumes old.left new.left got
+    × AppendsSome old.taken new.taken (answers plan (lines got true))
+Ended plan Memory old new = (got : List ℕ) × WroteLines plan old new got
+Ended plan Limit old new = (got : List ℕ) × (length got ≡ 2 ^ 63 - 1)
+    × Wrote old new got (answers plan (lines got false))
+Ended plan Usage old new = ⊥
+Ended plan QueryFault old new = ⊥
+Ended plan Refused old new = ⊥

@@ -1,12 +1,13 @@
 -- The run so far, as the loop keeps it.
-use Rattle.std.specs.Prelude.{◌≡◌, ◌≤◌, ℕ, ℤ, Bool, true, false, List, ◌++◌, length}
+use Rattle.std.specs.Prelude.{◌≡◌, ◌≤◌, ℕ, Bool, true, false, List, ◌++◌, length}
 use Rattle.std.specs.Io.KnownBytes.{IsAtEnd}
 use Rattle.io_edge.specs.Counts.{Rose}
 use Rattle.io_edge.specs.Lines.{Shown, lines}
 use Rattle.io_edge.specs.Reading.{Reading, lines_after, count_of}
-use Rattle.value_ops.specs.declared.scalar.Scalar.{Scalar}
-use Rattle.sqre_run.specs.Output.{value_after, answers}
+use Rattle.sqre_run.specs.Output.{answers}
 use Rattle.sqre_run.specs.Outside.{Outside, Wrote}
+use Rattle.sqre_run.specs.Plan.{Plan}
+use Rattle.sqre_run.specs.Tallies.{Progress, IsBehind}
 
 -- of the bytes taken these lines were shown: the lines of all are these and then those to come
 pub record Showed (got : List ℕ) (shown : List Shown) (now : Reading) : Type 0 where
@@ -15,14 +16,14 @@ pub record Showed (got : List ℕ) (shown : List Shown) (now : Reading) : Type 0
   pub at_end : now.met ≡ true → lines got true ≡ shown
   pub count : count_of now ≡ length got
 
--- From old to now a run took bytes and wrote the answers to the lines that they showed. The value
--- that it keeps is that of the query on all items of these lines.
-pub record Running (first : ℤ) (old now : Outside) (reading : Reading) (value : Scalar)
+-- From old to now a run took bytes and wrote the answers to the lines that they showed. What it keeps
+-- is what is kept of the query behind these lines.
+pub record Running (plan : Plan) (old now : Outside) (reading : Reading) (kept : Progress)
     : Type 0 where
   pub got : List ℕ
   pub shown : List Shown
   pub showed : Showed got shown reading
-  pub wrote : Wrote old now got (answers first shown)
-  pub value_is : value ≡ value_after first shown
+  pub wrote : Wrote old now got (answers plan shown)
+  pub behind : IsBehind plan shown kept
   pub later : old.ends ≤ now.ends
   pub at_end : reading.met ≡ true → Rose old.ends now.ends × IsAtEnd now.left

@@ -1,53 +1,55 @@
-//! The one query that is built so far: the running sum of the one `int` column of a plain stream.
+//! What a file says of its sum.
 ghost use Rattle.std.specs.Prelude.{◌≡◌, Ok, Err, MatchResult};
 ghost use Rattle.query_parser.specs.Plain.{terms_of};
-ghost use Rattle.sqre_run.specs.Built.{behind_add, behind_atom, column_name, first_of_sum, iteration, sum_of};
+ghost use Rattle.sqre_run.specs.Built.{behind_add, iteration, shape_of};
+ghost use Rattle.sqre_run.specs.Shapes.{plain_shape};
 
-use crate::first::{behind_word, call_first, number_first, word_first};
+use crate::first::{
+    behind_word, call_first, head_first, number_first, place_of, rest_of, word_first,
+};
 use query_model::Span;
 use query_parser::Term;
 
-/// A running sum, by the number that it begins with.
-#[derive(Clone, Copy, Debug, PartialEq, Eq)]
-pub struct Sum {
+/// What a file says of its sum, before names are resolved.
+#[derive(Clone, Copy)]
+pub struct Shape<'t> {
+    /// The place of the stream.
+    pub stream: Span,
+    /// How the stream's lines begin.
+    pub mode: &'t [u8],
+    pub columns: &'t [Term],
+    /// The place of the atom.
+    pub atom: Span,
+    /// The predicate and what comes behind it.
+    pub predicate: &'t [Term],
+    /// The name of the column that is added up.
+    pub value: &'t [u8],
+    /// The number before the first item.
     pub first: i64,
 }
 
 /// The sum that a file is, or the place of the first term that departs from such a sum.
-#[tactic(auto, unfolding(crate::specs::Built::sum_of))]
-pub fn sum_of(file: &[Term]) -> Result<Sum, Span>
-    ensures { MatchResult result (λ sum. sum_of (terms_of file.now) ≡ Ok sum.first)
-        (λ span. sum_of (terms_of file.now) ≡ Err span) }
+#[tactic(auto, unfolding(crate::specs::Built::shape_of))]
+pub fn shape_of(file: &[Term]) -> Result<Shape<'_>, Span>
+    ensures { MatchResult result (λ shape. shape_of (terms_of file.now) ≡ Ok (plain_shape shape))
+        (λ span. shape_of (terms_of file.now) ≡ Err span) }
 {
-    let (stream, body) = call_first(file, b"stream", 2)?;
-    let name = column_name(stream)?;
-    first_of_sum(name, body)
-}
-
-// The name of the one column.
-#[tactic(auto, unfolding(crate::specs::Built::column_name))]
-fn column_name(stream: &[Term]) -> Result<&[u8], Span>
-    ensures { MatchResult result (λ name. column_name (terms_of stream.now) ≡ Ok name.now)
-        (λ span. column_name (terms_of stream.now) ≡ Err span) }
-{
-    let columns = behind_word(stream, b"plain")?;
-    let (column, _) = call_first(columns, b"col", 2)?;
-    let (name, kind) = word_first(column)?;
-    behind_word(kind, b"int")?;
-    Ok(name)
-}
-
-// The sum of the column.
-#[tactic(auto, unfolding(crate::specs::Built::first_of_sum))]
-fn first_of_sum(name: &[u8], body: &[Term]) -> Result<Sum, Span>
-    ensures { MatchResult result (λ sum. first_of_sum name.now (terms_of body.now) ≡ Ok sum.first)
-        (λ span. first_of_sum name.now (terms_of body.now) ≡ Err span) }
-{
+    let (stream, body) = head_first(file, b"stream")?;
+    let (mode, columns) = word_first(stream)?;
     let iter = iteration(body)?;
-    let rest = behind_atom(iter, name)?;
-    let (first, fold) = number_first(rest)?;
+    let (predicate, start) = call_first(iter, b"atom", 2)?;
+    let (value, _) = word_first(rest_of(predicate))?;
+    let (first, fold) = number_first(start)?;
     behind_add(fold)?;
-    Ok(Sum { first })
+    Ok(Shape {
+        stream: place_of(file),
+        mode,
+        columns,
+        atom: place_of(iter),
+        predicate,
+        value,
+        first,
+    })
 }
 
 // The arguments of the `iter` that is all of `main`.
@@ -59,19 +61,6 @@ fn iteration(body: &[Term]) -> Result<&[Term], Span>
     let (main, _) = call_first(body, b"main", 1)?;
     let (iter, _) = call_first(main, b"iter", 3)?;
     Ok(iter)
-}
-
-// What comes behind `atom(any, NAME)`.
-#[tactic(auto, unfolding(crate::specs::Built::behind_atom))]
-fn behind_atom<'t>(iter: &'t [Term], name: &[u8]) -> Result<&'t [Term], Span>
-    ensures { MatchResult result
-        (λ rest. behind_atom name.now (terms_of iter.now) ≡ Ok (terms_of rest.now))
-        (λ span. behind_atom name.now (terms_of iter.now) ≡ Err span) }
-{
-    let (atom, rest) = call_first(iter, b"atom", 2)?;
-    let value = behind_word(atom, b"any")?;
-    behind_word(value, name)?;
-    Ok(rest)
 }
 
 // What comes behind `add(x, y)`.

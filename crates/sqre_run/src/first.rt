@@ -1,9 +1,8 @@
 //! The first of some terms, and what comes behind it.
-ghost use Rattle.std.specs.Prelude.{◌≡◌, ◌==◌, ◌&&◌, length, Ok, Err, MatchResult};
-ghost use Rattle.std.specs.Str.{bytes_eq};
+ghost use Rattle.std.specs.Prelude.{◌≡◌, Ok, Err, MatchResult};
 ghost use Rattle.query_forms.specs.Terms.{Terms};
 ghost use Rattle.query_parser.specs.Plain.{term_before, terms_of};
-ghost use Rattle.sqre_run.specs.Built.{behind_word, call_first, number_first, place_of, word_first};
+ghost use Rattle.sqre_run.specs.Built.{behind_word, call_first, head_first, number_first, place_of, rest_of, word_first};
 
 use query_model::Span;
 use query_parser::Term;
@@ -11,25 +10,32 @@ use query_parser::Term;
 /// Where a term is missing. A file has one wherever these functions ask for it.
 const NOWHERE: Span = Span { from: 0, to: 0 };
 
-/// The arguments of a call of this head word with so many, and the terms behind it.
-pub fn call_first<'t>(
-    terms: &'t [Term],
-    wanted: &[u8],
-    count: usize,
-) -> Result<(&'t [Term], &'t [Term]), Span>
+/// The arguments of a call of this head word, however many, and the terms behind it.
+#[tactic(auto, using(crate::proofs::Firsts::none_first))]
+pub fn head_first<'t>(terms: &'t [Term], wanted: &[u8]) -> Result<(&'t [Term], &'t [Term]), Span>
     ensures { MatchResult result
-        (λ parts. call_first wanted.now count (terms_of terms.now)
+        (λ parts. head_first wanted.now (terms_of terms.now)
         ≡ Ok (terms_of parts.0.now, terms_of parts.1.now))
-        (λ span. call_first wanted.now count (terms_of terms.now) ≡ Err span) }
+        (λ span. head_first wanted.now (terms_of terms.now) ≡ Err span) }
 {
     let [first, rest @ ..] = terms else {
         return Err(NOWHERE);
     };
-    match first {
+    let arguments = arguments_of(first, wanted)?;
+    Ok((arguments, rest))
+}
+
+// The arguments of a term that is a call of this head word.
+#[tactic(auto, unfolding(crate::specs::Built::head_first))]
+fn arguments_of<'t>(term: &'t Term, wanted: &[u8]) -> Result<&'t [Term], Span>
+    ensures { (rest : Terms) → MatchResult result
+        (λ inner. head_first wanted.now (term_before term.now rest) ≡ Ok (terms_of inner.now, rest))
+        (λ span. head_first wanted.now (term_before term.now rest) ≡ Err span) }
+{
+    match term {
         Term::Call(head, arguments, span) => {
-            let arguments = arguments.as_slice();
-            if has_form(head.as_slice(), arguments, wanted, count) {
-                Ok((arguments, rest))
+            if head.as_slice() == wanted {
+                Ok(arguments.as_slice())
             } else {
                 Err(*span)
             }
@@ -40,11 +46,24 @@ pub fn call_first<'t>(
     }
 }
 
-// Whether a call is one of this head word with so many arguments.
-fn has_form(head: &[u8], arguments: &[Term], wanted: &[u8], count: usize) -> bool
-    ensures { result ≡ (bytes_eq head.now wanted.now && (length arguments.now == count)) }
+/// The arguments of a call of this head word with so many, and the terms behind it.
+#[tactic(auto, using(crate::proofs::Firsts::counted, crate::proofs::Firsts::count_of_terms))]
+pub fn call_first<'t>(
+    terms: &'t [Term],
+    wanted: &[u8],
+    count: usize,
+) -> Result<(&'t [Term], &'t [Term]), Span>
+    ensures { MatchResult result
+        (λ parts. call_first wanted.now count (terms_of terms.now)
+        ≡ Ok (terms_of parts.0.now, terms_of parts.1.now))
+        (λ span. call_first wanted.now count (terms_of terms.now) ≡ Err span) }
 {
-    head == wanted && arguments.len() == count
+    let (arguments, rest) = head_first(terms, wanted)?;
+    if arguments.len() == count {
+        Ok((arguments, rest))
+    } else {
+        Err(place_of(terms))
+    }
 }
 
 /// A word, and the terms behind it.
@@ -92,8 +111,19 @@ pub fn number_first(terms: &[Term]) -> Result<(i64, &[Term]), Span>
     }
 }
 
-// The place of the first term.
-fn place_of(terms: &[Term]) -> Span
+/// The terms behind the first.
+#[tactic(auto, using(crate::proofs::Firsts::rest_behind))]
+pub fn rest_of(terms: &[Term]) -> &[Term]
+    ensures { terms_of result.now ≡ rest_of (terms_of terms.now) }
+{
+    match terms {
+        [] => terms,
+        [_, rest @ ..] => rest,
+    }
+}
+
+/// The place of the first term.
+pub fn place_of(terms: &[Term]) -> Span
     ensures { result ≡ place_of (terms_of terms.now) }
 {
     match terms {

@@ -3,15 +3,20 @@
 
 mod built;
 mod call;
+mod cells;
+mod column_test;
 mod first;
 mod laws;
+mod predicates;
 mod query;
+mod resolved;
 mod run;
 mod status;
+mod streams;
+mod sum;
 mod tally;
 #[cfg(test)]
 mod tests;
-mod text;
 mod words;
 
 pub use call::sqre;

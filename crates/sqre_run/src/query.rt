@@ -4,12 +4,15 @@ ghost use Rattle.std.specs.Io.KnownBytes.{Consumes, IsAtEnd};
 ghost use Rattle.io_edge.specs.Counts.{FailsBy, FailsByFault, Rose};
 ghost use Rattle.io_edge.specs.Ended.{MeetsEnd};
 ghost use Rattle.sqre_run.specs.Compiled.{Compiles, sum};
+ghost use Rattle.sqre_run.specs.Plan.{plan_of};
 ghost use Rattle.sqre_run.specs.Stops.{IsStopOf, IsNoRefusal};
 ghost use Rattle.sqre_run.specs.declared.query.QueryStop.TheVariants.{Failed, Memory};
 
-use crate::built::{Sum, sum_of};
+use crate::cells::allowed;
+use crate::resolved::resolve;
+use crate::sum::Sum;
 use io_edge::{Failed, Source};
-use query_model::{Refusal, Rule};
+use query_model::Refusal;
 use query_parser::{ReadStop, read_file};
 use std::alloc::{AllocError, Global};
 
@@ -43,7 +46,7 @@ impl From<AllocError> for QueryStop {
 /// Reads the query to its end, or until it is longer than a query may be, and compiles it.
 pub fn compile<Q: Source>(alloc: Global, query: &mut Q) -> Result<Sum, QueryStop>
     ensures accepted { IfOk result (λ compiled.
-        IfSome (Q.left query.old) (λ text. Compiles text (sum compiled.first))) }
+        IfSome (Q.left query.old) (λ text. Compiles text (sum (plan_of compiled)))) }
     ensures refused { IfErr result (IsStopOf (Q.left query.old)) }
     ensures end { OnOk result (Rose (Q.ends query.old) (Q.ends query.new)) }
     ensures cause { FailsBy (Q.faults query.old) (Q.faults query.new)
@@ -55,7 +58,7 @@ pub fn compile<Q: Source>(alloc: Global, query: &mut Q) -> Result<Sum, QueryStop
 
 // Compiles a text.
 fn compile_text(alloc: Global, text: &[u8]) -> Result<Sum, QueryStop>
-    ensures accepted { IfOk result (λ compiled. Compiles text.now (sum compiled.first)) }
+    ensures accepted { IfOk result (λ compiled. Compiles text.now (sum (plan_of compiled))) }
     ensures refused { IfErr result (IsStopOf (Some text.now)) }
     ensures not_failed { result ≡ Err QueryStop.Failed → ⊥ }
 {
@@ -64,13 +67,9 @@ fn compile_text(alloc: Global, text: &[u8]) -> Result<Sum, QueryStop>
         Err(ReadStop::Refused(refusal)) => return Err(QueryStop::Refused(refusal)),
         Err(ReadStop::Memory) => return Err(QueryStop::Memory),
     };
-    match sum_of(file.terms()) {
-        Ok(sum) => Ok(sum),
-        Err(span) => {
-            let rule = Rule::Form;
-            Err(QueryStop::Refused(Refusal { rule, span }))
-        }
-    }
+    let found = resolve(alloc, file.terms())?;
+    allowed(alloc, &found)?;
+    Ok(found.sum)
 }
 
 // Reads to the end of the source, or until the most bytes were taken.

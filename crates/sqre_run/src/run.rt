@@ -1,12 +1,13 @@
 //! The loop over the lines of the items.
-ghost use Rattle.std.specs.Prelude.{◌≡◌, ◌<◌, ◌^◌, ℤ, IfNone, IfSome};
+ghost use Rattle.std.specs.Prelude.{◌≡◌, ◌<◌, ◌^◌, IfNone, IfSome};
 ghost use Rattle.io_edge.specs.Counts.{FailsBy};
 ghost use Rattle.sqre_run.specs.Outside.{Outside, outside, Ended};
+ghost use Rattle.sqre_run.specs.Plan.{Plan, plan_of};
 ghost use Rattle.sqre_run.specs.Running.{Running};
 ghost use Rattle.sqre_run.specs.Handed.{HandedOver};
 
 use crate::Status;
-use crate::built::Sum;
+use crate::sum::Sum;
 use crate::tally::Tally;
 use io_edge::{Line, LineStop, Lines, Sink, Source, write_all};
 use std::alloc::{AllocError, Global};
@@ -15,7 +16,7 @@ use value_ops::Bytes;
 /// Answers every line of the items.
 pub fn run<S: Source, W: Sink>(alloc: Global, sum: Sum, items: &mut S, out: &mut W) -> Status
     ensures ended { let at = outside S.left S.ends W.taken in
-        Ended sum.first result (at items.old out.old) (at items.new out.new) }
+        Ended (plan_of sum) result (at items.old out.old) (at items.new out.new) }
     ensures item_faults { FailsBy (S.faults items.old) (S.faults items.new)
         (result ≡ Status.ItemFault) }
     ensures sink_faults { FailsBy (W.faults out.old) (W.faults out.new)
@@ -42,13 +43,13 @@ fn turn<S: Source, W: Sink>(
     out: &mut W,
 ) -> Option<Status>
     ensures goes_on { let at = outside S.left S.ends W.taken in
-        IfNone result ((first : ℤ) (before : Outside)
-        → Running first before (at items.old out.old) lines.old tally.old
-        → Running first before (at items.new out.new) lines.new tally.new) }
+        IfNone result ((plan : Plan) (before : Outside)
+        → Running plan before (at items.old out.old) lines.old tally.old
+        → Running plan before (at items.new out.new) lines.new tally.new) }
     ensures stops { let at = outside S.left S.ends W.taken in
-        IfSome result (λ status. (first : ℤ) (before : Outside)
-        → Running first before (at items.old out.old) lines.old tally.old
-        → Ended first status before (at items.new out.new)) }
+        IfSome result (λ status. (plan : Plan) (before : Outside)
+        → Running plan before (at items.old out.old) lines.old tally.old
+        → Ended plan status before (at items.new out.new)) }
     ensures progress { IfNone result ((lines.old.answered < lines.new.answered)
         × (lines.new.answered < 2 ^ 63)) }
     ensures item_faults { FailsBy (S.faults items.old) (S.faults items.new)

@@ -1,6 +1,9 @@
 // What no clause says: that runs come to their end, and the very bytes that they write.
+mod items;
+mod refusals;
+
 use crate::{Status, sqre};
-use io_edge::{MemorySink, MemorySource};
+use io_edge::{MemorySink, MemorySource, SteadySink, SteadySource};
 use std::alloc::{AllocError, Global};
 use std::test::Fail;
 
@@ -24,9 +27,14 @@ struct Given<'a> {
 
 // The sum over these items, where nothing fails.
 fn sum_over(items: &[u8]) -> Given<'_> {
+    run_of(SUM, items)
+}
+
+// The run of a query over these items, where nothing fails.
+fn run_of<'a>(query: &'a [u8], items: &'a [u8]) -> Given<'a> {
     Given {
         words: "run q -",
-        query: SUM,
+        query,
         query_fails: &[],
         items,
         item_fails: &[],
@@ -56,26 +64,6 @@ fn outcome(alloc: Global, given: Given<'_>) -> Result<(Status, Vec<u8>), AllocEr
 }
 
 #[test]
-fn each_line_is_answered(rt: HostRuntime) -> Result<(), Fail> {
-    let table: [(&[u8], &[u8]); 5] = [
-        (b"5\n7\n-2\n", b"5\n12\n10\n"),
-        (b"", b""),
-        (
-            b"9223372036854775807\n1\n-1\n",
-            b"9223372036854775807\noverflow\noverflow\n",
-        ),
-        (b"5\n7", b"5\n12\n"),
-        (b"5\r\nx\n\n7\n", b"5\nskipped number 1\n12\n"),
-    ];
-    for (items, written) in table {
-        let (status, bytes) = outcome(rt.alloc(), sum_over(items))?;
-        assert_eq!(rt; status, Status::Done, "at {items:?}");
-        assert_eq!(rt; bytes.as_slice(), written, "at {items:?}");
-    }
-    Ok(())
-}
-
-#[test]
 fn the_cuts_of_the_reads_change_nothing(rt: HostRuntime) -> Result<(), Fail> {
     for cut in 1..9 {
         let given = Given {
@@ -93,51 +81,16 @@ fn the_cuts_of_the_reads_change_nothing(rt: HostRuntime) -> Result<(), Fail> {
     Ok(())
 }
 
+// What was taken is told as its length alone.
 #[test]
-fn a_query_is_spelled_freely_and_judged_by_its_first_departure(
-    rt: HostRuntime,
-) -> Result<(), Fail> {
-    let table: [(&[u8], Status, &[u8]); 6] = [
-        (
-            b"stream( plain,col(a,int) ) # sums\nmain(iter(atom(any,a),+00,add(x,y)))",
-            Status::Done,
-            b"5\n12\n",
-        ),
-        (
-            b"stream(header, col(a, int))\nmain(eps(0))",
-            Status::Refused,
-            b"refused form 7..13\n",
-        ),
-        (
-            b"stream(plain, col(a, int), col(b, int))\nmain(eps(0))",
-            Status::Refused,
-            b"refused form 0..39\n",
-        ),
-        (
-            b"stream(plain, col(a, int))\nmain(iter(atom(any, b), 0, add(x, y)))",
-            Status::Refused,
-            b"refused form 47..48\n",
-        ),
-        (
-            b"stream(plain, col(a, int))\nmain(iter(atom(any, a), 0, add(y, x)))",
-            Status::Refused,
-            b"refused form 58..59\n",
-        ),
-        (
-            b"stream(plain, col(a, int))\nmain(atom(any, 9223372036854775808))\n",
-            Status::Refused,
-            b"refused literal 42..61\n",
-        ),
-    ];
-    for (query, wanted, written) in table {
-        let given = Given {
-            query,
-            ..sum_over(b"5\n7\n")
-        };
-        let (status, bytes) = outcome(rt.alloc(), given)?;
-        assert_eq!(rt; status, wanted, "at {query:?}");
-        assert_eq!(rt; bytes.as_slice(), written, "at {query:?}");
-    }
+fn a_run_needs_no_source_that_fails(rt: HostRuntime) -> Result<(), Fail> {
+    let words = words_of(rt.alloc(), "run q -")?;
+    let mut query = SteadySource::new(rt.alloc(), SUM)?;
+    let mut items = SteadySource::new(rt.alloc(), b"5\n7\n-2\n")?;
+    let mut out = SteadySink::new();
+    let status = sqre(rt.alloc(), &words, &mut query, &mut items, &mut out);
+    assert_eq!(rt; status, Status::Done);
+    assert_eq!(rt; out.count(), 8);
     Ok(())
 }
 

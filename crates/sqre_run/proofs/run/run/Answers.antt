@@ -1,5 +1,6 @@
 use Rattle.std.proofs.Common.{[], refl}
 use Rattle.std.proofs.KnownBytes.{Consumes-nil, Appends-nil}
+use Rattle.sqre_run.proofs.Tallying.{behind_none}
 use Rattle.sqre_run.proofs.Turns.{Running-begins}
 use Rattle.sqre_run.proofs.run.run.Goals as goal
 
@@ -17,7 +18,7 @@ returns-in-Err-clause-ended g c = (
 
 pub lines-init : goal.lines-init
 lines-init g c = record {
-  running = Running-begins _ _ _ _ c.in-Ok.ensures c.new-tally.ensures;
+  running = Running-begins _ _ _ _ c.in-Ok.ensures (behind_none _ _ c.new-tally.ensures);
   items_calm = refl;
   sink_calm = refl;
 }

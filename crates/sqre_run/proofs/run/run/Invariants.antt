@@ -1,5 +1,6 @@
 use Rattle.std.proofs.Common.{◌≡◌, ◌-◌, ◌^◌}
 use Rattle.sqre_run.specs.Outside.{outside}
+use Rattle.sqre_run.specs.Plan.{plan_of}
 use Rattle.sqre_run.specs.Running.{Running}
 use Rattle.sqre_run.proofs.run.run.Given as goal
 
@@ -8,7 +9,7 @@ abbrev pub invariant-lines : goal.invariant-lines
 invariant-lines g l =
     let at = outside g.S.Source.left g.S.Source.ends g.W.Sink.taken in
     record {
-      running : Running l.fn.sum.first (at l.fn.items l.fn.out) (at l.items l.out) l.lines l.tally;
+      running : Running (plan_of l.fn.sum) (at l.fn.items l.fn.out) (at l.items l.out) l.lines l.tally;
       items_calm : g.S.Source.faults l.items ≡ g.S.Source.faults l.fn.items;
       sink_calm : g.W.Sink.faults l.out ≡ g.W.Sink.faults l.fn.out;
     }

@@ -1,0 +1,43 @@
+//! The rules of cells: how many a sum may tell apart, and that some item meets its predicate.
+ghost use Rattle.std.specs.Prelude.{◌≡◌, ◌≤◌, IfErr, IfOk, IsTrue, OnOk};
+ghost use Rattle.predicate_cells.specs.Fits.{fits};
+ghost use Rattle.predicate_cells.specs.Plain.{plain_of};
+ghost use Rattle.sqre_run.specs.Allowed.{IsAllowed, IsDisallowed, cells_under};
+ghost use Rattle.sqre_run.specs.Compiled.{cells_of};
+ghost use Rattle.sqre_run.specs.Plan.{plan_of};
+ghost use Rattle.sqre_run.specs.Resolutions.{plain_resolution};
+
+use crate::query::QueryStop;
+use crate::resolved::{Resolution, refused};
+use predicate_cells::{CellStop, Cells, Preds};
+use query_model::Rule;
+use std::alloc::Global;
+
+/// Accepts a sum that has not too many cells, where some item meets its predicate.
+pub fn allowed(alloc: Global, found: &Resolution) -> Result<(), QueryStop>
+    requires { IsTrue (fits found.now.sum.schema.columns (plain_of found.now.sum.pred)) }
+    ensures allowed { OnOk result (IsAllowed (plan_of found.now.sum)) }
+    ensures refused { IfErr result (IsDisallowed (plain_resolution found.now)) }
+{
+    let cells = cells_under(alloc, found)?;
+    if cells.mask(alloc, &found.sum.pred)?.is_empty() {
+        return Err(refused(Rule::Empty, found.atom));
+    }
+    Ok(())
+}
+
+// The cells of a sum's items under its predicate.
+fn cells_under(alloc: Global, found: &Resolution) -> Result<Cells, QueryStop>
+    requires { IsTrue (fits found.now.sum.schema.columns (plain_of found.now.sum.pred)) }
+    ensures cells { IfOk result (λ cells. cells ≡ cells_under (plan_of found.now.sum)) }
+    ensures few { OnOk result (cells_of (plan_of found.now.sum) ≤ 4096) }
+    ensures refused { IfErr result (IsDisallowed (plain_resolution found.now)) }
+{
+    let mut preds = Preds::new(alloc);
+    preds.add(&found.sum.pred)?;
+    match Cells::new(alloc, &found.sum.schema, &preds) {
+        Ok(cells) => Ok(cells),
+        Err(CellStop::TooMany) => Err(refused(Rule::Cells, found.stream)),
+        Err(CellStop::Memory) => Err(QueryStop::Memory),
+    }
+}
