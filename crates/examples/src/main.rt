@@ -5,7 +5,7 @@ use io_edge::{LazyFile, StdoutSink};
 use sqre_run::{Status, sqre};
 use std::io;
 
-const EXAMPLES: [&str; 3] = ["rainfall", "fills", "refused"];
+const EXAMPLES: [&str; 4] = ["rainfall", "fills", "requests", "refused"];
 
 fn main(rt: HostRuntime) -> io::Result<()> {
     for name in EXAMPLES {
