@@ -1,11 +1,15 @@
 -- The set of the flags that are set.
-use Rattle.std.proofs.Common.{◌≡◌, ℕ, zero, suc, ◌+◌, ◌<◌, ◌≤◌, Bool, true, false, List, [], ◌∷◌, length, Some, Less, nat_cmp, not, ◌↔◌, ◌∙◌, sym, subst, zero-add, refl, add-zero, arith}
-use Rattle.std.specs.Prelude.{slice_get}
-use Rattle.std.specs.List.{AllByRecursion, Contains, list_all}
+use Rattle.std.proofs.Common.{◌≡◌, ℕ, zero, suc, ◌+◌, ◌<◌, ◌≤◌, Bool, true, false, not, ◌↔◌, List, [], ◌∷◌, length, Option, Some, None, Less, nat_cmp, refl, sym, ap, ◌∙◌, true≢false, add-zero, arith}
+use Rattle.std.specs.Prelude.{IsTrue, slice_get}
+use Rattle.std.specs.List.{All, AllByRecursion, Contains, list_any}
 use Rattle.std.specs.List.Sorted.{IsStrictlyIncreasing, IsStrictlySortedBy}
 use Rattle.std.proofs.lemmas.Bool.Decides.{nat_tests}
+use Rattle.std.proofs.lemmas.Option.{slice_get_within}
+use Rattle.std.proofs.lemmas.List.Elements.{Contains-get_or}
+use Rattle.std.proofs.Math.Nat.{zero-add}
 use Rattle.std.proofs.lemmas.Map.Keys.{IsStrictlyIncreasing-from_sorted}
 use Rattle.predicate_cells.specs.CellSets.{flagged_from}
+use Rattle.predicate_cells.specs.Truth.{passes}
 use Rattle.predicate_cells.proofs.AllMembers.{all_each}
 
 -- a member of a list is one of a longer list
@@ -53,19 +57,35 @@ rising_flags at (false ∷ flags) = rising_flags (at + 1) flags
 pub flags_rise : (flags : List Bool) → IsStrictlyIncreasing (flagged_from 0 flags)
 flags_rise flags = IsStrictlyIncreasing-from_sorted _ (rising_flags 0 flags)
 
--- no flag is set where the set is empty
-pub none_flagged : (at : ℕ) (flags : List Bool) → (list_all not flags ≡ true) ↔ (flagged_from at flags ≡ [])
-none_flagged at [] = (λ _. refl, λ _. refl)
-none_flagged at (true ∷ flags) = (λ e. cc, λ e. cc)
-none_flagged at (false ∷ flags) = none_flagged (at + 1) flags
+-- the members are those whose flags are set
+pub set_flag : (flags : List Bool) (cell : ℕ) → slice_get flags cell ≡ Some true → Contains (flagged_from 0 flags) cell
+set_flag flags cell e = rw zero-add at (flagged 0 flags cell e)
 
--- a cell is in the set where its flag is set
-pub flag_tells : (flags : List Bool) (cell : ℕ) (flag : Bool) → (flag ≡ true) ↔ (slice_get flags cell ≡ Some true)
-    → (flag ≡ true) ↔ Contains (flagged_from 0 flags) cell
-flag_tells flags cell flag tells = (
-  λ is. subst (Contains (flagged_from 0 flags)) (zero-add cell) (flagged 0 flags cell (tells.0 is)),
-  λ has.
-      let found = flag_of 0 flags cell has in
-      let same : cell ≡ found.0 = found.1 ∙ zero-add found.0 in
-      tells.1 (subst (λ k. slice_get flags k ≡ Some true) (sym same) found.2),
+pub flag_set : (flags : List Bool) (cell : ℕ) → Contains (flagged_from 0 flags) cell → slice_get flags cell ≡ Some true
+flag_set flags cell has =
+    let found = flag_of 0 flags cell has in
+    let same : cell ≡ found.0 = omega (arith, found.1) in
+    rw same found.2
+
+-- and below the number of flags
+pub flags_below : (flags : List Bool) → All (λ n. n < length flags) (flagged_from 0 flags)
+flags_below flags k d lt = slice_get_within flags _ true (flag_set flags _ (Contains-get_or _ k d lt))
+
+some_true : (found : Option Bool) → passes (λ flag. flag) found ≡ true → found ≡ Some true
+some_true None e = absurd (true≢false (sym e))
+some_true (Some true) e = refl
+some_true (Some false) e = absurd (true≢false (sym e))
+
+-- a flag that is read, or none past the end
+pub read_flag : (flags : List Bool) (cell : ℕ) (read : Bool) → read ≡ passes (λ flag. flag) (slice_get flags cell) → IsTrue read ↔ Contains (flagged_from 0 flags) cell
+read_flag flags cell read e = (
+  λ t. set_flag flags cell (some_true (slice_get flags cell) (sym e ∙ t)),
+  λ has. e ∙ ap (passes (λ flag. flag)) (flag_set flags cell has),
 )
+
+-- no flag is set
+pub no_flag : (test : Bool → Bool) → test true ≡ true → test false ≡ false → (at : ℕ) (flags : List Bool)
+    → IsTrue (not (list_any test flags)) ↔ (flagged_from at flags ≡ [])
+no_flag test t f at [] = (λ e. refl, λ e. refl)
+no_flag test t f at (true ∷ flags) = rw t (λ e. absurd (true≢false (sym e)), λ e. absurd cc)
+no_flag test t f at (false ∷ flags) = rw f (no_flag test t f (at + 1) flags)

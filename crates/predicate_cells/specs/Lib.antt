@@ -3,10 +3,10 @@ pub mod Cells
 pub mod Classes
 pub mod Coding
 pub mod Fits
+pub mod Marks
 pub mod Plain
 pub mod Predicates
 pub mod Ranks
 pub mod Rising
-pub mod Truth
 pub mod Samples
-pub mod Equal
+pub mod Truth

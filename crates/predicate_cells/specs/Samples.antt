@@ -1,10 +1,32 @@
 -- An item of each cell.
-use Rattle.std.specs.Prelude.{ℕ, ◌/◌, ◌%◌, List, [], ◌∷◌}
+use Rattle.std.specs.Prelude.{ℕ, ◌/◌, ◌%◌, List, [], ◌∷◌, ◌++◌, map, replicate, Option, None, Some}
+use Rattle.std.specs.List.{flat_map, range_with_len}
 use Rattle.value_ops.specs.declared.field.Field.{Field}
-use Rattle.predicate_cells.specs.Ranks.{Ranks, cells_in, field_in}
+use Rattle.value_ops.specs.declared.field.Field.TheVariants as field
+use Rattle.value_ops.specs.declared.value.Value.TheVariants as value
+use Rattle.predicate_cells.specs.Ranks.{Ranks, count_in, field_in, cells_in}
 
--- the fields of the cell of this number: in each column one of the class that is its digit
-abbrev pub fields_at : List Ranks → ℕ → List Field
-fields_at [] cell = []
-fields_at (ranks ∷ others) cell =
-    field_in ranks (cell / cells_in others) ∷ fields_at others (cell % cells_in others)
+-- the fields with one of a class in front
+abbrev pub with_class : Ranks → List (List Field) → ℕ → List (List Field)
+with_class ranks items class = map (λ fields. field_in ranks class ∷ fields) items
+
+-- an item of each cell of the columns, in the order of the cells
+abbrev pub samples : List Ranks → List (List Field)
+samples [] = [] ∷ []
+samples (ranks ∷ others) =
+    flat_map (with_class ranks (samples others)) (range_with_len 0 (count_in ranks))
+
+-- neither a number nor a text
+abbrev pub blank : Field
+blank = field.Val (value.Table [])
+
+-- a row of which this column alone has a number or a text
+abbrev pub row_of : ℕ → Option Field → List Field
+row_of column None = []
+row_of column (Some field) = replicate column blank ++ field ∷ []
+
+-- the sample of a cell, as the number whose digits are the classes of its fields
+abbrev pub sample_of : List Ranks → ℕ → List Field
+sample_of [] cell = []
+sample_of (ranks ∷ others) cell =
+    field_in ranks (cell / cells_in others) ∷ sample_of others (cell % cells_in others)

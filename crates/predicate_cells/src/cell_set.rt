@@ -1,6 +1,6 @@
 //! A set of cells.
-ghost use Rattle.std.specs.Prelude.{◌≡◌, ◌↔◌, [], Some, true, not, IsTrue, slice_get};
-ghost use Rattle.std.specs.List.{Contains, list_all};
+ghost use Rattle.std.specs.Prelude.{◌≡◌, ◌↔◌, [], IsTrue};
+ghost use Rattle.std.specs.List.{Contains};
 ghost use Rattle.predicate_cells.specs.CellSets.{flagged_from};
 
 use std::marker::Model;
@@ -22,37 +22,21 @@ impl Model for CellSet {
 
 impl CellSet {
     /// The cells whose flags are set.
-    pub(crate) fn of_flags(flags: Vec<bool>) -> CellSet
+    pub(crate) fn from_flags(flags: Vec<bool>) -> CellSet
         ensures { result ≡ flagged_from 0 flags.items }
     {
         CellSet { flags }
     }
 
-    /// Whether the cell is in the set.
     pub fn has(&self, cell: u32) -> bool
         ensures { IsTrue result ↔ Contains self.now cell }
     {
-        is_set(&self.flags, cell as usize)
+        self.flags.get(cell as usize).is_some_and(|flag| *flag)
     }
 
     pub fn is_empty(&self) -> bool
         ensures { IsTrue result ↔ (self.now ≡ []) }
     {
-        none_set(&self.flags)
+        !self.flags.contains(&true)
     }
-}
-
-fn is_set(flags: &[bool], cell: usize) -> bool
-    ensures { IsTrue result ↔ (slice_get flags.now cell ≡ Some true) }
-{
-    match flags.get(cell) {
-        Some(flag) => *flag,
-        None => false,
-    }
-}
-
-fn none_set(flags: &[bool]) -> bool
-    ensures { result ≡ list_all not flags.now }
-{
-    flags.iter().all(|flag| !*flag)
 }

@@ -1,18 +1,15 @@
 //! The cells of a stream: classes of items that no predicate tells apart.
-ghost use Rattle.std.specs.Prelude.{◌≡◌, ◌≤◌, ◌<◌, ◌↔◌, ℕ, true, List, IsTrue, IfOk, OnOk};
-ghost use Rattle.std.specs.List.{Contains};
+ghost use Rattle.std.specs.Prelude.{◌≡◌, ◌≤◌, ◌<◌, ◌↔◌, IsTrue, IfOk, OnOk};
+ghost use Rattle.std.specs.List.{All, Contains};
 ghost use Rattle.std.specs.List.Sorted.{IsStrictlyIncreasing};
-ghost use Rattle.value_ops.specs.declared.field.Field.{Field};
-ghost use Rattle.item_schema.specs.Items.{IsItemOf};
-ghost use Rattle.predicate_cells.specs.Cells.{cell_count, cell_of, count_from, AllFit, IsIn};
+ghost use Rattle.predicate_cells.specs.Marks.{Marks};
 ghost use Rattle.predicate_cells.specs.Plain.{plain_of};
-ghost use Rattle.predicate_cells.specs.Truth.{holds};
+ghost use Rattle.predicate_cells.specs.Cells.{cell_count, cell_of, count_from, AllFit, IsIn};
 
 use crate::classes::Classes;
-use crate::columns::{cell_among, classes_of, count_of};
-use crate::equal::is_among;
-use crate::samples::fields_at;
-use crate::{CellSet, CellStop, Pred, Preds, holds};
+use crate::columns::{cell_among, classes_of, copies_of, count_of, fields_of};
+use crate::mask::truths_of;
+use crate::{CellSet, CellStop, Pred, Preds};
 use item_schema::{Item, Schema};
 use std::alloc::{AllocError, Global};
 use std::marker::Model;
@@ -66,12 +63,56 @@ impl Cells {
         })
     }
 
+    pub fn try_copy(&self, alloc: Global) -> Result<Cells, AllocError>
+        ensures { IfOk result (λ copy. copy ≡ self.now) }
+    {
+        Ok(Cells {
+            schema: self.schema.try_copy(alloc)?,
+            preds: self.preds.try_copy(alloc)?,
+            columns: copies_of(alloc, &self.columns)?,
+            count: self.count,
+        })
+    }
+
+    /// The schema of the items.
+    pub fn schema(&self) -> &Schema
+        ensures { result.now ≡ self.now.layout }
+    {
+        &self.schema
+    }
+
     /// The cell of an item, and some cell where the item is none of the schema.
     pub fn of(&self, item: &Item) -> u32
         ensures cell { result ≡ cell_of self.now item.now }
         ensures below { result < cell_count self.now }
     {
         cell_among(&self.columns, item.fields())
+    }
+
+    /// An item of a cell.
+    pub fn sample(&self, alloc: Global, cell: u32) -> Result<Item, AllocError>
+        requires { cell < cell_count self.now }
+        ensures { IfOk result (IsIn self.now cell) }
+    {
+        Ok(Item::from_fields(fields_of(alloc, &self.columns, cell)?))
+    }
+
+    /// Whether the cells were made with the predicate.
+    pub fn decides(&self, pred: &Pred) -> bool
+        ensures { IsTrue result ↔ Contains self.now.preds (plain_of pred.now) }
+    {
+        self.preds.has(pred)
+    }
+
+    /// The cells of the items that meet the predicate.
+    pub fn mask(&self, alloc: Global, pred: &Pred) -> Result<CellSet, AllocError>
+        requires { Contains self.now.preds (plain_of pred.now) }
+        ensures met { IfOk result (Marks self.now (plain_of pred.now)) }
+        ensures below { IfOk result (All (λ cell. cell < cell_count self.now)) }
+        ensures rise { IfOk result IsStrictlyIncreasing }
+    {
+        let truths = truths_of(alloc, &self.columns, pred)?;
+        Ok(CellSet::from_flags(truths))
     }
 
     /// How many cells there are.
@@ -81,67 +122,5 @@ impl Cells {
         ensures fit { AllFit self.now.layout.columns self.now.preds }
     {
         self.count
-    }
-
-    /// An item of a cell.
-    pub fn sample(&self, alloc: Global, cell: u32) -> Result<Item, AllocError>
-        requires { cell < cell_count self.now }
-        ensures { IfOk result (IsIn self.now cell) }
-    {
-        let fields = fields_at(alloc, &self.columns, cell as usize)?;
-        Ok(Item::from_fields(fields))
-    }
-
-    /// The cells whose items meet the predicate, which is one of those that the cells are of.
-    pub fn mask(&self, alloc: Global, pred: &Pred) -> Result<CellSet, AllocError>
-        requires { Contains self.now.preds (plain_of pred.now) }
-        ensures met { IfOk result (λ set. (item : List Field)
-            → IsItemOf self.now.layout.columns item
-            → Contains set (cell_of self.now item) ↔ (holds (plain_of pred.now) item ≡ true)) }
-        ensures below { IfOk result (λ set. (cell : ℕ) → Contains set cell
-            → cell < cell_count self.now) }
-        ensures rises { IfOk result IsStrictlyIncreasing }
-    {
-        let mut flags = Vec::with_capacity(alloc, self.count as usize)?;
-        'cells: for cell in 0..self.count {
-            flags.push(self.meets(alloc, pred, cell)?)?;
-        }
-        Ok(CellSet::of_flags(flags))
-    }
-
-    /// Whether the cells were made with this predicate, as `mask` wants it.
-    pub fn decides(&self, pred: &Pred) -> bool
-        ensures { IsTrue result ↔ Contains self.now.preds (plain_of pred.now) }
-    {
-        is_among(self.preds.as_slice(), pred)
-    }
-
-    // Whether the items of a cell meet a predicate that the cells are of.
-    fn meets(&self, alloc: Global, pred: &Pred, cell: u32) -> Result<bool, AllocError>
-        requires within { cell < cell_count self.now }
-        requires one { Contains self.now.preds (plain_of pred.now) }
-        ensures { IfOk result (λ meets. (item : List Field) → IsIn self.now cell item
-            → holds (plain_of pred.now) item ≡ meets) }
-    {
-        let item = self.sample(alloc, cell)?;
-        Ok(holds(pred, &item))
-    }
-
-    /// The columns that the cells are of.
-    pub fn schema(&self) -> &Schema
-        ensures { result.now ≡ self.now.layout }
-    {
-        &self.schema
-    }
-
-    /// Equal cells.
-    pub fn try_copy(&self, alloc: Global) -> Result<Cells, AllocError>
-        ensures { IfOk result (λ copy. copy ≡ self.now) }
-    {
-        match Cells::new(alloc, &self.schema, &self.preds) {
-            Ok(copy) => Ok(copy),
-            Err(CellStop::Memory) => Err(AllocError),
-            Err(CellStop::TooMany) => unreachable!(),
-        }
     }
 }

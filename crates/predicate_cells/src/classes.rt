@@ -77,6 +77,21 @@ impl Classes {
         }
     }
 
+    pub(crate) fn try_copy(&self, alloc: Global) -> Result<Classes, AllocError>
+        ensures { IfOk result (λ copy. copy ≡ self.now) }
+    {
+        let mut texts = Vec::with_capacity(alloc, self.texts.len())?;
+        for text in &self.texts {
+            texts.push(text.try_copy(alloc)?)?;
+        }
+        Ok(Classes {
+            kind: self.kind,
+            starts: Vec::from_slice(alloc, &self.starts)?,
+            texts,
+            other: self.other.try_copy(alloc)?,
+        })
+    }
+
     /// How many there are.
     pub(crate) fn count(&self) -> usize
         ensures { result ≡ count_in self.now }

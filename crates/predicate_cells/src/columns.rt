@@ -2,6 +2,7 @@
 ghost use Rattle.std.specs.Prelude.{◌≡◌, ◌<◌, ◌≤◌, ◌*◌, ◌^◌, length, map, slice_get, IfOk, IfSome, IfNone};
 ghost use Rattle.std.specs.Option.{option_map_or};
 ghost use Rattle.predicate_cells.specs.Plain.{plain_of};
+ghost use Rattle.predicate_cells.specs.Samples.{sample_of};
 ghost use Rattle.predicate_cells.specs.Ranks.{ranks_from, class_in, cells_in, cell_in};
 
 use crate::Pred;
@@ -27,6 +28,16 @@ pub(crate) fn classes_of(
         classes.push(Classes::new(alloc, preds, at as u32, column.kind)?)?;
     }
     Ok(classes)
+}
+
+pub(crate) fn copies_of(alloc: Global, columns: &[Classes]) -> Result<Vec<Classes>, AllocError>
+    ensures { IfOk result (λ copies. copies.items ≡ columns.now) }
+{
+    let mut copies = Vec::with_capacity(alloc, columns.len())?;
+    for classes in columns {
+        copies.push(classes.try_copy(alloc)?)?;
+    }
+    Ok(copies)
 }
 
 /// How many cells there are, unless they are too many.
@@ -79,4 +90,25 @@ fn class_at(classes: &Classes, fields: &[Field], at: usize) -> usize
     ensures { result ≡ option_map_or (class_in classes.now) (slice_get fields.now at) 0 }
 {
     fields.get(at).map_or(0, |field| classes.class_of(field))
+}
+
+/// The fields of the sample of a cell.
+pub(crate) fn fields_of(
+    alloc: Global,
+    columns: &[Classes],
+    cell: u32,
+) -> Result<Vec<Field>, AllocError>
+    requires few { cells_in columns.now ≤ 4096 }
+    requires below { cell < cells_in columns.now }
+    ensures { IfOk result (λ fields. fields.items ≡ sample_of columns.now cell) }
+{
+    let mut fields = Vec::with_capacity(alloc, columns.len())?;
+    let mut width = product_of(columns);
+    let mut rest = cell as usize;
+    for classes in columns {
+        width /= classes.count();
+        fields.push(classes.field(alloc, rest / width)?)?;
+        rest %= width;
+    }
+    Ok(fields)
 }

@@ -3,25 +3,28 @@
 
 mod cell_set;
 mod cells;
+mod class_row;
 mod classes;
 mod columns;
-mod equal;
 mod fits;
 mod laws;
+mod mask;
 mod pred;
 mod preds;
-mod samples;
+mod row;
 mod starts;
 mod stop;
 #[cfg(test)]
 mod tests;
 mod texts;
 mod truth;
+mod truths;
 
 pub use cell_set::CellSet;
 pub use cells::Cells;
 pub use laws::cells_part_items;
 pub use pred::Pred;
 pub use preds::Preds;
+pub use row::number_in;
 pub use stop::CellStop;
-pub use truth::{holds, number_in};
+pub use truth::holds;

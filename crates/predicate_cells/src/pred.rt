@@ -1,5 +1,5 @@
 //! Predicates on items.
-ghost use Rattle.std.specs.Prelude.{◌≡◌, IfOk};
+ghost use Rattle.std.specs.Prelude.{◌≡◌, ◌↔◌, IsTrue, IfOk};
 
 use std::alloc::{AllocError, Global};
 use value_ops::Bytes;
@@ -27,6 +27,37 @@ pub enum Pred {
 
 impl Pred {
     ghost use Rattle.predicate_cells.specs.Plain.{plain_of};
+
+    /// Whether it is made of the same tests in the same way.
+    pub(crate) fn is_same(&self, other: &Pred) -> bool
+        ensures { IsTrue result ↔ (plain_of self.now ≡ plain_of other.now) }
+    {
+        match (self, other) {
+            (Pred::Any, Pred::Any) => true,
+            (Pred::Eq(column, number), Pred::Eq(others, second))
+            | (Pred::Ne(column, number), Pred::Ne(others, second))
+            | (Pred::Lt(column, number), Pred::Lt(others, second))
+            | (Pred::Le(column, number), Pred::Le(others, second))
+            | (Pred::Gt(column, number), Pred::Gt(others, second))
+            | (Pred::Ge(column, number), Pred::Ge(others, second)) => {
+                column == others && number == second
+            }
+            (Pred::Between(column, low, high), Pred::Between(others, least, greatest)) => {
+                column == others && low == least && high == greatest
+            }
+            (Pred::EqText(column, text), Pred::EqText(others, second))
+            | (Pred::NeText(column, text), Pred::NeText(others, second)) => {
+                column == others && text.as_slice() == second.as_slice()
+            }
+            (Pred::IsNum(column), Pred::IsNum(others)) => column == others,
+            (Pred::And(first, second), Pred::And(left, right))
+            | (Pred::Or(first, second), Pred::Or(left, right)) => {
+                first.is_same(left) && second.is_same(right)
+            }
+            (Pred::Not(inner), Pred::Not(others)) => inner.is_same(others),
+            _ => false,
+        }
+    }
 
     /// An equal predicate.
     pub fn try_copy(&self, alloc: Global) -> Result<Pred, AllocError>

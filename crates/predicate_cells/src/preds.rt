@@ -1,6 +1,6 @@
 //! A list of predicates.
-ghost use Rattle.std.specs.Prelude.{◌≡◌, [], ◌∷◌, ◌++◌, map, IfOk, OnOk, OnErr};
-ghost use Rattle.std.specs.List.{list_all};
+ghost use Rattle.std.specs.Prelude.{◌≡◌, [], ◌∷◌, ◌++◌, ◌↔◌, IsTrue, map, IfOk, OnOk, OnErr};
+ghost use Rattle.std.specs.List.{list_all, Contains};
 ghost use Rattle.predicate_cells.specs.Fits.{fits};
 ghost use Rattle.predicate_cells.specs.Plain.{plain_of};
 
@@ -64,6 +64,13 @@ impl Preds {
             preds.push(pred.try_copy(alloc)?)?;
         }
         Ok(Preds { preds })
+    }
+
+    /// Whether an equal predicate is in the list.
+    pub(crate) fn has(&self, pred: &Pred) -> bool
+        ensures { IsTrue result ↔ Contains self.now (plain_of pred.now) }
+    {
+        self.preds.iter().any(|known| known.is_same(pred))
     }
 
     pub(crate) fn as_slice(&self) -> &[Pred]

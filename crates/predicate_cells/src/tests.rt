@@ -1,118 +1,161 @@
-// What no clause says: that cells, masks and samples are made at all; and how many cells there are at the edges of
-// numbers and classes, counted by hand.
+// What no clause says: that cells, masks, samples and copies are made at all; and how many cells there are at the
+// edges of numbers and classes, counted by hand.
 mod edges;
 
-use crate::{CellStop, Cells, Pred, Preds, holds};
+use crate::{CellStop, Cells, Pred, Preds, cells_part_items, holds};
 use item_schema::{Column, Item, Kind, Schema, are_columns};
 use std::alloc::{AllocError, Global};
-use std::process::Abort;
 use std::test::Fail;
-use value_ops::{Bytes, Field, Scalar, Value};
+use value_ops::{Bytes, Field};
 
 const A: u32 = 0;
 
-// A stream of one column, whose fields lines write.
-fn one_column(rt: &impl Abort, alloc: Global, kind: Kind) -> Result<Schema, AllocError> {
-    let name = Bytes::from_slice(alloc, b"a")?;
+// Streams of lines have as many columns of the kind; each is named by a letter.
+fn lines(alloc: Global, count: u8, kind: Kind) -> Result<Option<Schema>, AllocError> {
     let mut columns = Vec::new(alloc);
-    columns.push(Column { name, kind })?;
-    assert!(rt; are_columns(&columns));
-    Ok(Schema::new(false, columns))
+    for at in 0..count {
+        let name = Bytes::from_slice(alloc, &[b'a'.wrapping_add(at)])?;
+        columns.push(Column { name, kind })?;
+    }
+    if !are_columns(&columns) {
+        return Ok(None);
+    }
+    Ok(Some(Schema::new(false, columns)))
 }
 
-// The cells of a stream under one predicate.
-fn cells_of(
-    rt: &impl Abort,
-    alloc: Global,
-    schema: &Schema,
-    pred: &Pred,
-) -> Result<Result<Cells, CellStop>, AllocError> {
+// The cells of a stream under one predicate, unless they are too many.
+fn cells_under(alloc: Global, schema: &Schema, pred: &Pred) -> Result<Option<Cells>, AllocError> {
     let mut preds = Preds::new(alloc);
     preds.add(pred)?;
-    assert!(rt; preds.fit(schema));
-    Ok(Cells::new(alloc, schema, &preds))
+    if !preds.fit(schema) {
+        return Ok(None);
+    }
+    made(Cells::new(alloc, schema, &preds))
+}
+
+fn made(cells: Result<Cells, CellStop>) -> Result<Option<Cells>, AllocError> {
+    match cells {
+        Ok(cells) => Ok(Some(cells)),
+        Err(CellStop::TooMany) => Ok(None),
+        Err(CellStop::Memory) => Err(AllocError),
+    }
+}
+
+// The cells of one column of lines.
+fn cells_of(alloc: Global, kind: Kind, pred: &Pred) -> Result<Option<Cells>, AllocError> {
+    match lines(alloc, 1, kind)? {
+        Some(schema) => cells_under(alloc, &schema, pred),
+        None => Ok(None),
+    }
+}
+
+// How many cells there are, if each has a sample.
+fn count_of(alloc: Global, cells: &Cells) -> Result<u32, AllocError> {
+    for cell in 0..cells.count() {
+        let sample = cells.sample(alloc, cell)?;
+        if cells.of(&sample) != cell {
+            return Ok(0);
+        }
+    }
+    Ok(cells.count())
+}
+
+// Which cells meet the predicate.
+fn met(alloc: Global, cells: &Cells, pred: &Pred) -> Result<Vec<u32>, AllocError> {
+    let mut met = Vec::new(alloc);
+    if cells.decides(pred) {
+        let mask = cells.mask(alloc, pred)?;
+        for cell in 0..cells.count() {
+            if mask.has(cell) {
+                met.push(cell)?;
+            }
+        }
+    }
+    Ok(met)
+}
+
+fn item(alloc: Global, field: Field) -> Result<Item, AllocError> {
+    let mut fields = Vec::new(alloc);
+    fields.push(field)?;
+    Ok(Item::from_fields(fields))
 }
 
 fn number(alloc: Global, number: i64) -> Result<Item, AllocError> {
-    let mut fields = Vec::new(alloc);
-    fields.push(Field::Int(number))?;
-    Ok(Item::from_fields(fields))
+    item(alloc, Field::Int(number))
 }
 
 fn text(alloc: Global, text: &[u8]) -> Result<Item, AllocError> {
-    let mut fields = Vec::new(alloc);
-    fields.push(Field::Text(Bytes::from_slice(alloc, text)?))?;
-    Ok(Item::from_fields(fields))
+    item(alloc, Field::Text(Bytes::from_slice(alloc, text)?))
 }
 
-fn scalar(alloc: Global, scalar: Scalar) -> Result<Item, AllocError> {
-    Item::of_value(alloc, &Value::Scalar(scalar))
+fn and(alloc: Global, first: Pred, second: Pred) -> Result<Pred, AllocError> {
+    Ok(Pred::And(Box::new(alloc, first)?, Box::new(alloc, second)?))
 }
 
 // Below five, five, and above five.
 #[test]
 fn a_test_for_one_number_parts_three_cells(rt: HostRuntime) -> Result<(), Fail> {
     let alloc = rt.alloc();
-    let schema = one_column(&rt, alloc, Kind::Int)?;
     let pred = Pred::Eq(A, 5);
-    let Ok(cells) = cells_of(&rt, alloc, &schema, &pred)? else {
+    let Some(cells) = cells_of(alloc, Kind::Int, &pred)? else {
         return Err("no cells")?;
     };
-    assert_eq!(rt; cells.count(), 3);
-    let four = cells.of(&number(alloc, 4)?);
-    let five = cells.of(&number(alloc, 5)?);
-    let six = cells.of(&number(alloc, 6)?);
-    assert!(rt; four != five && five != six && four != six);
-    assert!(rt; cells.decides(&pred));
-    let mask = cells.mask(alloc, &pred)?;
-    assert!(rt; !mask.is_empty());
-    for cell in 0..cells.count() {
-        let sample = cells.sample(alloc, cell)?;
-        assert_eq!(rt; cells.of(&sample), cell);
-        assert_eq!(rt; mask.has(cell), cell == five);
+    for (five, cell) in [(4, 0), (5, 1), (6, 2)] {
+        assert_eq!(rt; cells.of(&number(alloc, five)?), cell);
     }
-    let copy = cells.try_copy(alloc)?;
-    assert_eq!(rt; copy.count(), 3);
-    assert_eq!(rt; copy.schema().columns().len(), 1);
+    assert_eq!(rt; met(alloc, &cells, &pred)?.as_slice(), [1].as_slice());
     Ok(())
+}
+
+#[test]
+fn copies_have_the_same_cells(rt: HostRuntime) -> Result<(), Fail> {
+    let alloc = rt.alloc();
+    let Some(cells) = cells_of(alloc, Kind::Int, &Pred::Between(A, 3, 5))? else {
+        return Err("no cells")?;
+    };
+    let copy = cells.try_copy(alloc)?;
+    assert_eq!(rt; count_of(alloc, &copy)?, 3);
+    assert_eq!(rt; copy.schema().columns().len(), 1);
+    cells_part_items();
+    Ok(())
+}
+
+// Each of the columns has this text.
+fn all_are(alloc: Global, count: u8, text: &[u8]) -> Result<Pred, AllocError> {
+    let mut pred = Pred::Any;
+    for at in 0..count {
+        let test = Pred::EqText(u32::from(at), Bytes::from_slice(alloc, text)?);
+        pred = and(alloc, pred, test)?;
+    }
+    Ok(pred)
+}
+
+// The cells of as many columns of texts, each tested for one.
+fn wide(alloc: Global, count: u8) -> Result<Option<Cells>, AllocError> {
+    match lines(alloc, count, Kind::Text)? {
+        Some(schema) => cells_under(alloc, &schema, &all_are(alloc, count, b"v")?),
+        None => Ok(None),
+    }
 }
 
 // Twelve columns of two classes make 4,096 cells, and a thirteenth twice as many.
 #[test]
 fn cells_are_the_product_of_classes(rt: HostRuntime) -> Result<(), Fail> {
     let alloc = rt.alloc();
-    for (count, most) in [(12u8, true), (13, false)] {
-        let mut columns = Vec::new(alloc);
-        let mut pred = Pred::Any;
-        for at in 0..count {
-            let name = Bytes::from_slice(alloc, &[b'a' + at])?;
-            columns.push(Column {
-                name,
-                kind: Kind::Text,
-            })?;
-            let test = Pred::EqText(u32::from(at), Bytes::from_slice(alloc, b"v")?);
-            pred = Pred::And(Box::new(alloc, pred)?, Box::new(alloc, test)?);
-        }
-        assert!(rt; are_columns(&columns));
-        let schema = Schema::new(false, columns);
-        match cells_of(&rt, alloc, &schema, &pred)? {
-            Ok(cells) => {
-                assert!(rt; most);
-                assert_eq!(rt; cells.count(), 4096);
-                assert!(rt; cells.decides(&pred));
-                let mask = cells.mask(alloc, &pred)?;
-                let mut members = 0u32;
-                for cell in 0..cells.count() {
-                    if mask.has(cell) {
-                        members = members.saturating_add(1);
-                    }
-                }
-                assert_eq!(rt; members, 1);
-            }
-            Err(stop) => assert!(rt; !most && matches!(stop, CellStop::TooMany)),
-        }
-    }
+    let Some(cells) = wide(alloc, 12)? else {
+        return Err("no cells")?;
+    };
+    assert_eq!(rt; count_of(alloc, &cells)?, 4096);
+    let all = met(alloc, &cells, &all_are(alloc, 12, b"v")?)?;
+    assert_eq!(rt; all.as_slice(), [0].as_slice());
+    assert!(rt; wide(alloc, 13)?.is_none());
     Ok(())
+}
+
+// Whether the predicate and its copy say the same of the item.
+fn says(alloc: Global, pred: &Pred, item: &Item, meets: bool) -> Result<bool, AllocError> {
+    let copy = pred.try_copy(alloc)?;
+    Ok(holds(pred, item) == meets && holds(&copy, item) == meets)
 }
 
 #[test]
@@ -123,15 +166,9 @@ fn copies_of_predicates_are_equal(rt: HostRuntime) -> Result<(), Fail> {
     for _ in 0..60 {
         pred = Pred::Not(Box::new(alloc, pred)?);
     }
-    let copy = pred.try_copy(alloc)?;
-    for (item, meets) in [
-        (number(alloc, 3)?, true),
-        (number(alloc, 4)?, true),
-        (text(alloc, b"end")?, false),
-        (text(alloc, b"end ")?, true),
-    ] {
-        assert_eq!(rt; holds(&pred, &item), meets);
-        assert_eq!(rt; holds(&copy, &item), meets);
-    }
+    assert!(rt; says(alloc, &pred, &number(alloc, 3)?, true)?);
+    assert!(rt; says(alloc, &pred, &number(alloc, 4)?, true)?);
+    assert!(rt; says(alloc, &pred, &text(alloc, b"end")?, false)?);
+    assert!(rt; says(alloc, &pred, &text(alloc, b"end ")?, true)?);
     Ok(())
 }

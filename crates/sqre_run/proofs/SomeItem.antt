@@ -1,9 +1,11 @@
 -- Some item of a sum meets its predicate where the predicate has a cell.
 use Rattle.std.proofs.Common.{◌≡◌, ◌≢◌, ◌↔◌, ◌<◌, ℕ, Bool, true, false, List, [], ◌∷◌, refl, sym, subst, arith}
-use Rattle.std.specs.List.{Contains}
+use Rattle.std.proofs.lemmas.List.Elements.{All-contains}
+use Rattle.std.specs.List.{All, Contains}
 use Rattle.value_ops.specs.declared.field.Field.{Field}
 use Rattle.item_schema.specs.Items.{IsItemOf}
 use Rattle.predicate_cells.specs.Cells.{Partition, cell_count, cell_of}
+use Rattle.predicate_cells.specs.Marks.{Marks}
 use Rattle.predicate_cells.specs.Predicates.{Predicate}
 use Rattle.predicate_cells.specs.Truth.{holds}
 use Rattle.predicate_cells.proofs.CellsFilled.{cells_have_items}
@@ -13,9 +15,8 @@ use Rattle.sqre_run.specs.Plan.{Plan}
 
 -- the cells of the set are those whose items meet the predicate
 pub record AreMet (cells : Partition) (pred : Predicate) (set : List ℕ) : Type 0 where
-  pub below : (cell : ℕ) → Contains set cell → cell < cell_count cells
-  pub meet : (item : List Field) → IsItemOf cells.layout.columns item
-      → Contains set (cell_of cells item) ↔ (holds pred item ≡ true)
+  pub below : All (λ cell. cell < cell_count cells) set
+  pub meet : Marks cells pred set
 
 -- the first of a list is in it
 first_in : (cell : ℕ) (rest : List ℕ) → Contains (cell ∷ rest) cell
@@ -31,7 +32,7 @@ item_in : (cells : Partition) (pred : Predicate) (set : List ℕ) → AreMet cel
     → (item : List Field) × IsItemOf cells.layout.columns item × (holds pred item ≡ true)
 item_in cells pred [] met some = absurd (some refl)
 item_in cells pred (cell ∷ rest) met some =
-    let (item, lies) = cells_have_items cells cell (met.below cell (first_in cell rest)) in
+    let (item, lies) = cells_have_items cells cell (All-contains (λ c. c < cell_count cells) (cell ∷ rest) cell met.below (first_in cell rest)) in
     let here : Contains (cell ∷ rest) (cell_of cells item) = subst (Contains (cell ∷ rest)) (sym lies.1) (first_in cell rest) in
     (item, lies.0, (met.meet item lies.0).0 here)
 

@@ -1,5 +1,5 @@
 use Rattle.std.proofs.Common.{arith}
-use Rattle.predicate_cells.proofs.ColumnSteps.{product_more, product_le}
+use Rattle.predicate_cells.proofs.ColumnSteps.{product_le}
 use Rattle.predicate_cells.proofs.columns.product_of.Goals as goal
 
 pub overflow_mul-count : goal.overflow_mul-count

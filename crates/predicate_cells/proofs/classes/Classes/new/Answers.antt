@@ -1,4 +1,4 @@
-use Rattle.std.proofs.Common.{int_cmp, nat_cmp, ◌∙◌, ap, rules, arith}
+use Rattle.std.proofs.Common.{int_cmp, nat_cmp, ◌∙◌, ap, rules}
 use Rattle.std.specs.Cmp.Lexicographic.{slice_cmp}
 use Rattle.std.proofs.lemmas.Cmp.{int_cmp_total, nat_list_cmp_total}
 use Rattle.predicate_cells.specs.Ranks.{other_text}

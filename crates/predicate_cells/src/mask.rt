@@ -1,0 +1,101 @@
+//! Which cells' items meet a predicate.
+ghost use Rattle.std.specs.Prelude.{◌≡◌, ◌≤◌, Some, map, slice_get, IfOk};
+ghost use Rattle.std.specs.List.{range_with_len};
+ghost use Rattle.predicate_cells.specs.Plain.{plain_of};
+ghost use Rattle.predicate_cells.specs.Ranks.{field_in, count_in, cells_in};
+ghost use Rattle.predicate_cells.specs.Samples.{samples, row_of};
+ghost use Rattle.predicate_cells.specs.Truth.{holds};
+
+use crate::Pred;
+use crate::class_row::ClassRow;
+use crate::classes::Classes;
+use crate::columns::product_of;
+use crate::row::Fields;
+use crate::truth::holds_in;
+use crate::truths::{block_of, both, constant, either, negated, repeated};
+use std::alloc::{AllocError, Global};
+
+/// For each cell, whether its sample meets the predicate.
+pub(crate) fn truths_of(
+    alloc: Global,
+    columns: &[Classes],
+    pred: &Pred,
+) -> Result<Vec<bool>, AllocError>
+    requires { cells_in columns.now ≤ 4096 }
+    ensures { IfOk result (λ truths.
+        truths.items ≡ map (holds (plain_of pred.now)) (samples columns.now)) }
+{
+    match pred {
+        Pred::Any => constant(alloc, true, product_of(columns)),
+        Pred::Eq(column, _)
+        | Pred::Ne(column, _)
+        | Pred::Lt(column, _)
+        | Pred::Le(column, _)
+        | Pred::Gt(column, _)
+        | Pred::Ge(column, _)
+        | Pred::Between(column, _, _)
+        | Pred::EqText(column, _)
+        | Pred::NeText(column, _)
+        | Pred::IsNum(column) => column_truths(alloc, columns, pred, *column),
+        Pred::And(first, second) => {
+            let truths = truths_of(alloc, columns, first)?;
+            let others = truths_of(alloc, columns, second)?;
+            Ok(both(truths, &others))
+        }
+        Pred::Or(first, second) => {
+            let truths = truths_of(alloc, columns, first)?;
+            let others = truths_of(alloc, columns, second)?;
+            Ok(either(truths, &others))
+        }
+        Pred::Not(inner) => {
+            let truths = truths_of(alloc, columns, inner)?;
+            Ok(negated(truths))
+        }
+    }
+}
+
+/// The same for a predicate that sees one column of the samples.
+fn column_truths(
+    alloc: Global,
+    columns: &[Classes],
+    pred: &Pred,
+    column: u32,
+) -> Result<Vec<bool>, AllocError>
+    requires { cells_in columns.now ≤ 4096 }
+    ensures { IfOk result (λ truths. truths.items
+        ≡ map (λ item. holds (plain_of pred.now) (row_of column (slice_get item column))) (samples columns.now)) }
+{
+    let at = column as usize;
+    match columns.get(at) {
+        Some(classes) => {
+            let truths = class_truths(alloc, classes, pred, column)?;
+            let width = product_of(&columns[at + 1..]);
+            let block = block_of(alloc, &truths, width)?;
+            repeated(alloc, &block, product_of(&columns[..at]))
+        }
+        None => constant(alloc, holds_in(pred, &Fields(&[])), product_of(columns)),
+    }
+}
+
+/// For each class of a column, whether a row that shows a field of it alone meets the predicate.
+fn class_truths(
+    alloc: Global,
+    classes: &Classes,
+    pred: &Pred,
+    column: u32,
+) -> Result<Vec<bool>, AllocError>
+    ensures { IfOk result (λ truths. truths.items
+        ≡ map (λ class. holds (plain_of pred.now) (row_of column (Some (field_in classes.now class))))
+        (range_with_len 0 (count_in classes.now))) }
+{
+    let mut truths = Vec::with_capacity(alloc, classes.count())?;
+    for class in 0..classes.count() {
+        let row = ClassRow {
+            column,
+            classes,
+            class,
+        };
+        truths.push(holds_in(pred, &row))?;
+    }
+    Ok(truths)
+}

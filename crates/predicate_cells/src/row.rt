@@ -1,0 +1,49 @@
+//! Rows of fields that predicates are asked about.
+ghost use Rattle.std.specs.Prelude.{◌≡◌, List, option_map};
+ghost use Rattle.value_ops.specs.declared.field.Field.{Field};
+ghost use Rattle.predicate_cells.specs.Truth.{number_in, text_in};
+
+use value_ops::{Field, Scalar, Value};
+
+/// What tests see of the fields of a row.
+pub(crate) trait Row {
+    ghost fields: { Self → List Field };
+
+    /// The number in a column.
+    fn number(&self, column: u32) -> Option<i64>
+        ensures { result ≡ number_in (fields self.now) column };
+
+    /// The text in a column.
+    fn text(&self, column: u32) -> Option<&[u8]>
+        ensures { option_map (λ text. text.now) result ≡ text_in (fields self.now) column };
+}
+
+/// The fields themselves.
+#[derive(Clone, Copy)]
+pub(crate) struct Fields<'f>(pub(crate) &'f [Field]);
+
+impl Row for Fields<'_> {
+    ghost fields = { λ r. r.0.now };
+
+    fn number(&self, column: u32) -> Option<i64> {
+        number_in(self.0, column)
+    }
+
+    fn text(&self, column: u32) -> Option<&[u8]> {
+        match self.0.get(column as usize)? {
+            Field::Text(text) => Some(text.as_slice()),
+            _ => None,
+        }
+    }
+}
+
+/// The number in a column, counted from 0, if one stands there.
+pub fn number_in(fields: &[Field], column: u32) -> Option<i64>
+    ensures { result ≡ number_in fields.now column }
+{
+    match fields.get(column as usize)? {
+        Field::Int(number) => Some(*number),
+        Field::Val(Value::Scalar(Scalar::Number(number))) => Some(*number),
+        _ => None,
+    }
+}
