@@ -1,0 +1,144 @@
+-- Sets of positions as masks.
+use Rattle.std.proofs.Common.{◌≡◌, ◌⊎◌, inl, inr, ℕ, suc, zero, ◌+◌, ◌*◌, ◌/◌, ◌%◌, ◌^◌, ◌<◌, ◌≤◌, refl, sym, ap, ◌∙◌, subst, arith, bit_and, bit_or, Option, None, Some, unwrap_or, eq-eqb, IsTrue, not, nat_eq, ◌↔◌}
+use Rattle.std.proofs.Math.Nat.{div-add-mod, div-eq_of_lt, div-lt_iff_lt-mul, eq-or-lt_of_le, mod-lt, one-mul, mul_comm}
+use Rattle.std.proofs.lemmas.Nat.{pow_pos, and_le_r}
+use Rattle.std.proofs.lemmas.Nat.Bits.{bit_at_and, bit_at-lt, bit_at_above, bit_at_cat_low, bit_at_set_same, bit_at_set_other, bit_at-trailing_zeros, same_from_bits}
+use Rattle.std.proofs.lemmas.Bool.Decides.{eqb_tells, nat_tests}
+use Rattle.std.proofs.lemmas.Bool.{eqb-true}
+use Rattle.std.specs.Option.{SomeIff}
+use Rattle.std.specs.Int.{bit_at, trailing_zeros, w128}
+use Rattle.rate_expr.proofs.Masks.{has_zero}
+use Rattle.rate_expr.specs.Sets.{Has}
+
+-- a number is below another or not
+pub below_or_not : (i n : ℕ) → (i < n) ⊎ (n ≤ i)
+below_or_not i zero = inr (omega arith)
+below_or_not zero (suc n) = inl (omega arith)
+below_or_not (suc i) (suc n) =
+    elim (below_or_not i n) [ inl below ↦ inl (omega arith) | inr not_below ↦ inr (omega arith) ]
+
+-- one below the next is the number or below it
+pub below-more : (i n : ℕ) → i < n + 1 → (i ≡ n) ⊎ (i < n)
+below-more i n below = let most : i ≤ n = omega arith in eq-or-lt_of_le most
+
+-- the positions of both masks
+pub has-and : (a b position : ℕ) → Has (bit_and a b) position → Has a position × Has b position
+has-and a b position has = (
+  omega (arith, bit_at_and a b position, bit_at-lt a position, bit_at-lt b position),
+  omega (arith, bit_at_and a b position, bit_at-lt a position, bit_at-lt b position),
+)
+
+pub has-and_both :
+    (a b position : ℕ) → Has a position → Has b position → Has (bit_and a b) position
+has-and_both a b position has also = omega (arith, bit_at_and a b position)
+
+-- a mask that is not empty has a lowest position
+pub has-lowest : (mask : ℕ) → 0 < mask → mask < 2 ^ 128 → Has mask (trailing_zeros w128 mask)
+has-lowest mask some fits = (bit_at-trailing_zeros w128 mask some fits).1
+
+-- a mask below a power has no position from it on
+pub has-below : (mask count position : ℕ) → mask < 2 ^ count → Has mask position → position < count
+has-below mask count position within has = elim (below_or_not position count) [
+  | inl below ↦ below
+  | inr above ↦ absurd (omega (arith, bit_at_above mask count position within above, has))
+]
+
+-- and one whose positions are all below is below
+pub below-has :
+    (mask count : ℕ) → ((position : ℕ) → Has mask position → position < count) → mask < 2 ^ count
+below-has mask count all =
+    subst (λ (m : ℕ). m < 2 ^ count) (sym (same_from_bits mask (mask % 2 ^ count) same))
+    (mod-lt mask (pow_pos count))
+  where
+    none_above : (i : ℕ) → count ≤ i → bit_at mask i ≡ 0
+    none_above i above = elim (eqb_tells (bit_at mask i) 1) [
+      | inl one ↦ let low = all i one.1 in absurd (omega arith)
+      | inr other ↦ let not_one = other.1 in omega (arith, bit_at-lt mask i)
+    ]
+
+    whole : mask / 2 ^ count * 2 ^ count + mask % 2 ^ count ≡ mask
+    whole =
+        ap (λ m. m + mask % 2 ^ count) (mul_comm (mask / 2 ^ count) (2 ^ count))
+        ∙ div-add-mod mask (2 ^ count)
+
+    same : (i : ℕ) → bit_at mask i ≡ bit_at (mask % 2 ^ count) i
+    same i = elim (below_or_not i count) [
+      | inl low ↦ ap (λ m. bit_at m i) (sym whole)
+          ∙ bit_at_cat_low (mask / 2 ^ count) count (mask % 2 ^ count) i low
+      | inr high ↦ none_above i high
+          ∙ sym (bit_at_above (mask % 2 ^ count) count i (mod-lt mask (pow_pos count)) high)
+    ]
+
+-- masks with the same positions are one
+pub same-has : (a b : ℕ) → ((position : ℕ) → Has a position ↔ Has b position) → a ≡ b
+same-has a b same = same_from_bits a b (λ i. elim (eqb_tells (bit_at a i) 1) [
+  | inl one ↦ one.1 ∙ sym ((same i).0 one.1)
+  | inr other ↦ elim (eqb_tells (bit_at b i) 1) [
+    | inl one ↦ absurd (other.1 ((same i).1 one.1))
+    | inr neither ↦
+        let not_a = other.1 in
+        let not_b = neither.1 in
+        omega (arith, bit_at-lt a i, bit_at-lt b i)
+  ]
+])
+
+-- one position more
+pub has-set :
+    (mask at position : ℕ) → at < 128 → Has (bit_or mask (1 * 2 ^ at % 2 ^ 128)) position
+    → Has mask position ⊎ (position ≡ at)
+has-set mask at position few has = elim (eqb_tells position at) [
+  | inl same ↦ inr same.1
+  | inr other ↦ inl (sym (bit_at_set_other w128 mask at few position other.1) ∙ has)
+]
+
+pub has-set_same : (mask at : ℕ) → at < 128 → Has (bit_or mask (1 * 2 ^ at % 2 ^ 128)) at
+has-set_same mask at few = bit_at_set_same w128 mask at few
+
+-- two masks have a position in common
+abbrev pub AreMeeting : ℕ → ℕ → Type 0
+AreMeeting a b = (position : ℕ) × Has a position × Has b position
+
+-- they do where the bits that they share make no 0
+pub and-some : (a b : ℕ) → 0 < bit_and a b → b < 2 ^ 128 → AreMeeting a b
+and-some a b some fits =
+    let less : bit_and a b < 2 ^ 128 = omega (arith, and_le_r a b) in
+    let low = trailing_zeros w128 (bit_and a b) in
+    let both = has-and a b low (has-lowest (bit_and a b) some less) in
+    (low, both.0, both.1)
+
+-- and do not where they make 0
+pub and-none : (a b : ℕ) → bit_and a b ≡ 0 → AreMeeting a b → ⊥
+and-none a b none (position, has, also) =
+    has_zero position (subst (λ (m : ℕ). Has m position) none (has-and_both a b position has also))
+
+-- so the test of these bits tells
+pub and-meeting : (a b : ℕ) → b < 2 ^ 128 → IsTrue (not (nat_eq (bit_and a b) 0)) ↔ AreMeeting a b
+and-meeting a b fits = (
+  λ test. let some : 0 < bit_and a b = grind (arith, nat_tests) in and-some a b some fits,
+  λ meeting. elim (below_or_not 0 (bit_and a b)) [
+    | inl some ↦ grind (arith, nat_tests)
+    | inr none ↦ absurd (and-none a b (omega arith) meeting)
+  ],
+)
+
+-- a shift tells whether a mask has a position from a bound on
+pub nothing-beyond :
+    (count mask : ℕ) (beyond : Option ℕ) → count ≤ 128 → mask < 2 ^ 128
+    → SomeIff beyond (count < 128) (mask / 2 ^ count)
+    → IsTrue (nat_eq (unwrap_or beyond 0) 0) ↔ (mask < 2 ^ count)
+nothing-beyond count mask None few fits all =
+    let whole : 128 ≡ count = at_least all few in
+    (λ test. subst (λ (n : ℕ). mask < 2 ^ n) whole fits, λ below. refl)
+  where
+    at_least : {n : ℕ} → (n < 128 → ⊥) → n ≤ 128 → 128 ≡ n
+    at_least not_less few = omega arith
+nothing-beyond count mask (Some beyond) few fits (less, is) = (
+  λ test.
+      let none : mask / 2 ^ count < 1 = zero_below (eqb-true beyond 0 test) is in
+      let below : mask < 1 * 2 ^ count = (div-lt_iff_lt-mul (pow_pos count)).0 none in
+      rw (← one-mul (2 ^ count)) below,
+  λ below. eq-eqb beyond 0 (is ∙ div-eq_of_lt below),
+)
+  where
+    zero_below : {x y : ℕ} → x ≡ 0 → x ≡ y → y < 1
+    zero_below none same = omega arith

@@ -1,0 +1,125 @@
+-- What masks say of states.
+use Rattle.std.proofs.Common.{arith, ◌≡◌, ℕ, Bool, List, ◌↔◌, get_or, sym, subst, ◌<◌, ◌≤◌, ◌^◌, IsTrue, not, nat_eq, bit_and}
+use Rattle.std.proofs.lemmas.Option.{slice_get_read}
+use Rattle.std.proofs.Math.Nat.{lt_of_lt_of_le, pow-le-pow_right}
+use Rattle.value_ops.specs.declared.field.Field.{Field}
+use Rattle.predicate_cells.specs.Cells.{Partition, cell_count, IsIn}
+use Rattle.rate_expr.specs.Sets.{Sets, AreSets, Has}
+use Rattle.symbolic_nfa.specs.Automata.{Automaton, IsMet}
+use Rattle.symbolic_nfa.specs.Growth.{IsUseful}
+use Rattle.symbolic_nfa.specs.States.{GoesOn, StepsTo, IsAccepted, Extends}
+use Rattle.symbolic_nfa.specs.Tables.{AreTables}
+use Rattle.symbolic_nfa.specs.declared.state.State.{State}
+use Rattle.symbolic_nfa.specs.declared.state.State.TheVariants.{Initial, At}
+use Rattle.symbolic_nfa.proofs.Masks.{and-meeting, has-and, has-and_both}
+
+-- the positions in which words go on, of those that the items of the cell meet
+pub steps_to-and :
+    (sets : Sets) (cells : Partition) (state : State) (cell on met : ℕ) (item : List Field)
+    → ((next : ℕ) → Has on next ↔ GoesOn sets state next) → IsMet sets cells cell met
+    → IsIn cells cell item → StepsTo sets state item (bit_and on met)
+steps_to-and sets cells state cell on met item exact is_met is_in = record {
+  sound = λ next has.
+      let both = has-and on met next has in
+      ((exact next).0 both.0, is_met.sound next item is_in both.1);
+  whole = λ next goes_on meets.
+      has-and_both on met next ((exact next).1 goes_on) (is_met.whole next item is_in meets);
+}
+
+-- the table has the mask of each cell
+pub met-at :
+    (nfa : Automaton) (met : List ℕ) (growing : ℕ) (begins : Bool) (cell mask : ℕ)
+    → AreTables nfa met growing begins → cell < cell_count nfa.cells → mask ≡ get_or met cell mask
+    → IsMet nfa.sets nfa.cells cell mask
+met-at nfa met growing begins cell mask tables below read =
+    let each = sym tables.met_is.0 in
+    tables.met_is.1 cell mask (slice_get_read met (cell_count nfa.cells) cell mask each below read)
+
+-- tables of the fields are those of the value that they make
+pub tables_of :
+    (nfa seen : Automaton) (met : List ℕ) (growing : ℕ) (begins : Bool) → nfa ≡ seen
+    → AreTables nfa met growing begins → AreTables seen met growing begins
+tables_of nfa seen met growing begins same tables =
+    subst (λ (a : Automaton). AreTables a met growing begins) same tables
+
+-- few positions fit a mask
+few_fit : (count mask : ℕ) → count ≤ 128 → mask < 2 ^ count → mask < 2 ^ 128
+few_fit count mask few within = lt_of_lt_of_le within (pow-le-pow_right (omega arith) few)
+
+-- so a step over the tables is one
+pub step-at :
+    (nfa seen : Automaton) (met : List ℕ) (growing : ℕ) (begins : Bool) → nfa ≡ seen
+    → AreTables nfa met growing begins → (state : State) (cell on mask : ℕ)
+    → cell < cell_count seen.cells → mask ≡ get_or met cell mask
+    → ((next : ℕ) → Has on next ↔ GoesOn nfa.sets state next)
+    → (item : List Field) → IsIn seen.cells cell item → StepsTo seen.sets state item (bit_and on mask)
+step-at nfa seen met growing begins same tables state cell on mask below read exact item is_in =
+    let is_met =
+    met-at seen met growing begins cell mask (tables_of nfa seen met growing begins same tables)
+    below read in
+    let exact_there =
+    subst (λ (a : Automaton). (next : ℕ) → Has on next ↔ GoesOn a.sets state next) same exact in
+    steps_to-and seen.sets seen.cells state cell on mask item exact_there is_met is_in
+
+-- a state extends exactly where a word goes on from it in a useful position
+extends-useful :
+    (nfa : Automaton) (state : State)
+    → Extends nfa state ↔ ((next : ℕ) × GoesOn nfa.sets state next × IsUseful nfa next)
+extends-useful nfa state = (
+  λ on.
+      let (next, end, goes_on, meets, path, last) = on.ends in (
+        next,
+        goes_on,
+        record {
+          item = on.item;
+          word = on.word;
+          end = end;
+          items = on.items;
+          met = meets;
+          path = path;
+          last = last;
+        },
+      ),
+  λ (next, goes_on, useful).
+      record {
+        item = useful.item;
+        word = useful.word;
+        items = useful.items;
+        ends = (next, useful.end, goes_on, useful.met, useful.path, useful.last);
+      },
+)
+
+-- the tables say it of the initial state
+pub extends-begins :
+    (nfa : Automaton) (met : List ℕ) (growing : ℕ) (begins : Bool) → AreTables nfa met growing begins
+    → IsTrue begins ↔ Extends nfa Initial
+extends-begins nfa met growing begins tables =
+    let useful = extends-useful nfa Initial in
+    let is = tables.begins_is in
+    (λ test. useful.1 (is.0 test), λ extends. is.1 (useful.0 extends))
+
+-- and of any other
+pub extends-growing :
+    (nfa : Automaton) (met : List ℕ) (growing : ℕ) (begins : Bool) (mask : ℕ)
+    → AreTables nfa met growing begins
+    → IsTrue (not (nat_eq (bit_and mask growing) 0)) ↔ Extends nfa (At mask)
+extends-growing nfa met growing begins mask tables =
+    let useful = extends-useful nfa (At mask) in
+    let fits : growing < 2 ^ 128 = few_fit _ _ tables.sets.few tables.within in
+    let meeting = and-meeting mask growing fits in (
+      λ test.
+          let (from, has, grows) = meeting.0 test in
+          let (next, follows, ends) = (tables.growing_is from).0 grows in
+          useful.1 (next, (from, has, follows), ends),
+      λ extends.
+          let (next, (from, has, follows), ends) = useful.0 extends in
+          meeting.1 (from, has, (tables.growing_is from).1 (next, follows, ends)),
+    )
+
+-- a word may end in one of the positions
+pub accepted-and :
+    (sets : Sets) (mask : ℕ) → AreSets sets
+    → IsTrue (not (nat_eq (bit_and mask sets.last) 0)) ↔ IsAccepted sets (At mask)
+accepted-and sets mask are =
+    let fits : sets.last < 2 ^ 128 = few_fit _ _ are.few are.last in
+    and-meeting mask sets.last fits

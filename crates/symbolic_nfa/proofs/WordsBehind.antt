@@ -1,0 +1,125 @@
+-- States, words and rates.
+use Rattle.std.proofs.Common.{◌≡◌, ℕ, List, [], ◌∷◌, ◌++◌, ◌↔◌, refl, ap, subst}
+use Rattle.value_ops.specs.declared.field.Field.{Field}
+use Rattle.rate_expr.specs.Language.{In}
+use Rattle.rate_expr.specs.Paths.{Spells, AreOf}
+use Rattle.rate_expr.specs.Rates.{Expression}
+use Rattle.rate_expr.specs.Sets.{Sets, Has}
+use Rattle.rate_expr.specs.Words.{Word}
+use Rattle.symbolic_nfa.specs.Automata.{Automaton}
+use Rattle.symbolic_nfa.specs.States.{Steps, StepsTo, IsBehind, IsAccepted, LeadsToEnd, Extends, HasExtension}
+use Rattle.symbolic_nfa.specs.declared.state.State.{State}
+use Rattle.symbolic_nfa.specs.declared.state.State.TheVariants.{Initial, At}
+use Rattle.symbolic_nfa.proofs.Masks.{same-has}
+use Rattle.symbolic_nfa.proofs.PathsOn.{leads-append, leads-split}
+
+-- one item behind the empty word
+behind_first :
+    (sets : Sets) (item : List Field) (mask : ℕ) → StepsTo sets Initial item mask
+    → IsBehind sets (item ∷ []) (At mask)
+behind_first sets item mask steps to = (
+  λ has. let met = steps.sound to has in (to, met.0, met.1, refl),
+  λ (begin, first, meets, here).
+      subst (λ (p : ℕ). Has mask p) here (steps.whole begin first meets),
+)
+
+-- one item behind any other
+behind_next :
+    (sets : Sets) (first : List Field) (word : Word) (mask : ℕ) (item : List Field) (after : ℕ)
+    → IsBehind sets (first ∷ word) (At mask) → StepsTo sets (At mask) item after
+    → IsBehind sets (first ∷ word ++ item ∷ []) (At after)
+behind_next sets first word mask item after behind steps to = (
+  λ has. let met = steps.sound to has in
+      let went = met.0 in
+      leads-append sets (first ∷ word) went.0 (item ∷ []) to ((behind went.0).0 went.1)
+      (to, went.2, met.1, refl),
+  λ leads. let rest = leads-split sets first word (item ∷ []) to leads in
+      let on = rest.2 in
+      subst (λ (p : ℕ). Has after p) on.3
+      (steps.whole on.0 (rest.0, (behind rest.0).1 rest.1, on.1) on.2),
+)
+
+-- a step leads from the state behind a word to the one behind the word and the item
+pub is_behind-step :
+    (sets : Sets) (word : Word) (state next : State) (item : List Field) → IsBehind sets word state
+    → Steps sets state item next → IsBehind sets (word ++ item ∷ []) next
+is_behind-step sets word state Initial item behind steps = absurd steps
+is_behind-step sets [] Initial (At after) item behind steps = behind_first sets item after steps
+is_behind-step sets [] (At mask) (At after) item behind steps = absurd behind
+is_behind-step sets (first ∷ word) Initial (At after) item behind steps = absurd behind
+is_behind-step sets (first ∷ word) (At mask) (At after) item behind steps =
+    behind_next sets first word mask item after behind steps
+
+-- there is one state behind a word
+pub one-behind :
+    (sets : Sets) (word : Word) (state other : State) → IsBehind sets word state
+    → IsBehind sets word other → other ≡ state
+one-behind sets [] Initial Initial behind also = refl
+one-behind sets [] Initial (At mask) behind also = absurd also
+one-behind sets [] (At mask) other behind also = absurd behind
+one-behind sets (item ∷ word) Initial other behind also = absurd behind
+one-behind sets (item ∷ word) (At mask) Initial behind also = absurd also
+one-behind sets (item ∷ word) (At mask) (At other) behind also = ap At (same-has other mask (λ to. (
+  λ has. (behind to).1 ((also to).0 has),
+  λ has. (also to).1 ((behind to).0 has),
+)))
+
+-- a word is accepted exactly where it spells a path to an end
+pub is_accepted-spells :
+    (sets : Sets) (word : Word) (state : State) → IsBehind sets word state
+    → IsAccepted sets state ↔ Spells sets word
+is_accepted-spells sets [] Initial behind = (λ h. h, λ h. h)
+is_accepted-spells sets [] (At mask) behind = absurd behind
+is_accepted-spells sets (item ∷ word) Initial behind = absurd behind
+is_accepted-spells sets (item ∷ word) (At mask) behind = (
+  λ (end, has, last). (end, (behind end).0 has, last),
+  λ (end, leads, last). (end, (behind end).1 leads, last),
+)
+
+-- so where it is in the rate
+pub is_accepted-in :
+    (sets : Sets) (rate : Expression) (word : Word) (state : State) → AreOf sets rate
+    → IsBehind sets word state → IsAccepted sets state ↔ In rate word
+is_accepted-in sets rate word state are behind =
+    let spells = is_accepted-spells sets word state behind in
+    (λ h. (are word).1 (spells.0 h), λ h. spells.1 ((are word).0 h))
+
+-- a way on from the state behind a word is spelled by what comes behind it in a word to an end
+pub leads_to_end-spells :
+    (sets : Sets) (u : Word) (state : State) (item : List Field) (word : Word) → IsBehind sets u state
+    → LeadsToEnd sets state (item ∷ word) ↔ Spells sets (u ++ item ∷ word)
+leads_to_end-spells sets [] Initial item word behind = (
+  λ (next, end, first, meets, path, last). (end, (next, first, meets, path), last),
+  λ (end, (begin, first, meets, path), last). (begin, end, first, meets, path, last),
+)
+leads_to_end-spells sets [] (At mask) item word behind = absurd behind
+leads_to_end-spells sets (first ∷ u) Initial item word behind = absurd behind
+leads_to_end-spells sets (first ∷ u) (At mask) item word behind = (
+  λ (next, end, (from, has, follows), meets, path, last). (
+    end,
+    leads-append sets (first ∷ u) from (item ∷ word) end ((behind from).0 has)
+        (next, follows, meets, path),
+    last,
+  ),
+  λ (end, leads, last).
+      let rest = leads-split sets first u (item ∷ word) end leads in
+      let on = rest.2 in
+      (on.0, end, (rest.0, (behind rest.0).1 rest.1, on.1), on.2, on.3, last),
+)
+
+-- the state behind a word extends exactly where the word has an extension
+pub extends-in :
+    (nfa : Automaton) (rate : Expression) (u : Word) (state : State) → AreOf nfa.sets rate
+    → IsBehind nfa.sets u state → Extends nfa state ↔ HasExtension nfa rate u
+extends-in nfa rate u state are behind = (
+  λ on. let way = leads_to_end-spells nfa.sets u state on.item on.word behind in
+      (on.item, on.word, on.items, (are (u ++ on.item ∷ on.word)).1 (way.0 on.ends)),
+  λ (item, word, items, in_rate).
+      let way = leads_to_end-spells nfa.sets u state item word behind in
+      record {
+        item = item;
+        word = word;
+        items = items;
+        ends = way.1 ((are (u ++ item ∷ word)).0 in_rate);
+      },
+)

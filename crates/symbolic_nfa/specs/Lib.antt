@@ -1,0 +1,5 @@
+pub mod Automata
+pub mod Ends
+pub mod Growth
+pub mod States
+pub mod Tables

@@ -1,0 +1,34 @@
+//! Which positions lead to an end.
+ghost use Rattle.std.specs.Prelude.{ℕ, ◌<◌, ◌^◌, ◌↔◌, length};
+ghost use Rattle.rate_expr.specs.Sets.{Has};
+ghost use Rattle.symbolic_nfa.specs.Ends.{ComesBefore, EndsThrough};
+
+use rate_expr::Positions;
+
+// The positions from which a path through positions of the mask leads to where words may end.
+pub(crate) fn ending_through(positions: &Positions, mask: u128) -> u128
+    ensures { (position : ℕ) → Has result position ↔ EndsThrough positions.now mask position }
+{
+    let mut ending = 0;
+    let mut found = mask & positions.last();
+    'rounds: while found != ending {
+        ending = found;
+        found |= mask & before(positions, ending);
+    }
+    ending
+}
+
+// The positions behind which one of the targets comes.
+pub(crate) fn before(positions: &Positions, targets: u128) -> u128
+    ensures exact { (position : ℕ) → Has result position
+        ↔ ComesBefore positions.now targets position }
+    ensures within { result < 2 ^ length positions.now.preds }
+{
+    let mut found = 0;
+    'positions: for position in 0..positions.count() {
+        if positions.follow(position) & targets != 0 {
+            found |= 1 << position;
+        }
+    }
+    found
+}

@@ -1,0 +1,47 @@
+//! Which positions the items of each cell meet.
+ghost use Rattle.std.specs.Prelude.{◌≡◌, ◌≤◌, ◌<◌, IfOk, OnOk, length, fold, bit_or};
+ghost use Rattle.rate_expr.specs.Sets.{AreSets};
+ghost use Rattle.symbolic_nfa.specs.Automata.{AreDecided, AreMet};
+ghost use Rattle.symbolic_nfa.specs.Tables.{AddsPosition};
+
+use predicate_cells::{CellSet, Cells};
+use rate_expr::Positions;
+use std::alloc::{AllocError, Global};
+
+// For each cell, the positions that its items meet.
+pub(crate) fn met_by_cells(
+    alloc: Global,
+    positions: &Positions,
+    cells: &Cells,
+) -> Result<Vec<u128>, AllocError>
+    requires { AreDecided positions.now cells.now }
+    ensures met { IfOk result (λ met. AreMet positions.now cells.now met.items) }
+    ensures sets { OnOk result (AreSets positions.now) }
+{
+    let mut met = vec![in alloc; 0; cells.count() as usize]?;
+    'positions: for position in 0..positions.count() {
+        let meeting = cells.mask(alloc, positions.pred(position))?;
+        add(&mut met, position, &meeting);
+    }
+    Ok(met)
+}
+
+// Gives the position to the masks of the cells that are in the set.
+fn add(masks: &mut [u128], position: u32, set: &CellSet)
+    requires few { length masks.old ≤ 4096 }
+    requires position { position < 128 }
+    ensures { AddsPosition masks.old masks.new position set.now }
+{
+    'cells: for cell in 0..masks.len() {
+        if set.has(cell as u32) {
+            masks[cell] |= 1 << position;
+        }
+    }
+}
+
+// The positions of all masks.
+pub(crate) fn union_of(masks: &[u128]) -> u128
+    ensures { result ≡ fold bit_or 0 masks.now }
+{
+    masks.iter().fold(0, |union, mask| union | *mask)
+}

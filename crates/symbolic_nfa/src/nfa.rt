@@ -1,0 +1,160 @@
+//! The automaton of a rate over the cells of a stream.
+ghost use Rattle.std.specs.Prelude.{◌≡◌, ◌<◌, ◌↔◌, List, IsTrue, IfOk, length};
+ghost use Rattle.value_ops.specs.declared.field.Field.{Field};
+ghost use Rattle.predicate_cells.specs.Cells.{cell_count, IsIn};
+ghost use Rattle.rate_expr.specs.Sets.{AreSets};
+ghost use Rattle.symbolic_nfa.specs.Automata.{AreDecided};
+ghost use Rattle.symbolic_nfa.specs.States.{Extends, IsAccepted, IsMetBy, IsStateOf, Steps};
+
+use crate::State;
+use crate::ends::{before, ending_through};
+use crate::met::{met_by_cells, union_of};
+use crate::ways_on::ways_on;
+use predicate_cells::Cells;
+use rate_expr::Positions;
+use std::alloc::{AllocError, Global};
+use std::marker::Model;
+
+/// A position automaton whose letters are cells, seen as the positions' sets and the cells.
+#[derive(Drop)]
+pub struct Nfa {
+    positions: Positions,
+    cells: Cells,
+    // For each cell, the positions that its items meet.
+    met: Vec<u128>,
+    // The positions behind which a word may go on to an end.
+    growing: u128,
+    // Whether a word of at least one item leads to an end.
+    begins: bool,
+}
+
+impl Model for Nfa {
+    ghost use Rattle.std.specs.Coded.{codes};
+    ghost use Rattle.predicate_cells.specs.Coding.{coded_predicate};
+    ghost use Rattle.symbolic_nfa.specs.Automata.{Automaton};
+    ghost use Rattle.symbolic_nfa.specs.Tables.{AreTables};
+
+    ghost Value = { Automaton };
+
+    ghost coded = { Prim.hlevel (codes, coded_predicate) };
+
+    ghost view = { λ n. record { sets = n.positions; cells = n.cells } };
+
+    ghost invariant = { λ n.
+        AreTables (record { sets = n.positions; cells = n.cells }) n.met.items n.growing n.begins };
+}
+
+impl Nfa {
+    /// The automaton of these positions over these cells.
+    pub fn new(alloc: Global, positions: &Positions, cells: &Cells) -> Result<Nfa, AllocError>
+        requires { AreDecided positions.now cells.now }
+        ensures { IfOk result (λ nfa. nfa ≡ record { sets = positions.now; cells = cells.now }) }
+    {
+        let met = met_by_cells(alloc, positions, cells)?;
+        let useful = ending_through(positions, union_of(&met));
+        Ok(Nfa {
+            positions: positions.try_copy(alloc)?,
+            cells: cells.try_copy(alloc)?,
+            met,
+            growing: before(positions, useful),
+            begins: positions.first() & useful != 0,
+        })
+    }
+
+    /// Whether the cells were made with the predicate of each position, as `new` wants it.
+    pub fn can_read(positions: &Positions, cells: &Cells) -> bool
+        ensures { IsTrue result ↔ AreDecided positions.now cells.now }
+    {
+        'positions: for position in 0..positions.count() {
+            if !cells.decides(positions.pred(position)) {
+                return false;
+            }
+        }
+        true
+    }
+
+    /// An equal automaton.
+    pub fn try_copy(&self, alloc: Global) -> Result<Nfa, AllocError>
+        ensures { IfOk result (λ copy. copy ≡ self.now) }
+    {
+        Ok(Nfa {
+            positions: self.positions.try_copy(alloc)?,
+            cells: self.cells.try_copy(alloc)?,
+            met: Vec::from_slice(alloc, &self.met)?,
+            growing: self.growing,
+            begins: self.begins,
+        })
+    }
+
+    /// How many positions there are.
+    pub fn count(&self) -> u32
+        ensures count { result ≡ length self.now.sets.preds }
+        ensures sets { AreSets self.now.sets }
+        ensures decided { AreDecided self.now.sets self.now.cells }
+    {
+        self.positions.count()
+    }
+
+    /// The positions of the rate.
+    pub fn positions(&self) -> &Positions
+        ensures { result.now ≡ self.now.sets }
+    {
+        &self.positions
+    }
+
+    /// The cells that it reads.
+    pub fn cells(&self) -> &Cells
+        ensures { result.now ≡ self.now.cells }
+    {
+        &self.cells
+    }
+
+    /// The positions whose predicates the items of a cell meet.
+    pub fn met_by(&self, cell: u32) -> u128
+        requires { cell < cell_count self.now.cells }
+        ensures { IsMetBy self.now cell result }
+    {
+        self.met[cell as usize]
+    }
+
+    /// Whether the state's positions exist.
+    pub fn has_state(&self, state: State) -> bool
+        ensures { IsTrue result ↔ IsStateOf self.now.sets state }
+    {
+        match state {
+            State::Initial => true,
+            State::At(mask) => mask.checked_shr(self.count()).unwrap_or(0) == 0,
+        }
+    }
+
+    /// The state after one more item of the cell.
+    pub fn step(&self, state: State, cell: u32) -> State
+        requires state { IsStateOf self.now.sets state }
+        requires cell { cell < cell_count self.now.cells }
+        ensures steps { (item : List Field) → IsIn self.now.cells cell item
+            → Steps self.now.sets state item result }
+        ensures state { IsStateOf self.now.sets result }
+    {
+        State::At(ways_on(&self.positions, state) & self.met[cell as usize])
+    }
+
+    /// Whether a word may end in the state.
+    pub fn accepts(&self, state: State) -> bool
+        ensures { IsTrue result ↔ IsAccepted self.now.sets state }
+    {
+        match state {
+            State::Initial => self.positions.nullable(),
+            State::At(mask) => mask & self.positions.last() != 0,
+        }
+    }
+
+    /// Whether a word may go on from the state, by at least one item of the stream, to an end.
+    pub fn extends(&self, state: State) -> bool
+        ensures { IsTrue result ↔ Extends self.now state }
+    {
+        match state {
+            State::Initial => self.begins,
+            State::At(mask) => mask & self.growing != 0,
+        }
+    }
+}
