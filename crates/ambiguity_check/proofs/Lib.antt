@@ -1,0 +1,15 @@
+pub mod Bits
+pub mod Either
+pub mod FactorReads
+pub mod FactorRuns
+pub mod FactorWalks
+pub mod Filling
+pub mod Finding
+pub mod Joining
+pub mod Marking
+pub mod Moving
+pub mod OverlapWalks
+pub mod Searches
+pub mod SplitReads
+pub mod SplitWalks
+pub mod Wording

@@ -1,0 +1,31 @@
+-- Two factorings of one word, the first factors of which differ, the left one's being the shorter.
+use Rattle.std.specs.Prelude.{◌≡◌, ◌⊎◌, ℕ}
+use Rattle.rate_expr.specs.Paths.{Follows}
+use Rattle.rate_expr.specs.Sets.{Sets, Has}
+use Rattle.ambiguity_check.specs.declared.graph.Node.{Node}
+use Rattle.ambiguity_check.specs.declared.graph.Phase.{Phase}
+use Rattle.ambiguity_check.specs.declared.graph.Phase.TheVariants.{Together, Parted}
+
+-- a position comes behind another in words that follow one another: in one of them, or at the
+-- beginning of the next
+abbrev pub GoesOnward : Sets → ℕ → ℕ → Type 0
+GoesOnward sets before next = Follows sets before next ⊎ (Has sets.last before × Has sets.first next)
+
+-- both may begin there
+abbrev pub BeginsFactors : Sets → Node → Type 0
+BeginsFactors sets node =
+    (node.phase ≡ Together) × Has sets.first node.left × Has sets.first node.right
+
+-- one more item may lead from places of a phase to the node: at first both are in their first
+-- factors, then the left one ends its own, and from there on each goes its way
+abbrev pub FactorsOn : Sets → Phase → ℕ → ℕ → Node → Type 0
+FactorsOn sets Together left right node =
+    ((node.phase ≡ Together) × Follows sets left node.left × Follows sets right node.right)
+    ⊎ (Has sets.last left × (node.phase ≡ Parted) × Has sets.first node.left
+    × Follows sets right node.right)
+FactorsOn sets _ left right node =
+    (node.phase ≡ Parted) × GoesOnward sets left node.left × GoesOnward sets right node.right
+
+-- one more item may lead from the first node to the second
+abbrev pub Factors : Sets → Node → Node → Type 0
+Factors sets before node = FactorsOn sets before.phase before.left before.right node

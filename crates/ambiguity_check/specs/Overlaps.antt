@@ -1,0 +1,20 @@
+-- Two readings of one word, each by a rate of its own.
+use Rattle.std.specs.Prelude.{◌≡◌, ℕ, List, slice_index}
+use Rattle.rate_expr.specs.Paths.{Follows}
+use Rattle.rate_expr.specs.Sets.{Sets, Has}
+use Rattle.ambiguity_check.specs.declared.graph.Node.{Node}
+use Rattle.ambiguity_check.specs.declared.graph.Phase.TheVariants.{Together}
+
+-- both may begin there
+abbrev pub BeginsBoth : Sets → Sets → Node → Type 0
+BeginsBoth first second node =
+    (node.phase ≡ Together) × Has first.first node.left × Has second.first node.right
+
+-- both may go on from the first node to the second
+abbrev pub FollowsBoth : Sets → Sets → Node → Node → Type 0
+FollowsBoth first second before node = (node.phase ≡ Together)
+    × Follows first before.left node.left × Follows second before.right node.right
+
+-- the row of the place on the left has the place on the right
+abbrev pub IsInRows : List ℕ → Node → Type 0
+IsInRows rows node = Has (slice_index rows node.left) node.right

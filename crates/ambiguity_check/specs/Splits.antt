@@ -1,0 +1,63 @@
+-- Two splits of one word, the left one of which ends the first part before the right one.
+use Rattle.std.specs.Prelude.{◌≡◌, ◌⊎◌, ℕ, true, List, slice_index}
+use Rattle.rate_expr.specs.Paths.{Follows}
+use Rattle.rate_expr.specs.Sets.{Sets, Has}
+use Rattle.ambiguity_check.specs.declared.graph.Node.{Node}
+use Rattle.ambiguity_check.specs.declared.graph.Phase.{Phase}
+use Rattle.ambiguity_check.specs.declared.graph.Phase.TheVariants.{Together, Parted, Rejoined}
+
+-- what the left one reads in a phase
+abbrev pub left_of : Sets → Sets → Phase → Sets
+left_of first second Together = first
+left_of first second Parted = second
+left_of first second Rejoined = second
+
+-- what the right one reads
+abbrev pub right_of : Sets → Sets → Phase → Sets
+right_of first second Together = first
+right_of first second Parted = first
+right_of first second Rejoined = second
+
+-- both may begin there: in the first part, or the left one in the second where its first is empty
+abbrev pub BeginsSplits : Sets → Sets → Node → Type 0
+BeginsSplits first second node =
+    ((node.phase ≡ Together) × Has first.first node.left × Has first.first node.right)
+    ⊎ ((first.nullable ≡ true) × (node.phase ≡ Parted) × Has second.first node.left
+    × Has first.first node.right)
+
+-- both may go on in the parts in which they are
+abbrev pub StaysIn : Sets → Sets → Node → Node → Type 0
+StaysIn first second before node = (node.phase ≡ before.phase)
+    × Follows (left_of first second before.phase) before.left node.left
+    × Follows (right_of first second before.phase) before.right node.right
+
+-- one of them may end its first part before the item: first the left one, then the right one
+abbrev pub TurnsTo : Sets → Sets → Phase → ℕ → ℕ → Node → Type 0
+TurnsTo first second Together left right node = Has first.last left
+    × (node.phase ≡ Parted) × Has second.first node.left × Follows first right node.right
+TurnsTo first second Parted left right node = Has first.last right
+    × (node.phase ≡ Rejoined) × Follows second left node.left × Has second.first node.right
+TurnsTo first second Rejoined left right node = ⊥
+
+-- one more item may lead from the first node to the second
+abbrev pub GoesOn : Sets → Sets → Node → Node → Type 0
+GoesOn first second before node = StaysIn first second before node
+    ⊎ TurnsTo first second before.phase before.left before.right node
+
+-- the rows of a phase
+abbrev pub rows_in : List ℕ → List ℕ → List ℕ → Phase → List ℕ
+rows_in together parted rejoined Together = together
+rows_in together parted rejoined Parted = parted
+rows_in together parted rejoined Rejoined = rejoined
+
+-- the row of the place on the left has the place on the right
+abbrev pub MeetIn : List ℕ → List ℕ → List ℕ → Node → Type 0
+MeetIn together parted rejoined node =
+    Has (slice_index (rows_in together parted rejoined node.phase) node.left) node.right
+
+-- both end there: the right one with an empty second part, or each in its second part
+abbrev pub EndsSplits : Sets → Sets → Node → Type 0
+EndsSplits first second node =
+    ((node.phase ≡ Parted) × (second.nullable ≡ true) × Has second.last node.left
+    × Has first.last node.right)
+    ⊎ ((node.phase ≡ Rejoined) × Has second.last node.left × Has second.last node.right)

@@ -1,0 +1,30 @@
+-- Walks of two readings of one word.
+use Rattle.std.specs.Prelude.{◌≡◌, ℕ, ◌⊎◌, IsSomeAnd}
+use Rattle.rate_expr.specs.Sets.{Has}
+use Rattle.ambiguity_check.specs.declared.graph.Phase.{Phase}
+use Rattle.ambiguity_check.specs.declared.graph.Phase.TheVariants.{Together, Parted, Rejoined}
+use Rattle.ambiguity_check.specs.declared.graph.Node.{Node}
+use Rattle.ambiguity_check.specs.declared.graph.Move.{Move}
+use Rattle.ambiguity_check.specs.declared.graph.Moves.{Moves}
+
+-- the number of a phase
+abbrev pub rank : Phase → ℕ
+rank Together = 0
+rank Parted = 1
+rank Rejoined = 2
+
+-- the node is one that the move leads to
+abbrev pub IsOf : Move → Node → Type 0
+IsOf move node = (node.phase ≡ move.phase) × Has move.left node.left × Has move.right node.right
+
+-- the node is one that some of the moves leads to
+abbrev pub IsIn : Moves → Node → Type 0
+IsIn moves node = IsOf moves.stay node ⊎ IsSomeAnd moves.turn (λ move. IsOf move node)
+
+-- a walk leads to the node: it begins with one of the first nodes, goes on along edges, and some
+-- item meets both places of each node
+pub data IsReached (begins : Node → Type 0) (goes_on : Node → Node → Type 0) (meet : Node → Type 0)
+    : Node → Type 0 where
+  at_once : (node : Node) → begins node → meet node → IsReached begins goes_on meet node
+  later : (before node : Node) → IsReached begins goes_on meet before → goes_on before node
+      → meet node → IsReached begins goes_on meet node

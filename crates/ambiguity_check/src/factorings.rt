@@ -1,0 +1,96 @@
+//! Whether words factor in one way into words of a rate.
+ghost use Rattle.std.specs.Prelude.{IfOk, MatchBool};
+ghost use Rattle.rate_expr.specs.Paths.{AreOf};
+ghost use Rattle.rate_expr.specs.Rates.{Expression};
+ghost use Rattle.rate_expr.specs.Readings.{HasOneFactoring, HasTwoFactorings};
+
+use crate::graph::{Graph, Move, Moves, Node, Phase};
+use crate::masks::has;
+use crate::meetings::meetings;
+use crate::readings::{behind, onward, row};
+use crate::search::reach;
+use rate_expr::Positions;
+use std::alloc::{AllocError, Global};
+use symbolic_nfa::Nfa;
+
+/// Whether no word factors in two ways into words of the rate, which then has not the empty word.
+pub fn one_factoring(alloc: Global, nfa: &Nfa) -> Result<bool, AllocError>
+    ensures { IfOk result (λ answer. (r : Expression) → AreOf nfa.now.sets r → MatchBool answer
+        (HasOneFactoring nfa.now.cells.layout.columns r)
+        (HasTwoFactorings nfa.now.cells.layout.columns r)) }
+{
+    let positions = nfa.positions();
+    if positions.nullable() {
+        return Ok(false);
+    }
+    let factorings = Factorings {
+        positions,
+        rows: meetings(alloc, nfa, nfa)?,
+    };
+    let marks = reach(alloc, &factorings)?;
+    let ends = Move {
+        phase: Phase::Parted,
+        left: positions.last(),
+        right: positions.last(),
+    };
+    Ok(!marks.has_some(ends))
+}
+
+// Two factorings of one word, the first factors of which differ, the left one's being the shorter:
+// the rate, and for each position those that some item meets with it.
+#[derive(Drop)]
+struct Factorings<'a> {
+    positions: &'a Positions,
+    rows: Vec<u128>,
+}
+
+impl Graph for Factorings<'_> {
+    ghost use Rattle.ambiguity_check.specs.Factorings.{BeginsFactors, Factors};
+    ghost use Rattle.ambiguity_check.specs.Overlaps.{IsInRows};
+
+    ghost begins = { λ f. BeginsFactors f.positions.now };
+
+    ghost goes_on = { λ f. Factors f.positions.now };
+
+    ghost meet = { λ f. IsInRows f.rows.items };
+
+    fn starts(&self) -> Moves {
+        Moves {
+            stay: Move {
+                phase: Phase::Together,
+                left: self.positions.first(),
+                right: self.positions.first(),
+            },
+            turn: None,
+        }
+    }
+
+    fn moves(&self, from: Node) -> Moves {
+        match from.phase {
+            Phase::Together => Moves {
+                stay: Move {
+                    phase: Phase::Together,
+                    left: behind(self.positions, from.left),
+                    right: behind(self.positions, from.right),
+                },
+                turn: has(self.positions.last(), from.left).then_some(Move {
+                    phase: Phase::Parted,
+                    left: self.positions.first(),
+                    right: behind(self.positions, from.right),
+                }),
+            },
+            Phase::Parted | Phase::Rejoined => Moves {
+                stay: Move {
+                    phase: Phase::Parted,
+                    left: onward(self.positions, from.left),
+                    right: onward(self.positions, from.right),
+                },
+                turn: None,
+            },
+        }
+    }
+
+    fn meets(&self, _: Phase, left: u32) -> u128 {
+        row(&self.rows, left)
+    }
+}

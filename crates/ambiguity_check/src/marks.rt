@@ -1,0 +1,74 @@
+//! The nodes that a search has come to.
+ghost use Rattle.std.specs.Prelude.{◌≡◌, ◌<◌, ◌+◌, ◌*◌, IfOk, List, ℕ, slice_index, length, MatchBool};
+ghost use Rattle.ambiguity_check.specs.declared.graph.Node.{Node};
+ghost use Rattle.ambiguity_check.specs.Walks.{rank, IsOf};
+ghost use Rattle.ambiguity_check.specs.Marked.{IsMarked, IsMarkedToo};
+
+use crate::graph::{Move, Node, Phase};
+use crate::masks::{end_of, has, overlap};
+use std::alloc::{AllocError, Global};
+use std::marker::Model;
+
+/// Three phases of 128 places on the left.
+const ROWS: usize = 384;
+
+/// Some nodes, seen as a mask of the places on the right for each place on the left and phase.
+#[derive(Drop)]
+pub(crate) struct Marks {
+    rows: Vec<u128>,
+}
+
+impl Model for Marks {
+    ghost use Rattle.std.specs.Prelude.{◌≡◌, List, ℕ, length};
+    ghost use Rattle.ambiguity_check.specs.declared.marks.TheConstants.{ROWS};
+
+    ghost Value = { List ℕ };
+
+    ghost view = { λ m. m.rows.items };
+
+    ghost invariant = { λ m. length m.rows.items ≡ ROWS };
+}
+
+impl Marks {
+    /// No nodes.
+    pub(crate) fn new(alloc: Global) -> Result<Marks, AllocError>
+        ensures { IfOk result (λ marks. (node : Node) → IsMarked marks node → ⊥) }
+    {
+        let rows = vec![in alloc; 0u128; ROWS]?;
+        Ok(Marks { rows })
+    }
+
+    /// The places on the right of the nodes with this place on the left.
+    pub(crate) fn row(&self, phase: Phase, left: u32) -> u128
+        ensures { result ≡ slice_index self.now (3 * left + rank phase) }
+    {
+        self.rows
+            .get(3 * left as usize + phase.rank())
+            .copied()
+            .unwrap_or(0)
+    }
+
+    /// Whether some of these nodes is in the set.
+    pub(crate) fn has_some(&self, nodes: Move) -> bool
+        ensures { MatchBool result ((node : Node) × IsMarked self.now node × IsOf nodes node)
+            ((node : Node) → IsMarked self.now node → IsOf nodes node → ⊥) }
+    {
+        'lefts: for left in 0..end_of(nodes.left) {
+            if has(nodes.left, left) && overlap(self.row(nodes.phase, left), nodes.right) {
+                return true;
+            }
+        }
+        false
+    }
+
+    /// One more node.
+    pub(crate) fn add(&mut self, node: Node)
+        requires left { node.left < 128 }
+        requires right { node.right < 128 }
+        ensures { IsMarkedToo self.old node self.new }
+    {
+        let row = 3 * node.left as usize + node.phase.rank();
+        let mask = self.rows[row];
+        self.rows[row] = mask | 1 << node.right;
+    }
+}

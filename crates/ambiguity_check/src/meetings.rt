@@ -1,0 +1,33 @@
+//! Which places of two automata some item of the stream meets together.
+ghost use Rattle.std.specs.Prelude.{◌≡◌, ◌<◌, ℕ, IfOk, length};
+ghost use Rattle.rate_expr.specs.Sets.{Has};
+ghost use Rattle.ambiguity_check.specs.Meetings.{AreMeetings, IsJoined};
+
+use crate::masks::{end_of, has};
+use std::alloc::{AllocError, Global};
+use symbolic_nfa::Nfa;
+
+/// For each place of the first automaton, the places of the second that an item meets with it.
+pub(crate) fn meetings(alloc: Global, first: &Nfa, second: &Nfa) -> Result<Vec<u128>, AllocError>
+    requires { first.now.cells ≡ second.now.cells }
+    ensures { IfOk result (λ rows.
+        AreMeetings first.now.cells.layout.columns first.now.sets second.now.sets rows.items) }
+{
+    let mut rows = vec![in alloc; 0u128; first.count() as usize]?;
+    'cells: for cell in 0..first.cells().count() {
+        join(&mut rows, first.met_by(cell), second.met_by(cell));
+    }
+    Ok(rows)
+}
+
+// The rows of the places in the first mask get the places in the second.
+fn join(rows: &mut [u128], first: u128, second: u128)
+    requires { (place : ℕ) → Has first place → place < length rows.old }
+    ensures { IsJoined rows.old first second rows.new }
+{
+    'places: for place in 0..end_of(first) {
+        if has(first, place) {
+            rows[place as usize] |= second;
+        }
+    }
+}

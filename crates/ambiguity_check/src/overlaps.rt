@@ -1,0 +1,84 @@
+//! Whether two rates share a word.
+ghost use Rattle.std.specs.Prelude.{◌≡◌, IfOk, MatchBool};
+ghost use Rattle.rate_expr.specs.Paths.{AreOf};
+ghost use Rattle.rate_expr.specs.Rates.{Expression};
+ghost use Rattle.rate_expr.specs.Readings.{AreDisjoint, Overlap};
+
+use crate::graph::{Graph, Move, Moves, Node, Phase};
+use crate::meetings::meetings;
+use crate::readings::{behind, row};
+use crate::search::reach;
+use rate_expr::Positions;
+use std::alloc::{AllocError, Global};
+use symbolic_nfa::Nfa;
+
+/// Whether no word is in both rates.
+pub fn disjoint(alloc: Global, first: &Nfa, second: &Nfa) -> Result<bool, AllocError>
+    requires { first.now.cells ≡ second.now.cells }
+    ensures { IfOk result (λ answer. (r s : Expression)
+        → AreOf first.now.sets r → AreOf second.now.sets s → MatchBool answer
+        (AreDisjoint first.now.cells.layout.columns r s)
+        (Overlap first.now.cells.layout.columns r s)) }
+{
+    let (left, right) = (first.positions(), second.positions());
+    if left.nullable() && right.nullable() {
+        return Ok(false);
+    }
+    let pairs = Pairs {
+        first: left,
+        second: right,
+        rows: meetings(alloc, first, second)?,
+    };
+    let marks = reach(alloc, &pairs)?;
+    let ends = Move {
+        phase: Phase::Together,
+        left: left.last(),
+        right: right.last(),
+    };
+    Ok(!marks.has_some(ends))
+}
+
+// A reading by each of two rates, and for each position of the first those of the second that some
+// item meets with it.
+#[derive(Drop)]
+struct Pairs<'a> {
+    first: &'a Positions,
+    second: &'a Positions,
+    rows: Vec<u128>,
+}
+
+impl Graph for Pairs<'_> {
+    ghost use Rattle.ambiguity_check.specs.Overlaps.{BeginsBoth, FollowsBoth, IsInRows};
+
+    ghost begins = { λ p. BeginsBoth p.first.now p.second.now };
+
+    ghost goes_on = { λ p. FollowsBoth p.first.now p.second.now };
+
+    ghost meet = { λ p. IsInRows p.rows.items };
+
+    fn starts(&self) -> Moves {
+        Moves {
+            stay: Move {
+                phase: Phase::Together,
+                left: self.first.first(),
+                right: self.second.first(),
+            },
+            turn: None,
+        }
+    }
+
+    fn moves(&self, from: Node) -> Moves {
+        Moves {
+            stay: Move {
+                phase: Phase::Together,
+                left: behind(self.first, from.left),
+                right: behind(self.second, from.right),
+            },
+            turn: None,
+        }
+    }
+
+    fn meets(&self, _: Phase, left: u32) -> u128 {
+        row(&self.rows, left)
+    }
+}

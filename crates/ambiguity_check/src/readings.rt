@@ -1,0 +1,38 @@
+//! Where a reading of a word goes on.
+ghost use Rattle.std.specs.Prelude.{◌≡◌, ◌↔◌, ℕ, slice_index};
+ghost use Rattle.rate_expr.specs.Paths.{Follows};
+ghost use Rattle.rate_expr.specs.Sets.{Has};
+ghost use Rattle.ambiguity_check.specs.Factorings.{GoesOnward};
+
+use crate::masks::has;
+use rate_expr::Positions;
+
+/// The positions behind a position.
+pub(crate) fn behind(positions: &Positions, position: u32) -> u128
+    ensures { (next : ℕ) → Has result next ↔ Follows positions.now position next }
+{
+    if position < positions.count() {
+        positions.follow(position)
+    } else {
+        0
+    }
+}
+
+/// The row of a place, which is empty past the last.
+pub(crate) fn row(rows: &[u128], place: u32) -> u128
+    ensures { result ≡ slice_index rows.now place }
+{
+    rows.get(place as usize).copied().unwrap_or(0)
+}
+
+/// The positions behind a position in words that follow one another.
+pub(crate) fn onward(positions: &Positions, position: u32) -> u128
+    ensures { (next : ℕ) → Has result next ↔ GoesOnward positions.now position next }
+{
+    let within = behind(positions, position);
+    if has(positions.last(), position) {
+        within | positions.first()
+    } else {
+        within
+    }
+}

@@ -1,0 +1,158 @@
+//! Whether words split in one way into a word of one rate and then one of another.
+ghost use Rattle.std.specs.Prelude.{◌≡◌, ◌↔◌, IfOk, MatchBool, IsSomeAnd};
+ghost use Rattle.rate_expr.specs.Paths.{AreOf};
+ghost use Rattle.rate_expr.specs.Rates.{Expression};
+ghost use Rattle.rate_expr.specs.Readings.{HaveOneSplit, HaveTwoSplits};
+ghost use Rattle.ambiguity_check.specs.declared.graph.Node.{Node};
+ghost use Rattle.ambiguity_check.specs.Walks.{IsOf};
+ghost use Rattle.ambiguity_check.specs.Splits.{left_of, right_of, TurnsTo, EndsSplits};
+ghost use Rattle.ambiguity_check.specs.Marked.{IsMarked};
+
+use crate::graph::{Graph, Move, Moves, Node, Phase};
+use crate::marks::Marks;
+use crate::masks::has;
+use crate::meetings::meetings;
+use crate::readings::{behind, row};
+use crate::search::reach;
+use rate_expr::Positions;
+use std::alloc::{AllocError, Global};
+use symbolic_nfa::Nfa;
+
+/// Whether no word splits in two ways into a word of the first rate and then one of the second.
+pub fn one_split(alloc: Global, first: &Nfa, second: &Nfa) -> Result<bool, AllocError>
+    requires { first.now.cells ≡ second.now.cells }
+    ensures { IfOk result (λ answer. (r s : Expression)
+        → AreOf first.now.sets r → AreOf second.now.sets s → MatchBool answer
+        (HaveOneSplit first.now.cells.layout.columns r s)
+        (HaveTwoSplits first.now.cells.layout.columns r s)) }
+{
+    let splits = Splits {
+        first: first.positions(),
+        second: second.positions(),
+        together: meetings(alloc, first, first)?,
+        parted: meetings(alloc, second, first)?,
+        rejoined: meetings(alloc, second, second)?,
+    };
+    let marks = reach(alloc, &splits)?;
+    Ok(!splits.end_in(&marks))
+}
+
+// Two splits of one word, where the left one ends the first part before the right one: the two
+// rates, and in each phase for each position of the left one those of the right one that some item
+// meets with it.
+#[derive(Drop)]
+struct Splits<'a> {
+    first: &'a Positions,
+    second: &'a Positions,
+    together: Vec<u128>,
+    parted: Vec<u128>,
+    rejoined: Vec<u128>,
+}
+
+impl Splits<'_> {
+    // What the left one reads in a phase.
+    fn left(&self, phase: Phase) -> &Positions
+        ensures { result.now ≡ left_of self.now.first.now self.now.second.now phase }
+    {
+        match phase {
+            Phase::Together => self.first,
+            Phase::Parted | Phase::Rejoined => self.second,
+        }
+    }
+
+    // What the right one reads in a phase.
+    fn right(&self, phase: Phase) -> &Positions
+        ensures { result.now ≡ right_of self.now.first.now self.now.second.now phase }
+    {
+        match phase {
+            Phase::Together | Phase::Parted => self.first,
+            Phase::Rejoined => self.second,
+        }
+    }
+
+    // Where an item leads in front of which one of the first parts ends.
+    fn turn(&self, from: Node) -> Option<Move>
+        ensures { (node : Node) → IsSomeAnd result (λ step. IsOf step node)
+            ↔ TurnsTo self.now.first.now self.now.second.now from.phase from.left from.right node }
+    {
+        match from.phase {
+            Phase::Together => has(self.first.last(), from.left).then_some(Move {
+                phase: Phase::Parted,
+                left: self.second.first(),
+                right: behind(self.first, from.right),
+            }),
+            Phase::Parted => has(self.first.last(), from.right).then_some(Move {
+                phase: Phase::Rejoined,
+                left: behind(self.second, from.left),
+                right: self.second.first(),
+            }),
+            Phase::Rejoined => None,
+        }
+    }
+
+    // Whether both end in some of the nodes.
+    fn end_in(&self, marks: &Marks) -> bool
+        ensures { MatchBool result
+            ((node : Node) × IsMarked marks.now node
+            × EndsSplits self.now.first.now self.now.second.now node)
+            ((node : Node) → IsMarked marks.now node
+            → EndsSplits self.now.first.now self.now.second.now node → ⊥) }
+    {
+        let ends = self.second.last();
+        let parted = Move {
+            phase: Phase::Parted,
+            left: ends,
+            right: self.first.last(),
+        };
+        let rejoined = Move {
+            phase: Phase::Rejoined,
+            left: ends,
+            right: ends,
+        };
+        self.second.nullable() && marks.has_some(parted) || marks.has_some(rejoined)
+    }
+}
+
+impl Graph for Splits<'_> {
+    ghost use Rattle.ambiguity_check.specs.Splits.{BeginsSplits, GoesOn, MeetIn};
+
+    ghost begins = { λ s. BeginsSplits s.first.now s.second.now };
+
+    ghost goes_on = { λ s. GoesOn s.first.now s.second.now };
+
+    ghost meet = { λ s. MeetIn s.together.items s.parted.items s.rejoined.items };
+
+    fn starts(&self) -> Moves {
+        Moves {
+            stay: Move {
+                phase: Phase::Together,
+                left: self.first.first(),
+                right: self.first.first(),
+            },
+            turn: self.first.nullable().then_some(Move {
+                phase: Phase::Parted,
+                left: self.second.first(),
+                right: self.first.first(),
+            }),
+        }
+    }
+
+    fn moves(&self, from: Node) -> Moves {
+        Moves {
+            stay: Move {
+                phase: from.phase,
+                left: behind(self.left(from.phase), from.left),
+                right: behind(self.right(from.phase), from.right),
+            },
+            turn: self.turn(from),
+        }
+    }
+
+    fn meets(&self, phase: Phase, left: u32) -> u128 {
+        match phase {
+            Phase::Together => row(&self.together, left),
+            Phase::Parted => row(&self.parted, left),
+            Phase::Rejoined => row(&self.rejoined, left),
+        }
+    }
+}
