@@ -1,0 +1,34 @@
+//! Takes steps of a large automaton, or makes a decision on it, as often as asked: what these cost.
+#![tactic(auto)]
+
+mod crowd;
+mod work;
+
+use crate::crowd::crowd;
+use crate::work::Work;
+use std::{env, io};
+
+/// The words are a kind of work, how many positions the automaton has, how many numbers each of its two columns is
+/// tested for, and how often the work is done.
+fn main(rt: HostRuntime) -> io::Result<()> {
+    let alloc = rt.alloc();
+    let words: Vec<String> = env::args(&rt)?.skip(1).collect(alloc)?;
+    let Some(work) = Work::named(words.get(0).map_or("", |word| word.as_str())) else {
+        return println!(rt; "step, disjoint, one_split or one_factoring");
+    };
+    match crowd(alloc, number(&words, 1), number(&words, 2))? {
+        Some(nfa) => {
+            let answer = work.done(alloc, &nfa, number(&words, 3))?;
+            let (positions, cells) = (nfa.count(), nfa.cells().count());
+            println!(rt; "{positions} positions, {cells} cells: {answer}")
+        }
+        None => println!(rt; "too many positions or cells"),
+    }
+}
+
+fn number(words: &[String], at: usize) -> u32 {
+    words
+        .get(at)
+        .and_then(|word| word.as_str().parse::<u32>().ok())
+        .unwrap_or(1)
+}
