@@ -2,6 +2,7 @@
 #![tactic(auto)]
 
 mod crowd;
+mod decision;
 mod work;
 
 use crate::crowd::crowd;
@@ -14,7 +15,7 @@ fn main(rt: HostRuntime) -> io::Result<()> {
     let alloc = rt.alloc();
     let words: Vec<String> = env::args(&rt)?.skip(1).collect(alloc)?;
     let Some(work) = Work::named(words.get(0).map_or("", |word| word.as_str())) else {
-        return println!(rt; "step, disjoint, one_split or one_factoring");
+        return println!(rt; "step, extends, disjoint, one_split or one_factoring");
     };
     match crowd(alloc, number(&words, 1), number(&words, 2))? {
         Some(nfa) => {

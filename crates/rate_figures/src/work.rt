@@ -1,9 +1,8 @@
-//! What can be done with an automaton.
-
+//! What is done with an automaton.
 ghost use Rattle.std.specs.Prelude.{◌<◌};
 ghost use Rattle.predicate_cells.specs.Cells.{cell_count};
 
-use ambiguity_check::{disjoint, one_factoring, one_split};
+use crate::decision::Decision;
 use item_schema::Item;
 use std::alloc::{AllocError, Global};
 use symbolic_nfa::{Nfa, State};
@@ -12,42 +11,32 @@ use value_ops::Field;
 /// A kind of work.
 #[derive(Clone, Copy)]
 pub(crate) enum Work {
+    /// A step from state to state.
     Step,
-    Disjoint,
-    OneSplit,
-    OneFactoring,
+    /// A step, and whether a word may go on behind it.
+    Extends,
+    Decide(Decision),
 }
 
 impl Work {
     pub(crate) fn named(name: &str) -> Option<Work> {
         match name {
             "step" => Some(Work::Step),
-            "disjoint" => Some(Work::Disjoint),
-            "one_split" => Some(Work::OneSplit),
-            "one_factoring" => Some(Work::OneFactoring),
+            "extends" => Some(Work::Extends),
+            "disjoint" => Some(Work::Decide(Decision::Disjoint)),
+            "one_split" => Some(Work::Decide(Decision::OneSplit)),
+            "one_factoring" => Some(Work::Decide(Decision::OneFactoring)),
             _ => None,
         }
     }
 
-    /// The last answer, of an automaton and itself.
+    /// The last answer of so many.
     pub(crate) fn done(self, alloc: Global, nfa: &Nfa, times: u32) -> Result<bool, AllocError> {
-        if let Work::Step = self {
-            let cell = nfa.cells().of(&greatest(alloc)?);
-            return Ok(nfa.accepts(behind(nfa, cell, times)));
-        }
-        let mut answer = true;
-        for _ in 0..times {
-            answer = self.decided(alloc, nfa)?;
-        }
-        Ok(answer)
-    }
-
-    fn decided(self, alloc: Global, nfa: &Nfa) -> Result<bool, AllocError> {
+        let cell = nfa.cells().of(&greatest(alloc)?);
         match self {
-            Work::Step => Ok(true),
-            Work::Disjoint => disjoint(alloc, nfa, nfa),
-            Work::OneSplit => one_split(alloc, nfa, nfa),
-            Work::OneFactoring => one_factoring(alloc, nfa),
+            Work::Step => Ok(nfa.accepts(behind(nfa, cell, times))),
+            Work::Extends => Ok(all_extend(nfa, cell, times)),
+            Work::Decide(decision) => decision.repeated(alloc, nfa, times),
         }
     }
 }
@@ -67,4 +56,17 @@ fn behind(nfa: &Nfa, cell: u32, times: u32) -> State
         state = nfa.step(state, cell);
     }
     state
+}
+
+// Whether the state behind each of these items extends.
+fn all_extend(nfa: &Nfa, cell: u32, times: u32) -> bool
+    requires { cell < cell_count nfa.now.cells }
+{
+    let mut state = State::Initial;
+    let mut all = true;
+    'items: for _ in 0..times {
+        state = nfa.step(state, cell);
+        all &= nfa.extends(state);
+    }
+    all
 }

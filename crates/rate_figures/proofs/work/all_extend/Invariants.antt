@@ -1,0 +1,5 @@
+use Rattle.symbolic_nfa.specs.States.{IsStateOf}
+use Rattle.rate_figures.proofs.work.all_extend.Given as goal
+
+abbrev pub invariant-items : goal.invariant-items
+invariant-items l = IsStateOf l.nfa.sets l.state
