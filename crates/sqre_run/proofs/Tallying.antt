@@ -2,7 +2,7 @@
 use Rattle.std.proofs.Common.{◌≡◌, ◌==◌, ℕ, ℤ, ◌&&◌, not, Bool, true, false, cond, List, [], ◌∷◌, ◌++◌, Option, None, Some, Result, Ok, Err, option_to_list, IfOk, length, refl, sym, ap, subst, ◌∙◌, append_assoc, append-nil}
 use Rattle.std.specs.declared.alloc.AllocError.{AllocError}
 use Rattle.std.specs.List.{flat_map, list_all}
-use Rattle.io_edge.specs.Lines.{Shown, text, long}
+use Rattle.io_edge.specs.Lines.{Shown, text}
 use Rattle.value_ops.specs.declared.field.Field.{Field}
 use Rattle.value_ops.specs.declared.scalar.Scalar.{Scalar}
 use Rattle.value_ops.specs.declared.scalar.Scalar.TheVariants.{Number}
@@ -12,7 +12,7 @@ use Rattle.item_schema.specs.declared.stop.Skip.{Skip}
 use Rattle.item_schema.specs.Reading.{item_of}
 use Rattle.predicate_cells.specs.Truth.{holds, number_in}
 use Rattle.report_writer.specs.Texts.{answer_text, skip_text}
-use Rattle.sqre_run.specs.Output.{read_of, item_in, body_of, items_of, value_of, value_after, is_header, reply_to, answer}
+use Rattle.sqre_run.specs.Output.{read_of, item_in, body_of, items_of, value_of, value_after, is_header, reply_to}
 use Rattle.sqre_run.specs.Plan.{Plan}
 use Rattle.sqre_run.specs.Tallies.{Progress, IsBehind, RepliesTo, is_begun, with_item}
 

@@ -1,5 +1,5 @@
 -- What a run writes, as a function of the query and the item bytes.
-use Rattle.std.specs.Prelude.{◌≡◌, ℕ, ◌&&◌, Bool, true, false, List, [], ◌∷◌, ◌++◌, drop, Option, Some, None, Result, Ok, Err, option_to_list, if◌then◌else◌}
+use Rattle.std.specs.Prelude.{ℕ, Bool, true, false, List, [], ◌∷◌, ◌++◌, drop, Option, Some, None, Result, Ok, Err, option_to_list, if◌then◌else◌}
 use Rattle.std.specs.List.{flat_map, list_all}
 use Rattle.io_edge.specs.Lines.{Shown, text, long, lines}
 use Rattle.value_ops.specs.declared.field.Field.{Field}

@@ -1,4 +1,4 @@
-use Rattle.std.proofs.Common.{◌∙◌, sym, ap, Err}
+use Rattle.std.proofs.Common.{◌∙◌, sym}
 use Rattle.sqre_run.proofs.Tallying.{told, replies_item, replies_skip}
 use Rattle.sqre_run.proofs.tally.Tally.line.Goals as goal
 
