@@ -23,30 +23,31 @@ fn lines(alloc: Global, count: u8, kind: Kind) -> Result<Option<Schema>, AllocEr
     Ok(Some(Schema::new(false, columns)))
 }
 
-// The cells of a stream under one predicate, unless they are too many.
-fn cells_under(alloc: Global, schema: &Schema, pred: &Pred) -> Result<Option<Cells>, AllocError> {
-    let mut preds = Preds::new(alloc);
-    preds.add(pred)?;
+// The cells of a stream under these predicates. That they do not fit is told as want of memory, so that only
+// `Cells::new` says that there are too many.
+fn cells_in(alloc: Global, schema: &Schema, preds: &Preds) -> Result<Cells, CellStop> {
     if !preds.fit(schema) {
-        return Ok(None);
+        return Err(CellStop::Memory);
     }
-    made(Cells::new(alloc, schema, &preds))
+    Cells::new(alloc, schema, preds)
 }
 
-fn made(cells: Result<Cells, CellStop>) -> Result<Option<Cells>, AllocError> {
-    match cells {
-        Ok(cells) => Ok(Some(cells)),
-        Err(CellStop::TooMany) => Ok(None),
-        Err(CellStop::Memory) => Err(AllocError),
-    }
+fn cells_under(alloc: Global, schema: &Schema, pred: &Pred) -> Result<Cells, CellStop> {
+    let mut preds = Preds::new(alloc);
+    preds.add(pred)?;
+    cells_in(alloc, schema, &preds)
 }
 
 // The cells of one column of lines.
-fn cells_of(alloc: Global, kind: Kind, pred: &Pred) -> Result<Option<Cells>, AllocError> {
+fn cells_of(alloc: Global, kind: Kind, pred: &Pred) -> Result<Cells, CellStop> {
     match lines(alloc, 1, kind)? {
         Some(schema) => cells_under(alloc, &schema, pred),
-        None => Ok(None),
+        None => Err(CellStop::Memory),
     }
+}
+
+fn are_too_many(cells: &Result<Cells, CellStop>) -> bool {
+    matches!(cells, Err(CellStop::TooMany))
 }
 
 // How many cells there are, if each has a sample.
@@ -97,22 +98,20 @@ fn and(alloc: Global, first: Pred, second: Pred) -> Result<Pred, AllocError> {
 fn a_test_for_one_number_parts_three_cells(rt: HostRuntime) -> Result<(), Fail> {
     let alloc = rt.alloc();
     let pred = Pred::Eq(A, 5);
-    let Some(cells) = cells_of(alloc, Kind::Int, &pred)? else {
-        return Err("no cells")?;
-    };
+    let cells = cells_of(alloc, Kind::Int, &pred)?;
     for (five, cell) in [(4, 0), (5, 1), (6, 2)] {
         assert_eq!(rt; cells.of(&number(alloc, five)?), cell);
     }
     assert_eq!(rt; met(alloc, &cells, &pred)?.as_slice(), [1].as_slice());
+    assert!(rt; cells.decides(&pred));
+    assert!(rt; !cells.mask(alloc, &pred)?.is_empty());
     Ok(())
 }
 
 #[test]
 fn copies_have_the_same_cells(rt: HostRuntime) -> Result<(), Fail> {
     let alloc = rt.alloc();
-    let Some(cells) = cells_of(alloc, Kind::Int, &Pred::Between(A, 3, 5))? else {
-        return Err("no cells")?;
-    };
+    let cells = cells_of(alloc, Kind::Int, &Pred::Between(A, 3, 5))?;
     let copy = cells.try_copy(alloc)?;
     assert_eq!(rt; count_of(alloc, &copy)?, 3);
     assert_eq!(rt; copy.schema().columns().len(), 1);
@@ -131,10 +130,10 @@ fn all_are(alloc: Global, count: u8, text: &[u8]) -> Result<Pred, AllocError> {
 }
 
 // The cells of as many columns of texts, each tested for one.
-fn wide(alloc: Global, count: u8) -> Result<Option<Cells>, AllocError> {
+fn wide(alloc: Global, count: u8) -> Result<Cells, CellStop> {
     match lines(alloc, count, Kind::Text)? {
         Some(schema) => cells_under(alloc, &schema, &all_are(alloc, count, b"v")?),
-        None => Ok(None),
+        None => Err(CellStop::Memory),
     }
 }
 
@@ -142,13 +141,11 @@ fn wide(alloc: Global, count: u8) -> Result<Option<Cells>, AllocError> {
 #[test]
 fn cells_are_the_product_of_classes(rt: HostRuntime) -> Result<(), Fail> {
     let alloc = rt.alloc();
-    let Some(cells) = wide(alloc, 12)? else {
-        return Err("no cells")?;
-    };
+    let cells = wide(alloc, 12)?;
     assert_eq!(rt; count_of(alloc, &cells)?, 4096);
     let all = met(alloc, &cells, &all_are(alloc, 12, b"v")?)?;
     assert_eq!(rt; all.as_slice(), [0].as_slice());
-    assert!(rt; wide(alloc, 13)?.is_none());
+    assert!(rt; are_too_many(&wide(alloc, 13)));
     Ok(())
 }
 

@@ -1,6 +1,8 @@
 // The numbers of classes, and truth, at the ends of 64 bits and of the kinds.
-use super::{A, and, cells_of, cells_under, count_of, lines, made, met, number, text};
-use crate::{Cells, Pred, Preds, holds};
+use super::{
+    A, and, are_too_many, cells_in, cells_of, cells_under, count_of, lines, met, number, text,
+};
+use crate::{CellStop, Cells, Pred, Preds, holds};
 use item_schema::{Item, Kind, Schema};
 use std::alloc::{AllocError, Global};
 use std::test::Fail;
@@ -20,11 +22,9 @@ fn test(sign: &str, number: i64) -> Pred {
     }
 }
 
-fn number_count(alloc: Global, pred: &Pred) -> Result<u32, AllocError> {
-    match cells_of(alloc, Kind::Int, pred)? {
-        Some(cells) => count_of(alloc, &cells),
-        None => Ok(0),
-    }
+fn number_count(alloc: Global, pred: &Pred) -> Result<u32, CellStop> {
+    let cells = cells_of(alloc, Kind::Int, pred)?;
+    Ok(count_of(alloc, &cells)?)
 }
 
 // A class begins at the number for `<` and `>=`, behind it for `<=` and `>`, at both for `=` and `!=`; none begins at
@@ -64,9 +64,7 @@ fn ranges_begin_at_one_end_and_behind_the_other(rt: HostRuntime) -> Result<(), F
 fn one_beginning_of_two_tests_is_one_class(rt: HostRuntime) -> Result<(), Fail> {
     let alloc = rt.alloc();
     let pred = and(alloc, Pred::Lt(A, 6), Pred::Gt(A, 5))?;
-    let Some(cells) = cells_of(alloc, Kind::Int, &pred)? else {
-        return Err("no cells")?;
-    };
+    let cells = cells_of(alloc, Kind::Int, &pred)?;
     assert_eq!(rt; cells.count(), 2);
     assert!(rt; cells.decides(&pred));
     assert!(rt; cells.mask(alloc, &pred)?.is_empty());
@@ -77,9 +75,7 @@ fn one_beginning_of_two_tests_is_one_class(rt: HostRuntime) -> Result<(), Fail> 
 fn texts_are_those_named_and_all_others(rt: HostRuntime) -> Result<(), Fail> {
     let alloc = rt.alloc();
     let pred = Pred::EqText(A, Bytes::from_slice(alloc, b"")?);
-    let Some(cells) = cells_of(alloc, Kind::Text, &pred)? else {
-        return Err("no cells")?;
-    };
+    let cells = cells_of(alloc, Kind::Text, &pred)?;
     assert_eq!(rt; count_of(alloc, &cells)?, 2);
     for (word, cell) in [("", 0), ("_", 1), ("x", 1)] {
         assert_eq!(rt; cells.of(&text(alloc, word.as_bytes())?), cell, "{word}");
@@ -92,7 +88,7 @@ fn failed(alloc: Global, scalar: Scalar) -> Result<Item, AllocError> {
     Item::of_value(alloc, &Value::Scalar(scalar))
 }
 
-fn value_cells(alloc: Global, pred: &Pred) -> Result<Option<Cells>, AllocError> {
+fn value_cells(alloc: Global, pred: &Pred) -> Result<Cells, CellStop> {
     let schema = Schema::derived(alloc, ValueType::Number)?;
     cells_under(alloc, &schema, pred)
 }
@@ -104,25 +100,40 @@ fn said_of_failed(alloc: Global, pred: &Pred) -> Result<Option<bool>, AllocError
     Ok((over == zero).then_some(over))
 }
 
-// Of what is no number `!=` alone is true.
+// Whether both and a number are in three cells.
+fn are_apart(alloc: Global, cells: &Cells) -> Result<bool, AllocError> {
+    let over = cells.of(&failed(alloc, Scalar::Overflow)?);
+    let zero = cells.of(&failed(alloc, Scalar::DivZero)?);
+    let seven = cells.of(&failed(alloc, Scalar::Number(7))?);
+    Ok(over != zero && over != seven && zero != seven)
+}
+
+// Whether the predicate says this of both, and so many cells of values keep them apart.
+fn is_so(alloc: Global, pred: &Pred, meets: bool, count: u32) -> Result<bool, CellStop> {
+    let cells = value_cells(alloc, pred)?;
+    let said = said_of_failed(alloc, pred)? == Some(meets);
+    let counted = count_of(alloc, &cells)? == count;
+    Ok(said && counted && are_apart(alloc, &cells)?)
+}
+
+// Of what is no number `!=` alone is true, and a stream of values has a class for each of the two.
 #[test]
 fn failed_values_are_no_numbers(rt: HostRuntime) -> Result<(), Fail> {
     let alloc = rt.alloc();
-    for (sign, meets) in [
-        ("=", false),
-        ("!=", true),
-        ("<", false),
-        ("<=", false),
-        (">", false),
-        (">=", false),
-        ("number", false),
-        ("any", true),
+    for (sign, number, meets, count) in [
+        ("=", 5, false, 5),
+        ("!=", 5, true, 5),
+        ("<", i64::MAX, false, 4),
+        ("<=", i64::MAX, false, 3),
+        (">", 0, false, 4),
+        (">=", i64::MIN, false, 3),
+        ("number", 0, false, 3),
+        ("any", 0, true, 3),
     ] {
-        let said = said_of_failed(alloc, &test(sign, 5))?;
-        assert!(rt; said == Some(meets), "{sign}");
+        assert!(rt; is_so(alloc, &test(sign, number), meets, count)?, "{sign}");
     }
     let range = Pred::Between(A, i64::MIN, i64::MAX);
-    assert!(rt; said_of_failed(alloc, &range)? == Some(false));
+    assert!(rt; is_so(alloc, &range, false, 3)?);
     Ok(())
 }
 
@@ -130,9 +141,7 @@ fn failed_values_are_no_numbers(rt: HostRuntime) -> Result<(), Fail> {
 #[test]
 fn failed_values_have_classes_of_their_own(rt: HostRuntime) -> Result<(), Fail> {
     let alloc = rt.alloc();
-    let Some(cells) = value_cells(alloc, &Pred::Ne(A, 5))? else {
-        return Err("no cells")?;
-    };
+    let cells = value_cells(alloc, &Pred::Ne(A, 5))?;
     assert_eq!(rt; count_of(alloc, &cells)?, 5);
     for (scalar, cell) in [
         (Scalar::Number(5), 1),
@@ -148,30 +157,25 @@ fn failed_values_have_classes_of_their_own(rt: HostRuntime) -> Result<(), Fail> 
 }
 
 // The cells of one column of numbers, each of which is tested as the least that is not below.
-fn cells_of_tests(alloc: Global, count: i64) -> Result<Option<Cells>, AllocError> {
-    let Some(schema) = lines(alloc, 1, Kind::Int)? else {
-        return Ok(None);
-    };
+fn cells_of_tests(alloc: Global, count: i64) -> Result<Cells, CellStop> {
     let mut preds = Preds::new(alloc);
     for at in 0..count {
         preds.add(&Pred::Lt(A, at))?;
     }
-    if !preds.fit(&schema) {
-        return Ok(None);
+    match lines(alloc, 1, Kind::Int)? {
+        Some(schema) => cells_in(alloc, &schema, &preds),
+        None => Err(CellStop::Memory),
     }
-    made(Cells::new(alloc, &schema, &preds))
 }
 
 // 4,095 beginnings make 4,096 classes of one column, and one more too many.
 #[test]
 fn a_column_has_4096_classes_at_most(rt: HostRuntime) -> Result<(), Fail> {
     let alloc = rt.alloc();
-    let Some(cells) = cells_of_tests(alloc, 4_095)? else {
-        return Err("no cells")?;
-    };
+    let cells = cells_of_tests(alloc, 4_095)?;
     assert_eq!(rt; cells.count(), 4_096);
     assert_eq!(rt; cells.of(&number(alloc, -1)?), 0);
     assert_eq!(rt; cells.of(&number(alloc, 4_094)?), 4_095);
-    assert!(rt; cells_of_tests(alloc, 4_096)?.is_none());
+    assert!(rt; are_too_many(&cells_of_tests(alloc, 4_096)));
     Ok(())
 }
