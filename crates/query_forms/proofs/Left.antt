@@ -1,6 +1,6 @@
 -- A loop over places and trees: what is left of both decides.
 use Rattle.std.proofs.Common.{◌≡◌, ◌≤◌, ◌<◌, ◌+◌, ℕ, List, [], ◌∷◌, Option, Some, None, sym, ap, ◌∙◌, arith}
-use Rattle.query_model.specs.declared.span.Span.{Span}
+use Rattle.language_base.specs.declared.span.Span.{Span}
 use Rattle.query_trees.specs.declared.tree.Tree.{Tree}
 use Rattle.query_trees.specs.Trees as trees
 use Rattle.query_trees.specs.Trees.{tree_before, trees_of, first_of_two}

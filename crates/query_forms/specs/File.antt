@@ -1,7 +1,7 @@
 -- The form of a whole file, and the numbers in it.
 use Rattle.std.specs.Prelude.{ℕ, ◌-◌, ◌^◌, ℤ, pos, negsuc, Bool, ◌&&◌, ◌==◌, List, [], ◌∷◌, nat_le, nat_lt, codes, replicate, Option, Some, None, if◌then◌else◌}
 use Rattle.std.specs.Str.{bytes_eq}
-use Rattle.query_model.specs.declared.span.Span.{Span}
+use Rattle.language_base.specs.declared.span.Span.{Span}
 use Rattle.query_trees.specs.Trees.{first_of_two}
 use Rattle.query_forms.specs.declared.place.Place.TheVariants.{Mode, Column, Query, Name}
 use Rattle.query_forms.specs.Terms.{Terms, none, word, number, string, call, count_of}

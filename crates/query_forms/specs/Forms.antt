@@ -1,7 +1,7 @@
 -- The forms: at each place the words, numbers, strings and calls that may stand there.
 use Rattle.std.specs.Prelude.{ℕ, ℤ, pos, Bool, true, false, ◌&&◌, ◌||◌, ◌==◌, List, [], ◌∷◌, length, nat_le, codes, Option, Some, None, if◌then◌else◌}
 use Rattle.std.specs.Str.{bytes_eq}
-use Rattle.query_model.specs.declared.span.Span.{Span}
+use Rattle.language_base.specs.declared.span.Span.{Span}
 use Rattle.query_trees.specs.Trees.{first_of_two}
 use Rattle.query_forms.specs.declared.place.Place.{Place}
 use Rattle.query_forms.specs.declared.place.Place.TheVariants.{Mode, Column, Kind, Query, Rate, Pred, Literal, Expr, Compare, Name, Number, Text, Digits}

@@ -1,7 +1,7 @@
 -- Lists of terms with what they say and their places, and the trees that say so.
 use Rattle.std.specs.Prelude.{◌≡◌, ◌≤◌, ℕ, ◌+◌, ℤ, List, length, slice_range}
 use Rattle.std.specs.Str.Parse.{signed_digits_value}
-use Rattle.query_model.specs.declared.span.Span.{Span}
+use Rattle.language_base.specs.declared.span.Span.{Span}
 use Rattle.query_tokens.specs.declared.token.Token.{Token}
 use Rattle.query_tokens.specs.declared.token.TokenKind.TheVariants.{Word, Number, Text}
 use Rattle.query_tokens.specs.Raw.{IsRaw, IsString}

@@ -1,7 +1,7 @@
 -- The top terms of a file, each by itself.
 use Rattle.std.specs.Prelude.{ℕ, ◌-◌, Bool, false, ◌&&◌, ◌==◌, List, ◌∷◌, length, replicate, codes, nat_le, Option, if◌then◌else◌}
 use Rattle.std.specs.Str.{bytes_eq}
-use Rattle.query_model.specs.declared.span.Span.{Span}
+use Rattle.language_base.specs.declared.span.Span.{Span}
 use Rattle.query_forms.specs.declared.place.Place.{Place}
 use Rattle.query_forms.specs.declared.place.Place.TheVariants.{Mode, Column}
 use Rattle.query_forms.specs.Terms.{Terms, none, call, count_of}

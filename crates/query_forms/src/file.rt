@@ -6,7 +6,7 @@ ghost use Rattle.query_forms.specs.Terms.{AreOf, Say, Terms};
 
 use crate::place::Place;
 use crate::tops::{first_place, is_call, unfit_call, unfit_stream};
-use query_model::Span;
+use language_base::Span;
 use query_trees::Tree;
 
 /// The first term, in the order of the text, that keeps the trees from being a file: a stream, any

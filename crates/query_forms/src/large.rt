@@ -5,7 +5,7 @@ ghost use Rattle.query_forms.specs.File.{first_large};
 ghost use Rattle.query_forms.specs.Terms.{AreOf, IsTokenOf, Say, Terms};
 
 use crate::part::bytes_at;
-use query_model::Span;
+use language_base::Span;
 use query_tokens::{Token, TokenKind, number_value};
 use query_trees::Tree;
 

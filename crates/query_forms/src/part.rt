@@ -2,7 +2,7 @@
 ghost use Rattle.std.specs.Prelude.{◌≡◌, ◌≤◌, length};
 ghost use Rattle.query_forms.specs.Terms.{bytes_at};
 
-use query_model::Span;
+use language_base::Span;
 
 pub fn bytes_at(text: &[u8], span: Span) -> &[u8]
     requires order { span.from ≤ span.to }

@@ -5,7 +5,7 @@ ghost use Rattle.query_trees.specs.Trees.{Trees, call, tree_before, trees_of};
 
 use super::*;
 use crate::place::Place::*;
-use query_model::Span;
+use language_base::Span;
 use query_tokens::{Token, TokenKind};
 use query_trees::Tree;
 use std::test::Fail;

@@ -9,7 +9,7 @@ use crate::part::bytes_at;
 use crate::place::Place;
 use crate::place::Place::{Column, Mode};
 use crate::unfit::first_unfit;
-use query_model::Span;
+use language_base::Span;
 use query_trees::Tree;
 
 const STREAM: [Place; 33] = [

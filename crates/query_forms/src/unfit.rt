@@ -8,7 +8,7 @@ use crate::fits::{fits_number, fits_text, fits_word};
 use crate::forms::places_of;
 use crate::part::bytes_at;
 use crate::place::Place;
-use query_model::Span;
+use language_base::Span;
 use query_tokens::{Token, TokenKind};
 use query_trees::Tree;
 

@@ -1,9 +1,9 @@
 -- A text has one reading.
 use Rattle.std.proofs.Common.{◌≡◌, ℕ, ◌+◌, List, length, Option, Some, None, refl, sym, ap, ◌∙◌, subst, arith}
-use Rattle.query_model.specs.declared.refusal.Refusal.{Refusal}
-use Rattle.query_model.specs.declared.rule.Rule.{Rule}
-use Rattle.query_model.specs.declared.rule.Rule.TheVariants as rule
-use Rattle.query_model.specs.declared.span.Span.{Span}
+use Rattle.language_base.specs.declared.refusal.Refusal.{Refusal}
+use Rattle.language_base.specs.declared.rule.Rule.{Rule}
+use Rattle.language_base.specs.declared.rule.Rule.TheVariants as rule
+use Rattle.language_base.specs.declared.span.Span.{Span}
 use Rattle.query_tokens.specs.declared.token.Token.{Token}
 use Rattle.query_tokens.specs.Tokens.{FaultAfter}
 use Rattle.query_tokens.proofs.OneWay.{one_list, no_fault, one_place}

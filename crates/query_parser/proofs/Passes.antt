@@ -2,8 +2,8 @@
 use Rattle.std.proofs.Common.{◌≡◌, ℕ, ◌<◌, List, length, Some, None, get_or, Fits, w8, sym, arith}
 use Rattle.std.specs.Prelude.{All}
 use Rattle.std.proofs.lemmas.Grind.{get_or_default_zero}
-use Rattle.query_model.specs.declared.span.Span.{Span}
-use Rattle.query_model.specs.declared.rule.Rule.TheVariants as Rule
+use Rattle.language_base.specs.declared.span.Span.{Span}
+use Rattle.language_base.specs.declared.rule.Rule.TheVariants as Rule
 use Rattle.query_trees.specs.Trees.{Trees}
 use Rattle.query_forms.specs.Terms.{Terms, Say}
 use Rattle.query_forms.specs.File.{unfit_file, first_large}

@@ -1,6 +1,6 @@
 -- The form of a file does not depend on the places of its terms.
 use Rattle.std.proofs.Common.{◌≡◌, ℕ, ◌+◌, ◌-◌, Bool, true, false, cond, [], ◌∷◌, Option, Some, None, replicate}
-use Rattle.query_model.specs.declared.span.Span.{Span}
+use Rattle.language_base.specs.declared.span.Span.{Span}
 use Rattle.query_trees.specs.Trees.{first_of_two}
 use Rattle.query_forms.specs.declared.place.Place.TheVariants.{Mode, Column, Query, Name}
 use Rattle.query_forms.specs.Terms.{Terms, none, word, number, string, call, count_of}

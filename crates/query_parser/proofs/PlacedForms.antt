@@ -1,6 +1,6 @@
 -- The forms and numbers of terms do not depend on their places.
 use Rattle.std.proofs.Common.{◌≡◌, ℕ, ◌+◌, List, [], ◌∷◌, Option, Some, None, refl, ap, ◌∙◌}
-use Rattle.query_model.specs.declared.span.Span.{Span}
+use Rattle.language_base.specs.declared.span.Span.{Span}
 use Rattle.query_forms.specs.declared.place.Place.{Place}
 use Rattle.query_forms.specs.Terms.{Terms, none, word, number, string, call, count_of}
 use Rattle.query_forms.specs.Forms.{places_of, fits_word, fits_number, fits_string, unfit_in, first_unfit}

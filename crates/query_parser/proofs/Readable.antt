@@ -2,7 +2,7 @@
 use Rattle.std.proofs.Common.{ℕ, List, [], ◌∷◌, ◌++◌, inl, inr, refl, subst}
 use Rattle.std.specs.List.{AllByRecursion}
 use Rattle.std.specs.Str.Parse.{signed_digits_value}
-use Rattle.query_model.specs.declared.span.Span.{Span}
+use Rattle.language_base.specs.declared.span.Span.{Span}
 use Rattle.query_tokens.specs.declared.token.Token.{Token}
 use Rattle.query_tokens.specs.Raw.{IsRaw}
 use Rattle.query_trees.specs.Trees.{Trees, none, leaf, call}

@@ -1,7 +1,7 @@
 -- What lists of trees say, tree by tree.
 use Rattle.std.proofs.Common.{◌≡◌, ℕ, ◌+◌, ◌<◌, List, [], ◌∷◌, ◌++◌, length, get_or, take, zero, suc, Vec, Global, refl, sym, subst, arith}
 use Rattle.std.proofs.lemmas.List.{take_more}
-use Rattle.query_model.specs.declared.span.Span.{Span}
+use Rattle.language_base.specs.declared.span.Span.{Span}
 use Rattle.query_trees.specs.declared.tree.Tree as tree
 use Rattle.query_trees.specs.declared.tree.Tree.{Tree}
 use Rattle.query_trees.specs.Trees as trees

@@ -1,10 +1,10 @@
 -- What a text is read to, and its first refusal. The relations are those of the language: tokens, terms over
 -- tokens, levels, forms and numbers, in this order.
 use Rattle.std.specs.Prelude.{◌≡◌, ◌<◌, ◌≤◌, ℕ, ◌+◌, List, length, Some, None}
-use Rattle.query_model.specs.declared.span.Span.{Span}
-use Rattle.query_model.specs.declared.refusal.Refusal.{Refusal}
-use Rattle.query_model.specs.declared.rule.Rule.{Rule}
-use Rattle.query_model.specs.declared.rule.Rule.TheVariants as rule
+use Rattle.language_base.specs.declared.span.Span.{Span}
+use Rattle.language_base.specs.declared.refusal.Refusal.{Refusal}
+use Rattle.language_base.specs.declared.rule.Rule.{Rule}
+use Rattle.language_base.specs.declared.rule.Rule.TheVariants as rule
 use Rattle.query_tokens.specs.declared.token.Token.{Token}
 use Rattle.query_tokens.specs.Tokens.{AreTokens, FaultAfter}
 use Rattle.query_trees.specs.Trees.{Trees, first_deep}

@@ -7,11 +7,11 @@ ghost use Rattle.query_parser.specs.Sayable.{AreSayable, IsSayable};
 ghost use Rattle.query_parser.specs.Plain.{term_before, terms_of};
 
 use crate::{Term, Terms};
+use language_base::Bytes;
 use query_forms::bytes_at;
 use query_tokens::{Token, TokenKind, number_value, text_bytes};
 use query_trees::Tree;
 use std::alloc::{AllocError, Global};
-use value_ops::Bytes;
 
 /// The terms that the trees say.
 #[cycle(convert)]

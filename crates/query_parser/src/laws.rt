@@ -1,6 +1,6 @@
 //! A text is read in one way.
 ghost use Rattle.std.specs.Prelude.{◌≡◌, ℕ, List};
-ghost use Rattle.query_model.specs.declared.refusal.Refusal.{Refusal};
+ghost use Rattle.language_base.specs.declared.refusal.Refusal.{Refusal};
 ghost use Rattle.query_forms.specs.Terms.{Terms};
 ghost use Rattle.query_parser.specs.Reading.{IsFileOf, IsRefused};
 

@@ -7,8 +7,8 @@ ghost use Rattle.query_parser.specs.Reading.{IsFileOf};
 
 use crate::File;
 use crate::term_text::print_terms;
+use language_base::Bytes;
 use std::alloc::{AllocError, Global};
-use value_ops::Bytes;
 
 #[tactic(auto, using(crate::proofs::ReadsBack::reads_back))]
 pub fn print_file(alloc: Global, file: &File) -> Result<Bytes, AllocError>

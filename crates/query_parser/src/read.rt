@@ -1,6 +1,6 @@
 //! The rules of reading, one after the other.
 ghost use Rattle.std.specs.Prelude.{◌≡◌, ◌≤◌, IfOk, IfErr, length};
-ghost use Rattle.query_model.specs.declared.rule.Rule.{Rule};
+ghost use Rattle.language_base.specs.declared.rule.Rule.{Rule};
 ghost use Rattle.query_trees.specs.Trees.{trees_of};
 ghost use Rattle.query_parser.specs.Passed.{AreShallow, ArePassed};
 ghost use Rattle.query_parser.specs.Plain.{terms_of};
@@ -9,8 +9,8 @@ ghost use Rattle.query_parser.specs.Stop.{IsStopAt};
 
 use crate::convert::terms_of;
 use crate::{File, ReadStop};
+use language_base::{Refusal, Rule, Span};
 use query_forms::{first_large, unfit_file};
-use query_model::{Refusal, Rule, Span};
 use query_tokens::{Token, TokenStop, read_tokens};
 use query_trees::{Tree, TreeStop, read_trees};
 use std::alloc::Global;

@@ -1,5 +1,5 @@
 //! Why a text is not read to a file.
-use query_model::Refusal;
+use language_base::Refusal;
 use std::alloc::AllocError;
 
 #[derive(Clone, Copy, Debug, PartialEq, Eq)]

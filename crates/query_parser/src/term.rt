@@ -1,8 +1,7 @@
 //! Terms with what they say.
 ghost use Rattle.std.specs.Prelude.{◌≡◌};
 
-use query_model::Span;
-use value_ops::Bytes;
+use language_base::{Bytes, Span};
 
 /// A term and its place in the text.
 #[derive(Drop)]

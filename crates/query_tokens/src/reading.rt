@@ -8,7 +8,7 @@ use crate::blank::blank_len;
 use crate::length::token_at;
 use crate::stop::TokenStop;
 use crate::token::Token;
-use query_model::Span;
+use language_base::Span;
 use std::alloc::{AllocError, Global};
 
 /// What stands behind the blank at a place.

@@ -1,7 +1,7 @@
 // What no clause says: that a text of tokens is read where memory suffices, and a few of them by name.
 use super::*;
 use TokenKind::{Close, Comma, Number, Open, Text, Word};
-use query_model::Span;
+use language_base::Span;
 use std::alloc::{AllocError, Global};
 use std::test::Fail;
 

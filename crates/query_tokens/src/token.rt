@@ -1,5 +1,5 @@
 //! A token.
-use query_model::Span;
+use language_base::Span;
 
 #[derive(Clone, Copy, Debug, PartialEq, Eq)]
 pub enum TokenKind {

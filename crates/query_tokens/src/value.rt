@@ -7,8 +7,8 @@ ghost use Rattle.query_tokens.specs.Raw.{IsRaw, IsString};
 ghost use Rattle.query_tokens.specs.declared.token.TokenKind.TheVariants.{Number};
 
 use crate::part::part_at;
+use language_base::Bytes;
 use std::alloc::{AllocError, Global};
-use value_ops::Bytes;
 
 /// The bytes that a string stands for.
 pub fn text_bytes(alloc: Global, raw: &[u8]) -> Result<Bytes, AllocError>

@@ -2,7 +2,7 @@
 use Rattle.std.proofs.Common.{◌≡◌, ℕ, ◌+◌, ◌≤◌, List, [], ◌∷◌, ◌++◌, None, Ok, Err, Vec, refl, sym, ap, ◌∙◌, subst}
 use Rattle.std.proofs.lemmas.Bool.{le-ltb}
 use Rattle.std.specs.declared.alloc.Global.{Global}
-use Rattle.query_model.specs.declared.span.Span.{Span}
+use Rattle.language_base.specs.declared.span.Span.{Span}
 use Rattle.query_tokens.specs.declared.token.Token.{Token}
 use Rattle.query_tokens.specs.declared.token.TokenKind.TheVariants.{Open}
 use Rattle.query_trees.specs.declared.stop.TreeStop.{TreeStop}

@@ -1,6 +1,6 @@
 -- Lists of terms, as plain trees of tokens.
 use Rattle.std.specs.Prelude.{ℕ, ◌+◌, List, [], ◌∷◌, nat_lt, if◌then◌else◌, Option, Some, None}
-use Rattle.query_model.specs.declared.span.Span.{Span}
+use Rattle.language_base.specs.declared.span.Span.{Span}
 use Rattle.query_tokens.specs.declared.token.Token.{Token}
 use Rattle.query_trees.specs.declared.tree.Tree.{Tree, Leaf, Call', Row_of-Tree, end_of-Tree, more_of-Tree}
 

@@ -7,7 +7,7 @@ use crate::closing::place_of_first;
 use crate::reader::Reader;
 use crate::stop::TreeStop;
 use crate::tree::Tree;
-use query_model::Span;
+use language_base::Span;
 use query_tokens::TokenKind;
 use std::alloc::{AllocError, Global};
 

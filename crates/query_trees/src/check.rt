@@ -4,7 +4,7 @@ ghost use Rattle.query_trees.specs.Terms.{AreTerms, IsNoList};
 ghost use Rattle.query_trees.specs.Trees.{Trees};
 
 use crate::place::{Place, may_end, step};
-use query_model::Span;
+use language_base::Span;
 use query_tokens::Token;
 
 /// The text ends at `end`.

@@ -5,7 +5,7 @@ ghost use Rattle.query_trees.specs.Ends.{closing};
 ghost use Rattle.query_trees.specs.Reads.{IsBefore, place_of_first};
 ghost use Rattle.query_trees.specs.Trees.{Trees};
 
-use query_model::Span;
+use language_base::Span;
 use query_tokens::{Token, TokenKind};
 
 /// The `)` of a call whose arguments and more stand here.

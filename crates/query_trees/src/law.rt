@@ -1,6 +1,6 @@
 //! The law of what tokens are read as.
 ghost use Rattle.std.specs.Prelude.{◌≡◌, ℕ, List};
-ghost use Rattle.query_model.specs.declared.span.Span.{Span};
+ghost use Rattle.language_base.specs.declared.span.Span.{Span};
 ghost use Rattle.query_tokens.specs.declared.token.Token.{Token};
 ghost use Rattle.query_trees.specs.Terms.{AreTerms, IsNoList};
 ghost use Rattle.query_trees.specs.Trees.{Trees};

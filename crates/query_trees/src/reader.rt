@@ -4,7 +4,7 @@ ghost use Rattle.query_trees.specs.Reads.{NextIs};
 ghost use Rattle.query_trees.specs.declared.stop.TreeStop.TheVariants.{NoList};
 
 use crate::stop::TreeStop;
-use query_model::Span;
+use language_base::Span;
 use query_tokens::{Token, TokenKind};
 
 /// The tokens that are still to be read, and the end of their text.

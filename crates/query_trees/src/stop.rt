@@ -1,5 +1,5 @@
 //! Why no trees are read.
-use query_model::Span;
+use language_base::Span;
 use std::alloc::AllocError;
 
 #[derive(Debug, Drop)]

@@ -1,6 +1,6 @@
 // A token is one byte of the text, and its place is that of the byte.
 use crate::{Tree, TreeStop, read_trees};
-use query_model::Span;
+use language_base::Span;
 use query_tokens::{Token, TokenKind};
 use std::alloc::{AllocError, Global};
 use std::test::Fail;

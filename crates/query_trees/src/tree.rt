@@ -1,5 +1,5 @@
 //! A term, as a tree of tokens.
-use query_model::Span;
+use language_base::Span;
 use query_tokens::Token;
 
 /// A term: a word, a number or a string by itself, or a word with arguments in parentheses.

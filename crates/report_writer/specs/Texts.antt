@@ -6,9 +6,9 @@ use Rattle.value_ops.specs.declared.scalar.Scalar.TheVariants.{Number, Overflow,
 use Rattle.item_schema.specs.declared.stop.Cause.{Cause}
 use Rattle.item_schema.specs.declared.stop.Cause.TheVariants as cause
 use Rattle.item_schema.specs.declared.stop.Skip.{Skip}
-use Rattle.query_model.specs.declared.refusal.Refusal.{Refusal}
-use Rattle.query_model.specs.declared.rule.Rule.{Rule}
-use Rattle.query_model.specs.declared.rule.Rule.TheVariants.{Long, Token, Term, Depth, Form, Name, Nested, Size, Literal, Type_, Cells, Empty, Choice, Split, Iter, Reach, Rates, Compose}
+use Rattle.language_base.specs.declared.refusal.Refusal.{Refusal}
+use Rattle.language_base.specs.declared.rule.Rule.{Rule}
+use Rattle.language_base.specs.declared.rule.Rule.TheVariants.{Long, Token, Term, Depth, Form, Name, Nested, Size, Literal, Type_, Cells, Empty, Choice, Split, Iter, Reach, Rates, Compose}
 
 -- a value, or that there is none
 abbrev pub answer_text : Option Scalar → List ℕ

@@ -2,9 +2,8 @@
 ghost use Rattle.std.specs.Prelude.{◌≡◌, IfOk};
 ghost use Rattle.report_writer.specs.Texts.{refusal_text, rule_name};
 
-use query_model::{Refusal, Rule, Span};
+use language_base::{Bytes, Refusal, Rule, Span};
 use std::alloc::{AllocError, Global};
-use value_ops::Bytes;
 
 /// The rule by its name, and where its place begins and ends.
 pub fn refusal_text(alloc: Global, refusal: Refusal) -> Result<Bytes, AllocError>

@@ -3,8 +3,8 @@ ghost use Rattle.std.specs.Prelude.{◌≡◌, IfOk};
 ghost use Rattle.report_writer.specs.Texts.{skip_text, cause_name};
 
 use item_schema::{Cause, Skip};
+use language_base::Bytes;
 use std::alloc::{AllocError, Global};
-use value_ops::Bytes;
 
 /// The cause by its name, and the column.
 pub fn skip_text(alloc: Global, skip: Skip) -> Result<Bytes, AllocError>

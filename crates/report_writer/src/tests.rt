@@ -1,7 +1,7 @@
 // What no clause says: that texts are made at all, and how they look, written out.
 use crate::{answer_text, refusal_text, skip_text};
 use item_schema::{Cause, Skip};
-use query_model::{Refusal, Rule, Span};
+use language_base::{Refusal, Rule, Span};
 use std::test::Fail;
 use value_ops::Scalar;
 

@@ -4,7 +4,7 @@ use Rattle.std.proofs.Math.ListN.{drop_of_length-le}
 use Rattle.std.proofs.lemmas.List.{length-drop, drop-drop}
 use Rattle.std.specs.Str.{bytes_eq}
 use Rattle.item_schema.specs.declared.column.Column.{Column}
-use Rattle.query_model.specs.declared.span.Span.{Span}
+use Rattle.language_base.specs.declared.span.Span.{Span}
 use Rattle.query_forms.specs.Terms as plain
 use Rattle.query_forms.specs.Terms.{count_of}
 use Rattle.query_parser.specs.declared.term.Term.{Term, Word, Number, Text, Call, Call'}

@@ -1,8 +1,8 @@
 -- What a text is compiled to is one thing, and what was read of a query tells what the whole of it is.
 use Rattle.std.proofs.Common.{◌≡◌, false, ◌<◌, ◌≤◌, ◌⊎◌, inl, inr, ℕ, zero, suc, List, ◌++◌, length, Option, Some, None, IfSome, IfErr, Result, Ok, Err, sym, ap, subst, ◌∙◌, append-nil, length-append, arith}
 use Rattle.std.specs.Io.KnownBytes.{Consumes, IsAtEnd}
-use Rattle.query_model.specs.declared.refusal.Refusal.{Refusal}
-use Rattle.query_model.specs.declared.rule.Rule.TheVariants as rule
+use Rattle.language_base.specs.declared.refusal.Refusal.{Refusal}
+use Rattle.language_base.specs.declared.rule.Rule.TheVariants as rule
 use Rattle.query_forms.specs.Terms.{Terms}
 use Rattle.query_parser.specs.Reading.{IsFileOf, long, refusal}
 use Rattle.query_parser.proofs.OneReading.{one_file, file_or_refused, one_refusal}

@@ -1,7 +1,7 @@
 -- From a run or a refusal to the outcome of the call, for a query text that may be told.
 use Rattle.std.proofs.Common.{◌≡◌, ℕ, List, [], Option, Some, None, IfSome, inl, inr, refl, sym, ap, subst}
 use Rattle.std.proofs.KnownBytes.{Consumes-nil}
-use Rattle.query_model.specs.declared.refusal.Refusal.{Refusal}
+use Rattle.language_base.specs.declared.refusal.Refusal.{Refusal}
 use Rattle.sqre_run.specs.Compiled.{Query, sum, refused, Compiles}
 use Rattle.sqre_run.specs.Outside.{Outside, Ended}
 use Rattle.sqre_run.specs.Plan.{Plan}

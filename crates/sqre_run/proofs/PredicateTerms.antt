@@ -4,7 +4,7 @@ use Rattle.item_schema.specs.declared.column.Column.{Column}
 use Rattle.predicate_cells.specs.Plain.{plain_of}
 use Rattle.predicate_cells.specs.Predicates.{Predicate, negation}
 use Rattle.predicate_cells.specs.declared.pred.Pred.{Pred}
-use Rattle.query_model.specs.declared.span.Span.{Span}
+use Rattle.language_base.specs.declared.span.Span.{Span}
 use Rattle.query_forms.specs.Terms as plain
 use Rattle.query_parser.specs.declared.term.Term.{Term, Word, Number, Text, Call, Call'}
 use Rattle.query_parser.specs.declared.term.Terms.{Terms}

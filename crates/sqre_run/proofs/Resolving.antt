@@ -4,10 +4,10 @@ use Rattle.item_schema.specs.Layout.{Layout}
 use Rattle.predicate_cells.specs.Fits.{fits, has_numbers}
 use Rattle.predicate_cells.specs.Predicates.{Predicate}
 use Rattle.query_forms.specs.Terms.{Terms}
-use Rattle.query_model.specs.declared.refusal.Refusal.{Refusal}
-use Rattle.query_model.specs.declared.rule.Rule.{Rule}
-use Rattle.query_model.specs.declared.rule.Rule.TheVariants.{Form, Name, Type_}
-use Rattle.query_model.specs.declared.span.Span.{Span}
+use Rattle.language_base.specs.declared.refusal.Refusal.{Refusal}
+use Rattle.language_base.specs.declared.rule.Rule.{Rule}
+use Rattle.language_base.specs.declared.rule.Rule.TheVariants.{Form, Name, Type_}
+use Rattle.language_base.specs.declared.span.Span.{Span}
 use Rattle.query_parser.specs.Reading.{IsFileOf}
 use Rattle.sqre_run.specs.Allowed.{IsDisallowed}
 use Rattle.sqre_run.specs.Built.{◌>>=◌, Shape, shape_of}

@@ -1,8 +1,8 @@
 -- The rules of cells.
 use Rattle.std.specs.Prelude.{◌≡◌, ◌⊎◌, ◌<◌, ◌≤◌, [], ◌∷◌}
 use Rattle.predicate_cells.specs.Cells.{Partition}
-use Rattle.query_model.specs.declared.refusal.Refusal.{Refusal}
-use Rattle.query_model.specs.declared.rule.Rule.TheVariants.{Cells, Empty}
+use Rattle.language_base.specs.declared.refusal.Refusal.{Refusal}
+use Rattle.language_base.specs.declared.rule.Rule.TheVariants.{Cells, Empty}
 use Rattle.sqre_run.specs.Compiled.{cells_of, HasItem, HasNoItem}
 use Rattle.sqre_run.specs.Plan.{Plan}
 use Rattle.sqre_run.specs.Resolved.{Resolution, refusal}

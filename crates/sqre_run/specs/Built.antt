@@ -2,7 +2,7 @@
 -- departs from it is told by the first term, in text order, that does.
 use Rattle.std.specs.Prelude.{ℕ, ℤ, ◌==◌, ◌&&◌, List, codes, Result, Ok, Err, if◌then◌else◌}
 use Rattle.std.specs.Str.{bytes_eq}
-use Rattle.query_model.specs.declared.span.Span.{Span}
+use Rattle.language_base.specs.declared.span.Span.{Span}
 use Rattle.query_forms.specs.Terms.{Terms, none, word, number, string, call, count_of}
 
 infixl 10 ◌>>=◌

@@ -3,7 +3,7 @@ use Rattle.std.specs.Prelude.{◌≡◌, ◌⊎◌, ℕ, ◌-◌, ◌^◌, List,
 use Rattle.std.specs.Io.KnownBytes.{Appends, Consumes}
 use Rattle.io_edge.specs.Counts.{FailsBy, Rose}
 use Rattle.io_edge.specs.Written.{AppendsSome}
-use Rattle.query_model.specs.declared.refusal.Refusal.{Refusal}
+use Rattle.language_base.specs.declared.refusal.Refusal.{Refusal}
 use Rattle.report_writer.specs.Texts.{refusal_text}
 use Rattle.sqre_run.specs.Compiled.{Query, sum, refused, Compiles}
 use Rattle.sqre_run.specs.Output.{output, whole_output}

@@ -4,8 +4,8 @@ use Rattle.value_ops.specs.declared.field.Field.{Field}
 use Rattle.item_schema.specs.Items.{IsItemOf}
 use Rattle.predicate_cells.specs.Cells.{cell_count}
 use Rattle.predicate_cells.specs.Truth.{holds}
-use Rattle.query_model.specs.declared.refusal.Refusal.{Refusal}
-use Rattle.query_model.specs.declared.rule.Rule.TheVariants.{Cells, Empty}
+use Rattle.language_base.specs.declared.refusal.Refusal.{Refusal}
+use Rattle.language_base.specs.declared.rule.Rule.TheVariants.{Cells, Empty}
 use Rattle.query_forms.specs.Terms.{Terms}
 use Rattle.query_parser.specs.Reading.{IsFileOf, IsRefused}
 use Rattle.sqre_run.specs.Plan.{Plan}

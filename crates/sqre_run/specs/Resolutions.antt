@@ -1,6 +1,6 @@
 -- What a file is resolved to, as it lies in memory.
 use Rattle.std.specs.Prelude.{◌≡◌, Result, Err}
-use Rattle.query_model.specs.declared.refusal.Refusal.{Refusal}
+use Rattle.language_base.specs.declared.refusal.Refusal.{Refusal}
 use Rattle.sqre_run.specs.Plan.{plan_of}
 use Rattle.sqre_run.specs.Resolved as plain
 use Rattle.sqre_run.specs.declared.query.QueryStop.{QueryStop}

@@ -4,10 +4,10 @@ use Rattle.std.specs.Prelude.{◌&&◌, Bool, [], codes, Option, None, Some, Res
 use Rattle.std.specs.Str.{bytes_eq}
 use Rattle.item_schema.specs.Layout.{Layout, are_columns}
 use Rattle.predicate_cells.specs.Fits.{fits, has_numbers}
-use Rattle.query_model.specs.declared.refusal.Refusal.{Refusal}
-use Rattle.query_model.specs.declared.rule.Rule.{Rule}
-use Rattle.query_model.specs.declared.rule.Rule.TheVariants.{Form, Name, Type_}
-use Rattle.query_model.specs.declared.span.Span.{Span}
+use Rattle.language_base.specs.declared.refusal.Refusal.{Refusal}
+use Rattle.language_base.specs.declared.rule.Rule.{Rule}
+use Rattle.language_base.specs.declared.rule.Rule.TheVariants.{Form, Name, Type_}
+use Rattle.language_base.specs.declared.span.Span.{Span}
 use Rattle.query_forms.specs.Terms.{Terms}
 use Rattle.sqre_run.specs.Built.{◌>>=◌, Shape, shape_of}
 use Rattle.sqre_run.specs.Plan.{Plan}

@@ -7,7 +7,7 @@ ghost use Rattle.sqre_run.specs.Shapes.{plain_shape};
 use crate::first::{
     behind_word, call_first, head_first, number_first, place_of, rest_of, word_first,
 };
-use query_model::Span;
+use language_base::Span;
 use query_parser::Term;
 
 /// What a file says of its sum, before names are resolved.

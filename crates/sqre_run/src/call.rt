@@ -11,7 +11,7 @@ use crate::query::{QueryStop, compile};
 use crate::run::{hand_over, run};
 use crate::words::is_run;
 use io_edge::{Sink, Source};
-use query_model::Refusal;
+use language_base::Refusal;
 use report_writer::refusal_text;
 use std::alloc::Global;
 

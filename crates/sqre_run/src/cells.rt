@@ -9,8 +9,8 @@ ghost use Rattle.sqre_run.specs.Resolutions.{plain_resolution};
 
 use crate::query::QueryStop;
 use crate::resolved::{Resolution, refused};
+use language_base::Rule;
 use predicate_cells::{CellStop, Cells, Preds};
-use query_model::Rule;
 use std::alloc::Global;
 
 /// Accepts a sum that has not too many cells, where some item meets its predicate.

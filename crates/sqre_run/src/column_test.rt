@@ -5,10 +5,10 @@ ghost use Rattle.predicate_cells.specs.Plain.{plain_of};
 ghost use Rattle.sqre_run.specs.Tests.{column_named, named_test, number_in, number_test, test_of, text_test};
 
 use item_schema::{Column, Schema};
+use language_base::Bytes;
 use predicate_cells::Pred;
 use query_parser::Term;
 use std::alloc::{AllocError, Global};
-use value_ops::Bytes;
 
 /// The test with these arguments, the first of which is the name of a column.
 pub fn named_test(

@@ -4,7 +4,7 @@ ghost use Rattle.query_forms.specs.Terms.{Terms};
 ghost use Rattle.query_parser.specs.Plain.{term_before, terms_of};
 ghost use Rattle.sqre_run.specs.Built.{behind_word, call_first, head_first, number_first, place_of, rest_of, word_first};
 
-use query_model::Span;
+use language_base::Span;
 use query_parser::Term;
 
 /// Where a term is missing. A file has one wherever these functions ask for it.

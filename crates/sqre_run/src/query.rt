@@ -12,7 +12,7 @@ use crate::cells::allowed;
 use crate::resolved::resolve;
 use crate::sum::Sum;
 use io_edge::{Failed, Source};
-use query_model::Refusal;
+use language_base::Refusal;
 use query_parser::{ReadStop, read_file};
 use std::alloc::{AllocError, Global};
 

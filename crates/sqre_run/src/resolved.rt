@@ -13,8 +13,8 @@ use crate::query::QueryStop;
 use crate::streams::{ColumnStop, columns_of, first_repeated};
 use crate::sum::Sum;
 use item_schema::{Schema, are_columns};
+use language_base::{Refusal, Rule, Span};
 use predicate_cells::Pred;
-use query_model::{Refusal, Rule, Span};
 use query_parser::Term;
 use std::alloc::Global;
 

@@ -10,8 +10,8 @@ use crate::Status;
 use crate::sum::Sum;
 use crate::tally::Tally;
 use io_edge::{Line, LineStop, Lines, Sink, Source, write_all};
+use language_base::Bytes;
 use std::alloc::{AllocError, Global};
-use value_ops::Bytes;
 
 /// Answers every line of the items.
 pub fn run<S: Source, W: Sink>(alloc: Global, sum: Sum, items: &mut S, out: &mut W) -> Status

@@ -7,10 +7,9 @@ ghost use Rattle.sqre_run.specs.Streams.{IsDeparture, column_first, columns_of, 
 
 use crate::first::{call_first, place_of, word_first};
 use item_schema::{Column, Kind};
-use query_model::Span;
+use language_base::{Bytes, Span};
 use query_parser::Term;
 use std::alloc::{AllocError, AllocFailed, Global};
-use value_ops::Bytes;
 
 /// Why terms give no columns.
 #[derive(Clone, Copy, Debug, PartialEq, Eq)]

@@ -1,15 +1,14 @@
 //! The values that a query computes with.
 #![tactic(auto)]
 
-mod bytes;
 mod field;
 mod scalar;
 mod table;
 mod total;
 mod value;
 
-pub use bytes::Bytes;
 pub use field::Field;
+pub use language_base::Bytes;
 pub use scalar::{Scalar, sums_fit_or_overflow};
 pub use table::{Table, absent_keys_have_no_value};
 pub use total::totals_go_on;

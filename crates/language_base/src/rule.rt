@@ -1,4 +1,6 @@
 //! The rules of the language.
+ghost use Rattle.std.specs.Prelude.{◌≡◌};
+ghost use Rattle.language_base.specs.Rules.{number_of};
 
 /// A rule that a query can break. Its number is the rule's number in the language.
 #[derive(Clone, Copy, Debug, PartialEq, Eq)]
@@ -39,4 +41,23 @@ pub enum Rule {
     Rates,
     /// A composition is fed words that it has no rate for.
     Compose,
+}
+
+impl Rule {
+    pub fn number(self) -> u8
+        ensures { result ≡ number_of self }
+    {
+        self as u8
+    }
+}
+
+#[cfg(test)]
+mod tests {
+    use super::*;
+
+    #[test]
+    fn rules_are_numbered_as_they_are_asked(rt: HostRuntime) {
+        assert_eq!(rt; Rule::Long.number(), 1);
+        assert_eq!(rt; Rule::Compose.number(), 18);
+    }
 }
