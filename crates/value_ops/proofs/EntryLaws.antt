@@ -1,11 +1,11 @@
 -- How the entries of a table are found, and how they grow.
 use Rattle.std.proofs.Common.{◌≡◌, ◌<◌, ℕ, Bool, true, false, cond, ◌||◌, List, [], ◌∷◌, ◌++◌, length, get_or, map, Option, None, Some, refl, ◌∙◌, ap, arith, sym, subst}
-use Rattle.std.specs.List.{list_any, slice_get, Contains}
+use Rattle.std.specs.List.{IsDistinct, list_any, slice_get, Contains}
 use Rattle.std.specs.Option.{option_map}
 use Rattle.std.specs.Str.{bytes_eq}
 use Rattle.std.proofs.lemmas.Cmp.{nat_list_eq_equiv}
 use Rattle.std.proofs.lemmas.List.{length-map, map_push}
-use Rattle.std.proofs.lemmas.List.Elements.{Contains-append_right, Contains-get_or}
+use Rattle.std.proofs.lemmas.List.Elements.{All-push, Contains-append_right, Contains-get_or}
 use Rattle.std.proofs.lemmas.Bool.{false≢true}
 use Rattle.std.proofs.lemmas.Map.Views.{list_any-from_Contains}
 use Rattle.std.proofs.lemmas.Slice.Eq.{bytes_eq-Decides}
@@ -14,6 +14,8 @@ use Rattle.std.proofs.lemmas.Option.{slice_get-map, slice_get_read}
 use Rattle.value_ops.specs.declared.scalar.Scalar.{Scalar}
 use Rattle.value_ops.specs.declared.table.Entry.{Entry}
 use Rattle.value_ops.specs.Entries.{entry_of, keys_of, values_of, HasDistinctKeys, value_at}
+use Rattle.value_ops.specs.Texts.{IsText}
+use Rattle.value_ops.specs.Types.{IsScalar, IsTable}
 
 -- an entry that was read at a place is the pair there
 entry_at : (entries : List Entry) (pairs : List (List ℕ × Scalar)) (i : ℕ) (entry : Entry)
@@ -92,7 +94,7 @@ pub none_from_absent : (key : List ℕ) (entries : List (List ℕ × Scalar)) �
 none_from_absent key entries = none_unless (value_at key entries) (Contains (keys_of entries) key) (key_from_some key entries)
 
 -- the keys stay distinct where another one is added
-pub HasDistinctKeys-push : (entries : List (List ℕ × Scalar)) (key : List ℕ) (value : Scalar)
+HasDistinctKeys-push : (entries : List (List ℕ × Scalar)) (key : List ℕ) (value : Scalar)
     → HasDistinctKeys entries → value_at key entries ≡ None
     → HasDistinctKeys (entries ++ (key, value) ∷ [])
 HasDistinctKeys-push entries key value distinct none =
@@ -100,3 +102,22 @@ HasDistinctKeys-push entries key value distinct none =
     map_push (λ (e : List ℕ × Scalar). e.0) entries (key, value) in
     rw keys (IsDistinct-push nat_list_eq_equiv (keys_of entries) key distinct
     (no_key_from_none key entries none))
+
+-- no entries are those of a table
+pub empty_table : IsTable []
+unfolding IsDistinct
+empty_table = record {
+  keys = λ k d within. absurd (omega arith);
+  distinct = tt;
+  scalars = λ k d within. absurd (omega arith);
+}
+
+-- they stay those of a table where another key is added, with its scalar
+pub IsTable-push : (entries : List (List ℕ × Scalar)) (key : List ℕ) (value : Scalar)
+    → IsTable entries → value_at key entries ≡ None → IsText key → IsScalar value
+    → IsTable (entries ++ (key, value) ∷ [])
+IsTable-push entries key value table none text scalar = record {
+  keys = rw (map_push (λ (e : List ℕ × Scalar). e.0) entries (key, value)) (All-push IsText (keys_of entries) key table.keys text);
+  distinct = HasDistinctKeys-push entries key value table.distinct none;
+  scalars = rw (map_push (λ (e : List ℕ × Scalar). e.1) entries (key, value)) (All-push IsScalar (values_of entries) value table.scalars scalar);
+}

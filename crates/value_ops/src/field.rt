@@ -1,7 +1,8 @@
 //! A field of an item.
-ghost use Rattle.std.specs.Prelude.{◌≡◌, IsOk, IfOk};
+ghost use Rattle.std.specs.Prelude.{◌≡◌, IsOk, IfOk, IfSome, option_map};
+ghost use Rattle.value_ops.specs.Texts.{IsText};
 
-use crate::{Bytes, Value};
+use crate::{Bytes, Scalar, Value};
 use std::alloc::{AllocError, Global};
 
 /// What stands in one column.
@@ -14,7 +15,29 @@ pub enum Field {
 }
 
 impl Field {
+    ghost use Rattle.value_ops.specs.Fields.{scalar_of, text_of};
     ghost use Rattle.value_ops.specs.Values.{TakesNoMemory};
+
+    /// The number of an `Int`, or the scalar of a value that is one.
+    pub fn scalar(&self) -> Option<Scalar>
+        ensures { result ≡ scalar_of self.now }
+    {
+        match self {
+            Field::Int(number) => Some(Scalar::Number(*number)),
+            Field::Val(Value::Scalar(scalar)) => Some(*scalar),
+            Field::Text(_) | Field::Val(Value::Table(_)) => None,
+        }
+    }
+
+    pub fn text(&self) -> Option<&[u8]>
+        ensures text { option_map (λ text. text.now) result ≡ text_of self.now }
+        ensures bytes { IfSome result (λ text. IsText text.now) }
+    {
+        match self {
+            Field::Text(text) => Some(known_bytes(text.as_slice())),
+            Field::Int(_) | Field::Val(_) => None,
+        }
+    }
 
     pub fn try_copy(&self, alloc: Global) -> Result<Field, AllocError>
         ensures equal { IfOk result (λ copy. copy ≡ self.now) }
@@ -28,10 +51,18 @@ impl Field {
     }
 }
 
+// The same bytes, which are known to be those of a text.
+fn known_bytes(bytes: &[u8]) -> &[u8]
+    ensures same { result.now ≡ bytes.now }
+    ensures text { IsText bytes.now }
+{
+    bytes
+}
+
 #[cfg(test)]
 mod tests {
     use super::*;
-    use crate::{Scalar, Table};
+    use crate::Table;
     use std::test::Fail;
 
     #[test]
@@ -51,6 +82,26 @@ mod tests {
             _ => None,
         };
         assert_eq!(rt; found, Some(Scalar::Number(7)));
+        Ok(())
+    }
+
+    #[test]
+    fn a_field_is_a_scalar_or_a_text_or_neither(rt: HostRuntime) -> Result<(), Fail> {
+        let number = Field::Int(-5);
+        assert_eq!(rt; number.scalar(), Some(Scalar::Number(-5)));
+        assert!(rt; number.text().is_none());
+        let failed = Field::Val(Value::Scalar(Scalar::Overflow));
+        assert_eq!(rt; failed.scalar(), Some(Scalar::Overflow));
+        assert!(rt; failed.text().is_none());
+        let text = Field::Text(Bytes::from_slice(rt.alloc(), b"north")?);
+        assert_eq!(rt; text.scalar(), None);
+        assert!(rt;
+            text.text()
+                .is_some_and(|bytes| bytes == b"north".as_slice())
+        );
+        let table = Field::Val(Value::Table(Table::new(rt.alloc())));
+        assert_eq!(rt; table.scalar(), None);
+        assert!(rt; table.text().is_none());
         Ok(())
     }
 }

@@ -16,6 +16,21 @@ pub enum Scalar {
     DivZero,
 }
 
+impl Scalar {
+    ghost use Rattle.value_ops.specs.Types.{IsScalar};
+
+    /// The same scalar, whose number is known to be one of 64 bits.
+    pub(crate) fn known(self) -> Scalar
+        ensures same { result ≡ self }
+        ensures range { IsScalar self }
+    {
+        match self {
+            Scalar::Number(number) => Scalar::Number(number),
+            failed => failed,
+        }
+    }
+}
+
 impl Add for Scalar {
     ghost use Rattle.value_ops.specs.Scalar.{add};
 

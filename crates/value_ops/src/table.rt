@@ -3,7 +3,7 @@ ghost use Rattle.std.specs.Prelude.{◌≡◌, ◌<◌, ◌↔◌, ℕ, List, []
 ghost use Rattle.value_ops.specs.Entries.{keys_of, values_of, value_at};
 ghost use Rattle.value_ops.specs.declared.scalar.Scalar.{Scalar};
 
-use crate::{Bytes, Scalar};
+use crate::{Bytes, Scalar, ValueType};
 use std::alloc::{AllocError, Global};
 use std::marker::Model;
 
@@ -38,14 +38,17 @@ impl Model for Table {
 
     ghost Value = { List (List ℕ × Scalar) };
 
-    ghost use Rattle.value_ops.specs.Entries.{HasDistinctKeys, entry_of};
+    ghost use Rattle.value_ops.specs.Entries.{entry_of};
+    ghost use Rattle.value_ops.specs.Types.{IsTable};
 
     ghost view = { λ t. map entry_of t.entries.items };
 
-    ghost invariant = { λ t. HasDistinctKeys (map entry_of t.entries.items) };
+    ghost invariant = { λ t. IsTable (map entry_of t.entries.items) };
 }
 
 impl Table {
+    ghost use Rattle.value_ops.specs.Types.{IsTable};
+
     /// The empty table takes no memory.
     pub fn new(alloc: Global) -> Table
         ensures { result ≡ [] }
@@ -84,6 +87,16 @@ impl Table {
         self.entries[i].value
     }
 
+    /// The type of all tables.
+    pub(crate) fn ty(&self) -> ValueType
+        ensures ty { result ≡ ValueType.Table }
+        ensures entries { IsTable self.now }
+    {
+        // Reading the entries tells that they are those of a table.
+        let _entries = &self.entries;
+        ValueType::Table
+    }
+
     /// What stands under the key.
     pub fn get(&self, key: &[u8]) -> Option<Scalar>
         ensures { result ≡ value_at key.now self.now }
@@ -103,6 +116,7 @@ impl Table {
         ensures err { OnErr result (self.new ≡ self.old) }
     {
         let key = Bytes::from_slice(*self.entries.allocator(), key)?;
+        let value = value.known();
         self.entries.push(Entry { key, value })?;
         Ok(())
     }

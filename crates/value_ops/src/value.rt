@@ -19,7 +19,20 @@ pub enum ValueType {
 }
 
 impl Value {
+    ghost use Rattle.value_ops.specs.Types.{IsValueOf};
     ghost use Rattle.value_ops.specs.Values.{IsNoTable};
+
+    /// The type of the value.
+    pub fn ty(&self) -> ValueType
+        ensures { IsValueOf result self.now }
+    {
+        match self {
+            // Naming a number reads it, and what is read is one of 64 bits.
+            &Value::Scalar(Scalar::Number(_number)) => ValueType::Number,
+            Value::Scalar(_) => ValueType::Number,
+            Value::Table(table) => table.ty(),
+        }
+    }
 
     pub fn try_copy(&self, alloc: Global) -> Result<Value, AllocError>
         ensures equal { IfOk result (λ copy. copy ≡ self.now) }

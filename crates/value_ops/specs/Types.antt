@@ -1,0 +1,30 @@
+-- The values that there are, by their types.
+use Rattle.std.specs.Prelude.{ℕ, List, FitsSigned}
+use Rattle.std.specs.Int.{w64}
+use Rattle.std.specs.List.{All}
+use Rattle.value_ops.specs.Entries.{HasDistinctKeys, keys_of, values_of}
+use Rattle.value_ops.specs.Texts.{IsText}
+use Rattle.value_ops.specs.declared.scalar.Scalar.{Scalar}
+use Rattle.value_ops.specs.declared.scalar.Scalar.TheVariants as scalar
+use Rattle.value_ops.specs.declared.value.Value.{Value}
+use Rattle.value_ops.specs.declared.value.Value.TheVariants as value
+use Rattle.value_ops.specs.declared.value.ValueType.{ValueType}
+use Rattle.value_ops.specs.declared.value.ValueType.TheVariants.{Number, Table}
+
+-- a number of 64 bits, or why there is none
+abbrev pub IsScalar : Scalar → Type 0
+IsScalar (scalar.Number number) = FitsSigned w64 number
+IsScalar scalar.Overflow = Unit {0}
+IsScalar scalar.DivZero = Unit {0}
+
+-- scalars under texts that are all different
+pub record IsTable (entries : List (List ℕ × Scalar)) : Type 0 where
+  pub keys : All IsText (keys_of entries)
+  pub distinct : HasDistinctKeys entries
+  pub scalars : All IsScalar (values_of entries)
+
+-- the value is one of this type
+abbrev pub IsValueOf : ValueType → Value → Type 0
+IsValueOf Number (value.Scalar scalar) = IsScalar scalar
+IsValueOf Table (value.Table entries) = IsTable entries
+IsValueOf _ _ = ⊥
