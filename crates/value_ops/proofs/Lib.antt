@@ -1,2 +1,4 @@
 pub mod EntryLaws
+pub mod Folds
 pub mod Texts
+pub mod TypedExpressions

@@ -1,6 +1,11 @@
 pub mod Entries
+pub mod Evaluation
+pub mod Expressions
 pub mod Fields
+pub mod Operators
 pub mod Scalar
+pub mod Shown
 pub mod Texts
 pub mod Types
+pub mod Typing
 pub mod Values

@@ -28,3 +28,8 @@ abbrev pub IsValueOf : ValueType → Value → Type 0
 IsValueOf Number (value.Scalar scalar) = IsScalar scalar
 IsValueOf Table (value.Table entries) = IsTable entries
 IsValueOf _ _ = ⊥
+
+-- the type of a value
+abbrev pub type_of : Value → ValueType
+type_of (value.Scalar scalar) = Number
+type_of (value.Table entries) = Table

@@ -1,15 +1,27 @@
 //! The values that a query computes with.
 #![tactic(auto)]
 
+mod eval;
+mod expr;
 mod field;
+mod inputs;
+mod laws;
+mod operator;
 mod scalar;
 mod table;
+#[cfg(test)]
+mod tests;
 mod total;
+mod typing;
 mod value;
 
+pub use expr::{Expr, Var};
 pub use field::Field;
 pub use language_base::Bytes;
+pub use laws::typed_expressions_have_values;
+pub use operator::{BinaryOp, Compare, UnaryOp};
 pub use scalar::{Scalar, sums_fit_or_overflow};
 pub use table::{Table, absent_keys_have_no_value};
 pub use total::totals_go_on;
+pub use typing::Types;
 pub use value::{Value, ValueType};

@@ -3,6 +3,7 @@ ghost use Rattle.std.specs.Int.{w64};
 ghost use Rattle.std.specs.Prelude.{◌≡◌, ℤ, FitsSigned};
 ghost use Rattle.value_ops.specs.Scalar.{in_range};
 
+use crate::BinaryOp;
 use std::ops::Add;
 
 /// What an expression gives.
@@ -39,15 +40,7 @@ impl Add for Scalar {
     ghost add_gives = { λ first second sum. sum ≡ add first second };
 
     fn add(self, other: Scalar) -> Scalar {
-        match (self, other) {
-            (Scalar::Number(first), Scalar::Number(second)) => {
-                first
-                    .checked_add(second)
-                    .map_or(Scalar::Overflow, Scalar::Number)
-            }
-            (Scalar::Number(_), failed) => failed,
-            (failed, _) => failed,
-        }
+        BinaryOp::Add.of(self, other)
     }
 }
 

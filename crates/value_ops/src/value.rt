@@ -19,12 +19,13 @@ pub enum ValueType {
 }
 
 impl Value {
-    ghost use Rattle.value_ops.specs.Types.{IsValueOf};
+    ghost use Rattle.value_ops.specs.Types.{IsValueOf, type_of};
     ghost use Rattle.value_ops.specs.Values.{IsNoTable};
 
     /// The type of the value.
     pub fn ty(&self) -> ValueType
-        ensures { IsValueOf result self.now }
+        ensures ty { result ≡ type_of self.now }
+        ensures value { IsValueOf result self.now }
     {
         match self {
             // Naming a number reads it, and what is read is one of 64 bits.

@@ -1,0 +1,56 @@
+-- What the operators do with scalars: the exact result first, and its range afterwards.
+use Rattle.std.specs.Prelude.{ℤ, pos, ◌+ℤ◌, ◌-ℤ◌, ◌*ℤ◌, neg_ℤ, int_div, int_rem, int_lt, int_le, unsigned_abs, Bool, not, if◌then◌else◌, Option, Some, None}
+use Rattle.std.specs.Ordering.{int_eq}
+use Rattle.std.specs.Int.{int_min, int_max}
+use Rattle.value_ops.specs.declared.operator.BinaryOp.{BinaryOp}
+use Rattle.value_ops.specs.declared.operator.BinaryOp.TheVariants.{Add, Sub, Mul, Div, Rem, Min, Max}
+use Rattle.value_ops.specs.declared.operator.Compare.{Compare}
+use Rattle.value_ops.specs.declared.operator.Compare.TheVariants.{Lt, Le, Gt, Ge, Eq, Ne}
+use Rattle.value_ops.specs.declared.operator.UnaryOp.{UnaryOp}
+use Rattle.value_ops.specs.declared.operator.UnaryOp.TheVariants.{Neg, Abs}
+use Rattle.value_ops.specs.declared.scalar.Scalar.{Scalar}
+use Rattle.value_ops.specs.declared.scalar.Scalar.TheVariants.{Number, DivZero}
+use Rattle.value_ops.specs.Scalar.{in_range, on_numbers}
+
+-- the exact result on one number
+abbrev pub exact_of : UnaryOp → ℤ → ℤ
+exact_of Neg number = neg_ℤ number
+exact_of Abs number = pos (unsigned_abs number)
+
+-- the same for a scalar, in range
+abbrev pub unary_of : UnaryOp → Scalar → Scalar
+unary_of op (Number number) = in_range (exact_of op number)
+unary_of op failed = failed
+
+-- the result of a division, where there is one
+abbrev pub divided : ℤ → ℤ → Option ℤ
+divided divisor result = if int_eq divisor (pos 0) then None else Some result
+
+-- The exact result on two numbers; there is none where a divisor is 0. A quotient is cut towards
+-- zero, and a remainder has the sign of the dividend.
+abbrev pub exact : BinaryOp → ℤ → ℤ → Option ℤ
+exact Add first second = Some (first +ℤ second)
+exact Sub first second = Some (first -ℤ second)
+exact Mul first second = Some (first *ℤ second)
+exact Div first second = divided second (int_div first second)
+exact Rem first second = divided second (int_rem first second)
+exact Min first second = Some (int_min first second)
+exact Max first second = Some (int_max first second)
+
+-- the result in range, and what stands for none
+abbrev pub kept : Option ℤ → Scalar
+kept None = DivZero
+kept (Some number) = in_range number
+
+-- what an operator gives on two scalars
+abbrev pub binary_of : BinaryOp → Scalar → Scalar → Scalar
+binary_of op first second = on_numbers (λ a b. kept (exact op a b)) first second
+
+-- whether two numbers compare so
+abbrev pub compares : Compare → ℤ → ℤ → Bool
+compares Lt first second = int_lt first second
+compares Le first second = int_le first second
+compares Gt first second = int_lt second first
+compares Ge first second = int_le second first
+compares Eq first second = int_eq first second
+compares Ne first second = not (int_eq first second)

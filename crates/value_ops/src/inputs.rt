@@ -1,0 +1,60 @@
+//! What the names of an expression stand for.
+ghost use Rattle.std.specs.Prelude.{◌≡◌};
+ghost use Rattle.std.specs.Option.{option_copied};
+ghost use Rattle.value_ops.specs.Evaluation.{scalar_in, table_in, value_named};
+ghost use Rattle.value_ops.specs.Shown.{inputs_of};
+
+use crate::{Field, Scalar, Table, Value, Var};
+
+/// The fields of an item, and a left and a right value.
+#[derive(Drop)]
+pub(crate) struct Inputs<'a> {
+    pub(crate) fields: &'a [Field],
+    pub(crate) left: Option<&'a Value>,
+    pub(crate) right: Option<&'a Value>,
+}
+
+impl<'a> Inputs<'a> {
+    /// The scalar that a name stands for.
+    pub(crate) fn scalar(&self, name: Var) -> Option<Scalar>
+        ensures { result ≡ scalar_in (value_named (inputs_of self.now) name) }
+    {
+        match name {
+            Var::Field(column) => self.fields.get(column as usize)?.scalar(),
+            Var::Left => scalar_of(self.left),
+            Var::Right => scalar_of(self.right),
+        }
+    }
+
+    /// The table that a name stands for.
+    pub(crate) fn table(&self, name: Var) -> Option<&'a Table>
+        ensures { option_copied result ≡ table_in (value_named (inputs_of self.now) name) }
+    {
+        match name {
+            Var::Field(column) => match self.fields.get(column as usize) {
+                Some(Field::Val(value)) => table_of(Some(value)),
+                Some(Field::Int(_) | Field::Text(_)) | None => None,
+            },
+            Var::Left => table_of(self.left),
+            Var::Right => table_of(self.right),
+        }
+    }
+}
+
+fn scalar_of(value: Option<&Value>) -> Option<Scalar>
+    ensures { result ≡ scalar_in (option_copied value.entry) }
+{
+    match value {
+        Some(Value::Scalar(scalar)) => Some(*scalar),
+        Some(Value::Table(_)) | None => None,
+    }
+}
+
+fn table_of(value: Option<&Value>) -> Option<&Table>
+    ensures { option_copied result ≡ table_in (option_copied value.entry) }
+{
+    match value {
+        Some(Value::Table(table)) => Some(table),
+        Some(Value::Scalar(_)) | None => None,
+    }
+}

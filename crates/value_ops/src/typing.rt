@@ -1,0 +1,87 @@
+//! The types of expressions.
+ghost use Rattle.std.specs.Prelude.{◌≡◌, ◌↔◌, IsTrue, IfSome, IfNone, Some};
+ghost use Rattle.value_ops.specs.Expressions.{plain_of};
+ghost use Rattle.value_ops.specs.Shown.{shown_types};
+ghost use Rattle.value_ops.specs.Typing.{HasType, IsNumber, type_named, type_of_field};
+ghost use Rattle.value_ops.specs.declared.value.ValueType.{ValueType};
+
+use crate::{Expr, Field, ValueType, Var};
+
+/// The types of what names stand for; a text has none.
+#[derive(Drop)]
+pub struct Types<'a> {
+    pub fields: &'a [Option<ValueType>],
+    pub left: Option<ValueType>,
+    pub right: Option<ValueType>,
+}
+
+impl Types<'_> {
+    fn named(&self, name: Var) -> Option<ValueType>
+        ensures { result ≡ type_named (shown_types self.now) name }
+    {
+        match name {
+            Var::Field(column) => self.fields.get(column as usize).copied().flatten(),
+            Var::Left => self.left,
+            Var::Right => self.right,
+        }
+    }
+
+    fn has(&self, name: Var, wanted: ValueType) -> bool
+        ensures { IsTrue result ↔ (type_named (shown_types self.now) name ≡ Some wanted) }
+    {
+        match (self.named(name), wanted) {
+            (Some(ValueType::Number), ValueType::Number) => true,
+            (Some(ValueType::Table), ValueType::Table) => true,
+            _ => false,
+        }
+    }
+}
+
+impl Field {
+    /// The type of what stands in the field; a text has none.
+    pub fn ty(&self) -> Option<ValueType>
+        ensures { result ≡ type_of_field self.now }
+    {
+        match self {
+            Field::Int(_) => Some(ValueType::Number),
+            Field::Text(_) => None,
+            Field::Val(value) => Some(value.ty()),
+        }
+    }
+}
+
+impl Expr {
+    /// The type of the expression, where it is well typed.
+    pub fn type_in(&self, types: &Types) -> Option<ValueType>
+        ensures some { IfSome result (HasType (shown_types types.now) (plain_of self.now)) }
+        ensures none { IfNone result
+            ((type : ValueType) → HasType (shown_types types.now) (plain_of self.now) type → ⊥) }
+    {
+        match self {
+            Expr::Read(name) => types.named(*name),
+            _ => self.is_number(types).then_some(ValueType::Number),
+        }
+    }
+
+    fn is_number(&self, types: &Types) -> bool
+        ensures { IsTrue result ↔ IsNumber (shown_types types.now) (plain_of self.now) }
+    {
+        match self {
+            // Naming the number reads it, and what is read is one of 64 bits.
+            &Expr::Literal(_number) => true,
+            Expr::Read(name) => types.has(*name, ValueType::Number),
+            Expr::Unary(_, inner) => inner.is_number(types),
+            Expr::Binary(_, first, second) => first.is_number(types) && second.is_number(types),
+            Expr::If(_, first, second, met, other) => {
+                first.is_number(types)
+                    && second.is_number(types)
+                    && met.is_number(types)
+                    && other.is_number(types)
+            }
+            Expr::Sum(name) | Expr::Count(name) => types.has(*name, ValueType::Table),
+            Expr::Most(name, inner) | Expr::Least(name, inner) | Expr::Get(name, _, inner) => {
+                types.has(*name, ValueType::Table) && inner.is_number(types)
+            }
+        }
+    }
+}
