@@ -101,7 +101,7 @@ impl Cells {
     pub fn decides(&self, pred: &Pred) -> bool
         ensures { IsTrue result ↔ Contains self.now.preds (plain_of pred.now) }
     {
-        self.preds.has(pred)
+        self.preds.place_of(pred).is_some()
     }
 
     /// The cells of the items that meet the predicate.

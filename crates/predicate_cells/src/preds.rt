@@ -1,5 +1,5 @@
 //! A list of predicates.
-ghost use Rattle.std.specs.Prelude.{◌≡◌, [], ◌∷◌, ◌++◌, ◌↔◌, IsTrue, map, IfOk, OnOk, OnErr};
+ghost use Rattle.std.specs.Prelude.{◌≡◌, ◌<◌, [], ◌∷◌, ◌++◌, Some, length, map, slice_get, IfOk, IfSome, IfNone, OnOk, OnErr};
 ghost use Rattle.std.specs.List.{list_all, Contains};
 ghost use Rattle.predicate_cells.specs.Fits.{fits};
 ghost use Rattle.predicate_cells.specs.Plain.{plain_of};
@@ -66,14 +66,30 @@ impl Preds {
         Ok(Preds { preds })
     }
 
-    /// Whether an equal predicate is in the list.
-    pub(crate) fn has(&self, pred: &Pred) -> bool
-        ensures { IsTrue result ↔ Contains self.now (plain_of pred.now) }
+    /// How many predicates there are.
+    pub fn len(&self) -> usize
+        ensures { result ≡ length self.now }
     {
-        self.preds.iter().any(|known| known.is_same(pred))
+        self.preds.len()
     }
 
-    pub(crate) fn as_slice(&self) -> &[Pred]
+    /// The predicate at the index.
+    pub fn get(&self, index: usize) -> &Pred
+        requires { index < length self.now }
+        ensures { slice_get self.now index ≡ Some (plain_of result.now) }
+    {
+        &self.preds[index]
+    }
+
+    /// The index of an equal predicate.
+    pub fn place_of(&self, pred: &Pred) -> Option<usize>
+        ensures found { IfSome result (λ index. slice_get self.now index ≡ Some (plain_of pred.now)) }
+        ensures missing { IfNone result (Contains self.now (plain_of pred.now) → ⊥) }
+    {
+        self.preds.iter().position(|known| known.is_same(pred))
+    }
+
+    pub fn as_slice(&self) -> &[Pred]
         ensures { map plain_of result.now ≡ self.now }
     {
         &self.preds

@@ -169,3 +169,17 @@ fn copies_of_predicates_are_equal(rt: HostRuntime) -> Result<(), Fail> {
     assert!(rt; says(alloc, &pred, &text(alloc, b"end ")?, true)?);
     Ok(())
 }
+
+#[test]
+fn a_list_tells_where_an_equal_predicate_stands(rt: HostRuntime) -> Result<(), Fail> {
+    let alloc = rt.alloc();
+    let mut preds = Preds::new(alloc);
+    preds.add(&Pred::Any)?;
+    preds.add(&Pred::Eq(A, 5))?;
+    assert_eq!(rt; preds.len(), 2);
+    assert!(rt; matches!(preds.get(1), Pred::Eq(A, 5)));
+    assert_eq!(rt; preds.place_of(&Pred::Eq(A, 5)), Some(1));
+    assert_eq!(rt; preds.place_of(&Pred::Ne(A, 5)), None);
+    assert_eq!(rt; preds.as_slice().len(), 2);
+    Ok(())
+}
