@@ -48,6 +48,12 @@ pub stop-same : (whole left : Result (List Field) Skip) (stop : ItemStop) → wh
 stop-same whole left (stop.Skip skip) same stops = same ∙ stops
 stop-same whole left stop.Memory same stops = tt
 
+-- what stops the reading of a first field stops that of all
+pub stop-first : (first : Result Field Skip) (others : Result (List Field) Skip) (stop : ItemStop) → IsStopOf first stop
+    → IsStopOf (with_field first others) stop
+stop-first first others (stop.Skip skip) stops = ap (λ field. with_field field others) stops
+stop-first first others stop.Memory stops = tt
+
 -- the text at a place of a row stands before those behind it
 pub drop-field_at : (texts : List (List ℕ)) (i : ℕ) (text : List ℕ) → i < length texts → field_at texts i ≡ Some text
     → drop i texts ≡ text ∷ drop (i + 1) texts

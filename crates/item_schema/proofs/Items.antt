@@ -3,6 +3,8 @@ use Rattle.std.proofs.Common.{◌≡◌, ℕ, ◌+◌, ◌==◌, ℤ, pos, negsu
 use Rattle.std.specs.List.{list_any}
 use Rattle.std.specs.Str.Parse.{signed_digits_value, without_leading_sign}
 use Rattle.std.proofs.lemmas.Grind.{common_steps}
+use Rattle.std.proofs.lemmas.Bool.{and_parts}
+use Rattle.value_ops.specs.Texts.{IsText, are_bytes}
 use Rattle.value_ops.specs.declared.field.Field.{Field}
 use Rattle.value_ops.specs.declared.field.Field.TheVariants as field
 use Rattle.item_schema.specs.declared.column.Column.{Column}
@@ -11,6 +13,7 @@ use Rattle.item_schema.specs.declared.column.Kind.TheVariants.{Int, Fixed, Text,
 use Rattle.item_schema.specs.declared.stop.Cause.{Cause}
 use Rattle.item_schema.specs.declared.stop.Skip.{Skip}
 use Rattle.item_schema.specs.Items.{IsFieldOf, IsItemOf}
+use Rattle.item_schema.proofs.LineBytes.{are_texts, texts_bytes}
 use Rattle.item_schema.specs.Reading.{field_of, fields_of, fraction_of, in_column, is_decimal, is_numeral, item_of, item_of_record, record_of, signed, stored, units, whole_of, with_field}
 
 -- what is stored is the number itself, and fits
@@ -60,28 +63,29 @@ fixed_is_of places number kept is =
     rw parts.0 parts.1
 
 -- a field that a text writes is one of its column
-pub field_is_of : (kind : Kind) (bytes : List ℕ) (kept : Field) → field_of kind bytes ≡ Ok kept → IsFieldOf kind kept
-field_is_of Int bytes kept is =
+pub field_is_of : (kind : Kind) (bytes : List ℕ) (kept : Field) → IsText bytes → field_of kind bytes ≡ Ok kept → IsFieldOf kind kept
+field_is_of Int bytes kept text is =
     int_is_of (signed_digits_value 10 bytes) kept (passes_is (is_numeral (without_leading_sign bytes)) _ _ kept is).1
-field_is_of (Fixed places) bytes kept is =
+field_is_of (Fixed places) bytes kept text is =
     let form = (passes_is (is_decimal bytes) _ _ kept is).1 in
     fixed_is_of places (signed bytes (units places (whole_of bytes) (fraction_of bytes))) kept
     (fails_is (nat_lt places (length (fraction_of bytes))) _ _ kept form).1
-field_is_of Text bytes kept is =
+field_is_of Text bytes kept text is =
     let same : kept ≡ field.Text bytes = cc in
-    rw same tt
-field_is_of Number bytes kept is = absurd (cc)
-field_is_of Table bytes kept is = absurd (cc)
+    rw same text
+field_is_of Number bytes kept text is = absurd (cc)
+field_is_of Table bytes kept text is = absurd (cc)
 
--- fields that texts write are those of an item of the columns
+-- fields that texts of bytes write are those of an item of the columns
 pub fields_are_of : (at : ℕ) (columns : List Column) (texts : List (List ℕ)) (fields : List Field)
-    → fields_of at columns texts ≡ Ok fields → IsItemOf columns fields
-fields_are_of at [] [] fields is = let none : fields ≡ [] = cc in rw none tt
-fields_are_of at (column ∷ columns) (bytes ∷ texts) fields is =
+    → are_texts texts ≡ true → fields_of at columns texts ≡ Ok fields → IsItemOf columns fields
+fields_are_of at [] [] fields are is = let none : fields ≡ [] = cc in rw none tt
+fields_are_of at (column ∷ columns) (bytes ∷ texts) fields are is =
+    let (text, others_are) = and_parts (are_bytes bytes) (are_texts texts) are in
     let (first, rest, reads, others, both) = with_field_is (in_column at (field_of column.kind bytes)) (fields_of (at + 1) columns texts) fields is in
-    rw both (field_is_of column.kind bytes first (in_column_is at _ first reads), fields_are_of (at + 1) columns texts rest others)
-fields_are_of at [] (bytes ∷ texts) fields is = absurd (cc)
-fields_are_of at (column ∷ columns) [] fields is = absurd (cc)
+    rw both (field_is_of column.kind bytes first text (in_column_is at _ first reads), fields_are_of (at + 1) columns texts rest others_are others)
+fields_are_of at [] (bytes ∷ texts) fields are is = absurd (cc)
+fields_are_of at (column ∷ columns) [] fields are is = absurd (cc)
 
 -- a row with an item has texts that are read
 pub row_is : (columns : List Column) (row : Option (List (List ℕ))) (fields : List Field) → item_of_record columns row ≡ Ok fields
@@ -89,8 +93,8 @@ pub row_is : (columns : List Column) (row : Option (List (List ℕ))) (fields : 
 row_is columns None fields is = absurd (cc)
 row_is columns (Some texts) fields is = (texts, refl, (passes_is (length texts == length columns) _ _ fields is).1)
 
--- the item of a line is one of the columns
-pub item_is_of : (columns : List Column) (line : List ℕ) (fields : List Field) → item_of columns line ≡ Ok fields → IsItemOf columns fields
-item_is_of columns line fields is =
+-- the item of a line of bytes is one of the columns
+pub item_is_of : (columns : List Column) (line : List ℕ) (fields : List Field) → IsText line → item_of columns line ≡ Ok fields → IsItemOf columns fields
+item_is_of columns line fields text is =
     let (texts, row, reads) = row_is columns (record_of line) fields (fails_is (list_any (λ b. b == 13) line) _ _ fields is).1 in
-    fields_are_of 1 columns texts fields reads
+    fields_are_of 1 columns texts fields (texts_bytes line texts text row) reads

@@ -3,6 +3,7 @@ use Rattle.std.proofs.Common.{◌≡◌, ◌&&◌, nat_lt, nat_le, Bool, true, f
 use Rattle.std.proofs.lemmas.Bool.Decides.{nat_tests}
 use Rattle.std.specs.List.{list_all}
 use Rattle.item_schema.specs.declared.column.Column.{Column}
+use Rattle.language_base.specs.Limits.{max_columns}
 use Rattle.item_schema.specs.Layout.{IsLayout, are_columns, are_distinct, has_digits, is_read}
 
 -- both parts of a test hold
@@ -28,13 +29,13 @@ all_left test other (column ∷ columns) holds =
 pub is_layout : (columns : List Column) → IsTrue (are_columns columns) → IsLayout columns
 is_layout columns holds =
     let some = nat_lt 0 (length columns) in
-    let few = nat_le (length columns) 32 in
+    let few = nat_le (length columns) max_columns in
     let distinct = are_distinct columns in
     let kinds = both (some && few && distinct) _ holds in
     let names = both (some && few) distinct kinds.0 in
     let counts = both some few names.0 in
     let above : nat_lt 0 (length columns) ≡ true = counts.0 in
-    let below : nat_le (length columns) 32 ≡ true = counts.1 in
+    let below : nat_le (length columns) max_columns ≡ true = counts.1 in
     record {
       some = grind (arith, nat_tests);
       few = grind (arith, nat_tests);

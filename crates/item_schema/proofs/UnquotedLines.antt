@@ -5,6 +5,7 @@ use Rattle.std.proofs.lemmas.List.{append-nil}
 use Rattle.std.proofs.lemmas.List.Splits.{length-slice_split, slice_split-cons_yes, slice_split-cons_no, slice_split_first, slice_split_none}
 use Rattle.std.proofs.lemmas.Bool.{and_parts, or_from, or_parts}
 use Rattle.std.proofs.lemmas.Bool.Decides.{nat_tests}
+use Rattle.std.proofs.lemmas.Grind.{common_steps}
 use Rattle.csv.specs.Machine.{Read, next_record, step, ends_at_end, is_end, fields_after, field_after}
 use Rattle.csv.specs.Reading.{default_config, strip_bom}
 use Rattle.csv.specs.declared.parser.State.{State}
@@ -186,3 +187,14 @@ pub item_of-columns : (columns : List Column) (line : List ℕ) → is_unquoted 
 item_of-columns columns line unquoted some other =
     let texts : (length (slice_split is_comma line) == length columns) ≡ false = grind (arith, nat_tests, length-slice_split is_comma line) in
     rw (no_return line (special_none line unquoted), record_between_commas line unquoted, texts) refl
+
+-- a line without commas
+no_commas : (line : List ℕ) → count_by is_comma line ≡ 0 → list_any is_comma line ≡ false
+no_commas [] none = refl
+no_commas (byte ∷ line) none = grind (arith, nat_tests, common_steps, no_commas line)
+
+-- a line with one text is that text
+pub whole_line : (line : List ℕ) → length (slice_split is_comma line) ≡ 1 → slice_split is_comma line ≡ line ∷ []
+whole_line line one =
+    let none : count_by is_comma line ≡ 0 = omega (arith, length-slice_split is_comma line) in
+    slice_split_none is_comma line (All-none is_comma line (no_commas line none))

@@ -1,10 +1,8 @@
 -- An item is found exactly where the texts of a line write it.
-use Rattle.std.proofs.Common.{◌≡◌, ℕ, ◌+◌, ◌≤◌, ◌==◌, ℤ, false, suc, nat_lt, List, [], ◌∷◌, ◌++◌, length, get_or, Ok, refl, sym, ap, ◌∙◌, arith, FitsSigned, w64}
-use Rattle.std.specs.List.{list_all, list_any}
-use Rattle.std.specs.Char.{is_ascii_digit}
-use Rattle.std.specs.Str.Parse.{signed_digits_value, digits_value, without_leading_sign}
-use Rattle.std.proofs.lemmas.List.{append-nil}
-use Rattle.std.proofs.lemmas.Bool.{and_parts, eq-eqb, eqb-false, ne_eqb}
+use Rattle.std.proofs.Common.{◌≡◌, ℕ, ◌+◌, ◌==◌, ℤ, suc, nat_lt, List, [], ◌∷◌, length, get_or, Ok, refl, ap, arith, FitsSigned, w64}
+use Rattle.std.specs.List.{list_any}
+use Rattle.std.specs.Str.Parse.{signed_digits_value, without_leading_sign}
+use Rattle.std.proofs.lemmas.Bool.{eq-eqb, eqb-false, ne_eqb}
 use Rattle.std.proofs.lemmas.List.Folds.{list_any_none}
 use Rattle.item_schema.proofs.Cuts.{All-none}
 use Rattle.std.proofs.lemmas.Bool.Decides.{nat_tests}
@@ -13,27 +11,17 @@ use Rattle.value_ops.specs.declared.field.Field.TheVariants as field
 use Rattle.item_schema.specs.declared.column.Column.{Column}
 use Rattle.item_schema.specs.declared.column.Kind.{Kind}
 use Rattle.item_schema.specs.declared.column.Kind.TheVariants.{Int, Fixed, Text, Number, Table}
-use Rattle.item_schema.specs.Reading.{field_of, fields_of, fraction_of, in_column, is_decimal, is_numeral, is_point, item_of, record_of, signed, units, whole_of}
-use Rattle.item_schema.specs.Written.{WriteAll, Writes, WritesDecimal, WritesItem, WritesWhole, sign_bytes, with_sign}
+use Rattle.item_schema.specs.Reading.{field_of, fields_of, fraction_of, in_column, is_decimal, is_numeral, item_of, record_of, signed, units, whole_of}
+use Rattle.item_schema.specs.Written.{WriteAll, Writes, WritesDecimal, WritesItem, WritesWhole}
 use Rattle.item_schema.proofs.Items.{fails_is, in_column_is, passes_is, row_is, stored_fits, stored_is, with_field_is}
-use Rattle.item_schema.proofs.Numerals.{cut_point, cut_sign, numeral_from_test, numeral_passes, parts_from_fraction, signed-digits, units-whole, without_leading_sign-digits}
+use Rattle.item_schema.proofs.WrittenNumbers.{decimal_form, decimal_writes, whole_form, whole_writes}
 
 -- a whole number that is read is one that the text writes
 whole_from_field : (text : List ℕ) (kept : Field) → field_of Int text ≡ Ok kept → Writes Int text kept
 whole_from_field text kept is =
     let form = passes_is (is_numeral (without_leading_sign text)) _ _ kept is in
     let number = stored_is (signed_digits_value 10 text) kept form.1 in
-    let cut = cut_sign text in
-    rw number.0 (
-      record {
-        sign = cut.sign;
-        digits = without_leading_sign text;
-        spelled = cut.spelled;
-        numeral = numeral_from_test (without_leading_sign text) form.0;
-        value = cut.value (digits_value 10 (without_leading_sign text));
-      },
-      number.1,
-    )
+    rw number.0 (whole_writes text form.0, number.1)
 
 -- and so is a decimal number
 decimal_from_field : (places : ℕ) (text : List ℕ) (kept : Field) → field_of (Fixed places) text ≡ Ok kept → Writes (Fixed places) text kept
@@ -41,27 +29,10 @@ decimal_from_field places text kept is =
     let form = passes_is (is_decimal text) _ _ kept is in
     let few = fails_is (nat_lt places (length (fraction_of text))) _ _ kept form.1 in
     let number = stored_is (signed text (units places (whole_of text) (fraction_of text))) kept few.1 in
-    let parts = and_parts (is_numeral (whole_of text)) _ form.0 in
-    let cut = cut_sign text in
-    let point = cut_point (without_leading_sign text) (list_any is_point (without_leading_sign text)) refl parts.1 in
-    let within : length (fraction_of text) ≤ places = grind (arith, nat_tests, few.0) in
-    rw number.0 (
-      record {
-        sign = cut.sign;
-        whole = whole_of text;
-        behind = point.behind;
-        fraction = fraction_of text;
-        spelled = cut.spelled ∙ ap (λ rest. sign_bytes cut.sign ++ rest) point.spelled;
-        numeral = numeral_from_test (whole_of text) parts.0;
-        point = point.point;
-        few = within;
-        value = cut.value _ ∙ ap (with_sign cut.sign) (units-whole places (whole_of text) (fraction_of text) within);
-      },
-      number.1,
-    )
+    rw number.0 (decimal_writes places text form.0 (grind (arith, nat_tests, few.0)), number.1)
 
 -- a field that is read is one that the text writes
-field_writes : (kind : Kind) (text : List ℕ) (kept : Field) → field_of kind text ≡ Ok kept → Writes kind text kept
+pub field_writes : (kind : Kind) (text : List ℕ) (kept : Field) → field_of kind text ≡ Ok kept → Writes kind text kept
 field_writes Int text kept is = whole_from_field text kept is
 field_writes (Fixed places) text kept is = decimal_from_field places text kept is
 field_writes Text text kept is =
@@ -73,41 +44,18 @@ field_writes Table text kept is = absurd (cc)
 -- a whole number that a text writes is read
 whole_is_read : (text : List ℕ) (number : ℤ) → WritesWhole text number → FitsSigned w64 number → field_of Int text ≡ Ok (field.Int number)
 whole_is_read text number writes fits =
-    let spelled : text ≡ sign_bytes writes.sign ++ (writes.digits ++ []) =
-    writes.spelled ∙ ap (λ digits. sign_bytes writes.sign ++ digits) (sym (append-nil writes.digits))
-    in
-    let digits : without_leading_sign text ≡ writes.digits =
-    ap without_leading_sign spelled ∙ without_leading_sign-digits writes.sign writes.digits [] writes.numeral ∙ append-nil writes.digits
-    in
-    let value : signed text (digits_value 10 writes.digits) ≡ number =
-    ap (λ text. signed text (digits_value 10 writes.digits)) spelled
-    ∙ signed-digits writes.sign writes.digits [] (digits_value 10 writes.digits) writes.numeral
-    ∙ sym writes.value
-    in
-    rw (digits, numeral_passes writes.digits writes.numeral, value) (stored_fits number fits)
+    let has = whole_form text number writes in
+    rw (has.form, has.value) (stored_fits number fits)
 
 -- and so is a decimal number
 decimal_is_read : (places : ℕ) (text : List ℕ) (number : ℤ) → WritesDecimal places text number → FitsSigned w64 number
     → field_of (Fixed places) text ≡ Ok (field.Int number)
 decimal_is_read places text number writes fits =
-    let size = units places writes.whole writes.fraction in
-    let rest : without_leading_sign text ≡ writes.whole ++ writes.behind =
-    ap without_leading_sign writes.spelled ∙ without_leading_sign-digits writes.sign writes.whole writes.behind writes.numeral
-    in
-    let passes = numeral_passes writes.whole writes.numeral in
-    let digits = (and_parts (nat_lt 0 (length writes.whole)) (list_all is_ascii_digit writes.whole) passes).1 in
-    let parts = parts_from_fraction writes.whole writes.behind writes.fraction digits writes.point in
-    let few : nat_lt places (length writes.fraction) ≡ false = grind (arith, nat_tests, writes.few) in
-    let value : signed text size ≡ number =
-    ap (λ text. signed text size) writes.spelled
-    ∙ signed-digits writes.sign writes.whole writes.behind size writes.numeral
-    ∙ ap (with_sign writes.sign) (units-whole places writes.whole writes.fraction writes.few)
-    ∙ sym writes.value
-    in
-    rw (rest, parts.before, parts.behind, passes, parts.form, few, value) (stored_fits number fits)
+    let has = decimal_form places text number writes in
+    rw (has.form, has.few, has.value) (stored_fits number fits)
 
 -- a field that a text writes is read
-writes_field : (kind : Kind) (text : List ℕ) (kept : Field) → Writes kind text kept → field_of kind text ≡ Ok kept
+pub writes_field : (kind : Kind) (text : List ℕ) (kept : Field) → Writes kind text kept → field_of kind text ≡ Ok kept
 writes_field Int text (field.Int number) writes = whole_is_read text number writes.0 writes.1
 writes_field (Fixed places) text (field.Int number) writes = decimal_is_read places text number writes.0 writes.1
 writes_field Text text (field.Text bytes) writes = ap (λ bytes. Ok (field.Text bytes)) writes

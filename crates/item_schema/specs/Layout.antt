@@ -2,6 +2,7 @@
 use Rattle.std.specs.Prelude.{◌≤◌, ◌<◌, ◌&&◌, not, nat_le, nat_lt, Bool, true, false, List, [], ◌∷◌, length, codes, IsTrue}
 use Rattle.std.specs.List.{list_all, list_any}
 use Rattle.std.specs.Str.{bytes_eq}
+use Rattle.language_base.specs.Limits.{max_columns}
 use Rattle.value_ops.specs.declared.value.ValueType.{ValueType}
 use Rattle.value_ops.specs.declared.value.ValueType.TheVariants as values
 use Rattle.item_schema.specs.declared.column.Column.{Column}
@@ -35,17 +36,17 @@ are_distinct [] = true
 are_distinct (column ∷ columns) =
     not (list_any (λ c. bytes_eq column.name c.name) columns) && are_distinct columns
 
--- 1 to 32 columns with names of their own
+-- at least one column, not too many, and each with a name of its own
 pub record IsLayout (columns : List Column) : Type 0 where
   pub some : 0 < length columns
-  pub few : length columns ≤ 32
+  pub few : length columns ≤ max_columns
   pub distinct : IsTrue (are_distinct columns)
   pub digits : IsTrue (list_all (λ c. has_digits c.kind) columns)
 
 -- the same as a test, of columns that are all read from lines
 abbrev pub are_columns : List Column → Bool
 are_columns columns =
-    nat_lt 0 (length columns) && nat_le (length columns) 32 && are_distinct columns
+    nat_lt 0 (length columns) && nat_le (length columns) max_columns && are_distinct columns
     && list_all (λ c. has_digits c.kind && is_read c.kind) columns
 
 -- the kind of a column that has values of this type

@@ -2,7 +2,7 @@
 ghost use Rattle.std.specs.Prelude.{◌≡◌, ◌↔◌, IsTrue, IfOk};
 
 use std::alloc::{AllocError, Global};
-use value_ops::{Bytes, Field, Scalar, Value};
+use value_ops::{Bytes, Field, ValueType};
 
 /// What the fields of a column are.
 #[derive(Clone, Copy, Debug, PartialEq, Eq)]
@@ -28,10 +28,9 @@ impl Kind {
         match (self, field) {
             // Naming a number reads it, and what is read is one of 64 bits.
             (Kind::Int | Kind::Fixed(_), &Field::Int(_number)) => true,
-            (Kind::Text, Field::Text(_)) => true,
-            (Kind::Number, &Field::Val(Value::Scalar(Scalar::Number(_number)))) => true,
-            (Kind::Number, Field::Val(Value::Scalar(_))) => true,
-            (Kind::Table, Field::Val(Value::Table(_))) => true,
+            (Kind::Text, _) => field.text().is_some(),
+            (Kind::Number, Field::Val(value)) => value.ty() == ValueType::Number,
+            (Kind::Table, Field::Val(value)) => value.ty() == ValueType::Table,
             _ => false,
         }
     }

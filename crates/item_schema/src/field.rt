@@ -31,8 +31,13 @@ pub(crate) fn push_field(
     Ok(())
 }
 
-// The field that a text writes in a column of this kind and number.
-fn read_field(alloc: Global, kind: Kind, column: u32, text: &[u8]) -> Result<Field, ItemStop>
+/// The field that a text writes in a column of this kind and number.
+pub(crate) fn read_field(
+    alloc: Global,
+    kind: Kind,
+    column: u32,
+    text: &[u8],
+) -> Result<Field, ItemStop>
     ensures field { IfOk result (λ field. in_column column (field_of kind text.now) ≡ Ok field) }
     ensures stopped { IfErr result (IsStopOf (in_column column (field_of kind text.now))) }
 {

@@ -36,9 +36,23 @@ impl Item {
         ensures item { IfOk result (λ item. item ≡ Field.Val value.now ∷ []) }
         ensures no_memory { IsNoTable value.now → IsOk result }
     {
-        Ok(Item {
-            fields: Fields::One([Field::Val(value.try_copy(alloc)?)]),
-        })
+        Ok(Item::from_value(value.try_copy(alloc)?))
+    }
+
+    /// The item of a stream of values, which takes the value itself.
+    pub fn from_value(value: Value) -> Item
+        ensures { result ≡ Field.Val value ∷ [] }
+    {
+        Item::from_field(Field::Val(value))
+    }
+
+    /// The item of a stream of one column.
+    pub(crate) fn from_field(field: Field) -> Item
+        ensures { result ≡ field ∷ [] }
+    {
+        Item {
+            fields: Fields::One([field]),
+        }
     }
 
     pub fn from_fields(fields: Vec<Field>) -> Item
@@ -100,7 +114,8 @@ mod tests {
     fn an_item_of_a_value_has_it_alone(rt: HostRuntime) -> Result<(), Fail> {
         let item = Item::of_value(rt.alloc(), &Value::Scalar(Scalar::Number(-7)))?;
         let copy = item.try_copy(rt.alloc())?;
-        for item in [&item, &copy] {
+        let taken = Item::from_value(Value::Scalar(Scalar::Number(-7)));
+        for item in [&item, &copy, &taken] {
             assert_eq!(rt; item.fields().len(), 1);
             let alone = item.fields().first();
             assert!(rt; matches!(alone, Some(Field::Val(Value::Scalar(Scalar::Number(-7))))));

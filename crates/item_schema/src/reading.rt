@@ -1,37 +1,30 @@
 //! The item of a line.
-ghost use Rattle.std.specs.Prelude.{◌≡◌, ◌↔◌, ℕ, List, Ok, IfErr, IfOk};
+ghost use Rattle.std.specs.Prelude.{◌≡◌, Ok, IfErr, IfOk};
 ghost use Rattle.item_schema.specs.Items.{IsItemOf};
 ghost use Rattle.item_schema.specs.Reading.{IsStopOf, item_of};
-ghost use Rattle.item_schema.specs.Written.{WritesItem};
-ghost use Rattle.item_schema.specs.declared.column.Column.{Column};
-ghost use Rattle.value_ops.specs.declared.field.Field.{Field};
 
 use crate::row::{read_row, row_fields};
-use crate::unquoted::{commas, unquoted_fields};
+use crate::unquoted::{commas, unquoted_item};
 use crate::{Cause, Item, ItemStop, Schema};
 use std::alloc::Global;
 use value_ops::Field;
 
 /// Reads the fields of a line, with neither its LF nor the CR before that, to an item.
-#[tactic(auto, using(crate::proofs::Items::item_is_of))]
 pub fn read_item(alloc: Global, schema: &Schema, line: &[u8]) -> Result<Item, ItemStop>
     ensures item { IfOk result (λ item. item_of schema.now.columns line.now ≡ Ok item) }
     ensures skipped { IfErr result (IsStopOf (item_of schema.now.columns line.now)) }
     ensures of_schema { IfOk result (IsItemOf schema.now.columns) }
 {
-    let fields = line_fields(alloc, schema, line)?;
-    Ok(Item::from_fields(fields))
+    line_item(alloc, schema, line)
 }
 
-fn line_fields(alloc: Global, schema: &Schema, line: &[u8]) -> Result<Vec<Field>, ItemStop>
-    ensures fields { IfOk result (λ fields. item_of schema.now.columns line.now ≡ Ok fields.items) }
+fn line_item(alloc: Global, schema: &Schema, line: &[u8]) -> Result<Item, ItemStop>
+    ensures item { IfOk result (λ item. item_of schema.now.columns line.now ≡ Ok item) }
     ensures stopped { IfErr result (IsStopOf (item_of schema.now.columns line.now)) }
 {
     match commas(line) {
-        None => any_fields(alloc, schema, line),
-        Some(commas) if commas == schema.columns().len() - 1 => unquoted_fields(
-            alloc, schema, line,
-        ),
+        None => Ok(Item::from_fields(any_fields(alloc, schema, line)?)),
+        Some(commas) if commas == schema.columns().len() - 1 => unquoted_item(alloc, schema, line),
         Some(_) => Err(ItemStop::skip(Cause::Columns, 0)),
     }
 }
@@ -52,12 +45,6 @@ fn any_fields(alloc: Global, schema: &Schema, line: &[u8]) -> Result<Vec<Field>,
     }
     row_fields(alloc, schema, &row)
 }
-
-/// The item of a line is the one that its texts write.
-pub fn lines_write_their_items()
-    ensures { (columns : List Column) (line : List ℕ) (fields : List Field) →
-        (item_of columns line ≡ Ok fields) ↔ WritesItem columns line fields }
-{}
 
 #[cfg(test)]
 mod tests;

@@ -1,13 +1,13 @@
 //! Lines whose fields stand between their commas.
-ghost use Rattle.std.specs.Prelude.{◌≡◌, ◌∷◌, IfErr, IfOk, IsTrue, List, MatchOption, Ok, Some, ℕ, count_by, false, length, true};
+ghost use Rattle.std.specs.Prelude.{◌≡◌, [], ◌∷◌, IfErr, IfOk, IsTrue, List, MatchOption, Ok, Some, ℕ, count_by, false, length, true};
 ghost use Rattle.std.specs.List.{slice_split};
 ghost use Rattle.std.specs.Option.{option_copied};
 ghost use Rattle.item_schema.specs.UnquotedLines.{is_comma, is_unquoted, texts_of};
 ghost use Rattle.item_schema.specs.Reading.{IsStopOf, fields_of, record_of};
 
 use crate::cut::cut_at;
-use crate::field::push_field;
-use crate::{ItemStop, Schema};
+use crate::field::{push_field, read_field};
+use crate::{Column, Item, ItemStop, Schema};
 use std::alloc::Global;
 use value_ops::Field;
 
@@ -40,12 +40,34 @@ pub fn unquoted_lines_are_cut_at_commas()
         → record_of line ≡ Some (slice_split is_comma line) }
 {}
 
-/// The fields of the columns, from left to right.
-pub(crate) fn unquoted_fields(
-    alloc: Global,
-    schema: &Schema,
-    line: &[u8],
-) -> Result<Vec<Field>, ItemStop>
+/// The item of an unquoted line with a text for each column.
+pub(crate) fn unquoted_item(alloc: Global, schema: &Schema, line: &[u8]) -> Result<Item, ItemStop>
+    requires { length (slice_split is_comma line.now) ≡ length schema.now.columns }
+    ensures item { IfOk result (λ item.
+        fields_of 1 schema.now.columns (slice_split is_comma line.now) ≡ Ok item) }
+    ensures stopped { IfErr result
+        (IsStopOf (fields_of 1 schema.now.columns (slice_split is_comma line.now))) }
+{
+    match schema.columns() {
+        [column] => only_item(alloc, column, line),
+        _ => Ok(Item::from_fields(unquoted_fields(alloc, schema, line)?)),
+    }
+}
+
+// The item of a line that is the text of the only column.
+fn only_item(alloc: Global, column: &Column, line: &[u8]) -> Result<Item, ItemStop>
+    requires { length (slice_split is_comma line.now) ≡ 1 }
+    ensures item { IfOk result (λ item.
+        fields_of 1 (column.now ∷ []) (slice_split is_comma line.now) ≡ Ok item) }
+    ensures stopped { IfErr result
+        (IsStopOf (fields_of 1 (column.now ∷ []) (slice_split is_comma line.now))) }
+{
+    let field = read_field(alloc, column.kind, 1, line)?;
+    Ok(Item::from_field(field))
+}
+
+// The fields of the columns, from left to right.
+fn unquoted_fields(alloc: Global, schema: &Schema, line: &[u8]) -> Result<Vec<Field>, ItemStop>
     requires { length (slice_split is_comma line.now) ≡ length schema.now.columns }
     ensures fields { IfOk result (λ fields.
         fields_of 1 schema.now.columns (slice_split is_comma line.now) ≡ Ok fields.items) }

@@ -168,4 +168,18 @@ mod tests {
         assert_eq!(rt; copy.get(b"south"), None);
         Ok(())
     }
+
+    #[test]
+    fn a_table_has_a_thousand_keys(rt: HostRuntime) -> Result<(), Fail> {
+        let mut table = Table::new(rt.alloc());
+        for number in 0..1_000u16 {
+            let key = number.to_be_bytes();
+            if table.get(&key).is_none() {
+                table.push(&key, Scalar::Number(i64::from(number)))?;
+            }
+        }
+        assert_eq!(rt; table.len(), 1_000);
+        assert_eq!(rt; table.get(&[3, 231]), Some(Scalar::Number(999)));
+        Ok(())
+    }
 }

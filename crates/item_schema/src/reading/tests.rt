@@ -4,11 +4,14 @@ ghost use Rattle.std.specs.Prelude.{◌≡◌, IfOk, IsTrue};
 ghost use Rattle.item_schema.specs.Layout.{has_digits, is_read};
 
 use super::*;
-use crate::{Column, Kind};
+use crate::{
+    Column, Kind, are_columns, lines_are_skipped_for_their_texts,
+    lines_have_items_of_their_columns, lines_write_their_items, unquoted_lines_are_cut_at_commas,
+};
 use std::alloc::AllocError;
 use std::fmt::Write;
 use std::test::Fail;
-use value_ops::Bytes;
+use value_ops::{Bytes, Field};
 
 fn column(alloc: Global, name: &[u8], kind: Kind) -> Result<Column, AllocError>
     ensures { IfOk result (λ column. column ≡ record { name = name.now; kind = kind }) }
@@ -235,4 +238,57 @@ fn a_byte_order_mark_is_taken_off(rt: HostRuntime) -> Result<(), Fail> {
     ];
     assert_eq!(rt; misread(rt.alloc(), &schema, &cases)?, None);
     Ok(())
+}
+
+// How many bytes the text of the line's only field has.
+fn length_of(alloc: Global, schema: &Schema, line: &[u8]) -> Option<usize> {
+    match read_item(alloc, schema, line) {
+        Ok(item) => item
+            .fields()
+            .first()
+            .and_then(|field| field.text())
+            .map(|text| text.len()),
+        Err(_) => None,
+    }
+}
+
+#[test]
+fn the_longest_lines_are_items(rt: HostRuntime) -> Result<(), Fail> {
+    let schema = one_column(rt.alloc(), Kind::Text)?;
+    let mut line = Vec::new(rt.alloc());
+    for _ in 0..65_535u32 {
+        line.push(b'a')?;
+    }
+    line.push(b'"')?;
+    assert_eq!(rt; length_of(rt.alloc(), &schema, &line), Some(65_536));
+    if let Some(first) = line.first_mut() {
+        *first = b'"';
+    }
+    assert_eq!(rt; length_of(rt.alloc(), &schema, &line), Some(65_534));
+    Ok(())
+}
+
+#[test]
+fn a_line_has_a_field_for_each_of_32_columns(rt: HostRuntime) -> Result<(), Fail> {
+    let mut columns = Vec::new(rt.alloc());
+    let mut line = Vec::new(rt.alloc());
+    for at in 0..32u8 {
+        columns.push(column(rt.alloc(), &[b'a' + at], Kind::Int)?)?;
+        line.extend_from_slice(if at == 0 { b"7" } else { b",7" })?;
+    }
+    assert!(rt; are_columns(&columns));
+    if are_columns(&columns) {
+        let schema = Schema::new(false, columns);
+        let item = read_item(rt.alloc(), &schema, &line);
+        assert!(rt; item.is_ok_and(|item| item.fields().len() == 32));
+    }
+    Ok(())
+}
+
+#[test]
+fn laws_of_lines(_rt: HostRuntime) {
+    lines_write_their_items();
+    lines_are_skipped_for_their_texts();
+    lines_have_items_of_their_columns();
+    unquoted_lines_are_cut_at_commas();
 }
