@@ -10,7 +10,8 @@ use Rattle.value_ops.specs.declared.value.Value.TheVariants as value
 use Rattle.item_schema.specs.declared.column.Column.{Column}
 use Rattle.item_schema.specs.declared.column.Kind.{Kind}
 use Rattle.item_schema.specs.declared.column.Kind.TheVariants.{Int, Fixed, Text, Number, Table}
-use Rattle.item_schema.specs.Items.{IsFieldOf, IsItemOf, IsScalar}
+use Rattle.value_ops.specs.Types.{IsScalar}
+use Rattle.item_schema.specs.Items.{IsFieldOf, IsItemOf}
 use Rattle.predicate_cells.specs.Cells.{Partition, CellsDecide, cell_from}
 use Rattle.predicate_cells.specs.Classes.{beginnings, named_texts, class_of, starts}
 use Rattle.predicate_cells.specs.Predicates.{Predicate}
@@ -46,7 +47,7 @@ module _ (preds : List Predicate) (pred : Predicate) (one : Contains preds pred)
       → class_of kind column preds f ≡ class_of kind column preds g → Alike column f g
   fields_alike Int column (field.Int x) (field.Int y) a b e = (all_flat _ (beginnings column) preds pred one (numbers_agree column preds x y a b e), tt)
   fields_alike (Fixed digits) column (field.Int x) (field.Int y) a b e = (all_flat _ (beginnings column) preds pred one (numbers_agree column preds x y a b e), tt)
-  fields_alike Text column (field.Text s) (field.Text t) a b e = (tt, all_flat _ (named_texts column) preds pred one (named_agree column preds s t e))
+  fields_alike Text column (field.Text s) (field.Text t) a b e = (tt, all_flat _ (named_texts column) preds pred one (named_agree column preds s t a b e))
   fields_alike Number column (field.Val (value.Scalar x)) (field.Val (value.Scalar y)) a b e = scalars_alike column x y a b e
   fields_alike Table column (field.Val (value.Table x)) (field.Val (value.Table y)) a b e = (tt, tt)
   fields_alike kind column f g a b e = absurd assumption

@@ -12,7 +12,7 @@ use Rattle.predicate_cells.specs.Ranks.{ranks_from, field_by_kind, rising_starts
 use Rattle.predicate_cells.specs.Samples.{sample_of}
 use Rattle.predicate_cells.proofs.CellsBelow.{count_positive}
 use Rattle.predicate_cells.proofs.ClassFields.{class_in_field, field_in_is}
-use Rattle.predicate_cells.proofs.RanksOf.{cells_of_ranks, count_of_ranks, class_of_ranks, starts_rise, starts_begin, texts_rise}
+use Rattle.predicate_cells.proofs.RanksOf.{cells_of_ranks, count_of_ranks, class_of_ranks, starts_rise, starts_begin, texts_bytes, texts_rise}
 
 module _ (preds : List Predicate) where
   -- a field of a class of a column
@@ -22,13 +22,13 @@ module _ (preds : List Predicate) where
   -- is of the column
   pub field_of_class_is : (kind : Kind) (column class : ℕ) → class < class_count kind column preds → IsFieldOf kind (field_of_class kind column class)
   field_of_class_is kind column class lt =
-      field_in_is _ _ (starts_rise column preds kind) (starts_begin column preds kind) (texts_rise column preds kind) kind class (rw (count_of_ranks column preds kind) lt)
+      field_in_is _ _ (starts_rise column preds kind) (starts_begin column preds kind) (texts_rise column preds kind) (texts_bytes column preds kind) kind class (rw (count_of_ranks column preds kind) lt)
 
   -- and of the class
   pub class_of_field : (kind : Kind) (column class : ℕ) → class < class_count kind column preds → class_of kind column preds (field_of_class kind column class) ≡ class
   class_of_field kind column class lt =
       sym (class_of_ranks column preds kind _)
-      ∙ class_in_field _ _ (starts_rise column preds kind) (starts_begin column preds kind) (texts_rise column preds kind) kind class (rw (count_of_ranks column preds kind) lt)
+      ∙ class_in_field _ _ (starts_rise column preds kind) (starts_begin column preds kind) (texts_rise column preds kind) (texts_bytes column preds kind) kind class (rw (count_of_ranks column preds kind) lt)
 
   -- the sample of a cell is an item
   pub sample_of_is : (at : ℕ) (columns : List Column) (cell : ℕ) → cell < count_from at columns preds → IsItemOf columns (sample_of (ranks_from at columns preds) cell)

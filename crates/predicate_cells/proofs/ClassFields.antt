@@ -1,18 +1,18 @@
 -- Each class has a field.
 use Rattle.std.proofs.Common.{◌≡◌, ℕ, zero, suc, zero-le, ◌+◌, ◌-◌, ◌<◌, ◌≤◌, ◌^◌, Bool, true, false, cond, ℤ, pos, negsuc, neg_ℤ, List, [], ◌∷◌, ◌++◌, length, get_or, int_cmp, nat_cmp, is_lt, is_eq, Less, Greater, refl, sym, ap, subst, ⊎_elim, ◌∙◌, w64, arith}
-use Rattle.std.specs.Prelude.{◌==◌, nat_le, int_le, FitsSigned}
+use Rattle.std.specs.Prelude.{◌==◌, nat_le, nat_lt, int_le, FitsSigned}
 use Rattle.std.specs.List.{AllByRecursion}
 use Rattle.std.specs.List.Sorted.{IsStrictlySortedBy}
 use Rattle.std.specs.Cmp.Lexicographic.{slice_cmp}
 use Rattle.std.specs.Ordering.{ordering_reverse}
 use Rattle.std.specs.Str.{bytes_eq}
-use Rattle.std.proofs.lemmas.Bool.{cases_lt, leb-true, leb-false, eqb-true, eqb-false}
+use Rattle.std.proofs.lemmas.Bool.{and_from, cases_lt, leb-true, leb-false, eqb-true, eqb-false}
 use Rattle.std.proofs.lemmas.Bool.Decides.{nat_tests}
 use Rattle.std.proofs.lemmas.Cmp.{nat_cmp_total, nat_list_cmp_total, tied_itself}
 use Rattle.std.proofs.lemmas.Int.{ints}
 use Rattle.std.proofs.lemmas.List.{get_or_default, get_or_past}
 use Rattle.std.proofs.lemmas.List.Elements.{All-from_recursion}
-use Rattle.std.proofs.lemmas.List.Folds.{list_any_at, list_any_none}
+use Rattle.std.proofs.lemmas.List.Folds.{list_all-append, list_any_at, list_any_none}
 use Rattle.std.proofs.lemmas.Map.Keys.{Less-from_sorted}
 use Rattle.std.proofs.lemmas.Slice.Eq.{bytes_eq-Decides}
 use Rattle.value_ops.specs.declared.field.Field.TheVariants as field
@@ -20,7 +20,10 @@ use Rattle.value_ops.specs.declared.scalar.Scalar.TheVariants as scalar
 use Rattle.value_ops.specs.declared.value.Value.TheVariants as value
 use Rattle.item_schema.specs.declared.column.Kind.{Kind}
 use Rattle.item_schema.specs.declared.column.Kind.TheVariants.{Int, Fixed, Text, Number, Table}
-use Rattle.item_schema.specs.Items.{IsFieldOf, IsScalar}
+use Rattle.value_ops.specs.Texts.{IsText, are_bytes}
+use Rattle.value_ops.specs.Types.{IsScalar}
+use Rattle.value_ops.proofs.EntryLaws.{empty_table}
+use Rattle.item_schema.specs.Items.{IsFieldOf}
 use Rattle.predicate_cells.specs.Classes.{begins_class}
 use Rattle.predicate_cells.specs.Ranks.{count_by_kind, class_by_kind, field_by_kind, number_rank, text_rank, number_of_class, other_text, scalar_of_class}
 use Rattle.predicate_cells.proofs.Counts.{count_from_place}
@@ -120,7 +123,19 @@ module _ (texts : List (List ℕ)) (rise : IsStrictlySortedBy (slice_cmp nat_cmp
   other_text_is =
       rw (list_any_none (bytes_eq (other_text texts)) texts (λ j d lt. bytes_eq_by_cmp (other_text texts) (get_or texts j d) ∙ ap is_eq (behind_is (get_or texts j d) (other_text texts) (all_before j d lt)))) refl
 
-module _ (starts : List ℤ) (texts : List (List ℕ)) (rise : IsStrictlySortedBy int_cmp starts) (begin : AllByRecursion (λ start. begins_class start ≡ true) starts) (order : IsStrictlySortedBy (slice_cmp nat_cmp) texts) where
+-- the text behind all others is one
+other_text_bytes : (texts : List (List ℕ)) → AllByRecursion IsText texts → IsText (other_text texts)
+other_text_bytes texts bytes =
+    list_all-append (λ b. nat_lt b 256) (get_or texts (length texts - 1) []) (95 ∷ [])
+    ∙ and_from (are_bytes (get_or texts (length texts - 1) [])) true (⊎_elim last none (cases_lt (length texts - 1) (length texts))) refl
+  where
+    last : length texts - 1 < length texts → IsText (get_or texts (length texts - 1) [])
+    last below = All-from_recursion _ texts bytes (length texts - 1) [] below
+
+    none : length texts ≤ length texts - 1 → IsText (get_or texts (length texts - 1) [])
+    none above = rw (get_or_past texts (length texts - 1) [] above) refl
+
+module _ (starts : List ℤ) (texts : List (List ℕ)) (rise : IsStrictlySortedBy int_cmp starts) (begin : AllByRecursion (λ start. begins_class start ≡ true) starts) (order : IsStrictlySortedBy (slice_cmp nat_cmp) texts) (bytes : AllByRecursion IsText texts) where
   text_in_class : (class : ℕ) → class < length texts + 1 → text_rank texts (get_or texts class (other_text texts)) ≡ class
   text_in_class class lt = ⊎_elim named other (cases_lt class (length texts))
     where
@@ -149,10 +164,20 @@ module _ (starts : List ℤ) (texts : List (List ℕ)) (rise : IsStrictlySortedB
   class_in_field Number class lt = (scalar_in_class class lt).0
   class_in_field Table class lt = omega arith
 
+  -- a text of a class is one
+  text_is : (class : ℕ) → IsText (get_or texts class (other_text texts))
+  text_is class = ⊎_elim named other (cases_lt class (length texts))
+    where
+      named : class < length texts → IsText (get_or texts class (other_text texts))
+      named below = All-from_recursion _ texts bytes class (other_text texts) below
+
+      other : length texts ≤ class → IsText (get_or texts class (other_text texts))
+      other above = rw (get_or_past texts class (other_text texts) above) (other_text_bytes texts bytes)
+
   -- and of the column's kind
   pub field_in_is : (kind : Kind) (class : ℕ) → class < count_by_kind kind starts texts → IsFieldOf kind (field_by_kind kind starts texts class)
   field_in_is Int class lt = number_of_class_fits starts rise begin class (omega arith)
   field_in_is (Fixed digits) class lt = number_of_class_fits starts rise begin class (omega arith)
-  field_in_is Text class lt = tt
+  field_in_is Text class lt = text_is class
   field_in_is Number class lt = (scalar_in_class class lt).1
-  field_in_is Table class lt = tt
+  field_in_is Table class lt = empty_table

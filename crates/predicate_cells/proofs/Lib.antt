@@ -11,6 +11,7 @@ pub mod Deduped
 pub mod Flags
 pub mod IntTests
 pub mod Mapped
+pub mod MetOrNot
 pub mod PredTests
 pub mod RanksBelow
 pub mod RanksOf

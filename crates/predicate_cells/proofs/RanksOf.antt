@@ -16,7 +16,8 @@ use Rattle.item_schema.specs.declared.column.Column.{Column}
 use Rattle.item_schema.specs.declared.column.Kind.{Kind}
 use Rattle.item_schema.specs.declared.column.Kind.TheVariants.{Int, Fixed, Text, Number, Table}
 use Rattle.predicate_cells.specs.Cells.{cell_from, count_from}
-use Rattle.predicate_cells.specs.Classes.{beginnings, begins_class, members, class_count, class_of, starts}
+use Rattle.value_ops.specs.Texts.{IsText, are_bytes}
+use Rattle.predicate_cells.specs.Classes.{beginnings, begins_class, named_texts, members, class_count, class_of, starts}
 use Rattle.predicate_cells.specs.Fits.{is_number, is_text}
 use Rattle.predicate_cells.specs.Predicates.{Predicate}
 use Rattle.predicate_cells.specs.Ranks.{Ranks, cells_in, cell_in, ranks_from, count_by_kind, class_by_kind, rising_starts, rising_texts, number_rank, text_rank}
@@ -76,6 +77,11 @@ module _ (column : ℕ) (preds : List Predicate) where
   texts_rise kind =
       cond_both (is_text kind) (rising (slice_cmp nat_cmp) _) [] (IsStrictlySortedBy (slice_cmp nat_cmp))
       (λ e. rises (slice_cmp nat_cmp) nat_list_cmp_total _) (λ e. rises_none (slice_cmp nat_cmp) nat_list_cmp_total)
+
+  pub texts_bytes : (kind : Kind) → AllByRecursion IsText (rising_texts kind column preds)
+  texts_bytes kind =
+      cond_both (is_text kind) (rising (slice_cmp nat_cmp) _) [] (AllByRecursion IsText)
+      (λ e. all_rising (slice_cmp nat_cmp) nat_list_cmp_total IsText _ (recursion_from_All IsText _ (filter_passes are_bytes (flat_map (named_texts column) preds)))) (λ e. tt)
 
 module _ (preds : List Predicate) where
   -- the ranks of the columns make their cells

@@ -8,6 +8,7 @@ use Rattle.std.proofs.lemmas.Bool.Decides.{Decides-int_eq}
 use Rattle.std.proofs.lemmas.Cmp.{nat_list_cmp_total, tied_itself}
 use Rattle.std.proofs.lemmas.Int.{ints}
 use Rattle.std.proofs.lemmas.Slice.Eq.{bytes_eq-Decides}
+use Rattle.value_ops.specs.Texts.{IsText, are_bytes}
 use Rattle.predicate_cells.specs.Classes.{beginnings, named_texts, begins_class, starts, texts, number_class, text_class}
 use Rattle.predicate_cells.specs.Predicates.{Predicate}
 use Rattle.predicate_cells.proofs.AllMembers.{all_filtered, all_members, all_found, all_each, all_any, all_both, none_passes}
@@ -24,6 +25,14 @@ either_le x y = grind (arith, ints)
 -- what begins no class is at most all numbers of 64 bits or none
 no_beginning : (x y : ℤ) → FitsSigned w64 x → FitsSigned w64 y → (start : ℤ) → begins_class start ≡ false → int_le start x ≡ int_le start y
 no_beginning x y f g start e = grind (arith, ints)
+
+-- what is no text is none of two texts
+other_than : (s n : List ℕ) (b : Bool) → IsText s → are_bytes n ≡ false → bytes_eq s n ≡ b → bytes_eq s n ≡ false
+other_than s n true text other is = absurd (true≢false (sym text ∙ ap are_bytes ((bytes_eq-Decides s n).0 is) ∙ other))
+other_than s n false text other is = is
+
+no_named : (s t : List ℕ) → IsText s → IsText t → (n : List ℕ) → are_bytes n ≡ false → bytes_eq s n ≡ bytes_eq t n
+no_named s t a b n other = other_than s n (bytes_eq s n) a other refl ∙ sym (other_than t n (bytes_eq t n) b other refl)
 
 -- numbers that are at least as many of the same list
 le_agree : (xs : List ℤ) (x y : ℤ) → int_le x y ≡ true → count_by (λ start. int_le start x) xs ≡ count_by (λ start. int_le start y) xs
@@ -81,8 +90,10 @@ module _ (column : ℕ) (preds : List Predicate) where
       (all_members P int_eq (λ a b. (Decides-int_eq a b).0) _ (agree (starts column preds) x y e (either_le x y)))
 
   -- texts of one class are the same of the named ones, or none
-  pub named_agree : (s t : List ℕ) → text_class column preds s ≡ text_class column preds t
+  pub named_agree : (s t : List ℕ) → IsText s → IsText t → text_class column preds s ≡ text_class column preds t
       → AllByRecursion (λ n. bytes_eq s n ≡ bytes_eq t n) (flat_map (named_texts column) preds)
-  named_agree s t e =
-      all_members (λ n. bytes_eq s n ≡ bytes_eq t n) bytes_eq (λ x y. (bytes_eq-Decides x y).0) _
-      (texts_agree (texts column preds) s t _ _ refl refl e)
+  named_agree s t a b e =
+      let P = λ (n : List ℕ). bytes_eq s n ≡ bytes_eq t n in
+      all_filtered P are_bytes (no_named s t a b) (flat_map (named_texts column) preds)
+      (all_members P bytes_eq (λ x y. (bytes_eq-Decides x y).0) _
+      (texts_agree (texts column preds) s t _ _ refl refl e))

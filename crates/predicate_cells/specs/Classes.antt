@@ -4,6 +4,7 @@ use Rattle.std.specs.List.{list_any, flat_map}
 use Rattle.std.specs.Ordering.{int_eq, nat_cmp, is_lt}
 use Rattle.std.specs.Cmp.Lexicographic.{slice_cmp}
 use Rattle.std.specs.Str.{bytes_eq}
+use Rattle.value_ops.specs.Texts.{are_bytes}
 use Rattle.value_ops.specs.declared.field.Field.{Field}
 use Rattle.value_ops.specs.declared.field.Field.TheVariants as field
 use Rattle.value_ops.specs.declared.scalar.Scalar.TheVariants as scalar
@@ -59,9 +60,9 @@ begins_class number = int_lt (neg_ℤ (pos (2 ^ 63))) number && int_lt number (p
 abbrev pub starts : ℕ → List Predicate → List ℤ
 starts column preds = members int_eq (filter begins_class (flat_map (beginnings column) preds))
 
--- the texts that have classes of their own
+-- the texts that have classes of their own: those that an item can have
 abbrev pub texts : ℕ → List Predicate → List (List ℕ)
-texts column preds = members bytes_eq (flat_map (named_texts column) preds)
+texts column preds = members bytes_eq (filter are_bytes (flat_map (named_texts column) preds))
 
 -- how many classes a column has: a number column one more than the starts, one of values also those
 -- of `overflow` and `divzero`, and a text column one for all other texts

@@ -4,6 +4,7 @@ pub mod Classes
 pub mod Coding
 pub mod Fits
 pub mod Marks
+pub mod Met
 pub mod Plain
 pub mod Predicates
 pub mod Ranks

@@ -4,6 +4,7 @@ use Rattle.std.specs.List.{list_any, flat_map}
 use Rattle.std.specs.Ordering.{int_cmp, nat_cmp, is_lt}
 use Rattle.std.specs.Cmp.Lexicographic.{slice_cmp}
 use Rattle.std.specs.Str.{bytes_eq}
+use Rattle.value_ops.specs.Texts.{are_bytes}
 use Rattle.value_ops.specs.declared.field.Field.{Field}
 use Rattle.value_ops.specs.declared.field.Field.TheVariants as field
 use Rattle.value_ops.specs.declared.scalar.Scalar.{Scalar}
@@ -32,7 +33,8 @@ rising_starts kind column preds =
 -- the texts, where it has texts
 abbrev pub rising_texts : Kind → ℕ → List Predicate → List (List ℕ)
 rising_texts kind column preds =
-    if is_text kind then rising (slice_cmp nat_cmp) (flat_map (named_texts column) preds) else []
+    if is_text kind
+    then rising (slice_cmp nat_cmp) (filter are_bytes (flat_map (named_texts column) preds)) else []
 
 -- the ranks of a column
 abbrev pub ranks_of : Kind → ℕ → List Predicate → Ranks

@@ -4,21 +4,25 @@ use Rattle.std.specs.Ordering.{int_eq}
 use Rattle.std.specs.Option.{option_map_or}
 use Rattle.std.specs.Str.{bytes_eq}
 use Rattle.value_ops.specs.declared.field.Field.{Field}
-use Rattle.value_ops.specs.declared.field.Field.TheVariants as field
-use Rattle.value_ops.specs.declared.scalar.Scalar.TheVariants as scalar
-use Rattle.value_ops.specs.declared.value.Value.TheVariants as value
+use Rattle.value_ops.specs.declared.scalar.Scalar.{Scalar}
+use Rattle.value_ops.specs.declared.scalar.Scalar.TheVariants.{Number}
+use Rattle.value_ops.specs.Fields as fields
 use Rattle.predicate_cells.specs.Predicates.{Predicate, any, eq, ne, lt, le, gt, ge, between, eq_text, ne_text, is_num, conjunction, disjunction, negation}
+
+-- the number that a scalar is
+abbrev pub number_in_scalar : Option Scalar → Option ℤ
+number_in_scalar (Some (Number number)) = Some number
+number_in_scalar _ = None
 
 -- the number that a field is
 abbrev pub number_of : Option Field → Option ℤ
-number_of (Some (field.Int number)) = Some number
-number_of (Some (field.Val (value.Scalar (scalar.Number number)))) = Some number
-number_of _ = None
+number_of None = None
+number_of (Some field) = number_in_scalar (fields.scalar_of field)
 
 -- the text that a field is
 abbrev pub text_of : Option Field → Option (List ℕ)
-text_of (Some (field.Text text)) = Some text
-text_of _ = None
+text_of None = None
+text_of (Some field) = fields.text_of field
 
 -- the number in a column
 abbrev pub number_in : List Field → ℕ → Option ℤ

@@ -2,6 +2,7 @@
 ghost use Rattle.std.specs.Prelude.{◌≡◌, ◌≤◌, ◌<◌, ◌↔◌, IsTrue, IfOk, OnOk};
 ghost use Rattle.std.specs.List.{All, Contains};
 ghost use Rattle.std.specs.List.Sorted.{IsStrictlyIncreasing};
+ghost use Rattle.language_base.specs.Limits.{max_cells};
 ghost use Rattle.predicate_cells.specs.Marks.{Marks};
 ghost use Rattle.predicate_cells.specs.Plain.{plain_of};
 ghost use Rattle.predicate_cells.specs.Cells.{cell_count, cell_of, count_from, AllFit, IsIn};
@@ -26,6 +27,7 @@ pub struct Cells {
 impl Model for Cells {
     ghost use Rattle.std.specs.Prelude.{◌≡◌, ◌≤◌};
     ghost use Rattle.std.specs.Coded.{codes};
+    ghost use Rattle.language_base.specs.Limits.{max_cells};
     ghost use Rattle.predicate_cells.specs.Coding.{coded_predicate};
     ghost use Rattle.predicate_cells.specs.Cells.{Partition, cell_count, AllFit};
     ghost use Rattle.predicate_cells.specs.Ranks.{ranks_from};
@@ -36,7 +38,7 @@ impl Model for Cells {
 
     ghost view = { λ c. record { layout = c.schema; preds = c.preds } };
 
-    ghost invariant = { λ c. AllFit c.schema.columns c.preds × (c.count ≤ 4096)
+    ghost invariant = { λ c. AllFit c.schema.columns c.preds × (c.count ≤ max_cells)
         × (c.count ≡ cell_count (record { layout = c.schema; preds = c.preds }))
         × (c.columns.items ≡ ranks_from 0 c.schema.columns c.preds) };
 }
@@ -48,8 +50,8 @@ impl Cells {
     pub fn new(alloc: Global, schema: &Schema, preds: &Preds) -> Result<Cells, CellStop>
         requires { AllFit schema.now.columns preds.now }
         ensures ok { IfOk result (λ cells. cells ≡ record { layout = schema.now; preds = preds.now }) }
-        ensures few { OnOk result (count_from 0 schema.now.columns preds.now ≤ 4096) }
-        ensures too_many { result ≡ Err TooMany → 4096 < count_from 0 schema.now.columns preds.now }
+        ensures few { OnOk result (count_from 0 schema.now.columns preds.now ≤ max_cells) }
+        ensures too_many { result ≡ Err TooMany → max_cells < count_from 0 schema.now.columns preds.now }
     {
         let columns = classes_of(alloc, schema.columns(), preds.as_slice())?;
         let Some(count) = count_of(&columns) else {
@@ -118,7 +120,7 @@ impl Cells {
     /// How many cells there are.
     pub fn count(&self) -> u32
         ensures count { result ≡ cell_count self.now }
-        ensures few { result ≤ 4096 }
+        ensures few { result ≤ max_cells }
         ensures fit { AllFit self.now.layout.columns self.now.preds }
     {
         self.count

@@ -1,6 +1,7 @@
 //! The classes of all columns, and the cells that they make.
 ghost use Rattle.std.specs.Prelude.{◌≡◌, ◌<◌, ◌≤◌, ◌*◌, ◌^◌, length, map, slice_get, IfOk, IfSome, IfNone};
 ghost use Rattle.std.specs.Option.{option_map_or};
+ghost use Rattle.language_base.specs.Limits.{max_cells};
 ghost use Rattle.predicate_cells.specs.Plain.{plain_of};
 ghost use Rattle.predicate_cells.specs.Samples.{sample_of};
 ghost use Rattle.predicate_cells.specs.Ranks.{ranks_from, class_in, cells_in, cell_in};
@@ -42,8 +43,8 @@ pub(crate) fn copies_of(alloc: Global, columns: &[Classes]) -> Result<Vec<Classe
 
 /// How many cells there are, unless they are too many.
 pub(crate) fn count_of(columns: &[Classes]) -> Option<u32>
-    ensures few { IfSome result (λ count. (count ≡ cells_in columns.now) × (count ≤ 4096)) }
-    ensures many { IfNone result (4096 < cells_in columns.now) }
+    ensures few { IfSome result (λ count. (count ≡ cells_in columns.now) × (count ≤ max_cells)) }
+    ensures many { IfNone result (max_cells < cells_in columns.now) }
 {
     let mut count = 1;
     for classes in columns {
@@ -54,7 +55,7 @@ pub(crate) fn count_of(columns: &[Classes]) -> Option<u32>
 
 /// How many cells a part of the columns makes.
 pub(crate) fn product_of(columns: &[Classes]) -> usize
-    requires { cells_in columns.now ≤ 4096 }
+    requires { cells_in columns.now ≤ max_cells }
     ensures { result ≡ cells_in columns.now }
 {
     let mut count = 1;
@@ -65,8 +66,8 @@ pub(crate) fn product_of(columns: &[Classes]) -> usize
 }
 
 fn times(count: usize, classes: usize) -> Option<usize>
-    ensures few { IfSome result (λ product. (product ≡ count * classes) × (product ≤ 4096)) }
-    ensures many { IfNone result (4096 < count * classes) }
+    ensures few { IfSome result (λ product. (product ≡ count * classes) × (product ≤ max_cells)) }
+    ensures many { IfNone result (max_cells < count * classes) }
 {
     count
         .checked_mul(classes)
@@ -75,7 +76,7 @@ fn times(count: usize, classes: usize) -> Option<usize>
 
 /// The cell of these fields.
 pub(crate) fn cell_among(columns: &[Classes], fields: &[Field]) -> u32
-    requires { cells_in columns.now ≤ 4096 }
+    requires { cells_in columns.now ≤ max_cells }
     ensures { result ≡ cell_in columns.now fields.now }
 {
     let mut cell = 0;
@@ -98,7 +99,7 @@ pub(crate) fn fields_of(
     columns: &[Classes],
     cell: u32,
 ) -> Result<Vec<Field>, AllocError>
-    requires few { cells_in columns.now ≤ 4096 }
+    requires few { cells_in columns.now ≤ max_cells }
     requires below { cell < cells_in columns.now }
     ensures { IfOk result (λ fields. fields.items ≡ sample_of columns.now cell) }
 {

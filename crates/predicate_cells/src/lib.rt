@@ -22,7 +22,7 @@ mod truths;
 
 pub use cell_set::CellSet;
 pub use cells::Cells;
-pub use laws::cells_part_items;
+pub use laws::{cells_part_items, predicates_are_met_or_not};
 pub use pred::Pred;
 pub use preds::Preds;
 pub use row::number_in;

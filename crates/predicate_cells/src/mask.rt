@@ -1,6 +1,7 @@
 //! Which cells' items meet a predicate.
 ghost use Rattle.std.specs.Prelude.{◌≡◌, ◌≤◌, Some, map, slice_get, IfOk};
 ghost use Rattle.std.specs.List.{range_with_len};
+ghost use Rattle.language_base.specs.Limits.{max_cells};
 ghost use Rattle.predicate_cells.specs.Plain.{plain_of};
 ghost use Rattle.predicate_cells.specs.Ranks.{field_in, count_in, cells_in};
 ghost use Rattle.predicate_cells.specs.Samples.{samples, row_of};
@@ -21,7 +22,7 @@ pub(crate) fn truths_of(
     columns: &[Classes],
     pred: &Pred,
 ) -> Result<Vec<bool>, AllocError>
-    requires { cells_in columns.now ≤ 4096 }
+    requires { cells_in columns.now ≤ max_cells }
     ensures { IfOk result (λ truths.
         truths.items ≡ map (holds (plain_of pred.now)) (samples columns.now)) }
 {
@@ -61,7 +62,7 @@ fn column_truths(
     pred: &Pred,
     column: u32,
 ) -> Result<Vec<bool>, AllocError>
-    requires { cells_in columns.now ≤ 4096 }
+    requires { cells_in columns.now ≤ max_cells }
     ensures { IfOk result (λ truths. truths.items
         ≡ map (λ item. holds (plain_of pred.now) (row_of column (slice_get item column))) (samples columns.now)) }
 {

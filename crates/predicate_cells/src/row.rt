@@ -3,7 +3,7 @@ ghost use Rattle.std.specs.Prelude.{◌≡◌, List, option_map};
 ghost use Rattle.value_ops.specs.declared.field.Field.{Field};
 ghost use Rattle.predicate_cells.specs.Truth.{number_in, text_in};
 
-use value_ops::{Field, Scalar, Value};
+use value_ops::{Field, Scalar};
 
 /// What tests see of the fields of a row.
 pub(crate) trait Row {
@@ -30,10 +30,7 @@ impl Row for Fields<'_> {
     }
 
     fn text(&self, column: u32) -> Option<&[u8]> {
-        match self.0.get(column as usize)? {
-            Field::Text(text) => Some(text.as_slice()),
-            _ => None,
-        }
+        self.0.get(column as usize)?.text()
     }
 }
 
@@ -41,9 +38,8 @@ impl Row for Fields<'_> {
 pub fn number_in(fields: &[Field], column: u32) -> Option<i64>
     ensures { result ≡ number_in fields.now column }
 {
-    match fields.get(column as usize)? {
-        Field::Int(number) => Some(*number),
-        Field::Val(Value::Scalar(Scalar::Number(number))) => Some(*number),
+    match fields.get(column as usize)?.scalar() {
+        Some(Scalar::Number(number)) => Some(number),
         _ => None,
     }
 }

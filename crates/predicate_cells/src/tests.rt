@@ -2,7 +2,7 @@
 // edges of numbers and classes, counted by hand.
 mod edges;
 
-use crate::{CellStop, Cells, Pred, Preds, cells_part_items, holds};
+use crate::{CellStop, Cells, Pred, Preds, cells_part_items, holds, predicates_are_met_or_not};
 use item_schema::{Column, Item, Kind, Schema, are_columns};
 use std::alloc::{AllocError, Global};
 use std::test::Fail;
@@ -116,6 +116,7 @@ fn copies_have_the_same_cells(rt: HostRuntime) -> Result<(), Fail> {
     assert_eq!(rt; count_of(alloc, &copy)?, 3);
     assert_eq!(rt; copy.schema().columns().len(), 1);
     cells_part_items();
+    predicates_are_met_or_not();
     Ok(())
 }
 

@@ -1,11 +1,12 @@
 //! The texts that the tests of a column name.
-ghost use Rattle.std.specs.Prelude.{◌≡◌, ◌++◌, map, OnOk, IfOk};
+ghost use Rattle.std.specs.Prelude.{◌≡◌, [], ◌∷◌, ◌++◌, map, filter, OnOk, IfOk};
 ghost use Rattle.std.specs.Cmp.Lexicographic.{slice_cmp};
 ghost use Rattle.std.specs.List.{flat_map};
 ghost use Rattle.std.specs.Ordering.{nat_cmp};
 ghost use Rattle.predicate_cells.specs.Classes.{named_texts};
 ghost use Rattle.predicate_cells.specs.Plain.{plain_of};
 ghost use Rattle.predicate_cells.specs.Rising.{rising};
+ghost use Rattle.value_ops.specs.Texts.{are_bytes};
 
 use crate::Pred;
 use std::alloc::{AllocError, Global};
@@ -14,7 +15,8 @@ use value_ops::Bytes;
 /// The texts from the least to the greatest in the order of bytes.
 pub(crate) fn texts_of(alloc: Global, preds: &[Pred], column: u32) -> Result<Vec<Bytes>, AllocError>
     ensures { IfOk result (λ texts. texts.items
-        ≡ rising (slice_cmp nat_cmp) (flat_map (named_texts column) (map plain_of preds.now))) }
+        ≡ rising (slice_cmp nat_cmp)
+        (filter are_bytes (flat_map (named_texts column) (map plain_of preds.now)))) }
 {
     let mut named = Vec::new(alloc);
     for pred in preds {
@@ -27,12 +29,11 @@ pub(crate) fn texts_of(alloc: Global, preds: &[Pred], column: u32) -> Result<Vec
 
 fn push_named<'p>(pred: &'p Pred, column: u32, named: &mut Vec<&'p [u8]>) -> Result<(), AllocError>
     ensures { OnOk result (map (λ t. t.now) named.new.items
-        ≡ map (λ t. t.now) named.old.items ++ named_texts column (plain_of pred.now)) }
+        ≡ map (λ t. t.now) named.old.items ++ filter are_bytes (named_texts column (plain_of pred.now))) }
 {
     match pred {
         Pred::EqText(tested, text) | Pred::NeText(tested, text) if *tested == column => {
-            named.push(text.as_slice())?;
-            Ok(())
+            push_text(text.as_slice(), named)
         }
         Pred::And(first, second) | Pred::Or(first, second) => {
             push_named(first, column, named)?;
@@ -41,6 +42,15 @@ fn push_named<'p>(pred: &'p Pred, column: u32, named: &mut Vec<&'p [u8]>) -> Res
         Pred::Not(inner) => push_named(inner, column, named),
         _ => Ok(()),
     }
+}
+
+// All bytes are texts.
+fn push_text<'p>(text: &'p [u8], named: &mut Vec<&'p [u8]>) -> Result<(), AllocError>
+    ensures { OnOk result (map (λ t. t.now) named.new.items
+        ≡ map (λ t. t.now) named.old.items ++ filter are_bytes (text.now ∷ [])) }
+{
+    named.push(text)?;
+    Ok(())
 }
 
 fn copies_of(alloc: Global, texts: &[&[u8]]) -> Result<Vec<Bytes>, AllocError>

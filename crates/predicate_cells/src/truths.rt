@@ -1,6 +1,7 @@
 //! Lists of truths.
 ghost use Rattle.std.specs.Prelude.{◌≡◌, ◌≤◌, ◌*◌, ◌&&◌, ◌||◌, not, length, map, replicate, IfOk};
 ghost use Rattle.std.specs.List.{flat_map, repeat, zip};
+ghost use Rattle.language_base.specs.Limits.{max_cells};
 
 use std::alloc::{AllocError, Global};
 
@@ -60,7 +61,7 @@ pub(crate) fn block_of(
     truths: &[bool],
     width: usize,
 ) -> Result<Vec<bool>, AllocError>
-    requires { length truths.now * width ≤ 4096 }
+    requires { length truths.now * width ≤ max_cells }
     ensures { IfOk result (λ block.
         block.items ≡ flat_map (λ truth. replicate width truth) truths.now) }
 {

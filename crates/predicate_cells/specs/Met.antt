@@ -1,0 +1,15 @@
+-- Whether items meet a predicate.
+use Rattle.std.specs.Prelude.{◌≡◌, true, false, List}
+use Rattle.value_ops.specs.declared.field.Field.{Field}
+use Rattle.item_schema.specs.declared.column.Column.{Column}
+use Rattle.item_schema.specs.Items.{IsItemOf}
+use Rattle.predicate_cells.specs.Predicates.{Predicate}
+use Rattle.predicate_cells.specs.Truth.{holds}
+
+-- some item of the columns meets the predicate
+abbrev pub IsMet : List Column → Predicate → Type 0
+IsMet columns pred = (item : List Field) × IsItemOf columns item × (holds pred item ≡ true)
+
+-- none does
+abbrev pub IsUnmet : List Column → Predicate → Type 0
+IsUnmet columns pred = (item : List Field) → IsItemOf columns item → holds pred item ≡ false
