@@ -21,8 +21,10 @@ pub fn answer_text(alloc: Global, answer: Option<Scalar>) -> Result<Bytes, Alloc
 fn number_text(alloc: Global, number: i64) -> Result<Bytes, AllocError>
     ensures { IfOk result (λ text. text ≡ answer_text (Some (Scalar.Number number))) }
 {
-    let mut digits = Buffer::new();
-    let mut text = Vec::from_slice(alloc, digits.format(number).as_bytes())?;
+    let mut buffer = Buffer::new();
+    let digits = buffer.format(number).as_bytes();
+    let mut text = Vec::with_capacity(alloc, digits.len() + 1)?;
+    text.extend_from_slice(digits)?;
     text.push(b'\n')?;
     Ok(Bytes::from_vec(text))
 }
