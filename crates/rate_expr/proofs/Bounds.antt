@@ -9,7 +9,7 @@ use Rattle.rate_expr.specs.Rates.{Expression, empty, one, sequence, choice, star
 use Rattle.rate_expr.specs.Sets.{AreSets}
 use Rattle.rate_expr.proofs.Follows.{length-follow_of}
 use Rattle.rate_expr.proofs.Meetings.{length-preds_of}
-use Rattle.rate_expr.proofs.Spelled.{sets_of}
+use Rattle.rate_expr.proofs.SetsOf.{sets_of}
 
 -- a mask with another stays below the same bound
 with_if_below : (k mask : ℕ) (test : Bool) (other : ℕ) → mask < 2 ^ k → other < 2 ^ k → with_if mask test other < 2 ^ k

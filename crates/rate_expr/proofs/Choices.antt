@@ -4,17 +4,17 @@ use Rattle.rate_expr.specs.Words.{Word}
 use Rattle.rate_expr.proofs.Automata.{Automaton, GoesOn, Accepts, of_choice}
 
 -- one of two tests holds
-either : (x y : Bool) → (x || y) ≡ true → (x ≡ true) ⊎ (y ≡ true)
+pub either : (x y : Bool) → (x || y) ≡ true → (x ≡ true) ⊎ (y ≡ true)
 either true y is = inl refl
 either false y is = inr is
 
 -- where the first does
-or_first : (x y : Bool) → x ≡ true → (x || y) ≡ true
+pub or_first : (x y : Bool) → x ≡ true → (x || y) ≡ true
 or_first true y is = refl
 or_first false y is = absurd (cc)
 
 -- and where the second does
-or_second : (x y : Bool) → y ≡ true → (x || y) ≡ true
+pub or_second : (x y : Bool) → y ≡ true → (x || y) ≡ true
 or_second true y is = refl
 or_second false y is = is
 

@@ -13,7 +13,7 @@ abbrev pub Decided : Type 0 → Type 0
 Decided P = P ⊎ (P → ⊥)
 
 -- so does what it comes to
-decided_as : (P Q : Type 0) → (P → Q) → (Q → P) → Decided P → Decided Q
+pub decided_as : (P Q : Type 0) → (P → Q) → (Q → P) → Decided P → Decided Q
 decided_as P Q to from (inl holds) = inl (to holds)
 decided_as P Q to from (inr fails) = inr (λ q. fails (from q))
 
@@ -24,7 +24,7 @@ decided_both P Q (inl p) (inr fails) = inr (λ both. fails both.1)
 decided_both P Q (inr fails) other = inr (λ both. fails both.0)
 
 -- three
-decided_three : (P Q R : Type 0) → Decided P → Decided Q → Decided R → Decided (P × Q × R)
+pub decided_three : (P Q R : Type 0) → Decided P → Decided Q → Decided R → Decided (P × Q × R)
 decided_three P Q R p q r =
     decided_as ((P × Q) × R) (P × Q × R) (λ all. (all.0.0, all.0.1, all.1)) (λ all. ((all.0, all.1), all.2))
     (decided_both (P × Q) R (decided_both P Q p q) r)
@@ -40,7 +40,7 @@ decided_either P Q (inr fails) (inr fails_too) = inr neither
     neither (inr q) = fails_too q
 
 -- a test
-decided_test : (test : Bool) → Decided (test ≡ true)
+pub decided_test : (test : Bool) → Decided (test ≡ true)
 decided_test true = inl refl
 decided_test false = inr (λ is. cc)
 

@@ -7,7 +7,7 @@ use Rattle.rate_expr.specs.Rates.{Expression, empty, one, sequence, choice, star
 use Rattle.rate_expr.specs.Sets.{Has}
 use Rattle.rate_expr.proofs.Automata as automata
 use Rattle.rate_expr.proofs.Automata.{Automaton, automaton_of}
-use Rattle.rate_expr.proofs.Masks.{has_zero, has_one, has_only_one, has_or, has_first, has_second, has_kept, has_more, has_no_more}
+use Rattle.rate_expr.proofs.MaskMembers.{has_zero, has_one, has_only_one, has_or, has_first, has_second, has_kept, has_more, has_no_more}
 use Rattle.rate_expr.proofs.Numbers.{either_number, number_of}
 
 -- the mask has the numbers of these states, and no others
@@ -58,7 +58,7 @@ in_either A B f g P Q R m n left right in_m in_n = record { each = each; only = 
     found k (inr has) = let q = in_n.only k has in (inr q.0, q.1, (right q.0).1 q.2)
 
 -- what is said is said
-as_it_is : (P : Type 0) → P ↔ P
+pub as_it_is : (P : Type 0) → P ↔ P
 as_it_is P = (λ p. p, λ p. p)
 
 -- a sequence of two parts

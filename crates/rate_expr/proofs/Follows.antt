@@ -8,7 +8,7 @@ use Rattle.rate_expr.proofs.Automata as automata
 use Rattle.rate_expr.proofs.Automata.{Automaton, automaton_of}
 use Rattle.rate_expr.proofs.Ends.{AreIn, is_part}
 use Rattle.rate_expr.proofs.Linking.{Goes, length-all_linked, goes_kept, goes_linked, goes_no_more}
-use Rattle.rate_expr.proofs.Masks.{has_zero}
+use Rattle.rate_expr.proofs.MaskMembers.{has_zero}
 use Rattle.rate_expr.proofs.Numbers.{either_number, number_of, number_within}
 
 -- the rate has so many masks

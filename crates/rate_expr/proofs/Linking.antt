@@ -5,7 +5,7 @@ use Rattle.std.proofs.lemmas.List.{ext_get_or}
 use Rattle.std.specs.Int.{bit_at}
 use Rattle.rate_expr.specs.Parts.{linked, all_linked}
 use Rattle.rate_expr.specs.Sets.{Has}
-use Rattle.rate_expr.proofs.Masks.{has_kept, has_more, has_no_more}
+use Rattle.rate_expr.proofs.MaskMembers.{has_kept, has_more, has_no_more}
 
 -- as many as there were
 pub length-all_linked : (from to at : ℕ) (masks : List ℕ) → length (all_linked from to at masks) ≡ length masks

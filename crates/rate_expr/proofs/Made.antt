@@ -3,11 +3,12 @@ use Rattle.std.proofs.Common.{◌≡◌, ◌≤◌, ℕ, List, [], ◌++◌, len
 use Rattle.predicate_cells.specs.Predicates.{Predicate}
 use Rattle.rate_expr.specs.declared.part.Part.{Part}
 use Rattle.rate_expr.specs.Parts.{part_of, follow_of}
+use Rattle.rate_expr.specs.FirstLastFollow.{AreSetsOf}
 use Rattle.rate_expr.specs.Paths.{AreOf}
 use Rattle.rate_expr.specs.Rates.{Expression, size_of, preds_of}
 use Rattle.rate_expr.specs.Sets.{Sets, AreSets}
 use Rattle.rate_expr.proofs.Bounds.{are_sets}
-use Rattle.rate_expr.proofs.Spelled.{sets_of, are_of}
+use Rattle.rate_expr.proofs.SetsOf.{sets_of, are_sets_of, sets_spell}
 
 -- the sets of a part, with these masks and predicates
 abbrev pub sets_with : Part → List ℕ → List Predicate → Sets
@@ -40,10 +41,15 @@ made_sets rate part follow preds made =
     ∙ ap (λ (masks : List ℕ). sets_with (part_of rate 0) masks preds) made.follow_is
     ∙ ap (sets_with (part_of rate 0) (follow_of rate [])) made.preds_is
 
+-- those of the textbook
+pub made_sets_of : (rate : Expression) (part : Part) (follow : List ℕ) (preds : List Predicate) → IsMade rate part follow preds → AreSetsOf (sets_with part follow preds) rate
+made_sets_of rate part follow preds made =
+    subst (λ (sets : Sets). AreSetsOf sets rate) (sym (made_sets rate part follow preds made)) (are_sets_of rate)
+
 -- so they spell exactly its words
 pub made_spell : (rate : Expression) (part : Part) (follow : List ℕ) (preds : List Predicate) → IsMade rate part follow preds → AreOf (sets_with part follow preds) rate
 made_spell rate part follow preds made =
-    subst (λ (sets : Sets). AreOf sets rate) (sym (made_sets rate part follow preds made)) (are_of rate)
+    sets_spell (sets_with part follow preds) rate (made_sets_of rate part follow preds made)
 
 -- and have no positions but its own
 pub made_are_sets : (rate : Expression) (part : Part) (follow : List ℕ) (preds : List Predicate) → IsMade rate part follow preds → size_of rate ≤ 128 → AreSets (sets_with part follow preds)

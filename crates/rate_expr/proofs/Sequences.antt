@@ -4,12 +4,12 @@ use Rattle.rate_expr.specs.Words.{Word}
 use Rattle.rate_expr.proofs.Automata.{Automaton, GoesOn, Accepts, of_sequence}
 
 -- a test and another hold only both
-both : (x y : Bool) → (x && y) ≡ true → (x ≡ true) × (y ≡ true)
+pub both : (x y : Bool) → (x && y) ≡ true → (x ≡ true) × (y ≡ true)
 both true y is = (refl, is)
 both false y is = absurd (cc)
 
 -- and then both do
-and_both : (x y : Bool) → x ≡ true → y ≡ true → (x && y) ≡ true
+pub and_both : (x y : Bool) → x ≡ true → y ≡ true → (x && y) ≡ true
 and_both true y is other = other
 and_both false y is other = is
 

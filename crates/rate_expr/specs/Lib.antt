@@ -1,3 +1,5 @@
+pub mod Behind
+pub mod FirstLastFollow
 pub mod Language
 pub mod Parts
 pub mod Paths

@@ -1,10 +1,25 @@
--- How many readings the words of rates have, over all words of items of these columns.
-use Rattle.std.specs.Prelude.{◌≡◌, ◌≢◌, List, ◌++◌}
+-- Which words rates have, and in how many readings, over all words of items of these columns.
+use Rattle.std.specs.Prelude.{◌≡◌, ◌≢◌, ◌↔◌, List, ◌∷◌, ◌++◌}
 use Rattle.std.specs.List.{AllByRecursion}
+use Rattle.value_ops.specs.declared.field.Field.{Field}
 use Rattle.item_schema.specs.declared.column.Column.{Column}
 use Rattle.rate_expr.specs.Language.{In}
 use Rattle.rate_expr.specs.Rates.{Expression}
 use Rattle.rate_expr.specs.Words.{Word, IsWordOf, join}
+
+-- some word of the rate goes on behind this one by at least one item
+abbrev pub HasExtension : List Column → Expression → Word → Type 0
+HasExtension columns rate word = (item : List Field) × (more : Word)
+    × IsWordOf columns (item ∷ more) × In rate (word ++ item ∷ more)
+
+-- each word is in both rates or in neither
+abbrev pub AreEqual : List Column → Expression → Expression → Type 0
+AreEqual columns r s = (w : Word) → IsWordOf columns w → In r w ↔ In s w
+
+-- every word of at least one item is in the rate
+abbrev pub HasAllButEmpty : List Column → Expression → Type 0
+HasAllButEmpty columns r = (item : List Field) (more : Word) → IsWordOf columns (item ∷ more)
+    → In r (item ∷ more)
 
 -- no word is in both rates
 abbrev pub AreDisjoint : List Column → Expression → Expression → Type 0

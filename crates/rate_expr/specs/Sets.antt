@@ -2,6 +2,7 @@
 use Rattle.std.specs.Prelude.{◌≡◌, ◌≤◌, ◌<◌, ◌^◌, ℕ, Bool, List, length}
 use Rattle.std.specs.Int.{bit_at}
 use Rattle.std.specs.List.{AllByRecursion}
+use Rattle.language_base.specs.Limits.{max_positions}
 use Rattle.predicate_cells.specs.Predicates.{Predicate}
 
 -- whether the empty word is a word, where words begin and end, where they go on behind each
@@ -17,9 +18,14 @@ pub record Sets : Type 0 where
 abbrev pub Has : ℕ → ℕ → Type 0
 Has mask position = bit_at mask position ≡ 1
 
--- at most 128 positions, and no others in any set
+-- it is in the mask, and no lower one is
+pub record IsLowest (mask position : ℕ) : Type 0 where
+  pub has : Has mask position
+  pub least : (other : ℕ) → Has mask other → position ≤ other
+
+-- at most so many positions as the language allows, and no others in any set
 pub record AreSets (sets : Sets) : Type 0 where
-  pub few : length sets.preds ≤ 128
+  pub few : length sets.preds ≤ max_positions
   pub each : length sets.follow ≡ length sets.preds
   pub first : sets.first < 2 ^ length sets.preds
   pub last : sets.last < 2 ^ length sets.preds

@@ -1,5 +1,6 @@
 //! The sets of a rate, from those of its parts.
 ghost use Rattle.std.specs.Prelude.{◌≡◌, ◌+◌, ◌≤◌, ◌++◌, length, map, IfOk, OnOk};
+ghost use Rattle.language_base.specs.Limits.{max_positions};
 ghost use Rattle.predicate_cells.specs.Plain as predicates;
 ghost use Rattle.rate_expr.specs.Parts.{part_of, follow_of};
 ghost use Rattle.rate_expr.specs.Plain.{plain_of};
@@ -18,7 +19,7 @@ pub(crate) fn add(
     follow: &mut Vec<u128>,
     preds: &mut Vec<Pred>,
 ) -> Result<Part, AllocError>
-    requires { length follow.old.items + size_of (plain_of rate.now) ≤ 128 }
+    requires { length follow.old.items + size_of (plain_of rate.now) ≤ max_positions }
     ensures part { IfOk result
         (λ part. part ≡ part_of (plain_of rate.now) (length follow.old.items)) }
     ensures follow { OnOk result
@@ -34,7 +35,7 @@ pub(crate) fn add(
             let position = follow.len();
             follow.push(0)?;
             preds.push(pred.try_copy(alloc)?)?;
-            Ok(Part::one(position))
+            Ok(Part::one(position as u32))
         }
         Rate::Seq(first, second) => {
             let before = add(alloc, first, follow, preds)?;

@@ -1,10 +1,35 @@
-//! What holds of every rate.
-ghost use Rattle.std.specs.Prelude.{◌⊎◌};
+//! What holds of every rate, of its sets, and of the states behind words.
+ghost use Rattle.std.specs.Prelude.{◌≡◌, ◌⊎◌};
+ghost use Rattle.rate_expr.specs.Behind.{IsBehind, IsStateOf};
+ghost use Rattle.rate_expr.specs.FirstLastFollow.{AreSetsOf};
 ghost use Rattle.rate_expr.specs.Language.{In};
+ghost use Rattle.rate_expr.specs.Paths.{AreOf};
 ghost use Rattle.rate_expr.specs.Rates.{Expression};
+ghost use Rattle.rate_expr.specs.Sets.{Sets, AreSets};
 ghost use Rattle.rate_expr.specs.Words.{Word};
+ghost use Rattle.rate_expr.specs.declared.state.State.{State};
 
 /// Whether a word is in a rate is decided.
 pub fn each_word_is_in_or_not()
     ensures { (rate : Expression) (word : Word) → In rate word ⊎ (In rate word → ⊥) }
+{}
+
+/// The sets of a rate spell exactly its words.
+pub fn sets_spell_their_rate()
+    ensures { (sets : Sets) (rate : Expression) → AreSetsOf sets rate → AreOf sets rate }
+{}
+
+/// A rate has its sets, and no others.
+pub fn one_automaton_of_a_rate()
+    ensures { (rate : Expression) (sets other : Sets) → AreSets sets → AreSets other
+        → AreSetsOf sets rate → AreSetsOf other rate → other ≡ sets }
+{}
+
+/// Behind each word there is one state.
+pub fn one_state_behind_a_word()
+    ensures some { (sets : Sets) (word : Word) → (state : State) × IsBehind sets word state }
+    ensures only { (sets : Sets) (word : Word) (state other : State)
+        → IsBehind sets word state → IsBehind sets word other → other ≡ state }
+    ensures exists { (sets : Sets) (word : Word) (state : State)
+        → IsBehind sets word state → IsStateOf sets state }
 {}

@@ -4,12 +4,17 @@
 mod build;
 mod laws;
 mod links;
+pub mod masks;
 mod part;
 mod positions;
 mod rate;
+mod state;
 #[cfg(test)]
 mod tests;
 
-pub use laws::each_word_is_in_or_not;
+pub use laws::{
+    each_word_is_in_or_not, one_automaton_of_a_rate, one_state_behind_a_word, sets_spell_their_rate,
+};
 pub use positions::Positions;
-pub use rate::Rate;
+pub use rate::{MAX_POSITIONS, Rate};
+pub use state::State;

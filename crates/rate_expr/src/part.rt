@@ -2,6 +2,8 @@
 ghost use Rattle.std.specs.Prelude.{◌≡◌, ◌<◌};
 ghost use Rattle.rate_expr.specs.Parts.{of_empty, of_one, of_sequence, of_choice, of_star};
 
+use crate::masks::only;
+
 /// Whether the empty word is one, and the masks of the positions.
 #[derive(Clone, Copy)]
 pub(crate) struct Part {
@@ -23,11 +25,11 @@ impl Part {
     }
 
     /// One item at a position.
-    pub(crate) fn one(position: usize) -> Part
+    pub(crate) fn one(position: u32) -> Part
         requires { position < 128 }
         ensures { result ≡ of_one position }
     {
-        let mask = 1u128 << position;
+        let mask = only(position);
         Part {
             nullable: false,
             first: mask,

@@ -1,9 +1,11 @@
 //! The positions of a rate: its one-item parts, from left to right, and how words go through them.
 ghost use Rattle.std.specs.Prelude.{◌≡◌, ◌<◌, ◌≤◌, Some, IfOk, length, map, slice_get};
+ghost use Rattle.language_base.specs.Limits.{max_positions};
 ghost use Rattle.predicate_cells.specs.Plain.{plain_of};
+ghost use Rattle.rate_expr.specs.FirstLastFollow.{AreSetsOf};
 ghost use Rattle.rate_expr.specs.Paths.{AreOf};
 ghost use Rattle.rate_expr.specs.Plain as rates;
-ghost use Rattle.rate_expr.specs.Rates.{preds_of, size_of};
+ghost use Rattle.rate_expr.specs.Rates.{size_of};
 ghost use Rattle.rate_expr.specs.Sets.{AreSets};
 
 use crate::build::add;
@@ -54,9 +56,9 @@ impl Model for Positions {
 impl Positions {
     /// The position automaton of a rate.
     pub fn of(alloc: Global, rate: &Rate) -> Result<Positions, AllocError>
-        requires { size_of (rates.plain_of rate.now) ≤ 128 }
+        requires { size_of (rates.plain_of rate.now) ≤ max_positions }
+        ensures sets { IfOk result (λ sets. AreSetsOf sets (rates.plain_of rate.now)) }
         ensures spells { IfOk result (λ sets. AreOf sets (rates.plain_of rate.now)) }
-        ensures preds { IfOk result (λ sets. sets.preds ≡ preds_of (rates.plain_of rate.now)) }
     {
         let mut follow = Vec::new(alloc);
         let mut preds = Vec::new(alloc);

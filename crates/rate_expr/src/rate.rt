@@ -4,6 +4,9 @@ ghost use Rattle.std.specs.Prelude.{◌≡◌, ◌-◌, ◌^◌, min, IfOk};
 use predicate_cells::Pred;
 use std::alloc::{AllocError, Global};
 
+/// The most positions that a rate may have.
+pub const MAX_POSITIONS: u32 = 128;
+
 /// A set of words of items.
 #[derive(Drop)]
 pub enum Rate {

@@ -1,6 +1,10 @@
 // The masks were found by hand. A rate is written behind its parts: `e` is the empty word, `a` an
 // item, `ab;` a sequence, `ab|` a choice and `a*` a star; every letter but `e` is any item.
-use crate::{Positions, Rate, each_word_is_in_or_not};
+use crate::masks::{end_of, has, lowest, only, overlap, without_lowest};
+use crate::{
+    MAX_POSITIONS, Positions, Rate, State, each_word_is_in_or_not, one_automaton_of_a_rate,
+    one_state_behind_a_word, sets_spell_their_rate,
+};
 use predicate_cells::Pred;
 use std::alloc::{AllocError, Global};
 use std::test::Fail;
@@ -56,7 +60,7 @@ fn sets_are(
     ends: (u128, u128),
     follow: &[u128],
 ) -> Result<bool, AllocError> {
-    if rate.positions() > 128 {
+    if rate.positions() > MAX_POSITIONS {
         return Ok(false);
     }
     let sets = Positions::of(alloc, rate)?.try_copy(alloc)?;
@@ -103,7 +107,7 @@ fn parts_begin_end_and_go_on(rt: HostRuntime) -> Result<(), Fail> {
 fn a_rate_may_have_128_positions(rt: HostRuntime) -> Result<(), Fail> {
     let alloc = rt.alloc();
     let rate = items(alloc, 128)?;
-    assert!(rt; rate.positions() <= 128);
+    assert!(rt; rate.positions() <= MAX_POSITIONS);
     let sets = Positions::of(alloc, &rate)?;
     assert_eq!(rt;
         (sets.count(), sets.first(), sets.last()),
@@ -133,11 +137,34 @@ fn positions_are_counted_in_a_copy_too(rt: HostRuntime) -> Result<(), Fail> {
 fn predicates_stand_from_left_to_right(rt: HostRuntime) -> Result<(), Fail> {
     let alloc = rt.alloc();
     let rate = seq(alloc, Rate::One(Pred::Lt(0, 5)), Rate::One(Pred::IsNum(3)))?;
-    assert!(rt; rate.positions() <= 128);
+    assert!(rt; rate.positions() <= MAX_POSITIONS);
     let sets = Positions::of(alloc, &rate)?;
     assert!(rt; sets.count() == 2);
     assert!(rt; matches!(sets.pred(0), Pred::Lt(0, 5)));
     assert!(rt; matches!(sets.pred(1), Pred::IsNum(3)));
-    each_word_is_in_or_not();
     Ok(())
+}
+
+#[test]
+fn a_mask_has_its_positions(rt: HostRuntime) {
+    let mask = only(127) | only(3) | only(0);
+    assert_eq!(rt; mask, (1 << 127) | 9);
+    assert!(rt; has(mask, 127) && has(mask, 0) && !has(mask, 1) && !has(mask, 128));
+    assert_eq!(rt; (end_of(mask), end_of(9), end_of(0)), (128, 4, 0));
+    assert!(rt; overlap(mask, 8) && !overlap(mask, 6));
+    assert_eq!(rt; (lowest(mask), lowest(1 << 127)), (0, 127));
+    assert_eq!(rt; without_lowest(mask), (1 << 127) | 8);
+}
+
+#[test]
+fn states_are_compared_by_their_positions(rt: HostRuntime) {
+    assert!(rt; State::At(0b_11) == State::At(0b_11) && State::At(0) != State::Initial);
+}
+
+#[test]
+fn laws_can_be_called() {
+    each_word_is_in_or_not();
+    one_automaton_of_a_rate();
+    one_state_behind_a_word();
+    sets_spell_their_rate();
 }

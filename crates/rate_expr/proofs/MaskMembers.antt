@@ -60,3 +60,14 @@ has_no_more mask true other n has = in_one (has_or mask other n has)
     in_one (inl there) = inl there
     in_one (inr there) = inr (refl, there)
 has_no_more mask false other n has = inl has
+
+-- a mask with one position more has that position and its own
+pub has_added : (mask at position : ℕ) → Has (bit_or mask (2 ^ at)) position → Has mask position ⊎ (position ≡ at)
+has_added mask at position has = in_one (has_or mask (2 ^ at) position has)
+  where
+    in_one : Has mask position ⊎ Has (2 ^ at) position → Has mask position ⊎ (position ≡ at)
+    in_one (inl there) = inl there
+    in_one (inr one) = inr (sym (has_only_one at position one))
+
+pub has_added_same : (mask at : ℕ) → Has (bit_or mask (2 ^ at)) at
+has_added_same mask at = has_second mask (2 ^ at) at (has_one at)

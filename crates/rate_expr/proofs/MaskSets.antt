@@ -1,13 +1,16 @@
--- Sets of positions as masks.
-use Rattle.std.proofs.Common.{◌≡◌, ◌⊎◌, inl, inr, ℕ, suc, zero, ◌+◌, ◌*◌, ◌/◌, ◌%◌, ◌^◌, ◌<◌, ◌≤◌, refl, sym, ap, ◌∙◌, subst, arith, bit_and, bit_or, Option, None, Some, unwrap_or, eq-eqb, IsTrue, not, nat_eq, ◌↔◌}
-use Rattle.std.proofs.Math.Nat.{div-add-mod, div-eq_of_lt, div-lt_iff_lt-mul, eq-or-lt_of_le, mod-lt, one-mul, mul_comm}
-use Rattle.std.proofs.lemmas.Nat.{pow_pos, and_le_r}
-use Rattle.std.proofs.lemmas.Nat.Bits.{bit_at_and, bit_at-lt, bit_at_above, bit_at_cat_low, bit_at_set_same, bit_at_set_other, bit_at-trailing_zeros, same_from_bits}
+-- Masks and their positions: bounds, common positions, equal masks.
+use Rattle.std.proofs.Common.{◌≡◌, ◌⊎◌, inl, inr, ℕ, suc, zero, ◌+◌, ◌*◌, ◌/◌, ◌%◌, ◌^◌, ◌<◌, ◌≤◌, refl, sym, ap, ◌∙◌, subst, arith, bit_and, bit_or, Option, None, Some, unwrap_or, eq-eqb, Bool, true, false, IsTrue, not, nat_eq, ltb, ◌↔◌, ◌-◌}
+use Rattle.std.proofs.Math.Nat.{div-add-mod, eq-or-lt_of_le, mod-lt, mul_comm, pow-suc}
+use Rattle.std.proofs.Math.Pow.{pow_mono}
+use Rattle.std.proofs.lemmas.Nat.{pow_pos, and_le_l, and_le_r, leading_length}
+use Rattle.std.proofs.lemmas.Nat.Bits.{bit_at_and, bit_at-lt, bit_at_above, bit_at_cat_low, bit_at-trailing_zeros, same_from_bits}
 use Rattle.std.proofs.lemmas.Bool.Decides.{eqb_tells, nat_tests}
-use Rattle.std.proofs.lemmas.Bool.{eqb-true}
+use Rattle.std.proofs.lemmas.Bool.{eqb-true, eqb-false, ltb-true}
+use Rattle.std.specs.Int.Count.{count_leading_zeros}
 use Rattle.std.specs.Option.{SomeIff}
+use Rattle.std.specs.Prelude.{MatchBool}
 use Rattle.std.specs.Int.{bit_at, trailing_zeros, w128}
-use Rattle.rate_expr.proofs.Masks.{has_zero}
+use Rattle.rate_expr.proofs.MaskMembers.{has_zero}
 use Rattle.rate_expr.specs.Sets.{Has}
 
 -- a number is below another or not
@@ -82,18 +85,6 @@ same-has a b same = same_from_bits a b (λ i. elim (eqb_tells (bit_at a i) 1) [
   ]
 ])
 
--- one position more
-pub has-set :
-    (mask at position : ℕ) → at < 128 → Has (bit_or mask (1 * 2 ^ at % 2 ^ 128)) position
-    → Has mask position ⊎ (position ≡ at)
-has-set mask at position few has = elim (eqb_tells position at) [
-  | inl same ↦ inr same.1
-  | inr other ↦ inl (sym (bit_at_set_other w128 mask at few position other.1) ∙ has)
-]
-
-pub has-set_same : (mask at : ℕ) → at < 128 → Has (bit_or mask (1 * 2 ^ at % 2 ^ 128)) at
-has-set_same mask at few = bit_at_set_same w128 mask at few
-
 -- two masks have a position in common
 abbrev pub AreMeeting : ℕ → ℕ → Type 0
 AreMeeting a b = (position : ℕ) × Has a position × Has b position
@@ -102,6 +93,14 @@ AreMeeting a b = (position : ℕ) × Has a position × Has b position
 pub and-some : (a b : ℕ) → 0 < bit_and a b → b < 2 ^ 128 → AreMeeting a b
 and-some a b some fits =
     let less : bit_and a b < 2 ^ 128 = omega (arith, and_le_r a b) in
+    let low = trailing_zeros w128 (bit_and a b) in
+    let both = has-and a b low (has-lowest (bit_and a b) some less) in
+    (low, both.0, both.1)
+
+-- and where the first is the one that is known to fit
+pub and-some_first : (a b : ℕ) → 0 < bit_and a b → a < 2 ^ 128 → AreMeeting a b
+and-some_first a b some fits =
+    let less : bit_and a b < 2 ^ 128 = omega (arith, and_le_l a b) in
     let low = trailing_zeros w128 (bit_and a b) in
     let both = has-and a b low (has-lowest (bit_and a b) some less) in
     (low, both.0, both.1)
@@ -121,24 +120,57 @@ and-meeting a b fits = (
   ],
 )
 
--- a shift tells whether a mask has a position from a bound on
-pub nothing-beyond :
-    (count mask : ℕ) (beyond : Option ℕ) → count ≤ 128 → mask < 2 ^ 128
-    → SomeIff beyond (count < 128) (mask / 2 ^ count)
-    → IsTrue (nat_eq (unwrap_or beyond 0) 0) ↔ (mask < 2 ^ count)
-nothing-beyond count mask None few fits all =
-    let whole : 128 ≡ count = at_least all few in
-    (λ test. subst (λ (n : ℕ). mask < 2 ^ n) whole fits, λ below. refl)
+-- the same where an answer says which of both
+pub overlap_tells : (first second : ℕ) (test : Bool) → MatchBool test (AreMeeting first second) ((position : ℕ) → Has first position → Has second position → ⊥) → IsTrue test ↔ AreMeeting first second
+overlap_tells first second true some = (λ is. some, λ meeting. refl)
+overlap_tells first second false none = (λ is. cc, λ meeting. absurd (none meeting.0 meeting.1 meeting.2))
+
+-- the test of these bits says so
+pub overlap_says : (first second : ℕ) → first < 2 ^ 128
+    → MatchBool (not (nat_eq (bit_and first second) 0)) (AreMeeting first second)
+    ((position : ℕ) → Has first position → Has second position → ⊥)
+overlap_says first second fits = go (nat_eq (bit_and first second) 0) refl
   where
-    at_least : {n : ℕ} → (n < 128 → ⊥) → n ≤ 128 → 128 ≡ n
-    at_least not_less few = omega arith
-nothing-beyond count mask (Some beyond) few fits (less, is) = (
-  λ test.
-      let none : mask / 2 ^ count < 1 = zero_below (eqb-true beyond 0 test) is in
-      let below : mask < 1 * 2 ^ count = (div-lt_iff_lt-mul (pow_pos count)).0 none in
-      rw (← one-mul (2 ^ count)) below,
-  λ below. eq-eqb beyond 0 (is ∙ div-eq_of_lt below),
+    go : (none : Bool) → nat_eq (bit_and first second) 0 ≡ none
+        → MatchBool (not none) (AreMeeting first second)
+        ((position : ℕ) → Has first position → Has second position → ⊥)
+    go true e = λ position has also. and-none first second (eqb-true _ 0 e) (position, has, also)
+    go false e = let some = eqb-false _ 0 e in
+        let meeting = and-some_first first second (omega (arith, some)) fits in meeting
+
+-- a position in a mask is below the end of its bits
+pub below_end : (mask position : ℕ) → mask < 2 ^ 128 → Has mask position
+    → position < 128 - count_leading_zeros 128 mask
+below_end mask position fits has =
+    let bits = leading_length 128 mask fits in
+    elim (below_or_not position bits.0) [
+      | inl below ↦ omega arith
+      | inr past ↦ absurd (omega (arith, bit_at_above mask bits.0 position bits.2 past))
+    ]
+
+-- and that is the least such bound
+pub end_least : (mask bound : ℕ) → mask < 2 ^ 128 → mask < 2 ^ bound
+    → 128 - count_leading_zeros 128 mask ≤ bound
+end_least mask bound fits below =
+    let bits = leading_length 128 mask fits in
+    elim (below_or_not bound bits.0) [
+      | inr enough ↦ omega arith
+      | inl short ↦
+          let higher : 2 ^ suc bound ≤ 2 ^ bits.0 = pow_mono (omega arith) in
+          let twice : 2 ^ suc bound ≡ 2 ^ bound * 2 = pow-suc 2 bound in
+          absurd (omega arith)
+    ]
+
+-- a mask is below a power where its end is no higher
+pub end_below : (mask bound end : ℕ) → ((position : ℕ) → Has mask position → position < end) → end ≤ bound
+    → mask < 2 ^ bound
+end_below mask bound end above le =
+    below-has mask bound (λ position has. let less = above position has in omega arith)
+
+-- a position past all bits is in no mask, and below 128 is no such position
+pub far_position : (mask position : ℕ) → mask < 2 ^ 128 → 128 ≤ position
+    → IsTrue (ltb position 128) ↔ Has mask position
+far_position mask position fits far = (
+  (λ below. let lt = ltb-true position 128 below in absurd (omega arith)),
+  (λ has. let lt = has-below mask 128 position fits has in absurd (omega arith)),
 )
-  where
-    zero_below : {x y : ℕ} → x ≡ 0 → x ≡ y → y < 1
-    zero_below none same = omega arith
