@@ -9,6 +9,8 @@ use Rattle.rate_expr.specs.Readings.{HasTwoFactorings}
 use Rattle.rate_expr.specs.Sets.{Sets, Has}
 use Rattle.rate_expr.specs.Words.{Word, IsWordOf, join}
 use Rattle.rate_expr.proofs.PathSteps.{leads_one, leads_more}
+use Rattle.rate_expr.proofs.PathsOn.{spells_at}
+use Rattle.rate_expr.proofs.Wording.{word_more}
 use Rattle.ambiguity_check.specs.declared.graph.Node.{Node}
 use Rattle.ambiguity_check.specs.declared.graph.Phase.{Phase}
 use Rattle.ambiguity_check.specs.declared.graph.Phase.TheVariants.{Together, Parted, Rejoined}
@@ -17,7 +19,6 @@ use Rattle.ambiguity_check.specs.Meetings.{MeetOne, AreMeetings}
 use Rattle.ambiguity_check.specs.Overlaps.{IsInRows}
 use Rattle.ambiguity_check.specs.Walks.{IsReached, at_once, later}
 use Rattle.ambiguity_check.proofs.FactorRuns.{ReadsFactors, ReadsLonger, factors_on, longer_on, begin_apart, join_more, all_more, all_as}
-use Rattle.ambiguity_check.proofs.Wording.{word_more, spells_at}
 
 module _ (columns : List Column) (sets : Sets) (rows : List ℕ)
     (are : AreMeetings columns sets sets rows) where

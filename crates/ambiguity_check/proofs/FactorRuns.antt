@@ -7,8 +7,8 @@ use Rattle.rate_expr.specs.Paths.{Meets, Leads, LeadsOn, Spells}
 use Rattle.rate_expr.specs.Sets.{Sets, Has}
 use Rattle.rate_expr.specs.Words.{Word, join}
 use Rattle.rate_expr.proofs.PathSteps.{leads_one, leads_more}
+use Rattle.rate_expr.proofs.PathsOn.{spells_at}
 use Rattle.ambiguity_check.specs.Factorings.{GoesOnward}
-use Rattle.ambiguity_check.proofs.Wording.{spells_at}
 
 -- one more word at the end
 pub join_more : (words : List Word) (word : Word) → join (words ++ word ∷ []) ≡ join words ++ word

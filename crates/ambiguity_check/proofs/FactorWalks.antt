@@ -11,6 +11,8 @@ use Rattle.rate_expr.specs.Rates.{Expression}
 use Rattle.rate_expr.specs.Readings.{HasOneFactoring, HasTwoFactorings}
 use Rattle.rate_expr.specs.Sets.{Sets, Has}
 use Rattle.rate_expr.specs.Words.{Word, IsWordOf, join}
+use Rattle.rate_expr.proofs.PathsOn.{leads_parts}
+use Rattle.rate_expr.proofs.Wording.{word_parts, comparable}
 use Rattle.ambiguity_check.specs.declared.graph.Node.{Node}
 use Rattle.ambiguity_check.specs.declared.graph.Phase.TheVariants.{Together, Parted}
 use Rattle.ambiguity_check.specs.Factorings.{BeginsFactors, Factors}
@@ -20,7 +22,6 @@ use Rattle.ambiguity_check.specs.Overlaps.{IsInRows}
 use Rattle.ambiguity_check.specs.Walks.{IsReached, at_once, later}
 use Rattle.ambiguity_check.proofs.FactorRuns.{RunsOn, runs_along, runs_from_end, all_as}
 use Rattle.ambiguity_check.proofs.Marking.{node_at}
-use Rattle.ambiguity_check.proofs.Wording.{word_parts, comparable, leads_parts}
 use Rattle.ambiguity_check.proofs.FactorReads.{AreRead, AreParted, walk_reads, two_factorings}
 
 -- where the empty word is in the rate, it factors in two ways

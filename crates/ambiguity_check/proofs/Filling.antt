@@ -10,7 +10,8 @@ use Rattle.rate_expr.specs.Paths.{Meets}
 use Rattle.rate_expr.specs.Sets.{Sets, Has}
 use Rattle.symbolic_nfa.specs.Automata.{IsMet}
 use Rattle.ambiguity_check.specs.Meetings.{MeetOne, AreMeetings, IsJoined}
-use Rattle.ambiguity_check.proofs.Bits.{in_empty, place_within}
+use Rattle.rate_expr.proofs.MaskMembers.{has_zero}
+use Rattle.rate_expr.proofs.MaskSets.{has-below}
 use Rattle.ambiguity_check.proofs.Marking.{empty_row}
 
 module _ (cells : Partition) (first second : Sets) where
@@ -27,7 +28,7 @@ module _ (cells : Partition) (first second : Sets) where
   pub filled_none : (rows : List ℕ) → rows ≡ replicate (length first.preds) 0 → IsFilled 0 rows
   filled_none rows empty = record {
     same = rw empty (length-replicate (length first.preds) 0);
-    sound = λ left right has. absurd (in_empty right
+    sound = λ left right has. absurd (has_zero right
         (rw (empty, empty_row (length first.preds) left) at has));
     whole = λ left right item below is first_meets second_meets. absurd (omega arith);
   }
@@ -72,5 +73,5 @@ module _ (cells : Partition) (first second : Sets) where
   -- the rows cover the places that a cell's items meet
   pub rows_cover : (cell : ℕ) (rows : List ℕ) (first_mask : ℕ) → IsMet first cells cell first_mask
       → length rows ≡ length first.preds → (place : ℕ) → Has first_mask place → place < length rows
-  rows_cover cell rows first_mask met same place has = let below = place_within first_mask _ place
+  rows_cover cell rows first_mask met same place has = let below = has-below first_mask _ place
       met.within has in omega arith

@@ -6,7 +6,7 @@ use Rattle.std.proofs.lemmas.Bool.{cases_lt, cases_eq}
 use Rattle.std.proofs.lemmas.List.{get_or-set_same, get_or-set_other}
 use Rattle.rate_expr.specs.Sets.{Has}
 use Rattle.ambiguity_check.specs.Meetings.{IsJoined}
-use Rattle.ambiguity_check.proofs.Bits.{in_either, in_first, in_second}
+use Rattle.rate_expr.proofs.MaskMembers.{has_or, has_first, has_second}
 
 -- the rows below a place were filled
 pub record JoinedBelow (old : List ℕ) (first second : ℕ) (end : ℕ) (new : List ℕ) : Type 0 where
@@ -68,7 +68,7 @@ module _ (rows : List ℕ) (second place : ℕ) (within : place < length rows) w
   fill_keeps : (left right : ℕ) → Has (slice_index rows left) right
       → Has (slice_index filled left) right
   fill_keeps left right has = elim (cases_eq left place) [
-    | inl same ↦ rw (this_row left same) (in_first (slice_index rows left) second right has)
+    | inl same ↦ rw (this_row left same) (has_first (slice_index rows left) second right has)
     | inr differ ↦ rw (other_row left differ) has
   ]
 
@@ -80,13 +80,13 @@ module _ (rows : List ℕ) (second place : ℕ) (within : place < length rows) w
     same = length-set rows place _ ∙ below.same;
     kept = λ left right was. fill_keeps left right (below.kept left right was);
     joined = λ left right less in_first in_second'. elim (cases_eq left place) [
-      | inl same ↦ rw (this_row left same) (in_second (slice_index rows left) second right in_second')
+      | inl same ↦ rw (this_row left same) (has_second (slice_index rows left) second right in_second')
       | inr differ ↦ fill_keeps left right (below.joined left right (omega arith) in_first in_second')
     ];
     only = λ left right is. elim (cases_eq left place) [
       | inl same ↦ ⊎_elim (λ was. below.only left right was)
           (λ new. inr (subst (λ (p : ℕ). Has first p) (sym same) has, new))
-          (in_either (slice_index rows left) second right (rw (this_row left same) at is))
+          (has_or (slice_index rows left) second right (rw (this_row left same) at is))
       | inr differ ↦ below.only left right (rw (other_row left differ) at is)
     ];
   }

@@ -12,4 +12,3 @@ pub mod OverlapWalks
 pub mod Searches
 pub mod SplitReads
 pub mod SplitWalks
-pub mod Wording

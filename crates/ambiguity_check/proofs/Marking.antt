@@ -1,6 +1,6 @@
 -- What becomes of a set of nodes when one more is marked.
 use Rattle.std.proofs.Common.{◌≡◌, ℕ, ◌+◌, ◌*◌, ◌-◌, ◌^◌, ◌<◌, ◌%◌, ◌≢◌, ◌⊎◌, ◌∙◌, List, length, get_or, replicate, refl, ap, sym, inl, inr, arith}
-use Rattle.std.specs.Int.{w128, bit_at}
+use Rattle.std.specs.Int.{bit_at}
 use Rattle.std.specs.Prelude.{slice_index, bit_or}
 use Rattle.std.proofs.Math.ListN.{set, length-replicate, get_or-eq_default}
 use Rattle.std.proofs.lemmas.List.{get_or-set_same, get_or-set_other, get_or-replicate}
@@ -8,13 +8,14 @@ use Rattle.std.proofs.lemmas.List.Sums.{sum_by-set}
 use Rattle.std.proofs.lemmas.Grind.{get_or_default_zero}
 use Rattle.std.proofs.lemmas.Bool.{cases_eq, cases_lt}
 use Rattle.std.proofs.lemmas.Nat.{le_or_l}
-use Rattle.std.proofs.lemmas.Nat.Bits.{bit_at_set_same, bit_at_set_other, bit_at-zero}
+use Rattle.std.proofs.lemmas.Nat.Bits.{bit_at_or, bit_at-lt, bit_at-pow_other, bit_at-zero}
 use Rattle.rate_expr.specs.Sets.{Has}
+use Rattle.rate_expr.proofs.MaskMembers.{has_added_same}
 use Rattle.ambiguity_check.specs.declared.graph.Move.{Move}
 use Rattle.ambiguity_check.specs.declared.graph.Node.{Node}
 use Rattle.ambiguity_check.specs.declared.graph.Phase.{Phase}
 use Rattle.ambiguity_check.specs.declared.graph.Phase.TheVariants.{Together, Parted, Rejoined}
-use Rattle.ambiguity_check.specs.Walks.{rank, IsOf}
+use Rattle.ambiguity_check.specs.Walks.{phases, rank, IsOf}
 use Rattle.ambiguity_check.specs.Marked.{row_of, IsMarked, IsMarkedToo, room}
 
 -- a row is of one phase and one place
@@ -37,8 +38,8 @@ node_at phase left right = record { phase = phase; left = left; right = right }
 -- a node is known by its parts
 pub same_parts : (node : Node) (phase : Phase) (left right : ℕ) → node.phase ≡ phase → node.left ≡ left
     → node.right ≡ right → node ≡ node_at phase left right
-same_parts node phase left right phases lefts rights =
-    ap (λ p. node_at p node.left node.right) phases ∙ ap (λ l. node_at phase l node.right) lefts
+same_parts node phase left right same_phase lefts rights =
+    ap (λ p. node_at p node.left node.right) same_phase ∙ ap (λ l. node_at phase l node.right) lefts
     ∙ ap (λ r. node_at phase left r) rights
 
 -- nodes of one row and one place on the right are one
@@ -49,17 +50,21 @@ same_node a b rows rights =
 
 -- a mask with one more place
 abbrev pub with_place : ℕ → ℕ → ℕ
-with_place mask place = bit_or mask (1 * 2 ^ place % 2 ^ 128)
+with_place mask place = bit_or mask (2 ^ place)
+
+-- all other places are in it as they were
+as_it_was : (mask place other : ℕ) → other ≢ place → bit_at (with_place mask place) other ≡ bit_at mask other
+as_it_was mask place other differ = omega
+    (arith, bit_at_or mask (2 ^ place) other, bit_at-pow_other place other differ)
 
 -- a mask with a new place is larger
-pub larger : (mask place : ℕ) → place < 128 → (Has mask place → ⊥) → mask < with_place mask place
-larger mask place within new =
+pub larger : (mask place : ℕ) → (Has mask place → ⊥) → mask < with_place mask place
+larger mask place new =
     let more : mask ≢ with_place mask place =
-    λ e. new (ap (λ m. bit_at m place) e ∙ bit_at_set_same w128 mask place within) in
-    omega (arith, le_or_l mask (1 * 2 ^ place % 2 ^ 128))
+    λ e. new (ap (λ m. bit_at m place) e ∙ has_added_same mask place) in
+    omega (arith, le_or_l mask (2 ^ place))
 
-module _ (rows : List ℕ) (node : Node) (inside : row_of node < length rows)
-    (within : node.right < 128) where
+module _ (rows : List ℕ) (node : Node) (inside : row_of node < length rows) where
   -- the rows with the node
   abbrev marked : List ℕ
   marked = set rows (row_of node) (with_place (slice_index rows (row_of node)) node.right)
@@ -78,13 +83,13 @@ module _ (rows : List ℕ) (node : Node) (inside : row_of node < length rows)
       → bit_at (slice_index marked (row_of other)) other.right
       ≡ bit_at (slice_index rows (row_of other)) other.right
   same_row_other other same differ =
-      rw (same, row_same) (bit_at_set_other w128 _ node.right within other.right differ)
+      rw (same, row_same) (as_it_was _ node.right other.right differ)
 
   keeps : (other : Node) → IsMarked rows other → IsMarked marked other
   keeps other was =
       elim (cases_eq (row_of other) (row_of node)) [
         | inl same ↦ elim (cases_eq other.right node.right) [
-          | inl right ↦ rw (same, right, row_same) (bit_at_set_same w128 _ node.right within)
+          | inl right ↦ rw (same, right, row_same) (has_added_same _ node.right)
           | inr differ ↦ same_row_other other same differ ∙ was
         ]
         | inr differ ↦ rw (other_row other differ) was
@@ -103,7 +108,7 @@ module _ (rows : List ℕ) (node : Node) (inside : row_of node < length rows)
   takes_room : slice_index rows (row_of node) < 2 ^ 128 → (IsMarked rows node → ⊥)
       → room marked < room rows
   takes_room fits new =
-      let grows = larger (slice_index rows (row_of node)) node.right within new in
+      let grows = larger (slice_index rows (row_of node)) node.right new in
       let sums = sum_by-set (λ row. 2 ^ 128 - row) rows (row_of node)
       (with_place (slice_index rows (row_of node)) node.right) 0 inside in
       omega arith
@@ -111,7 +116,7 @@ module _ (rows : List ℕ) (node : Node) (inside : row_of node < length rows)
   -- the rows have one more node
   pub marks_one : slice_index rows (row_of node) < 2 ^ 128 → IsMarkedToo rows node marked
   marks_one fits = record {
-    marked = rw row_same (bit_at_set_same w128 _ node.right within);
+    marked = rw row_same (has_added_same _ node.right);
     kept = keeps;
     only = adds_only;
     room = takes_room fits;
@@ -134,17 +139,17 @@ none_marked count node is =
 
 -- the same for the row's mask as it was read
 pub marks_read : (items rows : List ℕ) (node : Node) (at mask : ℕ) → items ≡ rows → at ≡ row_of node
-    → at < length items → node.right < 128 → mask ≡ get_or items at mask → mask < 2 ^ 128
+    → at < length items → mask ≡ get_or items at mask → mask < 2 ^ 128
     → IsMarkedToo rows node (set items at (with_place mask node.right))
-marks_read items rows node at mask is at_row inside within read fits =
+marks_read items rows node at mask is at_row inside read fits =
     let mask_is : mask ≡ slice_index items at = read ∙ get_or_default_zero items at mask inside in
     let within_row : row_of node < length items = rw (← at_row) inside in
-    let one = marks_one items node within_row within (rw (← at_row, ← mask_is) fits) in
+    let one = marks_one items node within_row (rw (← at_row, ← mask_is) fits) in
     rw (← is, mask_is, at_row) one
 
 -- a place that a row shares with a mask is a node in the set
 pub row_has_some : (rows : List ℕ) (nodes : Move) (left row : ℕ)
-    → row ≡ slice_index rows (3 * left + rank nodes.phase)
+    → row ≡ slice_index rows (phases * left + rank nodes.phase)
     → Has nodes.left left → (place : ℕ) × Has row place × Has nodes.right place
     → (node : Node) × IsMarked rows node × IsOf nodes node
 row_has_some rows nodes left row row_is has shared =

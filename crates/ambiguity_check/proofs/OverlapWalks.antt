@@ -8,6 +8,7 @@ use Rattle.rate_expr.specs.Readings.{AreDisjoint, Overlap}
 use Rattle.rate_expr.specs.Sets.{Sets, Has}
 use Rattle.rate_expr.specs.Words.{Word, IsWordOf}
 use Rattle.rate_expr.proofs.PathSteps.{leads_one, leads_more}
+use Rattle.rate_expr.proofs.Wording.{word_more}
 use Rattle.ambiguity_check.specs.declared.graph.Node.{Node}
 use Rattle.ambiguity_check.specs.declared.graph.Phase.TheVariants.{Together}
 use Rattle.ambiguity_check.specs.Marked.{IsMarked, AreReached}
@@ -15,7 +16,6 @@ use Rattle.ambiguity_check.specs.Meetings.{AreMeetings}
 use Rattle.ambiguity_check.specs.Overlaps.{BeginsBoth, FollowsBoth, IsInRows}
 use Rattle.ambiguity_check.specs.Walks.{IsReached, at_once, later}
 use Rattle.ambiguity_check.proofs.Marking.{node_at}
-use Rattle.ambiguity_check.proofs.Wording.{word_more}
 
 module _ (columns : List Column) (first second : Sets) (rows : List ℕ)
     (are : AreMeetings columns first second rows) where

@@ -8,6 +8,8 @@ use Rattle.rate_expr.specs.Readings.{HaveTwoSplits}
 use Rattle.rate_expr.specs.Sets.{Sets}
 use Rattle.rate_expr.specs.Words.{Word, IsWordOf}
 use Rattle.rate_expr.proofs.PathSteps.{leads_one, leads_more}
+use Rattle.rate_expr.proofs.PathsOn.{leads_some, spells_at}
+use Rattle.rate_expr.proofs.Wording.{word_more, longer}
 use Rattle.ambiguity_check.specs.declared.graph.Node.{Node}
 use Rattle.ambiguity_check.specs.declared.graph.Phase.{Phase}
 use Rattle.ambiguity_check.specs.declared.graph.Phase.TheVariants.{Together, Parted, Rejoined}
@@ -15,7 +17,6 @@ use Rattle.ambiguity_check.specs.Meetings.{MeetOne, AreMeetings}
 use Rattle.ambiguity_check.specs.Splits.{left_of, right_of, BeginsSplits, TurnsTo, GoesOn, EndsSplits, MeetIn, rows_in}
 use Rattle.ambiguity_check.specs.Walks.{IsReached, at_once, later}
 use Rattle.ambiguity_check.proofs.Marking.{node_at}
-use Rattle.ambiguity_check.proofs.Wording.{word_more, longer, leads_some, spells_at}
 
 -- the meetings of each phase
 pub meetings_in : (columns : List Column) (first second : Sets) (together parted rejoined : List ℕ)

@@ -9,6 +9,8 @@ use Rattle.rate_expr.specs.Rates.{Expression}
 use Rattle.rate_expr.specs.Readings.{HaveOneSplit, HaveTwoSplits}
 use Rattle.rate_expr.specs.Sets.{Sets}
 use Rattle.rate_expr.specs.Words.{Word, IsWordOf}
+use Rattle.rate_expr.proofs.PathsOn.{leads_parts, spells_end}
+use Rattle.rate_expr.proofs.Wording.{word_parts, comparable}
 use Rattle.ambiguity_check.specs.declared.graph.Node.{Node}
 use Rattle.ambiguity_check.specs.declared.graph.Phase.{Phase}
 use Rattle.ambiguity_check.specs.declared.graph.Phase.TheVariants.{Together, Parted, Rejoined}
@@ -17,7 +19,6 @@ use Rattle.ambiguity_check.specs.Meetings.{AreMeetings}
 use Rattle.ambiguity_check.specs.Splits.{left_of, right_of, BeginsSplits, GoesOn, EndsSplits, MeetIn, rows_in}
 use Rattle.ambiguity_check.specs.Walks.{IsReached, at_once, later}
 use Rattle.ambiguity_check.proofs.Marking.{node_at}
-use Rattle.ambiguity_check.proofs.Wording.{word_parts, comparable, leads_parts, spells_end}
 use Rattle.ambiguity_check.proofs.SplitReads.{walk_reads, two_splits}
 
 module _ (columns : List Column) (first second : Sets) (together parted rejoined : List ℕ)

@@ -2,11 +2,11 @@
 use Rattle.std.specs.Prelude.{◌≡◌, ◌+◌, ◌*◌, ◌<◌, ℕ, ◌⊎◌, List, slice_index, sum_by, ◌-◌, ◌^◌}
 use Rattle.rate_expr.specs.Sets.{Has}
 use Rattle.ambiguity_check.specs.declared.graph.Node.{Node}
-use Rattle.ambiguity_check.specs.Walks.{rank, IsReached}
+use Rattle.ambiguity_check.specs.Walks.{phases, rank, IsReached}
 
 -- where the mask of a node's place on the left is
 abbrev pub row_of : Node → ℕ
-row_of node = 3 * node.left + rank node.phase
+row_of node = phases * node.left + rank node.phase
 
 -- the node is in the set
 abbrev pub IsMarked : List ℕ → Node → Type 0

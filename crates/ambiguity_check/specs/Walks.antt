@@ -7,6 +7,10 @@ use Rattle.ambiguity_check.specs.declared.graph.Node.{Node}
 use Rattle.ambiguity_check.specs.declared.graph.Move.{Move}
 use Rattle.ambiguity_check.specs.declared.graph.Moves.{Moves}
 
+-- how many phases there are
+abbrev pub phases : ℕ
+phases = 3
+
 -- the number of a phase
 abbrev pub rank : Phase → ℕ
 rank Together = 0

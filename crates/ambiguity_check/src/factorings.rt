@@ -5,11 +5,11 @@ ghost use Rattle.rate_expr.specs.Rates.{Expression};
 ghost use Rattle.rate_expr.specs.Readings.{HasOneFactoring, HasTwoFactorings};
 
 use crate::graph::{Graph, Move, Moves, Node, Phase};
-use crate::masks::has;
 use crate::meetings::meetings;
 use crate::readings::{behind, onward, row};
 use crate::search::reach;
 use rate_expr::Positions;
+use rate_expr::masks::has;
 use std::alloc::{AllocError, Global};
 use symbolic_nfa::Nfa;
 

@@ -4,7 +4,6 @@
 mod factorings;
 mod graph;
 mod marks;
-mod masks;
 mod meetings;
 mod overlaps;
 mod readings;

@@ -1,16 +1,21 @@
 //! The nodes that a search has come to.
 ghost use Rattle.std.specs.Prelude.{◌≡◌, ◌<◌, ◌+◌, ◌*◌, IfOk, List, ℕ, slice_index, length, MatchBool};
+ghost use Rattle.language_base.specs.Limits.{max_positions};
 ghost use Rattle.ambiguity_check.specs.declared.graph.Node.{Node};
-ghost use Rattle.ambiguity_check.specs.Walks.{rank, IsOf};
+ghost use Rattle.ambiguity_check.specs.Walks.{phases, rank, IsOf};
 ghost use Rattle.ambiguity_check.specs.Marked.{IsMarked, IsMarkedToo};
 
 use crate::graph::{Move, Node, Phase};
-use crate::masks::{end_of, has, overlap};
+use rate_expr::MAX_POSITIONS;
+use rate_expr::masks::{end_of, has, only, overlap};
 use std::alloc::{AllocError, Global};
 use std::marker::Model;
 
-/// Three phases of 128 places on the left.
-const ROWS: usize = 384;
+/// How many phases there are.
+const PHASES: usize = 3;
+
+/// A row for each place on the left and phase.
+const ROWS: usize = PHASES * MAX_POSITIONS as usize;
 
 /// Some nodes, seen as a mask of the places on the right for each place on the left and phase.
 #[derive(Drop)]
@@ -40,10 +45,10 @@ impl Marks {
 
     /// The places on the right of the nodes with this place on the left.
     pub(crate) fn row(&self, phase: Phase, left: u32) -> u128
-        ensures { result ≡ slice_index self.now (3 * left + rank phase) }
+        ensures { result ≡ slice_index self.now (phases * left + rank phase) }
     {
         self.rows
-            .get(3 * left as usize + phase.rank())
+            .get(PHASES * left as usize + phase.rank())
             .copied()
             .unwrap_or(0)
     }
@@ -63,12 +68,12 @@ impl Marks {
 
     /// One more node.
     pub(crate) fn add(&mut self, node: Node)
-        requires left { node.left < 128 }
-        requires right { node.right < 128 }
+        requires left { node.left < max_positions }
+        requires right { node.right < max_positions }
         ensures { IsMarkedToo self.old node self.new }
     {
-        let row = 3 * node.left as usize + node.phase.rank();
+        let row = PHASES * node.left as usize + node.phase.rank();
         let mask = self.rows[row];
-        self.rows[row] = mask | 1 << node.right;
+        self.rows[row] = mask | only(node.right);
     }
 }

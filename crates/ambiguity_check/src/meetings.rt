@@ -3,7 +3,7 @@ ghost use Rattle.std.specs.Prelude.{◌≡◌, ◌<◌, ℕ, IfOk, length};
 ghost use Rattle.rate_expr.specs.Sets.{Has};
 ghost use Rattle.ambiguity_check.specs.Meetings.{AreMeetings, IsJoined};
 
-use crate::masks::{end_of, has};
+use rate_expr::masks::{end_of, has};
 use std::alloc::{AllocError, Global};
 use symbolic_nfa::Nfa;
 

@@ -4,8 +4,8 @@ ghost use Rattle.rate_expr.specs.Paths.{Follows};
 ghost use Rattle.rate_expr.specs.Sets.{Has};
 ghost use Rattle.ambiguity_check.specs.Factorings.{GoesOnward};
 
-use crate::masks::has;
 use rate_expr::Positions;
+use rate_expr::masks::has;
 
 /// The positions behind a position.
 pub(crate) fn behind(positions: &Positions, position: u32) -> u128

@@ -1,5 +1,6 @@
 //! The search for all nodes that walks of a graph lead to.
 ghost use Rattle.std.specs.Prelude.{◌≡◌, ◌<◌, IfOk, OnOk, ℕ};
+ghost use Rattle.language_base.specs.Limits.{max_positions};
 ghost use Rattle.ambiguity_check.specs.declared.graph.Node.{Node};
 ghost use Rattle.ambiguity_check.specs.Walks.{IsOf, IsIn};
 ghost use Rattle.ambiguity_check.specs.Marked.{IsMarked, AreReached};
@@ -8,7 +9,7 @@ ghost use Rattle.rate_expr.specs.Sets.{Has};
 
 use crate::graph::{Graph, Move, Moves, Node, Phase};
 use crate::marks::Marks;
-use crate::masks::{end_of, has};
+use rate_expr::masks::{end_of, has};
 use std::alloc::{AllocError, Global};
 
 /// The nodes that walks of the graph lead to.
@@ -68,7 +69,7 @@ fn mark_row(
     marks: &mut Marks,
     waiting: &mut Vec<Node>,
 ) -> Result<(), AllocError>
-    requires within { left < 128 }
+    requires within { left < max_positions }
     requires fresh { (node : Node) → IsInRow phase left found node → IsMarked marks.old node → ⊥ }
     ensures { OnOk result (AreFound (IsInRow phase left found)
         marks.old waiting.old.items marks.new waiting.new.items) }

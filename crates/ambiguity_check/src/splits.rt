@@ -10,11 +10,11 @@ ghost use Rattle.ambiguity_check.specs.Marked.{IsMarked};
 
 use crate::graph::{Graph, Move, Moves, Node, Phase};
 use crate::marks::Marks;
-use crate::masks::has;
 use crate::meetings::meetings;
 use crate::readings::{behind, row};
 use crate::search::reach;
 use rate_expr::Positions;
+use rate_expr::masks::has;
 use std::alloc::{AllocError, Global};
 use symbolic_nfa::Nfa;
 

@@ -8,7 +8,7 @@ mod by_words;
 use crate::{disjoint, one_factoring, one_split};
 use item_schema::{Column, Kind, Schema};
 use predicate_cells::{Cells, Pred, Preds};
-use rate_expr::{Positions, Rate};
+use rate_expr::{MAX_POSITIONS, Positions, Rate};
 use std::alloc::Global;
 use symbolic_nfa::Nfa;
 use value_ops::Bytes;
@@ -96,7 +96,7 @@ fn star(alloc: Global, rate: Rate) -> Option<Rate> {
 fn nfa_of(alloc: Global, rate: &Rate, cells: &Cells) -> Option<Nfa>
     ensures { IfSome result (λ nfa. nfa.cells ≡ cells.now) }
 {
-    if rate.positions() > 128 {
+    if rate.positions() > MAX_POSITIONS {
         return None;
     }
     let positions = Positions::of(alloc, rate).ok()?;

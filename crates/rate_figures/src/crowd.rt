@@ -2,7 +2,7 @@
 
 use item_schema::{Column, Kind, Schema, are_columns};
 use predicate_cells::{CellStop, Cells, Pred, Preds};
-use rate_expr::{Positions, Rate};
+use rate_expr::{MAX_POSITIONS, Positions, Rate};
 use std::alloc::{AllocError, Global};
 use symbolic_nfa::Nfa;
 use value_ops::Bytes;
@@ -14,7 +14,7 @@ pub(crate) fn crowd(alloc: Global, size: u32, tests: u32) -> Result<Option<Nfa>,
     let Some(cells) = cells(alloc, tests)? else {
         return Ok(None);
     };
-    if rate.positions() > 128 {
+    if rate.positions() > MAX_POSITIONS {
         return Ok(None);
     }
     let positions = Positions::of(alloc, &rate)?;

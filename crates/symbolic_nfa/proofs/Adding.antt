@@ -4,8 +4,8 @@ use Rattle.std.proofs.lemmas.List.{length-set}
 use Rattle.std.specs.List.{Contains}
 use Rattle.rate_expr.specs.Sets.{Has}
 use Rattle.symbolic_nfa.specs.Tables.{AddsPosition}
-use Rattle.rate_expr.proofs.Masks.{has_first}
-use Rattle.symbolic_nfa.proofs.Masks.{below-more, has-set, has-set_same}
+use Rattle.rate_expr.proofs.MaskMembers.{has_first, has_added, has_added_same}
+use Rattle.rate_expr.proofs.MaskSets.{below-more}
 
 -- the masks of the cells of the set below a bound have got the position, and the others are as they were
 pub record AreAdded (old new : List ℕ) (bound position : ℕ) (cells : List ℕ) : Type 0 where
@@ -26,11 +26,11 @@ added-none masks position cells = record {
 -- a cell of the set
 pub added-here :
     (old new : List ℕ) (at position : ℕ) (cells : List ℕ) → AreAdded old new at position cells
-    → at < length new → position < 128 → Contains cells at
-    → AreAdded old (set new at (bit_or (get_or new at 0) (1 * 2 ^ position % 2 ^ 128))) (at + 1)
+    → at < length new → Contains cells at
+    → AreAdded old (set new at (bit_or (get_or new at 0) (2 ^ position))) (at + 1)
     position cells
-added-here old new at position cells so_far within few is_in =
-    let one = 1 * 2 ^ position % 2 ^ 128 in
+added-here old new at position cells so_far within is_in =
+    let one = 2 ^ position in
     let after = set new at (bit_or (get_or new at 0) one) in
     let here : get_or after at 0 ≡ bit_or (get_or new at 0) one =
     get_or-set_same new at (bit_or (get_or new at 0) one) 0 within in
@@ -38,7 +38,7 @@ added-here old new at position cells so_far within few is_in =
     let at_here : (other : ℕ) → Has (get_or after at 0) other
     ↔ (Has (get_or old at 0) other ⊎ (other ≡ position) × Contains cells at) =
     λ other. rw (here, before) (
-      λ has. elim (has-set (get_or old at 0) position other few has) [
+      λ has. elim (has_added (get_or old at 0) position other has) [
         | inl kept ↦ inl kept
         | inr same ↦ inr (same, is_in)
       ],
@@ -46,7 +46,7 @@ added-here old new at position cells so_far within few is_in =
         | inl kept ↦ has_first (get_or old at 0) one other kept
         | inr (same, there) ↦
             subst (λ (p : ℕ). Has (bit_or (get_or old at 0) one) p) (sym same)
-            (has-set_same (get_or old at 0) position few)
+            (has_added_same (get_or old at 0) position)
       ],
     ) in
     record {

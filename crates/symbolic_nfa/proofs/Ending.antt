@@ -5,9 +5,9 @@ use Rattle.std.proofs.lemmas.Nat.{le_or_l}
 use Rattle.std.proofs.lemmas.Option.{slice_get_within}
 use Rattle.rate_expr.specs.Sets.{Sets, AreSets, Has}
 use Rattle.symbolic_nfa.specs.Ends.{ComesBefore, LeadsThrough, EndsThrough}
-use Rattle.rate_expr.proofs.Masks.{has_first, has_or, has_second, has_zero}
+use Rattle.rate_expr.proofs.MaskMembers.{has_added, has_added_same, has_first, has_or, has_second, has_zero}
 use Rattle.symbolic_nfa.proofs.Lists.{one-at}
-use Rattle.symbolic_nfa.proofs.Masks.{AreMeeting, below-has, below-more, has-and, has-and_both, has-set, has-set_same}
+use Rattle.rate_expr.proofs.MaskSets.{AreMeeting, below-has, below-more, has-and, has-and_both}
 
 -- a position with followers is one of the positions
 comes-below :
@@ -39,21 +39,21 @@ meets-targets sets targets at follow read (next, (other, found_there, has), also
 
 -- one bound further, where its followers meet them
 pub before-added :
-    (sets : Sets) (targets at found follow : ℕ) → at < 128 → AreBefore sets targets at found
+    (sets : Sets) (targets at found follow : ℕ) → AreBefore sets targets at found
     → slice_get sets.follow at ≡ Some follow → AreMeeting follow targets
-    → AreBefore sets targets (at + 1) (bit_or found (1 * 2 ^ at % 2 ^ 128))
-before-added sets targets at found follow few so_far read (next, has, also) =
-    let added = bit_or found (1 * 2 ^ at % 2 ^ 128) in
+    → AreBefore sets targets (at + 1) (bit_or found (2 ^ at))
+before-added sets targets at found follow so_far read (next, has, also) =
+    let added = bit_or found (2 ^ at) in
     let here : ComesBefore sets targets at = (next, (follow, read, has), also) in
     record {
-      sound = λ position has_it. elim (has-set found at position few has_it) [
+      sound = λ position has_it. elim (has_added found at position has_it) [
         | inl before ↦ so_far.sound position before
         | inr same ↦ subst (λ (p : ℕ). ComesBefore sets targets p) (sym same) here
       ];
       whole = λ position below comes. elim (below-more position at below) [
         | inr before ↦
-            has_first found (1 * 2 ^ at % 2 ^ 128) position (so_far.whole position before comes)
-        | inl same ↦ subst (λ (p : ℕ). Has added p) (sym same) (has-set_same found at few)
+            has_first found (2 ^ at) position (so_far.whole position before comes)
+        | inl same ↦ subst (λ (p : ℕ). Has added p) (sym same) (has_added_same found at)
       ];
     }
 

@@ -2,10 +2,7 @@ pub mod Adding
 pub mod Ending
 pub mod Gathering
 pub mod Lists
-pub mod Lowest
-pub mod Masks
 pub mod Meeting
-pub mod PathsOn
 pub mod StatesOn
 pub mod Usefulness
 pub mod WordsBehind

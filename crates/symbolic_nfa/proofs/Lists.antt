@@ -4,7 +4,7 @@ use Rattle.std.specs.Prelude.{slice_get}
 use Rattle.std.proofs.Math.Nat.{lt_of_lt_of_le}
 use Rattle.std.proofs.lemmas.Option.{slice_get_within}
 use Rattle.std.specs.List.{AllByRecursion}
-use Rattle.symbolic_nfa.proofs.Masks.{below-more}
+use Rattle.rate_expr.proofs.MaskSets.{below-more}
 
 -- what holds of each element holds of the one at a place
 pub all-at :

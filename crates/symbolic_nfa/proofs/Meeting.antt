@@ -12,7 +12,7 @@ use Rattle.rate_expr.specs.Sets.{Sets, Has}
 use Rattle.symbolic_nfa.specs.Automata.{AreMet}
 use Rattle.symbolic_nfa.specs.Tables.{AddsPosition}
 use Rattle.symbolic_nfa.proofs.Lists.{one-at}
-use Rattle.symbolic_nfa.proofs.Masks.{below-has, below-more}
+use Rattle.rate_expr.proofs.MaskSets.{below-has, below-more}
 
 -- the masks have exactly the positions below a bound that the items of the cells meet
 pub record AreMetBelow (sets : Sets) (cells : Partition) (masks : List ℕ) (bound : ℕ) : Type 0 where

@@ -1,7 +1,6 @@
 -- What masks say of states.
 use Rattle.std.proofs.Common.{arith, ◌≡◌, ℕ, Bool, List, ◌↔◌, get_or, sym, subst, ◌<◌, ◌≤◌, ◌^◌, IsTrue, not, nat_eq, bit_and}
 use Rattle.std.proofs.lemmas.Option.{slice_get_read}
-use Rattle.std.proofs.Math.Nat.{lt_of_lt_of_le, pow-le-pow_right}
 use Rattle.value_ops.specs.declared.field.Field.{Field}
 use Rattle.predicate_cells.specs.Cells.{Partition, cell_count, IsIn}
 use Rattle.rate_expr.specs.Sets.{Sets, AreSets, Has}
@@ -9,9 +8,9 @@ use Rattle.symbolic_nfa.specs.Automata.{Automaton, IsMet}
 use Rattle.symbolic_nfa.specs.Growth.{IsUseful}
 use Rattle.symbolic_nfa.specs.States.{GoesOn, StepsTo, IsAccepted, Extends}
 use Rattle.symbolic_nfa.specs.Tables.{AreTables}
-use Rattle.symbolic_nfa.specs.declared.state.State.{State}
-use Rattle.symbolic_nfa.specs.declared.state.State.TheVariants.{Initial, At}
-use Rattle.symbolic_nfa.proofs.Masks.{and-meeting, has-and, has-and_both}
+use Rattle.rate_expr.specs.declared.state.State.{State}
+use Rattle.rate_expr.specs.declared.state.State.TheVariants.{Initial, At}
+use Rattle.rate_expr.proofs.MaskSets.{AreMeeting, has-and, has-and_both}
 
 -- the positions in which words go on, of those that the items of the cell meet
 pub steps_to-and :
@@ -41,10 +40,6 @@ pub tables_of :
     → AreTables nfa met growing begins → AreTables seen met growing begins
 tables_of nfa seen met growing begins same tables =
     subst (λ (a : Automaton). AreTables a met growing begins) same tables
-
--- few positions fit a mask
-few_fit : (count mask : ℕ) → count ≤ 128 → mask < 2 ^ count → mask < 2 ^ 128
-few_fit count mask few within = lt_of_lt_of_le within (pow-le-pow_right (omega arith) few)
 
 -- so a step over the tables is one
 pub step-at :
@@ -101,25 +96,15 @@ extends-begins nfa met growing begins tables =
 -- and of any other
 pub extends-growing :
     (nfa : Automaton) (met : List ℕ) (growing : ℕ) (begins : Bool) (mask : ℕ)
-    → AreTables nfa met growing begins
-    → IsTrue (not (nat_eq (bit_and mask growing) 0)) ↔ Extends nfa (At mask)
-extends-growing nfa met growing begins mask tables =
-    let useful = extends-useful nfa (At mask) in
-    let fits : growing < 2 ^ 128 = few_fit _ _ tables.sets.few tables.within in
-    let meeting = and-meeting mask growing fits in (
-      λ test.
-          let (from, has, grows) = meeting.0 test in
+    → AreTables nfa met growing begins → (test : Bool) → IsTrue test ↔ AreMeeting mask growing
+    → IsTrue test ↔ Extends nfa (At mask)
+extends-growing nfa met growing begins mask tables test meeting =
+    let useful = extends-useful nfa (At mask) in (
+      λ is.
+          let (from, has, grows) = meeting.0 is in
           let (next, follows, ends) = (tables.growing_is from).0 grows in
           useful.1 (next, (from, has, follows), ends),
       λ extends.
           let (next, (from, has, follows), ends) = useful.0 extends in
           meeting.1 (from, has, (tables.growing_is from).1 (next, follows, ends)),
     )
-
--- a word may end in one of the positions
-pub accepted-and :
-    (sets : Sets) (mask : ℕ) → AreSets sets
-    → IsTrue (not (nat_eq (bit_and mask sets.last) 0)) ↔ IsAccepted sets (At mask)
-accepted-and sets mask are =
-    let fits : sets.last < 2 ^ 128 = few_fit _ _ are.few are.last in
-    and-meeting mask sets.last fits

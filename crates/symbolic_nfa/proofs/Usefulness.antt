@@ -1,5 +1,5 @@
 -- The positions that are useful, told by masks alone.
-use Rattle.std.proofs.Common.{◌≡◌, ◌⊎◌, inl, inr, ℕ, zero, suc, ◌<◌, ◌^◌, ◌↔◌, List, [], ◌∷◌, Some, length, fold, refl, sym, subst, slice_get, get_or, IsTrue, not, nat_eq, bit_and, bit_or}
+use Rattle.std.proofs.Common.{◌≡◌, ◌⊎◌, inl, inr, ℕ, zero, suc, ◌<◌, ◌^◌, ◌↔◌, List, [], ◌∷◌, Some, length, fold, refl, sym, subst, slice_get, get_or, Bool, IsTrue, bit_or}
 use Rattle.std.proofs.lemmas.Option.{slice_get-get_or, slice_get_within}
 use Rattle.value_ops.specs.declared.field.Field.{Field}
 use Rattle.item_schema.specs.Items.{IsItemOf}
@@ -13,8 +13,8 @@ use Rattle.symbolic_nfa.specs.Automata.{Automaton, AreDecided, AreMet}
 use Rattle.symbolic_nfa.specs.Ends.{ComesBefore, EndsThrough, LeadsThrough}
 use Rattle.symbolic_nfa.specs.Growth.{BeginsWords, Grows, IsUseful}
 use Rattle.symbolic_nfa.specs.Tables.{AreTables}
-use Rattle.rate_expr.proofs.Masks.{has_first, has_or, has_second, has_zero}
-use Rattle.symbolic_nfa.proofs.Masks.{and-meeting}
+use Rattle.rate_expr.proofs.MaskMembers.{has_first, has_or, has_second, has_zero}
+use Rattle.rate_expr.proofs.MaskSets.{AreMeeting}
 
 -- one of the masks has the position
 abbrev IsInSome : List ℕ → ℕ → Type 0
@@ -159,24 +159,22 @@ before-grows nfa useful growing exact before position = (
 
 -- and words may begin in one of them or not
 first-begins :
-    (nfa : Automaton) (useful : ℕ) → useful < 2 ^ 128 → AreUseful nfa useful
-    → IsTrue (not (nat_eq (bit_and nfa.sets.first useful) 0)) ↔ BeginsWords nfa
-first-begins nfa useful fits exact =
-    let meeting = and-meeting nfa.sets.first useful fits in (
-      λ test. let (begin, first, has) = meeting.0 test in (begin, first, (exact begin).0 has),
-      λ (begin, first, is). meeting.1 (begin, first, (exact begin).1 is),
-    )
+    (nfa : Automaton) (useful : ℕ) → AreUseful nfa useful
+    → AreMeeting nfa.sets.first useful ↔ BeginsWords nfa
+first-begins nfa useful exact = (
+  λ (begin, first, has). (begin, first, (exact begin).0 has),
+  λ (begin, first, is). (begin, first, (exact begin).1 is),
+)
 
 -- the tables of an automaton
 pub tables-made :
-    (nfa : Automaton) (met : List ℕ) (useful growing : ℕ) → AreSets nfa.sets
+    (nfa : Automaton) (met : List ℕ) (useful growing : ℕ) (begins : Bool) → AreSets nfa.sets
     → AreDecided nfa.sets nfa.cells → AreMet nfa.sets nfa.cells met
-    → useful < 2 ^ 128
     → ((position : ℕ) → Has useful position ↔ EndsThrough nfa.sets (fold bit_or 0 met) position)
     → growing < 2 ^ length nfa.sets.preds
     → ((position : ℕ) → Has growing position ↔ ComesBefore nfa.sets useful position)
-    → AreTables nfa met growing (not (nat_eq (bit_and nfa.sets.first useful) 0))
-tables-made nfa met useful growing sets decided are fits ending within before =
+    → IsTrue begins ↔ AreMeeting nfa.sets.first useful → AreTables nfa met growing begins
+tables-made nfa met useful growing begins sets decided are ending within before meeting =
     let exact = ending-useful nfa met useful are ending in
     record {
       sets = sets;
@@ -184,5 +182,6 @@ tables-made nfa met useful growing sets decided are fits ending within before =
       met_is = are;
       within = within;
       growing_is = before-grows nfa useful growing exact before;
-      begins_is = first-begins nfa useful fits exact;
+      begins_is = let words = first-begins nfa useful exact in
+          (λ test. words.0 (meeting.0 test), λ some. meeting.1 (words.1 some));
     }

@@ -1,17 +1,18 @@
 -- States, words and rates.
 use Rattle.std.proofs.Common.{◌≡◌, ℕ, List, [], ◌∷◌, ◌++◌, ◌↔◌, refl, ap, subst}
 use Rattle.value_ops.specs.declared.field.Field.{Field}
+use Rattle.rate_expr.specs.Behind.{IsBehind}
 use Rattle.rate_expr.specs.Language.{In}
 use Rattle.rate_expr.specs.Paths.{Spells, AreOf}
 use Rattle.rate_expr.specs.Rates.{Expression}
+use Rattle.rate_expr.specs.Readings.{HasExtension}
 use Rattle.rate_expr.specs.Sets.{Sets, Has}
 use Rattle.rate_expr.specs.Words.{Word}
 use Rattle.symbolic_nfa.specs.Automata.{Automaton}
-use Rattle.symbolic_nfa.specs.States.{Steps, StepsTo, IsBehind, IsAccepted, LeadsToEnd, Extends, HasExtension}
-use Rattle.symbolic_nfa.specs.declared.state.State.{State}
-use Rattle.symbolic_nfa.specs.declared.state.State.TheVariants.{Initial, At}
-use Rattle.symbolic_nfa.proofs.Masks.{same-has}
-use Rattle.symbolic_nfa.proofs.PathsOn.{leads-append, leads-split}
+use Rattle.symbolic_nfa.specs.States.{Steps, StepsTo, IsAccepted, LeadsToEnd, Extends}
+use Rattle.rate_expr.specs.declared.state.State.{State}
+use Rattle.rate_expr.specs.declared.state.State.TheVariants.{Initial, At}
+use Rattle.rate_expr.proofs.PathsOn.{leads_append, leads_begun_parts}
 
 -- one item behind the empty word
 behind_first :
@@ -31,9 +32,9 @@ behind_next :
 behind_next sets first word mask item after behind steps to = (
   λ has. let met = steps.sound to has in
       let went = met.0 in
-      leads-append sets (first ∷ word) went.0 (item ∷ []) to ((behind went.0).0 went.1)
+      leads_append sets (first ∷ word) went.0 (item ∷ []) to ((behind went.0).0 went.1)
       (to, went.2, met.1, refl),
-  λ leads. let rest = leads-split sets first word (item ∷ []) to leads in
+  λ leads. let rest = leads_begun_parts sets first word (item ∷ []) to leads in
       let on = rest.2 in
       subst (λ (p : ℕ). Has after p) on.3
       (steps.whole on.0 (rest.0, (behind rest.0).1 rest.1, on.1) on.2),
@@ -49,20 +50,6 @@ is_behind-step sets [] (At mask) (At after) item behind steps = absurd behind
 is_behind-step sets (first ∷ word) Initial (At after) item behind steps = absurd behind
 is_behind-step sets (first ∷ word) (At mask) (At after) item behind steps =
     behind_next sets first word mask item after behind steps
-
--- there is one state behind a word
-pub one-behind :
-    (sets : Sets) (word : Word) (state other : State) → IsBehind sets word state
-    → IsBehind sets word other → other ≡ state
-one-behind sets [] Initial Initial behind also = refl
-one-behind sets [] Initial (At mask) behind also = absurd also
-one-behind sets [] (At mask) other behind also = absurd behind
-one-behind sets (item ∷ word) Initial other behind also = absurd behind
-one-behind sets (item ∷ word) (At mask) Initial behind also = absurd also
-one-behind sets (item ∷ word) (At mask) (At other) behind also = ap At (same-has other mask (λ to. (
-  λ has. (behind to).1 ((also to).0 has),
-  λ has. (also to).1 ((behind to).0 has),
-)))
 
 -- a word is accepted exactly where it spells a path to an end
 pub is_accepted-spells :
@@ -97,12 +84,12 @@ leads_to_end-spells sets (first ∷ u) Initial item word behind = absurd behind
 leads_to_end-spells sets (first ∷ u) (At mask) item word behind = (
   λ (next, end, (from, has, follows), meets, path, last). (
     end,
-    leads-append sets (first ∷ u) from (item ∷ word) end ((behind from).0 has)
+    leads_append sets (first ∷ u) from (item ∷ word) end ((behind from).0 has)
         (next, follows, meets, path),
     last,
   ),
   λ (end, leads, last).
-      let rest = leads-split sets first u (item ∷ word) end leads in
+      let rest = leads_begun_parts sets first u (item ∷ word) end leads in
       let on = rest.2 in
       (on.0, end, (rest.0, (behind rest.0).1 rest.1, on.1), on.2, on.3, last),
 )
@@ -110,7 +97,7 @@ leads_to_end-spells sets (first ∷ u) (At mask) item word behind = (
 -- the state behind a word extends exactly where the word has an extension
 pub extends-in :
     (nfa : Automaton) (rate : Expression) (u : Word) (state : State) → AreOf nfa.sets rate
-    → IsBehind nfa.sets u state → Extends nfa state ↔ HasExtension nfa rate u
+    → IsBehind nfa.sets u state → Extends nfa state ↔ HasExtension nfa.cells.layout.columns rate u
 extends-in nfa rate u state are behind = (
   λ on. let way = leads_to_end-spells nfa.sets u state on.item on.word behind in
       (on.item, on.word, on.items, (are (u ++ on.item ∷ on.word)).1 (way.0 on.ends)),

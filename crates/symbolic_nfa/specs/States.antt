@@ -1,23 +1,16 @@
--- The states of an automaton, and the words that lead to them.
-use Rattle.std.specs.Prelude.{◌≡◌, ◌<◌, ◌^◌, ℕ, true, List, [], ◌∷◌, ◌++◌, length}
+-- Where an automaton goes from its states.
+use Rattle.std.specs.Prelude.{◌≡◌, ℕ, true, List, [], ◌∷◌}
 use Rattle.value_ops.specs.declared.field.Field.{Field}
-use Rattle.rate_expr.specs.Language.{In}
-use Rattle.rate_expr.specs.Paths.{Follows, Meets, Leads, LeadsOn}
-use Rattle.rate_expr.specs.Rates.{Expression}
+use Rattle.rate_expr.specs.Paths.{Follows, Meets, LeadsOn}
 use Rattle.rate_expr.specs.Sets.{Sets, Has}
 use Rattle.rate_expr.specs.Words.{Word, IsWordOf}
 use Rattle.symbolic_nfa.specs.Automata.{Automaton, IsMet}
-use Rattle.symbolic_nfa.specs.declared.state.State.{State}
-use Rattle.symbolic_nfa.specs.declared.state.State.TheVariants.{Initial, At}
+use Rattle.rate_expr.specs.declared.state.State.{State}
+use Rattle.rate_expr.specs.declared.state.State.TheVariants.{Initial, At}
 
 -- the mask has the positions that the items of a cell meet
 abbrev pub IsMetBy : Automaton → ℕ → ℕ → Type 0
 IsMetBy nfa cell mask = IsMet nfa.sets nfa.cells cell mask
-
--- the state's positions exist
-abbrev pub IsStateOf : Sets → State → Type 0
-IsStateOf sets Initial = Unit {0}
-IsStateOf sets (At mask) = mask < 2 ^ length sets.preds
 
 -- a word may go on from the state in the position
 abbrev pub GoesOn : Sets → State → ℕ → Type 0
@@ -34,15 +27,6 @@ pub record StepsTo (sets : Sets) (state : State) (item : List Field) (mask : ℕ
 abbrev pub Steps : Sets → State → List Field → State → Type 0
 Steps sets state item Initial = ⊥
 Steps sets state item (At mask) = StepsTo sets state item mask
-
--- the state behind a word: the initial state behind the empty one, and behind any other the set of
--- positions in which a path that it spells ends
-abbrev pub IsBehind : Sets → Word → State → Type 0
-IsBehind sets [] Initial = Unit {0}
-IsBehind sets [] (At mask) = ⊥
-IsBehind sets (item ∷ word) Initial = ⊥
-IsBehind sets (item ∷ word) (At mask) =
-    (to : ℕ) → (Has mask to → Leads sets (item ∷ word) to) × (Leads sets (item ∷ word) to → Has mask to)
 
 -- a word may end in the state
 abbrev pub IsAccepted : Sets → State → Type 0
@@ -61,8 +45,3 @@ pub record Extends (nfa : Automaton) (state : State) : Type 0 where
   pub word : Word
   pub items : IsWordOf nfa.cells.layout.columns (item ∷ word)
   pub ends : LeadsToEnd nfa.sets state (item ∷ word)
-
--- some word of the rate goes on behind this one by at least one item of the stream
-abbrev pub HasExtension : Automaton → Expression → Word → Type 0
-HasExtension nfa rate word = (item : List Field) × (more : Word)
-    × IsWordOf nfa.cells.layout.columns (item ∷ more) × In rate (word ++ item ∷ more)

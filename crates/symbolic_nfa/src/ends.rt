@@ -4,6 +4,7 @@ ghost use Rattle.rate_expr.specs.Sets.{Has};
 ghost use Rattle.symbolic_nfa.specs.Ends.{ComesBefore, EndsThrough};
 
 use rate_expr::Positions;
+use rate_expr::masks::{only, overlap};
 
 // The positions from which a path through positions of the mask leads to where words may end.
 pub(crate) fn ending_through(positions: &Positions, mask: u128) -> u128
@@ -26,8 +27,8 @@ pub(crate) fn before(positions: &Positions, targets: u128) -> u128
 {
     let mut found = 0;
     'positions: for position in 0..positions.count() {
-        if positions.follow(position) & targets != 0 {
-            found |= 1 << position;
+        if overlap(positions.follow(position), targets) {
+            found |= only(position);
         }
     }
     found

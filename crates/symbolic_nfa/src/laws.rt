@@ -1,14 +1,16 @@
 //! What states say of words.
 ghost use Rattle.std.specs.Prelude.{◌≡◌, ◌↔◌, List, [], ◌∷◌, ◌++◌};
 ghost use Rattle.value_ops.specs.declared.field.Field.{Field};
+ghost use Rattle.rate_expr.specs.Behind.{IsBehind};
 ghost use Rattle.rate_expr.specs.Language.{In};
 ghost use Rattle.rate_expr.specs.Paths.{AreOf};
 ghost use Rattle.rate_expr.specs.Rates.{Expression};
+ghost use Rattle.rate_expr.specs.Readings.{HasExtension};
 ghost use Rattle.rate_expr.specs.Sets.{Sets};
 ghost use Rattle.rate_expr.specs.Words.{Word};
 ghost use Rattle.symbolic_nfa.specs.Automata.{Automaton};
-ghost use Rattle.symbolic_nfa.specs.States.{Extends, HasExtension, IsAccepted, IsBehind, Steps};
-ghost use Rattle.symbolic_nfa.specs.declared.state.State.{State};
+ghost use Rattle.rate_expr.specs.declared.state.State.{State};
+ghost use Rattle.symbolic_nfa.specs.States.{Extends, IsAccepted, Steps};
 
 /// A step leads from the state behind a word to the one behind the word and the item.
 pub fn steps_lead_on()
@@ -16,12 +18,6 @@ pub fn steps_lead_on()
     ensures goes_on { (sets : Sets) (word : Word) (state next : State) (item : List Field)
         → IsBehind sets word state → Steps sets state item next
         → IsBehind sets (word ++ item ∷ []) next }
-{}
-
-/// There is one state behind a word.
-pub fn one_state_behind_a_word()
-    ensures { (sets : Sets) (word : Word) (state other : State)
-        → IsBehind sets word state → IsBehind sets word other → other ≡ state }
 {}
 
 /// A word is in the rate exactly where the state behind it is accepted.
@@ -34,5 +30,5 @@ pub fn acceptance_is_membership()
 pub fn extending_is_having_an_extension()
     ensures { (nfa : Automaton) (rate : Expression) (word : Word) (state : State)
         → AreOf nfa.sets rate → IsBehind nfa.sets word state
-        → Extends nfa state ↔ HasExtension nfa rate word }
+        → Extends nfa state ↔ HasExtension nfa.cells.layout.columns rate word }
 {}

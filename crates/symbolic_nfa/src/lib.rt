@@ -5,14 +5,10 @@ mod ends;
 mod laws;
 mod met;
 mod nfa;
-mod state;
 #[cfg(test)]
 mod tests;
 mod ways_on;
 
-pub use laws::{
-    acceptance_is_membership, extending_is_having_an_extension, one_state_behind_a_word,
-    steps_lead_on,
-};
+pub use laws::{acceptance_is_membership, extending_is_having_an_extension, steps_lead_on};
 pub use nfa::Nfa;
-pub use state::State;
+pub use rate_expr::State;

@@ -1,11 +1,13 @@
 //! Which positions the items of each cell meet.
 ghost use Rattle.std.specs.Prelude.{◌≡◌, ◌≤◌, ◌<◌, IfOk, OnOk, length, fold, bit_or};
+ghost use Rattle.language_base.specs.Limits.{max_cells, max_positions};
 ghost use Rattle.rate_expr.specs.Sets.{AreSets};
 ghost use Rattle.symbolic_nfa.specs.Automata.{AreDecided, AreMet};
 ghost use Rattle.symbolic_nfa.specs.Tables.{AddsPosition};
 
 use predicate_cells::{CellSet, Cells};
 use rate_expr::Positions;
+use rate_expr::masks::only;
 use std::alloc::{AllocError, Global};
 
 // For each cell, the positions that its items meet.
@@ -28,13 +30,13 @@ pub(crate) fn met_by_cells(
 
 // Gives the position to the masks of the cells that are in the set.
 fn add(masks: &mut [u128], position: u32, set: &CellSet)
-    requires few { length masks.old ≤ 4096 }
-    requires position { position < 128 }
+    requires few { length masks.old ≤ max_cells }
+    requires position { position < max_positions }
     ensures { AddsPosition masks.old masks.new position set.now }
 {
     'cells: for cell in 0..masks.len() {
         if set.has(cell as u32) {
-            masks[cell] |= 1 << position;
+            masks[cell] |= only(position);
         }
     }
 }

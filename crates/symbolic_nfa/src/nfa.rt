@@ -2,16 +2,17 @@
 ghost use Rattle.std.specs.Prelude.{◌≡◌, ◌<◌, ◌↔◌, List, IsTrue, IfOk, length};
 ghost use Rattle.value_ops.specs.declared.field.Field.{Field};
 ghost use Rattle.predicate_cells.specs.Cells.{cell_count, IsIn};
+ghost use Rattle.rate_expr.specs.Behind.{IsStateOf};
 ghost use Rattle.rate_expr.specs.Sets.{AreSets};
 ghost use Rattle.symbolic_nfa.specs.Automata.{AreDecided};
-ghost use Rattle.symbolic_nfa.specs.States.{Extends, IsAccepted, IsMetBy, IsStateOf, Steps};
+ghost use Rattle.symbolic_nfa.specs.States.{Extends, IsAccepted, IsMetBy, Steps};
 
-use crate::State;
 use crate::ends::{before, ending_through};
 use crate::met::{met_by_cells, union_of};
 use crate::ways_on::ways_on;
 use predicate_cells::Cells;
-use rate_expr::Positions;
+use rate_expr::masks::{end_of, overlap};
+use rate_expr::{Positions, State};
 use std::alloc::{AllocError, Global};
 use std::marker::Model;
 
@@ -57,7 +58,7 @@ impl Nfa {
             cells: cells.try_copy(alloc)?,
             met,
             growing: before(positions, useful),
-            begins: positions.first() & useful != 0,
+            begins: overlap(positions.first(), useful),
         })
     }
 
@@ -123,7 +124,7 @@ impl Nfa {
     {
         match state {
             State::Initial => true,
-            State::At(mask) => mask.checked_shr(self.count()).unwrap_or(0) == 0,
+            State::At(mask) => end_of(mask) <= self.count(),
         }
     }
 
@@ -144,7 +145,7 @@ impl Nfa {
     {
         match state {
             State::Initial => self.positions.nullable(),
-            State::At(mask) => mask & self.positions.last() != 0,
+            State::At(mask) => overlap(mask, self.positions.last()),
         }
     }
 
@@ -154,7 +155,7 @@ impl Nfa {
     {
         match state {
             State::Initial => self.begins,
-            State::At(mask) => mask & self.growing != 0,
+            State::At(mask) => overlap(mask, self.growing),
         }
     }
 }

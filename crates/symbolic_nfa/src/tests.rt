@@ -3,12 +3,11 @@
 // `ab|` a choice and `a*` a star. Each digit of a word is an item. An answer is `a` where a word may
 // end, `e` where it may go on to an end by at least one item, `b` for both and `-` for neither.
 use crate::{
-    Nfa, State, acceptance_is_membership, extending_is_having_an_extension,
-    one_state_behind_a_word, steps_lead_on,
+    Nfa, State, acceptance_is_membership, extending_is_having_an_extension, steps_lead_on,
 };
 use item_schema::{Column, Item, Kind, Schema, are_columns};
 use predicate_cells::{CellStop, Cells, Pred, Preds};
-use rate_expr::{Positions, Rate};
+use rate_expr::{MAX_POSITIONS, Positions, Rate};
 use std::alloc::{AllocError, Global};
 use std::process::Abort;
 use std::test::Fail;
@@ -87,7 +86,7 @@ fn rate_of(alloc: Global, text: &str) -> Result<Rate, AllocError> {
 
 fn positions_of(rt: &impl Abort, alloc: Global, text: &str) -> Result<Positions, AllocError> {
     let rate = rate_of(alloc, text)?;
-    assert!(rt; rate.positions() <= 128);
+    assert!(rt; rate.positions() <= MAX_POSITIONS);
     Positions::of(alloc, &rate)
 }
 
@@ -260,7 +259,6 @@ fn a_copy_has_the_same_positions_and_cells(rt: HostRuntime) -> Result<(), Fail> 
 #[test]
 fn laws_can_be_called() {
     steps_lead_on();
-    one_state_behind_a_word();
     acceptance_is_membership();
     extending_is_having_an_extension();
 }

@@ -1,11 +1,12 @@
 //! Where words go on from a state.
 ghost use Rattle.std.specs.Prelude.{ℕ, ◌<◌, ◌^◌, ◌↔◌, length};
+ghost use Rattle.rate_expr.specs.Behind.{IsStateOf};
 ghost use Rattle.rate_expr.specs.Sets.{AreSets, Has};
-ghost use Rattle.symbolic_nfa.specs.States.{GoesOn, IsStateOf};
-ghost use Rattle.symbolic_nfa.specs.declared.state.State.{State};
+ghost use Rattle.rate_expr.specs.declared.state.State.{State};
+ghost use Rattle.symbolic_nfa.specs.States.{GoesOn};
 
-use crate::State;
-use rate_expr::Positions;
+use rate_expr::masks::{lowest, without_lowest};
+use rate_expr::{Positions, State};
 
 // The positions in which a word may go on from the state.
 pub(crate) fn ways_on(positions: &Positions, state: State) -> u128
@@ -30,8 +31,8 @@ fn behind(positions: &Positions, mask: u128) -> u128
     let mut found = 0;
     let mut rest = mask;
     'positions: while rest != 0 {
-        found |= positions.follow(rest.trailing_zeros());
-        rest &= rest - 1;
+        found |= positions.follow(lowest(rest));
+        rest = without_lowest(rest);
     }
     found
 }

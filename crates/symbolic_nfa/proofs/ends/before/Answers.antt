@@ -1,20 +1,16 @@
 use Rattle.std.proofs.Common.{arith, ◌<◌}
 use Rattle.symbolic_nfa.proofs.Ending.{before-added, before-all, before-below, before-passed}
-use Rattle.symbolic_nfa.proofs.Masks.{and-none, and-some}
 use Rattle.symbolic_nfa.proofs.ends.before.Goals as goal
-use Rattle.symbolic_nfa.proofs.ends.before.Goals.{then-follow-targets-ne0, else-follow-targets-ne0}
+use Rattle.symbolic_nfa.proofs.ends.before.Goals.{then-overlap, else-overlap}
 
 pub positions-preserved : goal.positions-preserved
-positions-preserved c =
-    let few : c.positions.position < 128 = omega arith in
-    elim c.if-follow-targets-ne0.branch [
-      | then-follow-targets-ne0 w ↦ rw w.found-is
-          (before-added _ _ _ _ _ few c.positions.invariant c.follow.ensures
-          (and-some _ _ (omega arith) (omega arith)))
-      | else-follow-targets-ne0 w ↦ rw w.found-is
-          (before-passed _ _ _ _ _ c.positions.invariant c.follow.ensures
-          (and-none _ _ w.if-follow-targets-ne0.false))
-    ]
+positions-preserved c = elim c.if-overlap.branch [
+  | then-overlap w ↦ rw (w.found-is, w.only-found.ensures)
+      (before-added _ _ _ _ _ c.positions.invariant c.follow.ensures w.if-overlap.ensures)
+  | else-overlap w ↦ rw w.found-is
+      (before-passed _ _ _ _ _ c.positions.invariant c.follow.ensures
+      (λ both. w.if-overlap.ensures both.0 both.1 both.2))
+]
 
 pub returns-clause-exact : goal.returns-clause-exact
 returns-clause-exact c =

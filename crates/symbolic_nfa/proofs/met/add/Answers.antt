@@ -8,8 +8,8 @@ cells-init c = added-none _ _ _
 
 pub cells-preserved : goal.cells-preserved
 cells-preserved c = elim c.if-has.branch [
-  | then-has w ↦ rw w.masks-is
-      (added-here _ _ _ _ _ c.cells.invariant (omega arith) c.requires.position
+  | then-has w ↦ rw (w.masks-is, w.only.ensures)
+      (added-here _ _ _ _ _ c.cells.invariant (omega arith)
       (c.has.ensures.0 w.if-has.true))
   | else-has w ↦ rw w.masks-is
       (added-passed _ _ _ _ _ c.cells.invariant (λ is_in. let has = c.has.ensures.1 is_in in cc))

@@ -1,6 +1,6 @@
-use Rattle.symbolic_nfa.proofs.StatesOn.{accepted-and}
+use Rattle.rate_expr.proofs.MaskSets.{overlap_tells}
 use Rattle.symbolic_nfa.proofs.nfa.Nfa.accepts.Goals as goal
 
 pub returns-in-At : goal.returns-in-At
 returns-in-At c =
-    rw (c.last.ensures, c.in-At.is, ← c.self.view_is) (accepted-and _ _ c.self.invariant.sets)
+    rw (c.in-At.is, ← c.self.view_is) (rw c.last.ensures at (overlap_tells _ _ _ c.overlap.ensures))

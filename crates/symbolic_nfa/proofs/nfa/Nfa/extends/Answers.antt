@@ -1,3 +1,4 @@
+use Rattle.rate_expr.proofs.MaskSets.{overlap_tells}
 use Rattle.symbolic_nfa.proofs.StatesOn.{extends-begins, extends-growing}
 use Rattle.symbolic_nfa.proofs.nfa.Nfa.extends.Goals as goal
 
@@ -7,4 +8,5 @@ returns-in-Initial c =
 
 pub returns-in-At : goal.returns-in-At
 returns-in-At c =
-    rw (c.in-At.is, ← c.self.view_is) (extends-growing _ _ _ _ _ c.self.invariant)
+    rw (c.in-At.is, ← c.self.view_is)
+    (extends-growing _ _ _ _ _ c.self.invariant _ (overlap_tells _ _ _ c.overlap.ensures))
