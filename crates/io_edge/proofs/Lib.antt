@@ -1,4 +1,5 @@
 mod Copies
+mod Fillings
 mod Pieces
 pub mod LineLaws
 pub mod OneList

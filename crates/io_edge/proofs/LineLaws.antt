@@ -5,7 +5,7 @@ use Rattle.std.proofs.lemmas.Bool.{ne_eqb, cases_lt, lt-ltb}
 use Rattle.std.specs.Io.BufRead.{strip_last}
 use Rattle.io_edge.specs.Lines.{Shown, text, long, NoLf, ended_by_lf, ended_by_end, last_line, lines_from}
 use Rattle.io_edge.specs.Started.{StandsFor}
-use Rattle.io_edge.specs.declared.under_way.TheConstants.{MAX_LINE}
+use Rattle.io_edge.specs.Limits.{max_line}
 
 -- bytes without an LF go into the line that has begun
 pub lines_from-piece : (start piece rest : List ℕ) (ended : Bool) → NoLf piece
@@ -20,14 +20,14 @@ lines_from-piece start (x ∷ piece) rest ended no_lf =
 
 -- what is shown of a line depends on its bytes only where it is not too long
 unless_long : (shows : List ℕ → Shown) (bytes others : List ℕ) → StandsFor bytes others
-    → cond (ltb MAX_LINE (length bytes)) long (shows bytes)
-    ≡ cond (ltb MAX_LINE (length others)) long (shows others)
+    → cond (ltb max_line (length bytes)) long (shows bytes)
+    ≡ cond (ltb max_line (length others)) long (shows others)
 unless_long shows bytes others stands =
-    elim (cases_lt MAX_LINE (length bytes)) [
+    elim (cases_lt max_line (length bytes)) [
       | inl above ↦
-          let others_above : MAX_LINE < length others = omega (arith, stands.count) in
-          rw (lt-ltb MAX_LINE (length bytes) above, lt-ltb MAX_LINE (length others) others_above)
-      | inr within ↦ ap (λ l. cond (ltb MAX_LINE (length l)) long (shows l)) (sym (stands.same within))
+          let others_above : max_line < length others = omega (arith, stands.count) in
+          rw (lt-ltb max_line (length bytes) above, lt-ltb max_line (length others) others_above)
+      | inr within ↦ ap (λ l. cond (ltb max_line (length l)) long (shows l)) (sym (stands.same within))
     ]
 
 -- so what an LF ends

@@ -11,7 +11,7 @@ use Rattle.io_edge.specs.Started.{StandsFor}
 use Rattle.io_edge.specs.Reading.{Reading, count_of, lines_after, Shows, Ends, CutAt, Answers}
 use Rattle.io_edge.specs.Answered.{shown_by}
 use Rattle.io_edge.specs.Told.{IsQuiet}
-use Rattle.io_edge.specs.declared.lines.TheConstants.{MAX_COUNT}
+use Rattle.io_edge.specs.Limits.{max_count}
 use Rattle.io_edge.specs.Steps.{Cuts, Joins, Reaches, Refills}
 use Rattle.io_edge.specs.declared.under_way.Answer.{Answer}
 use Rattle.io_edge.proofs.LineLaws.{lines_from-piece, lines_from-stands, ended_by_lf-stands}
@@ -175,8 +175,8 @@ Goes-no_lf old now got goes no_lf =
 
 -- where nothing was to be read, a read is asked for only at the most bytes that are taken
 pub Goes-quiet : (old now new : Reading) (got : List ℕ) → Goes old got now → Joins now new
-    → count_of now ≤ MAX_COUNT → IsQuiet old
-    → count_of new ≡ MAX_COUNT
+    → count_of now ≤ max_count → IsQuiet old
+    → count_of new ≡ max_count
 Goes-quiet old now new got goes joins few (inl met) = absurd (false≢true (sym goes.not_met ∙ met))
 Goes-quiet old now new got goes joins few (inr (inl lf)) = absurd (lf (Goes-no_lf old now got goes joins.no_lf))
 Goes-quiet old now new got goes joins few (inr (inr full)) =
@@ -193,8 +193,8 @@ Cuts-lf old shown new cuts no_lf =
 
 -- no line is found where the most bytes were taken before and none has an LF
 pub Goes-at_limit : (old now new : Reading) (got : List ℕ) (shown : Shown) → Goes old got now
-    → Cuts now shown new → count_of now ≤ MAX_COUNT
-    → NoLf old.unread → count_of old ≡ MAX_COUNT → ⊥
+    → Cuts now shown new → count_of now ≤ max_count
+    → NoLf old.unread → count_of old ≡ max_count → ⊥
 Goes-at_limit old now new got shown goes cuts few no_lf full =
     let none : got ≡ [] = nil_from_length got (omega (arith, goes.shows.count, full, few)) in
     let seen : goes.seen ++ now.unread ≡ old.unread =

@@ -1,5 +1,5 @@
 -- The counts by which an object of the outside tells that it failed, or that its input ended.
-use Rattle.std.specs.Prelude.{◌≡◌, ◌<◌, ◌≤◌, ℕ, ◌+◌, ◌-◌, ◌^◌, min, Result, Ok, MatchResult, is_err, ◌==◌, if◌then◌else◌}
+use Rattle.std.specs.Prelude.{◌≡◌, ◌<◌, ◌≤◌, ℕ, ◌+◌, ◌-◌, ◌^◌, min, Result, MatchResult, is_err, ◌==◌, if◌then◌else◌}
 
 -- a count after one more, kept at its last value
 abbrev pub next_count : ℕ → ℕ
@@ -14,16 +14,19 @@ abbrev pub FailsByFault : {T E : Type 0} → ℕ → ℕ → Result T E → Type
 FailsByFault before now result =
     (before ≤ now) × MatchResult result (λ _. now ≡ before) (λ _. Rose before now)
 
--- a read into some room gives nothing only where the count of ends rose
-abbrev pub EndsByEnd : {E : Type 0} → ℕ → ℕ → Result ℕ E → ℕ → Type 0
-EndsByEnd before now result room = (before ≤ now) × (result ≡ Ok 0 → 0 < room → Rose before now)
-
 -- the same of a call with several answers: this one comes only where the count rose, and each other
 -- answer leaves the count as it was
 pub record FailsBy (before now : ℕ) (failed : Type 0) : Type 0 where
   pub later : before ≤ now
   pub rose : failed → Rose before now
   pub else_same : (failed → ⊥) → now ≡ before
+
+-- the count of ends rises where a read into some room gives nothing, and every other read leaves it as
+-- it was
+abbrev pub EndsByEnd : {E : Type 0} → ℕ → ℕ → Result ℕ E → ℕ → Type 0
+EndsByEnd before now result room = (before ≤ now) × MatchResult result
+    (λ n. (n ≡ 0 → 0 < room → Rose before now) × (0 < n → now ≡ before))
+    (λ _. now ≡ before)
 
 -- a count of faults that says exactly when it rises: it is one more where the call failed
 abbrev pub CountsFault : {T E : Type 0} → ℕ → ℕ → Result T E → Type 0
@@ -34,3 +37,11 @@ abbrev pub CountsEnd : {E : Type 0} → ℕ → ℕ → Result ℕ E → Type 0
 CountsEnd before now result = MatchResult result
     (λ n. now ≡ (if n == 0 then next_count before else before))
     (λ _. now ≡ before)
+
+-- the counts of faults and of ends over a read: they tell a fault and the end, each by one more
+pub record CountsRead {E : Type 0} (faults faults' ends ends' : ℕ) (result : Result ℕ E) (room : ℕ)
+    : Type 0 where
+  pub cause : FailsByFault faults faults' result
+  pub end : EndsByEnd ends ends' result room
+  pub faults_by_one : CountsFault faults faults' result
+  pub ends_by_one : CountsEnd ends ends' result

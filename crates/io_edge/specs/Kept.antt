@@ -1,6 +1,6 @@
 -- How a line under way is kept.
-use Rattle.std.specs.Prelude.{◌≡◌, ◌<◌, ◌≤◌, ◌+◌, ◌^◌, true, [], ◌++◌, replicate, vec_len, vec_capacity, if◌then◌else◌}
-use Rattle.io_edge.specs.declared.under_way.TheConstants.{MAX_LINE}
+use Rattle.std.specs.Prelude.{◌≡◌, ◌<◌, ◌≤◌, ◌+◌, true, [], ◌++◌, replicate, vec_len, vec_capacity, if◌then◌else◌}
+use Rattle.io_edge.specs.Limits.{max_count, max_line}
 use Rattle.io_edge.specs.Started.{Started}
 use Rattle.io_edge.specs.declared.under_way.UnderWay.TheInside.{Inside}
 
@@ -13,8 +13,8 @@ started_of u = record {
 
 -- bytes are let go only of a line that is too long, and there is room for each other line
 pub record IsKept (u : Inside) : Type 0 where
-  pub fits : vec_len u.bytes ≤ MAX_LINE
-  pub room : MAX_LINE ≤ vec_capacity u.bytes
-  pub too_long : 0 < u.beyond → MAX_LINE < vec_len u.bytes + u.beyond
-  pub count : vec_len u.bytes + u.beyond < 2 ^ 63
+  pub fits : vec_len u.bytes ≤ max_line
+  pub room : max_line ≤ vec_capacity u.bytes
+  pub too_long : 0 < u.beyond → max_line < vec_len u.bytes + u.beyond
+  pub count : vec_len u.bytes + u.beyond ≤ max_count
   pub over : u.is_shown ≡ true → u.beyond ≡ 0

@@ -2,6 +2,7 @@ pub mod Answered
 pub mod Counts
 pub mod Ended
 pub mod Kept
+pub mod Limits
 pub mod Lines
 pub mod Memory
 pub mod Reading
@@ -9,5 +10,6 @@ pub mod RealFile
 pub mod Started
 pub mod Steady
 pub mod Steps
+pub mod Taken
 pub mod Told
 pub mod Written

@@ -2,7 +2,7 @@
 use Rattle.std.specs.Prelude.{◌≡◌, ◌≢◌, ℕ, Bool, ◌&&◌, List, [], ◌∷◌, ◌++◌, length, All, nat_lt, ◌==◌, if◌then◌else◌, map}
 use Rattle.std.specs.List.{flat_map, AllByRecursion}
 use Rattle.std.specs.Io.BufRead.{strip_last}
-use Rattle.io_edge.specs.declared.under_way.TheConstants.{MAX_LINE}
+use Rattle.io_edge.specs.Limits.{max_line}
 
 -- what a line shows: its text, or only that it is too long
 pub data Shown : Type 0 where
@@ -12,11 +12,11 @@ pub data Shown : Type 0 where
 -- what the line of these raw bytes shows where an LF ended it: one CR before the LF is dropped, after
 -- the count
 abbrev pub ended_by_lf : List ℕ → Shown
-ended_by_lf raw = if nat_lt MAX_LINE (length raw) then long else text (strip_last 13 raw)
+ended_by_lf raw = if nat_lt max_line (length raw) then long else text (strip_last 13 raw)
 
 -- and where the end of the input did: no CR is dropped
 abbrev pub ended_by_end : List ℕ → Shown
-ended_by_end raw = if nat_lt MAX_LINE (length raw) then long else text raw
+ended_by_end raw = if nat_lt max_line (length raw) then long else text raw
 
 -- the line of the bytes after the last LF: there is one where the input has ended and there are any
 abbrev pub last_line : List ℕ → Bool → List Shown

@@ -1,6 +1,6 @@
 -- A line under way, as the contracts of its buffer see it.
 use Rattle.std.specs.Prelude.{◌≡◌, ◌≤◌, ℕ, List, length}
-use Rattle.io_edge.specs.declared.under_way.TheConstants.{MAX_LINE}
+use Rattle.io_edge.specs.Limits.{max_line}
 
 -- the line under way and the line answered last
 pub record Started : Type 0 where
@@ -12,4 +12,4 @@ pub record Started : Type 0 where
 -- these bytes show the same line: of one that is not too long they are the bytes themselves
 pub record StandsFor (bytes others : List ℕ) : Type 0 where
   pub count : length others ≡ length bytes
-  pub same : length bytes ≤ MAX_LINE → others ≡ bytes
+  pub same : length bytes ≤ max_line → others ≡ bytes

@@ -4,7 +4,7 @@ use Rattle.std.specs.Io.KnownBytes.{Consumes}
 use Rattle.io_edge.specs.Lines.{Shown, NoLf}
 use Rattle.io_edge.specs.Reading.{Reading, count_of, Shows, CutAt, Answers, Ends, Waits}
 use Rattle.io_edge.specs.Answered.{shown_by}
-use Rattle.io_edge.specs.declared.lines.TheConstants.{MAX_COUNT}
+use Rattle.io_edge.specs.Limits.{max_count}
 use Rattle.io_edge.specs.declared.under_way.Answer.{Answer}
 use Rattle.io_edge.specs.declared.lines.LineStop.{LineStop}
 use Rattle.io_edge.specs.declared.lines.LineStop.TheVariants.{Failed, Limit}
@@ -23,17 +23,17 @@ pub record Joins (old new : Reading) : Type 0 where
 pub record Refills (left left' : Option (List ℕ)) (old new : Reading) : Type 0 where
   pub bytes : Consumes left left' new.unread
   pub else_same : new ≡ record old { unread = new.unread }
-  pub few : count_of new ≤ MAX_COUNT
+  pub few : count_of new ≤ max_count
 
 -- the end of the input comes again at each call, and so does the limit
 pub record ComesAgain (old : Reading) (result : Result (Option Answer) LineStop) (new : Reading)
     : Type 0 where
   pub end : old.met ≡ true → (result ≡ Ok None) × (new ≡ old)
-  pub limit : old.met ≡ false → NoLf old.unread → count_of old ≡ MAX_COUNT → result ≡ Err Limit
+  pub limit : old.met ≡ false → NoLf old.unread → count_of old ≡ max_count → result ≡ Err Limit
 
 -- what each outcome says of the bytes `got` that were taken
 abbrev pub Reaches : Reading → List ℕ → Result (Option Answer) LineStop → Reading → Type 0
 Reaches old got (Ok (Some answer)) new = Answers old got (shown_by answer new.shown) new
 Reaches old got (Ok None) new = Ends old got [] new × (new.answered ≡ count_of new)
 Reaches old got (Err Failed) new = Waits old got new
-Reaches old got (Err Limit) new = Waits old got new × (count_of new ≡ MAX_COUNT)
+Reaches old got (Err Limit) new = Waits old got new × (count_of new ≡ max_count)

@@ -2,18 +2,19 @@
 ghost use Rattle.std.specs.Prelude.{◌≡◌, ◌<◌, None, Ok, length, IfOk};
 ghost use Rattle.std.specs.Io.{ReadsAtMost};
 ghost use Rattle.std.specs.Io.KnownBytes.{ReadConsumes};
-ghost use Rattle.io_edge.specs.Counts.{FailsByFault, EndsByEnd};
+ghost use Rattle.io_edge.specs.Counts.{CountsRead, FailsByFault, EndsByEnd};
 ghost use Rattle.io_edge.specs.RealFile.{ReadsFile};
 
+use crate::system::{fault, read_once};
 use crate::{Failed, Source};
 use std::alloc::{AllocError, Global};
 use std::fs::File;
 use std::io;
-use std::io::Read;
 use std::marker::Model;
 use std::rt::Files;
 
-/// Opened at its first read into some room. Where that fails, the next read tries again.
+/// Opened at its first read into some room, and closed at its end. Where it can not be opened, the next
+/// read tries again.
 #[derive(Drop)]
 pub struct LazyFile<R: Files + Input + Drop> {
     rt: R,
@@ -75,31 +76,39 @@ impl<R: Files + Input + Drop> Source for LazyFile<R> {
         if buf.is_empty() {
             return Ok(0);
         }
-        match read_once(&self.rt, self.path.as_str(), &mut self.opened, buf) {
-            Ok(0) => {
-                self.ends = self.ends.saturating_add(1);
-                Ok(0)
-            }
-            Ok(count) => Ok(count),
-            Err(_) => {
-                self.faults = self.faults.saturating_add(1);
-                Err(Failed)
-            }
+        if self.ends > 0 {
+            self.ends = self.ends.saturating_add(1);
+            return Ok(0);
         }
+        let answer = self.read_opened(buf);
+        if self.ends > 0 {
+            self.opened = None;
+        }
+        answer
     }
 }
 
-fn read_once<R: Files + Input + Drop>(
-    rt: &R,
-    path: &str,
-    opened: &mut Option<Opened<R>>,
-    buf: &mut [u8],
-) -> io::Result<usize>
-    ensures { ReadsAtMost result buf.new }
-{
-    match opened {
-        Some(opened) => opened.read(buf),
-        None => opened.insert(Opened::open(rt, path)?).read(buf),
+impl<R: Files + Input + Drop> LazyFile<R> {
+    /// Opens it where it is not open, and reads once.
+    fn read_opened(&mut self, buf: &mut [u8]) -> Result<usize, Failed>
+        ensures bound { ReadsAtMost result buf.new }
+        ensures counts { CountsRead self.old.faults self.new.faults self.old.ends self.new.ends
+            result (length buf.new) }
+        ensures path { self.new.path ≡ self.old.path }
+    {
+        if self.opened.is_none() {
+            match Opened::open(&self.rt, self.path.as_str()) {
+                Ok(opened) => self.opened = Some(opened),
+                Err(_) => return Err(fault(&mut self.faults)),
+            }
+        }
+        match &mut self.opened {
+            Some(Opened::Input(input)) => {
+                read_once(input, buf, &mut self.faults, &mut self.ends)
+            }
+            Some(Opened::File(file)) => read_once(file, buf, &mut self.faults, &mut self.ends),
+            None => unreachable!(),
+        }
     }
 }
 
@@ -108,15 +117,6 @@ impl<R: Files + Input + Drop> Opened<R> {
         match path {
             "-" => Ok(Opened::Input(rt.reader())),
             _ => Ok(Opened::File(File::open(rt, path)?)),
-        }
-    }
-
-    fn read(&mut self, buf: &mut [u8]) -> io::Result<usize>
-        ensures { ReadsAtMost result buf.new }
-    {
-        match self {
-            Opened::Input(input) => input.read(buf),
-            Opened::File(file) => file.read(buf),
         }
     }
 }
@@ -128,7 +128,7 @@ mod tests {
     use std::test::Fail;
 
     #[test]
-    fn opens_a_file_at_a_read_and_reads_it_to_its_end(rt: HostRuntime) -> Result<(), Fail> {
+    fn opens_a_file_at_a_read_and_reads_it_to_its_first_end(rt: HostRuntime) -> Result<(), Fail> {
         let _ = fs::remove_file(&rt, "later");
         let mut file = LazyFile::new(rt, rt.alloc(), "later")?;
         let mut buf = [0; 4];
@@ -142,6 +142,9 @@ mod tests {
         assert_eq!(rt; (file.faults, file.ends), (1, 0));
         assert_eq!(rt; file.read(&mut buf), Ok(0));
         assert_eq!(rt; (file.faults, file.ends), (1, 1));
+        fs::write(&rt, "later", "hello again")?;
+        assert_eq!(rt; file.read(&mut buf), Ok(0));
+        assert_eq!(rt; (file.faults, file.ends), (1, 2));
         fs::remove_file(&rt, "later")?;
         Ok(())
     }

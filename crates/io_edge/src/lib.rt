@@ -8,11 +8,15 @@ mod lines;
 mod memory_sink;
 mod memory_source;
 mod remaining;
+#[cfg(test)]
+mod resumed_source;
 mod sink;
 mod source;
 mod stdout_sink;
 mod steady_sink;
 mod steady_source;
+mod system;
+mod to_limit;
 mod under_way;
 
 pub use laws::one_list_of_lines;
@@ -25,3 +29,4 @@ pub use source::{Failed, Source};
 pub use stdout_sink::StdoutSink;
 pub use steady_sink::SteadySink;
 pub use steady_source::SteadySource;
+pub use to_limit::{TakeStop, read_to_limit};

@@ -47,7 +47,7 @@ pub struct Lines {
 
 impl Model for Lines {
     ghost use Rattle.std.specs.Prelude.{◌≡◌, ◌≤◌, ℕ, ◌+◌, [], length, true};
-    ghost use Rattle.io_edge.specs.declared.lines.TheConstants.{MAX_COUNT};
+    ghost use Rattle.io_edge.specs.Limits.{max_count};
     ghost use Rattle.io_edge.specs.Reading.{Reading};
 
     ghost Value = { Reading };
@@ -60,7 +60,7 @@ impl Model for Lines {
       shown = l.line.shown;
     } };
 
-    ghost invariant = { λ l. (l.answered + (length l.line.start + length l.chunk) ≤ MAX_COUNT)
+    ghost invariant = { λ l. (l.answered + (length l.line.start + length l.chunk) ≤ max_count)
         × (l.met ≡ true → (l.line.start ≡ []) × (l.chunk ≡ [])) };
 }
 
@@ -69,7 +69,7 @@ impl Lines {
     ghost use Rattle.std.specs.Io.BufRead.{Rests};
     ghost use Rattle.io_edge.specs.contracts.lines.Lines.{the_row};
     ghost use Rattle.io_edge.specs.Told.{Told, IsQuiet};
-    ghost use Rattle.io_edge.specs.declared.lines.TheConstants.{MAX_COUNT};
+    ghost use Rattle.io_edge.specs.Limits.{max_count};
     ghost use Rattle.io_edge.specs.Steps.{ComesAgain, Cuts, Joins, Reaches, Refills};
 
     /// Reserves memory for the longest line and for one read. No later call takes more.
@@ -91,7 +91,6 @@ impl Lines {
             Told (S.left source.old) (S.left source.new) (S.ends source.old) (S.ends source.new)
             self.old new result)) }
         ensures quiet { IsQuiet self.old → source.new ≡ source.old }
-        ensures later { S.ends source.old ≤ S.ends source.new }
         ensures cause { FailsBy (S.faults source.old) (S.faults source.new)
             (IsErrOf result LineStop.Failed) }
     {
@@ -115,7 +114,7 @@ impl Lines {
         ensures end { MeetsEnd (S.ends source.old) (S.ends source.new) (S.left source.new)
             ((self.old.met ≡ false) × (self.new.met ≡ true)) }
         ensures again { ComesAgain self.old result self.new }
-        ensures few { count_of self.new ≤ MAX_COUNT }
+        ensures few { count_of self.new ≤ max_count }
         ensures quiet { IsQuiet self.old → source.new ≡ source.old }
         ensures cause { FailsBy (S.faults source.old) (S.faults source.new)
             (IsErrOf result LineStop.Failed) }
@@ -163,8 +162,8 @@ impl Lines {
         ensures bytes { Refills (S.left source.old) (S.left source.new) self.old self.new }
         ensures count { MatchResult result (λ count. count ≡ length self.new.unread)
             (λ _. self.new ≡ self.old) }
-        ensures limit { IsErrOf result LineStop.Limit ↔ (count_of self.old ≡ MAX_COUNT) }
-        ensures quiet { count_of self.old ≡ MAX_COUNT → source.new ≡ source.old }
+        ensures limit { IsErrOf result LineStop.Limit ↔ (count_of self.old ≡ max_count) }
+        ensures quiet { count_of self.old ≡ max_count → source.new ≡ source.old }
         ensures end { MeetsEnd (S.ends source.old) (S.ends source.new) (S.left source.new)
             (result ≡ Ok 0) }
         ensures cause { FailsBy (S.faults source.old) (S.faults source.new)

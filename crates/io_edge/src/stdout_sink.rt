@@ -1,7 +1,9 @@
 //! A sink over standard output.
 ghost use Rattle.std.specs.Prelude.{◌≡◌, None};
 
+use crate::system::write_once;
 use crate::{Failed, Sink};
+use std::io;
 
 /// Keeps no buffer.
 #[derive(Drop)]
@@ -27,13 +29,7 @@ impl<R: Print + Drop> Sink for StdoutSink<R> {
         if bytes.is_empty() {
             return Ok(0);
         }
-        match self.rt.write_some(bytes) {
-            Ok(0) | Err(_) => {
-                self.faults = self.faults.saturating_add(1);
-                Err(Failed)
-            }
-            Ok(count) => Ok(count),
-        }
+        write_once(&mut io::writer(&self.rt), bytes, &mut self.faults)
     }
 }
 

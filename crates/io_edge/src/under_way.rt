@@ -1,7 +1,8 @@
 //! The line under way, in a buffer of the longest line that is shown.
-ghost use Rattle.std.specs.Prelude.{◌≡◌, ℕ, ◌+◌, ◌^◌, ◌<◌, ◌≤◌, [], ◌++◌, length, IfOk, vec_capacity};
+ghost use Rattle.std.specs.Prelude.{◌≡◌, ℕ, ◌+◌, ◌≤◌, [], ◌++◌, length, IfOk, vec_capacity};
 ghost use Rattle.std.specs.Io.BufRead.{strip_last};
 ghost use Rattle.io_edge.specs.Lines.{ended_by_lf, ended_by_end};
+ghost use Rattle.io_edge.specs.Limits.{max_count};
 ghost use Rattle.io_edge.specs.Started.{StandsFor};
 ghost use Rattle.io_edge.specs.Answered.{shown_by};
 
@@ -68,7 +69,7 @@ impl UnderWay {
     }
 
     pub(crate) fn add(&mut self, piece: &[u8])
-        requires { length self.old.start + length piece.now < 2 ^ 63 }
+        requires { length self.old.start + length piece.now ≤ max_count }
         ensures { StandsFor (self.old.start ++ piece.now) self.new.start }
     {
         if self.is_shown {

@@ -1,28 +1,40 @@
 use super::*;
 use crate::MemorySource;
+use crate::resumed_source::ResumedSource;
 use std::test::Fail;
 
-/// What the calls answer until the end, with a `|` behind each answer.
-fn answers(
+/// What the calls answer until the end or the limit, with a `|` behind each line.
+fn answers<S: Source>(
+    alloc: Global,
+    lines: &mut Lines,
+    source: &mut S,
+) -> Result<Vec<u8>, AllocError> {
+    let mut text = Vec::new(alloc);
+    for _ in 0..10 {
+        match lines.next(source) {
+            Ok(Line::Whole(line)) => text.extend_from_slice(line)?,
+            Ok(Line::Long) => text.extend_from_slice(b"long")?,
+            Ok(Line::End) => return Ok(text),
+            Err(LineStop::Failed) => text.extend_from_slice(b"failed")?,
+            Err(LineStop::Limit) => {
+                text.extend_from_slice(b"limit")?;
+                return Ok(text);
+            }
+        }
+        text.push(b'|')?;
+    }
+    Ok(text)
+}
+
+/// The same of these bytes from their front.
+fn answers_of(
     alloc: Global,
     bytes: &[u8],
     cuts: &[usize],
     fail_at: &[u64],
 ) -> Result<Vec<u8>, AllocError> {
     let mut source = MemorySource::new(alloc, bytes, cuts, fail_at)?;
-    let mut lines = Lines::new(alloc)?;
-    let mut text = Vec::new(alloc);
-    for _ in 0..10 {
-        match lines.next(&mut source) {
-            Ok(Line::Whole(line)) => text.extend_from_slice(line)?,
-            Ok(Line::Long) => text.extend_from_slice(b"long")?,
-            Ok(Line::End) => return Ok(text),
-            Err(LineStop::Failed) => text.extend_from_slice(b"failed")?,
-            Err(LineStop::Limit) => text.extend_from_slice(b"limit")?,
-        }
-        text.push(b'|')?;
-    }
-    Ok(text)
+    answers(alloc, &mut Lines::new(alloc)?, &mut source)
 }
 
 #[test]
@@ -40,7 +52,7 @@ fn lines_are_the_same_in_every_cut(rt: HostRuntime) -> Result<(), Fail> {
     ];
     for (bytes, want) in table {
         for cut in 1..9 {
-            let got = answers(rt.alloc(), bytes, &[cut; 9], &[])?;
+            let got = answers_of(rt.alloc(), bytes, &[cut; 9], &[])?;
             assert_eq!(rt; got.as_slice(), want, "at a cut of {cut}");
         }
     }
@@ -61,7 +73,7 @@ fn a_read_comes_only_for_a_line_and_a_failed_one_loses_no_byte(
         (5, 2, b"ab|failed|cd|"),
     ];
     for (cut, fail_at, want) in table {
-        let got = answers(rt.alloc(), b"ab\ncd", &[cut; 9], &[fail_at])?;
+        let got = answers_of(rt.alloc(), b"ab\ncd", &[cut; 9], &[fail_at])?;
         assert_eq!(rt;
             got.as_slice(),
             want,
@@ -89,9 +101,42 @@ fn a_line_is_long_from_65_537_bytes(rt: HostRuntime) -> Result<(), Fail> {
     for (count, end, shown) in table {
         let mut bytes = vec![in rt.alloc(); b'x'; count]?;
         bytes.extend_from_slice(end)?;
-        let got = answers(rt.alloc(), &bytes, &[], &[])?;
+        let got = answers_of(rt.alloc(), &bytes, &[], &[])?;
         let want = shown.unwrap_or(b"long".len()).saturating_add(1);
         assert_eq!(rt; got.len(), want, "at {count} bytes");
+    }
+    Ok(())
+}
+
+// So many bytes as the limit can not be read in a test.
+#[test]
+fn no_more_bytes_are_taken_than_the_limit(rt: HostRuntime) -> Result<(), Fail> {
+    let table: [(u64, &[u8]); 4] = [
+        (6, b"ab|cd|"),
+        (5, b"ab|limit"),
+        (3, b"ab|limit"),
+        (2, b"limit"),
+    ];
+    for (room, want) in table {
+        let mut source = MemorySource::new(rt.alloc(), b"ab\ncd", &[], &[])?;
+        let mut lines = Lines::new(rt.alloc())?;
+        lines.answered = MAX_COUNT - room;
+        let got = answers(rt.alloc(), &mut lines, &mut source)?;
+        assert_eq!(rt; got.as_slice(), want, "at a room of {room}");
+        let again = answers(rt.alloc(), &mut lines, &mut source)?;
+        assert!(rt; again.is_empty() || again.as_slice() == b"limit".as_slice());
+    }
+    Ok(())
+}
+
+#[test]
+fn the_first_end_is_the_end(rt: HostRuntime) -> Result<(), Fail> {
+    let mut source = ResumedSource::new(rt.alloc(), b"ab\ncd", b"ef\n")?;
+    let mut lines = Lines::new(rt.alloc())?;
+    for want in [b"ab|cd|".as_slice(), b""] {
+        let got = answers(rt.alloc(), &mut lines, &mut source)?;
+        assert_eq!(rt; got.as_slice(), want);
+        assert_eq!(rt; source.ends, 1);
     }
     Ok(())
 }

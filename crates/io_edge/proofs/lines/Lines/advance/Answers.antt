@@ -39,7 +39,7 @@ more-preserved g c =
     record {
       takes = Takes-turn _ _ _ _ _ _ _ now.takes c.in_default.ensures c.in_ok-refill.ensures.bytes;
       few = search rules;
-      later = search rules;
+      no_end = search rules;
       no_fault = search rules;
       quiet = λ quiet. cc (c.in_ok-refill.ensures.limit.1 (full quiet));
     }

@@ -1,0 +1,10 @@
+-- The limits of the lines of a source, each said once. The last value of each is accepted.
+use Rattle.std.specs.Prelude.{ℕ, ◌-◌, ◌^◌}
+
+-- the bytes before the end of a line, where the line is shown
+abbrev pub max_line : ℕ
+max_line = 65536
+
+-- the bytes that are taken in all
+abbrev pub max_count : ℕ
+max_count = 2 ^ 63 - 1
