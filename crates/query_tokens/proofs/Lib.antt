@@ -1,5 +1,6 @@
 pub mod Blanks
 pub mod Closing
+pub mod Existence
 pub mod FirstBytes
 pub mod Lengths
 pub mod NumberValue

@@ -1,5 +1,5 @@
-//! What a text says, it says in one way.
-ghost use Rattle.std.specs.Prelude.{◌≡◌, ℕ, List};
+//! What a text says, it says in one way, and each text says something or has a fault.
+ghost use Rattle.std.specs.Prelude.{◌≡◌, ◌⊎◌, ℕ, List};
 ghost use Rattle.query_tokens.specs.declared.token.Token.{Token};
 ghost use Rattle.query_tokens.specs.Raw.{IsString};
 ghost use Rattle.query_tokens.specs.Tokens.{AreTokens, FaultAfter};
@@ -10,10 +10,12 @@ pub fn one_list_of_tokens()
         → AreTokens at text others → others ≡ tokens }
 {}
 
-/// A text that has tokens has no fault.
+/// A text has tokens, or behind some of them a place where none begins, and not both.
 pub fn tokens_or_fault()
-    ensures { (at place : ℕ) (text : List ℕ) (tokens before : List Token) → AreTokens at text tokens
-        → FaultAfter at text before place → ⊥ }
+    ensures some { (at : ℕ) (text : List ℕ) → ((tokens : List Token) × AreTokens at text tokens)
+        ⊎ ((before : List Token) × (place : ℕ) × FaultAfter at text before place) }
+    ensures never_both { (at place : ℕ) (text : List ℕ) (tokens before : List Token) →
+        AreTokens at text tokens → FaultAfter at text before place → ⊥ }
 {}
 
 /// A text has one place of fault.
