@@ -2,6 +2,7 @@
 use Rattle.std.proofs.Common.{◌≡◌, ℕ, ◌+◌, ◌≤◌, List, [], ◌∷◌, ◌++◌, None, Ok, Err, Vec, refl, sym, ap, ◌∙◌, subst}
 use Rattle.std.proofs.lemmas.Bool.{le-ltb}
 use Rattle.std.specs.declared.alloc.Global.{Global}
+use Rattle.language_base.specs.Limits.{max_level}
 use Rattle.language_base.specs.declared.span.Span.{Span}
 use Rattle.query_tokens.specs.declared.token.Token.{Token}
 use Rattle.query_tokens.specs.declared.token.TokenKind.TheVariants.{Open}
@@ -9,7 +10,7 @@ use Rattle.query_trees.specs.declared.stop.TreeStop.{TreeStop}
 use Rattle.query_trees.specs.declared.stop.TreeStop.TheVariants.{NoList, Deep, Memory}
 use Rattle.query_trees.specs.declared.tree.Tree.{Tree}
 use Rattle.query_trees.specs.Terms.{Calls, AreArguments}
-use Rattle.query_trees.specs.Trees.{Trees, none, leaf, call, tree_before, trees_of, max_level}
+use Rattle.query_trees.specs.Trees.{Trees, none, leaf, call, tree_before, trees_of}
 use Rattle.query_trees.specs.Reads.{ReadsInCall, NextIs, Begins, IsBefore, AreInCall, behind_first, deep_in_arguments, deep_in_first, IsFirst}
 
 -- up to the most levels only its arguments may be

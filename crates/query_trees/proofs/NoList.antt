@@ -1,13 +1,14 @@
 -- Where tokens are no list of terms, as a reader of them finds it.
-use Rattle.std.proofs.Common.{◌≡◌, ℕ, zero, suc, true, false, List, [], ◌∷◌, ◌++◌, Some, None, refl, ap, ◌∙◌, add-one}
+use Rattle.std.proofs.Common.{◌≡◌, ◌⊎◌, inl, inr, ℕ, zero, suc, Bool, true, false, List, [], ◌∷◌, ◌++◌, Option, Some, None, refl, sym, ap, ◌∙◌, add-one, append_assoc, append-nil}
 use Rattle.std.proofs.lemmas.List.Sums.{fold-append}
+use Rattle.language_base.specs.declared.span.Span.{Span}
 use Rattle.query_tokens.specs.declared.token.Token.{Token}
 use Rattle.query_tokens.specs.declared.token.TokenKind.{TokenKind}
 use Rattle.query_tokens.specs.declared.token.TokenKind.TheVariants.{Word, Close}
 use Rattle.query_trees.specs.declared.place.Place.{Place}
 use Rattle.query_trees.specs.declared.place.Place.TheVariants.{AfterTerm, AfterWord, Argument}
 use Rattle.query_trees.specs.Steps.{step, walk, ends, behind, start, may_end}
-use Rattle.query_trees.specs.Terms.{AreTerms, BeginTerms, IsMisplaced, IsCutShort}
+use Rattle.query_trees.specs.Terms.{AreTerms, BeginTerms, IsMisplaced, IsCutShort, IsNoList}
 use Rattle.query_trees.specs.Trees.{Trees}
 use Rattle.query_trees.proofs.Places.{go_on-suc, walk-none, IsOutside-term}
 use Rattle.query_trees.proofs.Fit.{walk-step, terms-end}
@@ -96,3 +97,35 @@ pub terms :
     (tokens : List Token) (place : Place) → walk start tokens ≡ Some place → may_end place ≡ true
     → (trees : Trees) × AreTerms trees tokens
 terms tokens place at end = walk-finish tokens (AfterTerm 0) (ap ends at ∙ end)
+
+-- the tokens are a list of terms, or there is a place to name
+abbrev pub AreListOrNone : List Token → ℕ → Type 0
+AreListOrNone tokens end = ((trees : Trees) × AreTerms trees tokens) ⊎ ((span : Span) × IsNoList tokens end span)
+
+-- so it is where a reader has come to the end
+at_end : (tokens : List Token) (end : ℕ) (place : Place) (may : Bool) → walk start tokens ≡ Some place → may_end place ≡ may
+    → AreListOrNone tokens end
+at_end tokens end place true at is = inl (terms tokens place at is)
+at_end tokens end place false at is = inr (record { from = end; to = end }, inr (cut_short tokens place at is, refl))
+
+-- where it has come to a token, and goes on behind those over which it can step
+at_token : (tokens front rest : List Token) (end : ℕ) (token : Token) (place : Place) (next : Option Place) → tokens ≡ front ++ token ∷ rest
+    → walk start front ≡ Some place → step place token.kind ≡ next
+    → ((beyond : Place) → next ≡ Some beyond → AreListOrNone tokens end) → AreListOrNone tokens end
+at_token tokens front rest end token place None split at lost on = inr (token.span, inl (token, misplaced tokens front rest token place split at lost, refl))
+at_token tokens front rest end token place (Some next) split at goes on = on next refl
+
+-- where it has come to any place
+none_behind : (tokens front rest : List Token) (end : ℕ) (place : Place) → tokens ≡ front ++ rest
+    → walk start front ≡ Some place → AreListOrNone tokens end
+none_behind tokens front [] end place split at =
+    at_end tokens end place (may_end place) (ap (walk start) (split ∙ append-nil front) ∙ at) refl
+none_behind tokens front (token ∷ rest) end place split at =
+    let joined = fold-append behind start front (token ∷ []) in
+    at_token tokens front rest end token place (step place token.kind) split at refl
+    (λ next goes. none_behind tokens (front ++ token ∷ []) rest end next (split ∙ sym (append_assoc front (token ∷ []) rest))
+    (joined ∙ (ap (λ p. walk p (token ∷ [])) at ∙ goes)))
+
+-- and so at the start
+pub list_or_none : (tokens : List Token) (end : ℕ) → AreListOrNone tokens end
+list_or_none tokens end = none_behind tokens [] tokens end (AfterTerm 0) refl refl

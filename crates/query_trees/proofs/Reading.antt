@@ -1,6 +1,7 @@
 -- Terms, read one after the other.
 use Rattle.std.proofs.Common.{◌≡◌, ℕ, ◌+◌, ◌==◌, length, nat_lt, Bool, true, false, cond, List, [], ◌∷◌, ◌++◌, Option, Some, None, Ok, Err, refl, sym, ap, ◌∙◌, subst, ⊎_elim}
 use Rattle.std.proofs.Math.Dec.{eqb-suc-zero}
+use Rattle.language_base.specs.Limits.{max_level}
 use Rattle.language_base.specs.declared.span.Span.{Span}
 use Rattle.query_tokens.specs.declared.token.Token.{Token}
 use Rattle.query_tokens.specs.declared.token.TokenKind.TheVariants.{Close, Comma}
@@ -8,7 +9,7 @@ use Rattle.query_trees.specs.declared.stop.TreeStop.{TreeStop}
 use Rattle.query_trees.specs.declared.stop.TreeStop.TheVariants.{NoList, Deep, Memory}
 use Rattle.query_trees.specs.declared.tree.Tree.{Tree}
 use Rattle.query_trees.specs.Terms.{AreTerms}
-use Rattle.query_trees.specs.Trees.{Trees, none, leaf, call, tree_before, trees_of, first_of_two, max_level, first_deep}
+use Rattle.query_trees.specs.Trees.{Trees, none, leaf, call, tree_before, trees_of, first_of_two, first_deep}
 use Rattle.query_trees.proofs.Firsts.{no_two, first-in_call, first-term}
 use Rattle.query_trees.specs.Reads.{ReadsFirst, NextIs, AreInCall, behind_first, deep_in_first, AreRead}
 

@@ -1,6 +1,7 @@
 -- What is made of tokens that are known to be terms.
 use Rattle.std.specs.Prelude.{◌≡◌, ℕ, ◌+◌, nat_lt, if◌then◌else◌, List, [], ◌∷◌, ◌++◌, Option, Some, None, Vec, Result, Ok, Err}
 use Rattle.std.specs.declared.alloc.Global.{Global}
+use Rattle.language_base.specs.Limits.{max_level}
 use Rattle.language_base.specs.declared.span.Span.{Span}
 use Rattle.query_tokens.specs.declared.token.Token.{Token}
 use Rattle.query_tokens.specs.declared.token.TokenKind.{TokenKind}
@@ -9,7 +10,7 @@ use Rattle.query_trees.specs.declared.stop.TreeStop.{TreeStop}
 use Rattle.query_trees.specs.declared.stop.TreeStop.TheVariants.{NoList, Deep, Memory}
 use Rattle.query_trees.specs.declared.tree.Tree.{Tree}
 use Rattle.query_trees.specs.Terms.{IsLeaf, Calls, AreArguments, AreTerms}
-use Rattle.query_trees.specs.Trees.{Trees, none, leaf, call, tree_before, trees_of, max_level, first_deep}
+use Rattle.query_trees.specs.Trees.{Trees, none, leaf, call, tree_before, trees_of, first_deep}
 
 -- the tokens begin with one of this kind
 abbrev pub NextIs : TokenKind → List Token → Type 0

@@ -1,5 +1,6 @@
 -- Lists of terms, as plain trees of tokens.
 use Rattle.std.specs.Prelude.{ℕ, ◌+◌, List, [], ◌∷◌, nat_lt, if◌then◌else◌, Option, Some, None}
+use Rattle.language_base.specs.Limits.{max_level}
 use Rattle.language_base.specs.declared.span.Span.{Span}
 use Rattle.query_tokens.specs.declared.token.Token.{Token}
 use Rattle.query_trees.specs.declared.tree.Tree.{Tree, Leaf, Call', Row_of-Tree, end_of-Tree, more_of-Tree}
@@ -32,10 +33,6 @@ trees_of (tree ∷ rest) = tree_before tree (trees_of rest)
 abbrev pub first_of_two : Option Span → Option Span → Option Span
 first_of_two (Some span) other = Some span
 first_of_two None other = other
-
--- the most levels of a term
-abbrev pub max_level : ℕ
-max_level = 64
 
 -- the place of the first term in text order that is too deep, where the terms themselves have this level
 abbrev pub first_deep : ℕ → Trees → Option Span

@@ -1,5 +1,5 @@
-//! The law of what tokens are read as.
-ghost use Rattle.std.specs.Prelude.{◌≡◌, ℕ, List};
+//! What tokens are read as.
+ghost use Rattle.std.specs.Prelude.{◌≡◌, ◌⊎◌, ℕ, List};
 ghost use Rattle.language_base.specs.declared.span.Span.{Span};
 ghost use Rattle.query_tokens.specs.declared.token.Token.{Token};
 ghost use Rattle.query_trees.specs.Terms.{AreTerms, IsNoList};
@@ -7,6 +7,8 @@ ghost use Rattle.query_trees.specs.Trees.{Trees};
 
 /// Tokens are one list of terms, or none, and then there is one place to name.
 pub fn one_list_of_terms()
+    ensures some { (tokens : List Token) (end : ℕ) → ((trees : Trees) × AreTerms trees tokens)
+        ⊎ ((span : Span) × IsNoList tokens end span) }
     ensures one { (a b : Trees) (tokens : List Token)
         → AreTerms a tokens → AreTerms b tokens → b ≡ a }
     ensures never { (trees : Trees) (tokens : List Token) (end : ℕ) (span : Span)
