@@ -1,6 +1,7 @@
 -- The form of a whole file, and the numbers in it.
-use Rattle.std.specs.Prelude.{ℕ, ◌-◌, ◌^◌, ℤ, pos, negsuc, Bool, ◌&&◌, ◌==◌, List, [], ◌∷◌, nat_le, nat_lt, codes, replicate, Option, Some, None, if◌then◌else◌}
+use Rattle.std.specs.Prelude.{ℕ, ◌+◌, ◌-◌, ◌^◌, ℤ, pos, negsuc, Bool, ◌&&◌, ◌==◌, List, [], ◌∷◌, nat_le, nat_lt, codes, replicate, Option, Some, None, if◌then◌else◌}
 use Rattle.std.specs.Str.{bytes_eq}
+use Rattle.language_base.specs.Limits.{max_columns}
 use Rattle.language_base.specs.declared.span.Span.{Span}
 use Rattle.query_trees.specs.Trees.{first_of_two}
 use Rattle.query_forms.specs.declared.place.Place.TheVariants.{Mode, Column, Query, Name}
@@ -19,9 +20,9 @@ first_place (number value span rest) = Some span
 first_place (string bytes span rest) = Some span
 first_place (call head arguments span rest) = Some span
 
--- `stream` with a mode and 1 to 32 columns
+-- `stream` with a mode and 1 to `max_columns` columns
 abbrev pub is_stream : List ℕ → ℕ → Bool
-is_stream head count = bytes_eq head (codes "stream") && nat_le 2 count && nat_le count 33
+is_stream head count = bytes_eq head (codes "stream") && nat_le 2 count && nat_le count (max_columns + 1)
 
 -- `let` with a name and a query
 abbrev pub is_let : List ℕ → ℕ → Bool

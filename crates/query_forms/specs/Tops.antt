@@ -1,6 +1,7 @@
 -- The top terms of a file, each by itself.
-use Rattle.std.specs.Prelude.{ℕ, ◌-◌, Bool, false, ◌&&◌, ◌==◌, List, ◌∷◌, length, replicate, codes, nat_le, Option, if◌then◌else◌}
+use Rattle.std.specs.Prelude.{ℕ, ◌+◌, ◌-◌, Bool, false, ◌&&◌, ◌==◌, List, ◌∷◌, length, replicate, codes, nat_le, Option, if◌then◌else◌}
 use Rattle.std.specs.Str.{bytes_eq}
+use Rattle.language_base.specs.Limits.{max_columns}
 use Rattle.language_base.specs.declared.span.Span.{Span}
 use Rattle.query_forms.specs.declared.place.Place.{Place}
 use Rattle.query_forms.specs.declared.place.Place.TheVariants.{Mode, Column}
@@ -28,9 +29,9 @@ unfit_call name places terms =
 abbrev pub stream_places : ℕ → List Place
 stream_places count = Mode ∷ replicate (count - 1) Column
 
--- the first unfit term in the first, which is to be a `stream` with a mode and 1 to 32 columns
+-- the first unfit term in the first, which is to be a `stream` with a mode and 1 to `max_columns` columns
 abbrev pub unfit_stream : Terms → Option Span
 unfit_stream terms =
     let count = count_of (arguments_in terms) in
-    if nat_le 2 count && nat_le count 33 then unfit_call (codes "stream") (stream_places count) terms
+    if nat_le 2 count && nat_le count (max_columns + 1) then unfit_call (codes "stream") (stream_places count) terms
     else first_place terms
