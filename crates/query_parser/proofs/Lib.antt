@@ -1,3 +1,4 @@
+pub mod Existence
 pub mod Faults
 pub mod IsFile
 pub mod LiesAt

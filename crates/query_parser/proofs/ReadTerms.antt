@@ -1,26 +1,27 @@
 -- The terms that a text is read to can be written.
-use Rattle.std.proofs.Common.{◌≡◌, ◌<◌, ℕ, ◌+◌, false, ltb, List, None, sym, subst, arith}
+use Rattle.std.proofs.Common.{◌≡◌, ◌<◌, ◌≤◌, ℕ, ◌+◌, false, ltb, List, None, sym, subst, arith}
 use Rattle.std.proofs.lemmas.Bool.{ltb-false}
 use Rattle.std.specs.Prelude.{All}
+use Rattle.language_base.specs.Limits.{max_level}
 use Rattle.query_tokens.specs.declared.token.Token.{Token}
 use Rattle.query_tokens.specs.declared.token.TokenKind.TheVariants.{Word}
 use Rattle.query_tokens.specs.Raw.{IsWord, IsRaw}
 use Rattle.query_trees.specs.Trees as trees
-use Rattle.query_trees.specs.Trees.{Trees, first_deep, max_level}
-use Rattle.query_forms.specs.Terms.{Terms, none, word, number, string, call, bytes_at, Say}
+use Rattle.query_trees.specs.Trees.{Trees, first_deep}
+use Rattle.query_forms.specs.Terms.{Terms, none, word, number, string, call, bytes_at, IsTokenOf, Say}
 use Rattle.query_parser.specs.Printing.{AreWritable, HasTerm}
 use Rattle.query_parser.proofs.OptionCases.{first_of_two-none, refused-none}
-use Rattle.query_parser.proofs.ReadTrees.{IsTokenAt, HasTree, AreTrees}
+use Rattle.query_parser.proofs.ReadTrees.{HasTree, AreTrees}
 use Rattle.query_parser.proofs.ReadStrings.{string-bytes}
 
 -- a level that is not too deep
-level-within : (level : ℕ) → ltb max_level level ≡ false → level < max_level + 1
+level-within : (level : ℕ) → ltb max_level level ≡ false → level ≤ max_level
 level-within level e = omega (arith, ltb-false max_level level e)
 
 -- a word that a token says
-word-said : (text : List ℕ) (token : Token) (bytes : List ℕ) → token.kind ≡ Word → IsTokenAt text token
+word-said : (text : List ℕ) (token : Token) (bytes : List ℕ) → token.kind ≡ Word → IsTokenOf text token
     → bytes ≡ bytes_at text token.span → IsWord bytes
-word-said text token bytes kind is said = subst IsWord (sym said) (subst (λ k. IsRaw k (bytes_at text token.span)) kind is)
+word-said text token bytes kind is said = subst IsWord (sym said) (subst (λ k. IsRaw k (bytes_at text token.span)) kind is.raw)
 
 -- where there is a tree, it says a term
 term-said : (text : List ℕ) (trees : Trees) (terms : Terms) → Say text trees terms → HasTree trees → HasTerm terms
@@ -38,7 +39,7 @@ term-said text (trees.call head arguments span rest) (call head' inner span' mor
 
 -- terms that trees of a text's tokens say
 pub said-writable : (text : List ℕ) (trees : Trees) (terms : Terms) (level : ℕ) → All (λ byte. byte < 256) text
-    → Say text trees terms → AreTrees (IsTokenAt text) trees → first_deep level trees ≡ None → AreWritable level terms
+    → Say text trees terms → AreTrees (IsTokenOf text) trees → first_deep level trees ≡ None → AreWritable level terms
 said-writable text trees.none none level small say are deep = tt
 said-writable text (trees.leaf token rest) (word bytes span more) level small (kind, said, place, others) are deep =
     let parts = refused-none (ltb max_level level) token.span (first_deep level rest) deep in (

@@ -1,51 +1,10 @@
--- The tokens of a text, and those of the terms that they are.
-use Rattle.std.proofs.Common.{◌≡◌, ℕ, List, [], ◌∷◌, ◌++◌, length, refl, sym, ap, ◌∙◌, subst, arith, length-append, append_assoc, append-nil}
+-- The trees of a text's tokens, of which something holds.
+use Rattle.std.proofs.Common.{◌≡◌, List, [], ◌∷◌, ◌++◌, subst}
 use Rattle.std.specs.List.{AllByRecursion}
 use Rattle.query_tokens.specs.declared.token.Token.{Token}
 use Rattle.query_tokens.specs.declared.token.TokenKind.TheVariants.{Word}
-use Rattle.query_tokens.specs.Raw.{IsRaw}
-use Rattle.query_tokens.specs.Tokens.{AreTokens}
 use Rattle.query_trees.specs.Trees.{Trees, none, leaf, call}
 use Rattle.query_trees.specs.Terms.{AreMore, AreArguments, AreTerms}
-use Rattle.query_forms.specs.Terms.{bytes_at}
-use Rattle.query_parser.proofs.LiesAt.{LiesAt, LiesAt-first, LiesAt-rest, LiesAt-slice}
-
--- the bytes at a token's place are a token of its kind
-abbrev pub IsTokenAt : List ℕ → Token → Type 0
-IsTokenAt text token = IsRaw token.kind (bytes_at text token.span)
-
--- the tokens of what lies at the end of a text are at their places
-tokens-at : (tokens : List Token) (at : ℕ) (whole front text : List ℕ) → whole ≡ front ++ text → at ≡ length front
-    → AreTokens at text tokens → AllByRecursion (IsTokenAt whole) tokens
-tokens-at [] at whole front text split place are = tt
-tokens-at (token ∷ tokens) at whole front text split place (rest, stands, are) =
-    let lies : LiesAt whole at (stands.blank ++ (stands.raw ++ rest)) = record {
-      front = front;
-      behind = [];
-      split = split ∙ ap (λ l. front ++ l) (stands.split ∙ sym (append-nil _));
-      place = place;
-    } in
-    let raw_lies = LiesAt-rest whole at token.span.from stands.blank (stands.raw ++ rest) lies stands.from in
-    let bytes = LiesAt-slice whole token.span.from token.span.to stands.raw
-    (LiesAt-first whole token.span.from stands.raw rest raw_lies) stands.to in (
-      subst (IsRaw token.kind) bytes stands.is_token.token,
-      tokens-at tokens token.span.to whole (front ++ (stands.blank ++ stands.raw)) rest
-          (split ∙ ap (λ l. front ++ l) (stands.split ∙ sym (append_assoc stands.blank stands.raw rest))
-          ∙ sym (append_assoc front (stands.blank ++ stands.raw) rest))
-          (omega (
-            arith,
-            stands.to,
-            stands.from,
-            place,
-            length-append front (stands.blank ++ stands.raw),
-            length-append stands.blank stands.raw,
-          ))
-          are,
-    )
-
--- the tokens of a text are at their places
-pub AreTokens-at : (tokens : List Token) (text : List ℕ) → AreTokens 0 text tokens → AllByRecursion (IsTokenAt text) tokens
-AreTokens-at tokens text are = tokens-at tokens 0 text [] text refl refl are
 
 -- there is a tree
 abbrev pub HasTree : Trees → Type 0

@@ -1,7 +1,8 @@
 -- A printed file reads back.
 use Rattle.std.proofs.Common.{◌≡◌, ◌≤◌, [], length, refl, sym, subst}
 use Rattle.query_forms.specs.Terms.{Terms}
-use Rattle.query_parser.specs.Reading.{max_text, IsFileOf}
+use Rattle.language_base.specs.Limits.{max_text}
+use Rattle.query_parser.specs.Reading.{IsFileOf}
 use Rattle.query_parser.specs.Printing.{file_text, unplaced, IsFile}
 use Rattle.query_parser.proofs.PrintedLayout.{printed, top_bytes, trees_at, top_tokens, placed, file_text-is}
 use Rattle.query_parser.proofs.PrintedTokens.{file-tokens, blank-none}
@@ -34,12 +35,12 @@ top_bytes-file terms is short =
     }
 
 -- the canonical text of a file reads to its terms, but for their places
-pub reads_back : (terms : Terms) → IsFile terms → length (file_text terms) ≤ 65536
+pub reads_back : (terms : Terms) → IsFile terms → length (file_text terms) ≤ max_text
     → (again : Terms) × IsFileOf (file_text terms) again × (unplaced again ≡ unplaced terms)
 reads_back terms is short =
     let same = file_text-is terms in (
       placed 1 0 terms,
       subst (λ text. IsFileOf text (placed 1 0 terms)) (sym same)
-          (top_bytes-file terms is (subst (λ text. length text ≤ 65536) same short)),
+          (top_bytes-file terms is (subst (λ text. length text ≤ max_text) same short)),
       unplaced-placed terms 1 0,
     )

@@ -1,13 +1,8 @@
--- The arguments of a call, as plain trees and terms.
-use Rattle.std.proofs.Common.{◌≡◌, ℕ, List, Vec, Global, refl, ap, ◌∙◌}
+-- The arguments of a call, as plain terms.
+use Rattle.std.proofs.Common.{◌≡◌, ℕ, List, refl, ap, ◌∙◌}
 use mathlib.Core.Former.{Count}
 use Rattle.language_base.specs.declared.span.Span.{Span}
 use Rattle.query_forms.specs.Terms as plain
-use Rattle.query_tokens.specs.declared.token.Token.{Token}
-use Rattle.query_trees.specs.declared.tree.Tree as tree
-use Rattle.query_trees.specs.declared.tree.Tree.{Tree, Row_of-Tree, end_of-Tree, more_of-Tree, items-the_row-Tree, items_hidden-the_row-Tree-0}
-use Rattle.query_trees.specs.Trees as trees
-use Rattle.query_trees.specs.Trees.{tree_before, row_trees, trees_of}
 use Rattle.query_parser.specs.declared.term.Term.{Term, Call, Call', Row_of-Term, end_of-Term, more_of-Term, items-the_row-Term, items_hidden-the_row-Term-0}
 use Rattle.query_parser.specs.declared.term.Terms.{Terms}
 use Rattle.query_parser.specs.Plain.{term_before, row_terms, terms_of}
@@ -29,21 +24,3 @@ call_before head arguments span rest =
     let row = row_of (Call head arguments span) in
     let same = row_has row.0 row.1 ∙ ap terms_of (items_hidden-the_row-Term-0 arguments.terms) in
     ap (λ terms. plain.call head terms span rest) same
-
--- the row of a branch's arguments
-abbrev branch_of : Tree → (n : Count) × Row_of-Tree n
-branch_of (tree.Call' _ _ row _) = (_, row)
-branch_of _ = (_, end_of-Tree)
-
--- a row of trees has the trees of its list
-trees_in : (n : _) (row : Row_of-Tree n) → row_trees row ≡ trees_of (items-the_row-Tree n row)
-trees_in n end_of-Tree = refl
-trees_in n (more_of-Tree tree rest) = ap (tree_before tree) (trees_in _ rest)
-
--- a call of tokens before others has its arguments' trees
-pub branch_before : (head : Token) (arguments : Vec Tree Global) (span : Span) (rest : trees.Trees) →
-    tree_before (tree.Call head arguments span) rest ≡ trees.call head (trees_of arguments.items) span rest
-branch_before head arguments span rest =
-    let row = branch_of (tree.Call head arguments span) in
-    let same = trees_in row.0 row.1 ∙ ap trees_of (items_hidden-the_row-Tree-0 arguments) in
-    ap (λ inner. trees.call head inner span rest) same

@@ -10,7 +10,8 @@ use Rattle.query_forms.specs.Terms as plain
 use Rattle.query_forms.specs.Terms.{AreOf, Say, bytes_at}
 use Rattle.query_tokens.specs.declared.token.Token.{Token}
 use Rattle.query_parser.specs.declared.term.Terms.{Terms}
-use Rattle.query_parser.proofs.Rows.{branch_before, call_before}
+use Rattle.query_trees.proofs.Rows.{tree_before-Call}
+use Rattle.query_parser.proofs.Rows.{call_before}
 use Rattle.query_parser.specs.declared.term.Term as term
 use Rattle.query_parser.specs.declared.term.Term.{Term}
 use Rattle.query_parser.specs.Plain.{term_before, terms_of}
@@ -98,7 +99,7 @@ module _ (text : List ℕ) where
       AreOf text (trees_of arguments.items)
   tokens_inside branch head arguments span is all =
       let whole = subst (λ (t : Tree). AreOf text (tree_before t trees.none)) is all in
-      (subst (AreOf text) (branch_before head arguments span trees.none) whole).1
+      (subst (AreOf text) (tree_before-Call head arguments span trees.none) whole).1
 
   -- a first tree, and those behind it
   sayable_first : (first : Tree) (rest : trees.Trees) → AreSayable text (tree_before first rest) →
@@ -120,7 +121,7 @@ module _ (text : List ℕ) where
       AreSayable text (trees_of arguments.items)
   sayable_inside branch head arguments span is all =
       let whole = subst (λ (t : Tree). AreSayable text (tree_before t trees.none)) is all in
-      (subst (AreSayable text) (branch_before head arguments span trees.none) whole).0
+      (subst (AreSayable text) (tree_before-Call head arguments span trees.none) whole).0
 
   -- a call of tokens says a call of terms
   pub say_call : (branch : Tree) (head : Token) (arguments : Vec Tree Global) (span : Span) (word : List ℕ) (inner : Terms) →
@@ -130,7 +131,7 @@ module _ (text : List ℕ) where
       let whole : Say text (trees.call head (trees_of arguments.items) span trees.none)
       (plain.call word (terms_of inner.terms.items) span plain.none) = (written, refl, say, tt) in
       let of_tree = subst (λ (t : trees.Trees). Say text t (plain.call word (terms_of inner.terms.items) span plain.none))
-      (sym (branch_before head arguments span trees.none)) whole in
+      (sym (tree_before-Call head arguments span trees.none)) whole in
       let of_term = subst (Say text (tree_before (tree.Call head arguments span) trees.none))
       (sym (call_before word inner span plain.none)) of_tree in
       subst (λ (t : Tree). SaysOne t (term.Call word inner span)) (sym is) of_term

@@ -1,9 +1,9 @@
 -- The canonical text of a file.
-use Rattle.std.specs.Prelude.{◌≡◌, ◌<◌, ℕ, ◌+◌, ◌/◌, ◌%◌, Bool, true, false, ◌&&◌, ◌||◌, ◌==◌, List, [], ◌∷◌, ◌++◌, All, nat_le, nat_lt, codes, None, if◌then◌else◌}
+use Rattle.std.specs.Prelude.{◌≡◌, ◌<◌, ◌≤◌, ℕ, ◌+◌, ◌/◌, ◌%◌, Bool, true, false, ◌&&◌, ◌||◌, ◌==◌, List, [], ◌∷◌, ◌++◌, All, nat_le, nat_lt, codes, None, if◌then◌else◌}
 use Rattle.std.specs.List.{flat_map}
 use Rattle.std.specs.Fmt.{signed_decimal}
+use Rattle.language_base.specs.Limits.{max_level}
 use Rattle.language_base.specs.declared.span.Span.{Span}
-use Rattle.query_trees.specs.Trees.{max_level}
 use Rattle.query_tokens.specs.Raw.{IsWord}
 use Rattle.query_forms.specs.Terms.{Terms, none, word, number, string, call}
 use Rattle.query_forms.specs.File.{unfit_file, first_large}
@@ -68,11 +68,11 @@ HasTerm _ = Unit {0}
 -- words are words, a call has an argument, bytes are bytes, and no term is too deep, where the first have this level
 abbrev pub AreWritable : ℕ → Terms → Type 0
 AreWritable level none = Unit {0}
-AreWritable level (word bytes span rest) = (level < max_level + 1) × IsWord bytes × AreWritable level rest
-AreWritable level (number value span rest) = (level < max_level + 1) × AreWritable level rest
+AreWritable level (word bytes span rest) = (level ≤ max_level) × IsWord bytes × AreWritable level rest
+AreWritable level (number value span rest) = (level ≤ max_level) × AreWritable level rest
 AreWritable level (string bytes span rest) =
-    (level < max_level + 1) × All (λ byte. byte < 256) bytes × AreWritable level rest
-AreWritable level (call head arguments span rest) = (level < max_level + 1) × IsWord head × HasTerm arguments
+    (level ≤ max_level) × All (λ byte. byte < 256) bytes × AreWritable level rest
+AreWritable level (call head arguments span rest) = (level ≤ max_level) × IsWord head × HasTerm arguments
     × AreWritable (level + 1) arguments × AreWritable level rest
 
 -- terms that a file may have

@@ -1,6 +1,7 @@
 -- What a text is read to, and its first refusal. The relations are those of the language: tokens, terms over
 -- tokens, levels, forms and numbers, in this order.
 use Rattle.std.specs.Prelude.{◌≡◌, ◌<◌, ◌≤◌, ℕ, ◌+◌, List, length, Some, None}
+use Rattle.language_base.specs.Limits.{max_text}
 use Rattle.language_base.specs.declared.span.Span.{Span}
 use Rattle.language_base.specs.declared.refusal.Refusal.{Refusal}
 use Rattle.language_base.specs.declared.rule.Rule.{Rule}
@@ -11,10 +12,6 @@ use Rattle.query_trees.specs.Trees.{Trees, first_deep}
 use Rattle.query_trees.specs.Terms.{AreTerms, IsNoList}
 use Rattle.query_forms.specs.Terms.{Terms, Say}
 use Rattle.query_forms.specs.File.{unfit_file, first_large}
-
--- the most bytes of a text
-abbrev pub max_text : ℕ
-max_text = 65536
 
 -- the rule is broken at this place
 abbrev pub refusal : Rule → ℕ → ℕ → Refusal
@@ -51,7 +48,7 @@ pub record IsFileOf (text : List ℕ) (terms : Terms) : Type 0 where
 -- the first rule that a text breaks and its place
 pub data IsRefused (text : List ℕ) : Refusal → Type 0 where
   -- it is too long
-  long : max_text < length text → IsRefused text (refusal rule.Long 65536 65537)
+  long : max_text < length text → IsRefused text (refusal rule.Long max_text (max_text + 1))
   -- behind some tokens no token begins
   token : (before : List Token) (place : ℕ) → length text ≤ max_text → FaultAfter 0 text before place
       → IsRefused text (refusal rule.Token place (place + 1))

@@ -65,8 +65,8 @@ fn tokens_of(alloc: Global, text: &[u8]) -> Result<Vec<Token>, ReadStop>
 {
     if text.len() > MAX_TEXT {
         let first_beyond = Span {
-            from: 65_536,
-            to: 65_537,
+            from: MAX_TEXT as u32,
+            to: MAX_TEXT as u32 + 1,
         };
         return Err(refused(Rule::Long, first_beyond));
     }

@@ -1,5 +1,6 @@
 // Each rule of reading at its edges, and the canonical text.
 use crate::{ReadStop, print_file, read_file};
+use language_base::Bytes;
 use std::alloc::{AllocError, Global};
 use std::test::Fail;
 
@@ -131,5 +132,43 @@ fn prints_the_canonical_text(rt: HostRuntime) -> Result<(), Fail> {
             Err(stop) => panic!(rt; "{stop:?}"),
         }
     }
+    Ok(())
+}
+
+/// The canonical text of what the text is read to.
+fn canonical(alloc: Global, text: &[u8]) -> Result<Option<Bytes>, AllocError> {
+    match read_file(alloc, text) {
+        Ok(file) => Ok(Some(print_file(alloc, &file)?)),
+        Err(_) => Ok(None),
+    }
+}
+
+#[test]
+fn a_text_of_65_536_bytes_is_read_and_printed_and_read_again(rt: HostRuntime) -> Result<(), Fail> {
+    let alloc = rt.alloc();
+    let mut text = Vec::from_slice(alloc, b"stream(plain, col(a, text))\nmain(atom(eq(a, \"")?;
+    text.extend_from_slice(&repeated(alloc, b"x", 65_483)?)?;
+    text.extend_from_slice(b"\"), 1))\n")?;
+    assert_eq!(rt; text.len(), 65_536);
+    let printed = canonical(alloc, &text)?.ok_or("the text is refused")?;
+    assert_eq!(rt; printed.as_slice(), text.as_slice());
+    let again = canonical(alloc, printed.as_slice())?.ok_or("the canonical text is refused")?;
+    assert_eq!(rt; again.as_slice(), text.as_slice());
+    Ok(())
+}
+
+#[test]
+fn a_comment_may_go_up_to_65_536_bytes(rt: HostRuntime) -> Result<(), Fail> {
+    let alloc = rt.alloc();
+    let mut text = Vec::from_slice(alloc, b"stream(plain,col(a,int))main(atom(any,a))#")?;
+    text.extend_from_slice(&repeated(alloc, b"x", 65_494)?)?;
+    assert_eq!(rt; text.len(), 65_536);
+    let printed = canonical(alloc, &text)?.ok_or("the text is refused")?;
+    assert_eq!(rt;
+        printed.as_slice(),
+        b"stream(plain, col(a, int))\nmain(atom(any, a))\n".as_slice()
+    );
+    text.extend_from_slice(b"x")?;
+    assert_eq!(rt; refusal_of(alloc, &text), Some((1, 65_536, 65_537)));
     Ok(())
 }
