@@ -1,15 +1,17 @@
 -- What a text is compiled to is one thing, and what was read of a query tells what the whole of it is.
-use Rattle.std.proofs.Common.{◌≡◌, false, ◌<◌, ◌≤◌, ◌⊎◌, inl, inr, ℕ, zero, suc, List, ◌++◌, length, Option, Some, None, IfSome, IfErr, Result, Ok, Err, sym, ap, subst, ◌∙◌, append-nil, length-append, arith}
+use Rattle.std.proofs.Common.{◌≡◌, false, ◌<◌, ◌≤◌, ◌⊎◌, inl, inr, ℕ, zero, suc, List, ◌++◌, length, Option, Some, None, IfSome, IfOk, IfErr, Result, Ok, Err, sym, ap, subst, ◌∙◌, append-nil, length-append, arith}
 use Rattle.std.specs.Io.KnownBytes.{Consumes, IsAtEnd}
+use Rattle.language_base.specs.Limits.{max_text}
 use Rattle.language_base.specs.declared.refusal.Refusal.{Refusal}
 use Rattle.language_base.specs.declared.rule.Rule.TheVariants as rule
 use Rattle.query_forms.specs.Terms.{Terms}
 use Rattle.query_parser.specs.Reading.{IsFileOf, long, refusal}
 use Rattle.query_parser.proofs.OneReading.{one_file, file_or_refused, one_refusal}
 use Rattle.predicate_cells.specs.Truth.{holds}
-use Rattle.sqre_run.specs.Plan.{Plan}
+use Rattle.sqre_run.specs.Plan.{Plan, plan_of}
 use Rattle.sqre_run.specs.Resolved.{Resolution, resolved, refusal as refusal_of}
 use Rattle.sqre_run.specs.Stops.{IsStopOf}
+use Rattle.sqre_run.specs.declared.sum.Sum.{Sum}
 use Rattle.sqre_run.specs.declared.query.QueryStop.{QueryStop}
 use Rattle.sqre_run.specs.declared.query.QueryStop.TheVariants.{Failed, Refused, Memory}
 use Rattle.sqre_run.specs.Compiled.{Query, sum, refused, Compiles, built, broken, unresolved, many_cells, empty, cells_of, HasItem, HasNoItem}
@@ -92,7 +94,7 @@ le_or_lt (suc m) zero = inr (omega arith)
 le_or_lt (suc m) (suc n) = one_more m n (le_or_lt m n)
 
 -- a file is not too long
-file_short : (text : List ℕ) (terms : Terms) → IsFileOf text terms → length text ≤ 65536
+file_short : (text : List ℕ) (terms : Terms) → IsFileOf text terms → length text ≤ max_text
 file_short text terms file = file.has.has.has.has.short
 
 -- it is a sum
@@ -100,7 +102,7 @@ abbrev IsSum : Query → Type 0
 IsSum (sum plan) = Unit {0}
 IsSum (refused why) = ⊥
 
-short_sum : (text : List ℕ) (query : Query) → Compiles text query → IsSum query → length text ≤ 65536
+short_sum : (text : List ℕ) (query : Query) → Compiles text query → IsSum query → length text ≤ max_text
 short_sum text _ (built terms found file is few some) yes_sum = file_short text terms file
 short_sum text _ (broken why refuses) no_sum = absurd no_sum
 short_sum text _ (unresolved terms why file is) no_sum = absurd no_sum
@@ -108,11 +110,11 @@ short_sum text _ (many_cells terms found file is many) no_sum = absurd no_sum
 short_sum text _ (empty terms found file is few none) no_sum = absurd no_sum
 
 -- a text that is a sum is not too long
-pub short_enough : (text : List ℕ) (plan : Plan) → Compiles text (sum plan) → length text ≤ 65536
+pub short_enough : (text : List ℕ) (plan : Plan) → Compiles text (sum plan) → length text ≤ max_text
 short_enough text plan compiles = short_sum text (sum plan) compiles tt
 
 -- a text that is too long is compiled to its refusal, and so is each that is too long
-too_long : (text bytes : List ℕ) (query : Query) → 65536 < length text → 65536 < length bytes → Compiles bytes query → Compiles text query
+too_long : (text bytes : List ℕ) (query : Query) → max_text < length text → max_text < length bytes → Compiles bytes query → Compiles text query
 too_long text bytes _ beyond more (built terms found file is few some) = absurd (let short = file_short bytes terms file in omega arith)
 too_long text bytes _ beyond more (broken why refuses) =
     subst (λ (r : Refusal). Compiles text (refused r)) (sym (one_refusal bytes (refusal rule.Long 65536 65537) why (long more) refuses))
@@ -123,25 +125,34 @@ too_long text bytes _ beyond more (empty terms found file is few none) = absurd 
 
 -- the whole text is compiled to what the bytes read are, if these are all of it or too many
 pub told_query : (left left' : Option (List ℕ)) (bytes : List ℕ) (query : Query)
-    → Consumes left left' bytes → (length bytes ≤ 65536 → IsAtEnd left') → Compiles bytes query
+    → Consumes left left' bytes → (length bytes ≤ max_text → IsAtEnd left') → Compiles bytes query
     → IfSome left (λ text. Compiles text query)
 told_query None left' bytes query read whole compiles = tt
 told_query (Some text) None bytes query read whole compiles = absurd read
 told_query (Some text) (Some rest) bytes query read whole compiles = at (le_or_lt (length bytes) 65536)
   where
-    at : (length bytes ≤ 65536) ⊎ (65536 < length bytes) → Compiles text query
+    at : (length bytes ≤ max_text) ⊎ (max_text < length bytes) → Compiles text query
     at (inl h) =
         let same : bytes ≡ text = sym (read ∙ ap (λ (l : List ℕ). bytes ++ l) (whole h) ∙ append-nil bytes) in
         subst (λ (t : List ℕ). Compiles t query) same compiles
     at (inr h) =
-        let longer : 65536 < length text = omega (arith, ap length read, length-append bytes rest) in
+        let longer : max_text < length text = omega (arith, ap length read, length-append bytes rest) in
         too_long text bytes query longer h compiles
 
 -- the same for a stop
 pub told_stop : (left left' : Option (List ℕ)) (bytes : List ℕ) {A : Type 0} (result : Result A QueryStop)
-    → Consumes left left' bytes → (length bytes ≤ 65536 → IsAtEnd left') → IfErr result (IsStopOf (Some bytes))
+    → Consumes left left' bytes → (length bytes ≤ max_text → IsAtEnd left') → IfErr result (IsStopOf (Some bytes))
     → IfErr result (IsStopOf left)
 told_stop left left' bytes (Ok compiled) read whole stop = tt
 told_stop left left' bytes (Err (Refused why)) read whole stop = told_query left left' bytes (refused why) read whole stop
 told_stop left left' bytes (Err Failed) read whole stop = tt
 told_stop left left' bytes (Err Memory) read whole stop = tt
+
+-- and for a sum
+pub told_sum : (left left' : Option (List ℕ)) (bytes : List ℕ) (result : Result Sum QueryStop)
+    → Consumes left left' bytes → (length bytes ≤ max_text → IsAtEnd left')
+    → IfOk result (λ compiled. Compiles bytes (sum (plan_of compiled)))
+    → IfOk result (λ compiled. IfSome left (λ text. Compiles text (sum (plan_of compiled))))
+told_sum left left' bytes (Ok compiled) read whole is =
+    told_query left left' bytes (sum (plan_of compiled)) read whole is
+told_sum left left' bytes (Err why) read whole is = tt

@@ -4,6 +4,7 @@ pub mod Firsts
 pub mod Outcomes
 pub mod PredicateTerms
 pub mod Repeats
+pub mod QueryReads
 pub mod Replies
 pub mod Resolving
 pub mod Showing

@@ -1,7 +1,7 @@
 -- The line that a call of `Lines::next` told.
-use Rattle.std.proofs.Common.{◌≡◌, ◌≢◌, ◌≤◌, ◌⊎◌, inl, inr, ℕ, true, false, List, Option, Result, Ok, sym, subst, ◌∙◌}
-use Rattle.std.specs.Io.KnownBytes.{Consumes, IsAtEnd}
-use Rattle.io_edge.specs.Counts.{Rose}
+use Rattle.std.proofs.Common.{◌≡◌, ◌≢◌, ◌⊎◌, inl, inr, ℕ, true, false, List, Option, Result, Ok, sym, subst, ◌∙◌}
+use Rattle.std.specs.Io.KnownBytes.{Consumes}
+use Rattle.io_edge.specs.Ended.{MeetsEnd}
 use Rattle.io_edge.specs.Lines.{Shown, text, long}
 use Rattle.io_edge.specs.Reading.{Reading, Answers}
 use Rattle.io_edge.specs.Told.{Told, Gives}
@@ -17,8 +17,7 @@ pub record TakesLine (left left' : Option (List ℕ)) (ends ends' : ℕ) (old ne
   pub consumed : Consumes left left' got
   pub answers : Answers old got line new
   pub going : old.met ≡ false
-  pub met : new.met ≡ true → Rose ends ends' × IsAtEnd left'
-  pub later : ends ≤ ends'
+  pub end : MeetsEnd ends ends' left' ((old.met ≡ false) × (new.met ≡ true))
 
 module _ {left left' : Option (List ℕ)} {ends ends' : ℕ} {old new : Reading} {result : Result Line LineStop} where
   -- what a call told, at the answer that it gave
@@ -38,11 +37,10 @@ module _ {left left' : Option (List ℕ)} {ends ends' : ℕ} {old new : Reading}
       at (inr going) = going
 
   -- a call that told a line took it
-  TakesLine-told : Told left left' ends ends' old new result → ends ≤ ends'
-      → (line : Shown) (answer : Result Line LineStop) → result ≡ answer → answer ≢ Ok End
+  TakesLine-told : Told left left' ends ends' old new result → (line : Shown) (answer : Result Line LineStop) → result ≡ answer → answer ≢ Ok End
       → ((got : List ℕ) → Gives old got answer new → Answers old got line new)
       → TakesLine left left' ends ends' old new line
-  TakesLine-told told later line answer is other gives =
+  TakesLine-told told line answer is other gives =
       let taken = Told-gives told answer is in
       let going = Told-going told (λ e. other (sym is ∙ e)) in
       record {
@@ -50,17 +48,15 @@ module _ {left left' : Option (List ℕ)} {ends ends' : ℕ} {old new : Reading}
         consumed = taken.1;
         answers = gives taken.0 taken.2;
         going = going;
-        met = told.met going;
-        later = later;
+        end = told.end;
       }
 
   -- a line that was told whole
-  pub TakesLine-whole : Told left left' ends ends' old new result → ends ≤ ends'
-      → (line : _) → result ≡ Ok (Whole line) → TakesLine left left' ends ends' old new (text line.now)
-  TakesLine-whole told later line is =
-      TakesLine-told told later (text line.now) (Ok (Whole line)) is (λ e. cc) (λ got h. h)
+  pub TakesLine-whole : Told left left' ends ends' old new result → (line : _) → result ≡ Ok (Whole line) → TakesLine left left' ends ends' old new (text line.now)
+  TakesLine-whole told line is =
+      TakesLine-told told (text line.now) (Ok (Whole line)) is (λ e. cc) (λ got h. h)
 
   -- a line that was told to be too long
-  pub TakesLine-long : Told left left' ends ends' old new result → ends ≤ ends' → result ≡ Ok Long
+  pub TakesLine-long : Told left left' ends ends' old new result → result ≡ Ok Long
       → TakesLine left left' ends ends' old new long
-  TakesLine-long told later is = TakesLine-told told later long (Ok Long) is (λ e. cc) (λ got h. h)
+  TakesLine-long told is = TakesLine-told told long (Ok Long) is (λ e. cc) (λ got h. h)

@@ -64,11 +64,12 @@ module _ (plan : Plan) (old now new : Outside) (reading next : Reading) (kept : 
           wrote = subst (Appends old.taken new.taken) written (Appends-trans _ _ _ _ _ run.wrote.wrote appends);
         };
         behind = (replies plan run.shown run.behind).1;
-        later = omega (arith, run.later, takes.later);
+        later = omega (arith, run.later, takes.end.later);
         at_end = λ met.
-            let rose : Rose now.ends new.ends = (takes.met met).0 in
+            let end = takes.end.at_end (takes.going, met) in
+            let rose : Rose now.ends new.ends = end.0 in
             let before : old.ends ≤ now.ends = run.later in
-            (omega arith, (takes.met met).1);
+            (omega arith, end.1);
       }
 
   -- a part of its answer was written

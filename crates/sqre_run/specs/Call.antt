@@ -1,7 +1,8 @@
 -- What a call of `sqre` did, by its status.
-use Rattle.std.specs.Prelude.{◌≡◌, ◌⊎◌, ℕ, ◌-◌, ◌^◌, List, [], length, Option, IfSome}
+use Rattle.std.specs.Prelude.{◌≡◌, ◌⊎◌, ℕ, List, [], length, Option, IfSome}
 use Rattle.std.specs.Io.KnownBytes.{Appends, Consumes}
 use Rattle.io_edge.specs.Counts.{FailsBy, Rose}
+use Rattle.io_edge.specs.Limits.{max_count}
 use Rattle.io_edge.specs.Written.{AppendsSome}
 use Rattle.language_base.specs.declared.refusal.Refusal.{Refusal}
 use Rattle.report_writer.specs.Texts.{refusal_text}
@@ -55,7 +56,7 @@ Outcome text SinkFault old new = (query : Query) × (got : List ℕ) × Compiles
 Outcome text Memory old new = (new ≡ old)
     ⊎ Runs text (λ plan. (got : List ℕ) × WroteLines plan old new got)
 Outcome text Limit old new = Runs text (λ plan.
-    (got : List ℕ) × (length got ≡ 2 ^ 63 - 1) × Wrote old new got (whole_output (sum plan) got))
+    (got : List ℕ) × (length got ≡ max_count) × Wrote old new got (whole_output (sum plan) got))
 
 -- How a call ends where no count of faults rose: a query at the end of its items or after 2^63-1
 -- bytes of them, and any other text with its refusal. Usage and Memory may come with both.

@@ -6,6 +6,7 @@ pub mod Handed
 pub mod Output
 pub mod Outside
 pub mod Plan
+pub mod QueryRead
 pub mod Resolutions
 pub mod Resolved
 pub mod Running

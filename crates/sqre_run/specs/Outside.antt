@@ -1,7 +1,8 @@
 -- What item source and sink tell at a moment, and how a run ended between two moments.
-use Rattle.std.specs.Prelude.{◌≡◌, ℕ, ◌-◌, ◌^◌, true, false, List, ◌++◌, length, Option, IfSome}
+use Rattle.std.specs.Prelude.{◌≡◌, ℕ, true, false, List, ◌++◌, length, Option, IfSome}
 use Rattle.std.specs.Io.KnownBytes.{Appends, Consumes}
 use Rattle.io_edge.specs.Counts.{Rose}
+use Rattle.io_edge.specs.Limits.{max_count}
 use Rattle.io_edge.specs.Lines.{Shown, lines}
 use Rattle.io_edge.specs.Written.{AppendsSome}
 use Rattle.sqre_run.specs.Output.{answers}
@@ -43,7 +44,7 @@ Ended plan ItemFault old new = (got : List ℕ) × Wrote old new got (answers pl
 Ended plan SinkFault old new = (got : List ℕ) × Consumes old.left new.left got
     × AppendsSome old.taken new.taken (answers plan (lines got true))
 Ended plan Memory old new = (got : List ℕ) × WroteLines plan old new got
-Ended plan Limit old new = (got : List ℕ) × (length got ≡ 2 ^ 63 - 1)
+Ended plan Limit old new = (got : List ℕ) × (length got ≡ max_count)
     × Wrote old new got (answers plan (lines got false))
 Ended plan Usage old new = ⊥
 Ended plan QueryFault old new = ⊥

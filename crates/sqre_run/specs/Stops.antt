@@ -4,11 +4,6 @@ use Rattle.sqre_run.specs.Compiled.{Compiles, refused}
 use Rattle.sqre_run.specs.declared.query.QueryStop.{QueryStop}
 use Rattle.sqre_run.specs.declared.query.QueryStop.TheVariants.{Refused}
 
--- it is no refusal
-abbrev pub IsNoRefusal : QueryStop → Type 0
-IsNoRefusal (Refused refusal) = ⊥
-IsNoRefusal _ = Unit {0}
-
 -- a refusal is that of the text, which may be told
 abbrev pub IsStopOf : Option (List ℕ) → QueryStop → Type 0
 IsStopOf text (Refused refusal) = IfSome text (λ text. Compiles text (refused refusal))

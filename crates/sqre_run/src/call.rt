@@ -4,6 +4,7 @@ ghost use Rattle.io_edge.specs.Counts.{Rose, FailsBy};
 ghost use Rattle.sqre_run.specs.Compiled.{Query, Compiles};
 ghost use Rattle.sqre_run.specs.Words.{is_run};
 ghost use Rattle.sqre_run.specs.Outside.{outside};
+ghost use Rattle.sqre_run.specs.QueryRead.{ReadsQuery};
 ghost use Rattle.sqre_run.specs.Call.{Completes, FirstFault, Outcome, Refuses, Untouched};
 
 use crate::Status;
@@ -26,6 +27,8 @@ pub fn sqre<Q: Source, S: Source, W: Sink>(
 ) -> Status
     ensures usage { result ≡ Status.Usage ↔ (is_run (map string_bytes words.now) ≡ false) }
     ensures untouched { Untouched result query.old query.new items.old items.new out.old out.new }
+    ensures read { ReadsQuery (Q.left query.old) (Q.left query.new)
+        (Q.ends query.old) (Q.ends query.new) result }
     ensures faults { FirstFault result (Q.faults query.old) (Q.faults query.new)
         (S.faults items.old) (S.faults items.new) (W.faults out.old) (W.faults out.new) }
     ensures ends { result ≡ Status.Done

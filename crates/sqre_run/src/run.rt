@@ -1,6 +1,7 @@
 //! The loop over the lines of the items.
-ghost use Rattle.std.specs.Prelude.{◌≡◌, ◌<◌, ◌^◌, IfNone, IfSome};
+ghost use Rattle.std.specs.Prelude.{◌≡◌, ◌<◌, ◌≤◌, IfNone, IfSome};
 ghost use Rattle.io_edge.specs.Counts.{FailsBy};
+ghost use Rattle.io_edge.specs.Limits.{max_count};
 ghost use Rattle.sqre_run.specs.Outside.{Outside, outside, Ended};
 ghost use Rattle.sqre_run.specs.Plan.{Plan, plan_of};
 ghost use Rattle.sqre_run.specs.Running.{Running};
@@ -51,7 +52,7 @@ fn turn<S: Source, W: Sink>(
         → Running plan before (at items.old out.old) lines.old tally.old
         → Ended plan status before (at items.new out.new)) }
     ensures progress { IfNone result ((lines.old.answered < lines.new.answered)
-        × (lines.new.answered < 2 ^ 63)) }
+        × (lines.new.answered ≤ max_count)) }
     ensures item_faults { FailsBy (S.faults items.old) (S.faults items.new)
         (result ≡ Some Status.ItemFault) }
     ensures sink_faults { FailsBy (W.faults out.old) (W.faults out.new)

@@ -1,4 +1,5 @@
-use Rattle.std.proofs.Common.{◌≡◌, ◌-◌, ◌^◌}
+use Rattle.std.proofs.Common.{◌≡◌, ◌-◌}
+use Rattle.io_edge.specs.Limits.{max_count}
 use Rattle.sqre_run.specs.Outside.{outside}
 use Rattle.sqre_run.specs.Plan.{plan_of}
 use Rattle.sqre_run.specs.Running.{Running}
@@ -14,6 +15,6 @@ invariant-lines g l =
       sink_calm : g.W.Sink.faults l.out ≡ g.W.Sink.faults l.fn.out;
     }
 
--- each turn answers bytes, of which there are fewer than 2^63
+-- each turn answers bytes, of which no more are taken than the limit
 abbrev pub decreases-lines : goal.decreases-lines
-decreases-lines g l = 2 ^ 63 - l.lines.answered
+decreases-lines g l = max_count - l.lines.answered

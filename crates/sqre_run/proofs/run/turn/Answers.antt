@@ -6,25 +6,25 @@ use Rattle.sqre_run.proofs.run.turn.Goals as goal
 pub returns-in-Ok-Whole-clause-goes_on : goal.returns-in-Ok-Whole-clause-goes_on
 returns-in-Ok-Whole-clause-goes_on g c =
     let is = c.in-Ok-Whole.is ∙ ap Ok c.in-Ok-Whole.field-0-is in
-    let takes = TakesLine-whole c.next.follows.holds-at-none c.next.ensures.later _ is in
+    let takes = TakesLine-whole c.next.follows.holds-at-none _ is in
     Handed-goes_on _ _ _ _ _ _ _ _ _ takes c.line.ensures c.hand_over.ensures.handed
 
 pub returns-in-Ok-Whole-clause-stops : goal.returns-in-Ok-Whole-clause-stops
 returns-in-Ok-Whole-clause-stops g c =
     let is = c.in-Ok-Whole.is ∙ ap Ok c.in-Ok-Whole.field-0-is in
-    let takes = TakesLine-whole c.next.follows.holds-at-none c.next.ensures.later _ is in
+    let takes = TakesLine-whole c.next.follows.holds-at-none _ is in
     Handed-stops _ _ _ _ _ _ _ _ _ takes c.line.ensures c.hand_over.ensures.handed
 
 pub returns-in-Ok-Long-clause-goes_on : goal.returns-in-Ok-Long-clause-goes_on
 returns-in-Ok-Long-clause-goes_on g c =
     let is = c.in-Ok-Long.is ∙ ap Ok c.in-Ok-Long.field-0-is in
-    let takes = TakesLine-long c.next.follows.holds-at-none c.next.ensures.later is in
+    let takes = TakesLine-long c.next.follows.holds-at-none is in
     Handed-goes_on _ _ _ _ _ _ _ _ _ takes c.long_line.ensures c.hand_over-in-Ok-Long.ensures.handed
 
 pub returns-in-Ok-Long-clause-stops : goal.returns-in-Ok-Long-clause-stops
 returns-in-Ok-Long-clause-stops g c =
     let is = c.in-Ok-Long.is ∙ ap Ok c.in-Ok-Long.field-0-is in
-    let takes = TakesLine-long c.next.follows.holds-at-none c.next.ensures.later is in
+    let takes = TakesLine-long c.next.follows.holds-at-none is in
     Handed-stops _ _ _ _ _ _ _ _ _ takes c.long_line.ensures c.hand_over-in-Ok-Long.ensures.handed
 
 pub returns-in-Err-Failed-clause-stops : goal.returns-in-Err-Failed-clause-stops
