@@ -10,6 +10,7 @@ mod laws;
 mod predicates;
 mod query;
 mod resolved;
+mod room;
 mod run;
 mod status;
 mod streams;
@@ -21,4 +22,5 @@ mod words;
 
 pub use call::sqre;
 pub use laws::whole_lines_come_first;
+pub use room::run_into_room;
 pub use status::Status;

@@ -2,7 +2,7 @@
 mod items;
 mod refusals;
 
-use crate::{Status, sqre};
+use crate::{Status, run_into_room, sqre};
 use io_edge::{MemorySink, MemorySource, SteadySink, SteadySource};
 use std::alloc::{AllocError, Global};
 use std::test::Fail;
@@ -121,10 +121,12 @@ fn a_run_that_is_not_begun_reads_nothing(rt: HostRuntime) -> Result<(), Fail> {
 
 #[test]
 fn a_fault_ends_the_run_behind_the_last_answer(rt: HostRuntime) -> Result<(), Fail> {
-    let table: [(&[u64], usize, &[u64], Status, &[u8]); 3] = [
+    let table: [(&[u64], usize, &[u64], Status, &[u8]); 5] = [
         (&[2], 4_096, &[], Status::ItemFault, b"5\n"),
         (&[], 4_096, &[2], Status::SinkFault, b"5\n"),
         (&[], 1, &[], Status::SinkFault, b"5"),
+        (&[2], 4_096, &[1], Status::SinkFault, b""),
+        (&[2], 1, &[], Status::SinkFault, b"5"),
     ];
     for (item_fails, room, writes_fail, wanted, written) in table {
         let given = Given {
@@ -137,5 +139,21 @@ fn a_fault_ends_the_run_behind_the_last_answer(rt: HostRuntime) -> Result<(), Fa
         assert_eq!(rt; status, wanted, "at a room of {room}");
         assert_eq!(rt; bytes.as_slice(), written, "at a room of {room}");
     }
+    Ok(())
+}
+
+// The sum over these items into a room, where the second read fails.
+fn sum_into_room<const ROOM: usize>(alloc: Global, items: &[u8]) -> Result<Status, AllocError> {
+    let words = words_of(alloc, "run q -")?;
+    let mut query = SteadySource::new(alloc, SUM)?;
+    let mut items = MemorySource::new(alloc, items, &[], &[2])?;
+    Ok(run_into_room::<ROOM, SteadySource, MemorySource>(alloc, &words, &mut query, &mut items))
+}
+
+#[test]
+fn a_read_waits_until_the_lines_before_it_are_answered(rt: HostRuntime) -> Result<(), Fail> {
+    assert_eq!(rt; sum_into_room::<2>(rt.alloc(), b"5\n7")?, Status::ItemFault);
+    assert_eq!(rt; sum_into_room::<1>(rt.alloc(), b"5\n7")?, Status::SinkFault);
+    assert_eq!(rt; sum_into_room::<0>(rt.alloc(), b"5")?, Status::ItemFault);
     Ok(())
 }
