@@ -3,17 +3,28 @@
 
 use io_edge::{LazyFile, StdoutSink};
 use sqre_run::{Status, sqre};
-use std::io;
-
-const EXAMPLES: [&str; 4] = ["rainfall", "fills", "requests", "refused"];
+use std::{fs, io};
 
 fn main(rt: HostRuntime) -> io::Result<()> {
-    for name in EXAMPLES {
+    for name in folders(&rt)?.iter() {
         println!(rt; "{name}")?;
-        let status = run(rt, name)? as u8;
+        let status = run(rt, name.as_str())? as u8;
         println!(rt; "status {status}")?;
     }
     Ok(())
+}
+
+/// The folders where the program runs, in the order of their names.
+fn folders(rt: &HostRuntime) -> io::Result<Vec<String>> {
+    let mut names = Vec::new(rt.alloc());
+    for entry in fs::read_dir(rt, ".")? {
+        let entry = entry?;
+        if entry.file_type()?.is_dir() {
+            names.push(String::from_str(rt.alloc(), entry.file_name())?)?;
+        }
+    }
+    names.sort()?;
+    Ok(names)
 }
 
 fn run(rt: HostRuntime, name: &str) -> io::Result<Status> {
