@@ -15,8 +15,10 @@ pub mod Numbers
 pub mod OneSets
 pub mod PathSteps
 pub mod PathsOn
+pub mod Placing
 pub mod Sequences
 pub mod SetsOf
+pub mod Sharing
 pub mod Spelled
 pub mod Stars
 pub mod StatesBehind

@@ -1,5 +1,5 @@
 -- Masks and their positions: bounds, common positions, equal masks.
-use Rattle.std.proofs.Common.{◌≡◌, ◌⊎◌, inl, inr, ℕ, suc, zero, ◌+◌, ◌*◌, ◌/◌, ◌%◌, ◌^◌, ◌<◌, ◌≤◌, refl, sym, ap, ◌∙◌, subst, arith, bit_and, bit_or, Option, None, Some, unwrap_or, eq-eqb, Bool, true, false, IsTrue, not, nat_eq, ltb, ◌↔◌, ◌-◌}
+use Rattle.std.proofs.Common.{◌≡◌, ◌⊎◌, inl, inr, ℕ, suc, zero, ◌+◌, ◌*◌, ◌/◌, ◌%◌, ◌^◌, ◌<◌, ◌≤◌, refl, sym, ap, ◌∙◌, subst, arith, bit_and, Bool, true, false, IsTrue, not, nat_eq, ltb, ◌↔◌, ◌-◌}
 use Rattle.std.proofs.Math.Nat.{div-add-mod, eq-or-lt_of_le, mod-lt, mul_comm, pow-suc}
 use Rattle.std.proofs.Math.Pow.{pow_mono}
 use Rattle.std.proofs.lemmas.Nat.{pow_pos, and_le_l, and_le_r, leading_length}
@@ -7,7 +7,6 @@ use Rattle.std.proofs.lemmas.Nat.Bits.{bit_at_and, bit_at-lt, bit_at_above, bit_
 use Rattle.std.proofs.lemmas.Bool.Decides.{eqb_tells, nat_tests}
 use Rattle.std.proofs.lemmas.Bool.{eqb-true, eqb-false, ltb-true}
 use Rattle.std.specs.Int.Count.{count_leading_zeros}
-use Rattle.std.specs.Option.{SomeIff}
 use Rattle.std.specs.Prelude.{MatchBool}
 use Rattle.std.specs.Int.{bit_at, trailing_zeros, w128}
 use Rattle.rate_expr.proofs.MaskMembers.{has_zero}

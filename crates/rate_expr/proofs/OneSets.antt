@@ -1,5 +1,5 @@
 -- A rate has one first, one last and one follow set.
-use Rattle.std.proofs.Common.{◌≡◌, ℕ, zero, suc, ◌↔◌, Bool, true, false, List, [], ◌∷◌, length, refl, sym, ap, ◌∙◌, subst, arith}
+use Rattle.std.proofs.Common.{◌≡◌, ℕ, zero, suc, ◌↔◌, Bool, List, [], ◌∷◌, length, refl, sym, ap, ◌∙◌, subst, arith}
 use Rattle.predicate_cells.specs.Predicates.{Predicate}
 use Rattle.rate_expr.specs.FirstLastFollow.{AreSetsOf}
 use Rattle.rate_expr.specs.Rates.{Expression}

@@ -1,5 +1,5 @@
 -- Behind each word there is a state, and only one.
-use Rattle.std.proofs.Common.{◌≡◌, ◌≢◌, ◌⊎◌, inl, inr, ℕ, zero, suc, ◌+◌, ◌^◌, ◌<◌, ◌≤◌, ◌↔◌, true, List, [], ◌∷◌, length, bit_or, refl, sym, ap, subst, arith}
+use Rattle.std.proofs.Common.{◌≡◌, ◌⊎◌, inl, inr, ℕ, zero, suc, ◌^◌, ◌<◌, ◌≤◌, ◌↔◌, true, List, [], ◌∷◌, length, bit_or, refl, sym, ap, subst, arith}
 use Rattle.std.proofs.Math.Nat.{eq-or-lt_of_le}
 use Rattle.std.proofs.lemmas.Bool.Decides.{eqb_tells}
 use Rattle.value_ops.specs.declared.field.Field.{Field}
@@ -14,7 +14,7 @@ use Rattle.rate_expr.specs.declared.state.State.TheVariants.{Initial, At}
 use Rattle.rate_expr.proofs.Deciding.{Decided, decided_as, decided_three, decided_test}
 use Rattle.rate_expr.proofs.Linking.{Goes}
 use Rattle.rate_expr.proofs.MaskMembers.{has_zero, has_one, has_only_one, has_or, has_first, has_second}
-use Rattle.rate_expr.proofs.MaskSets.{below-has, has-below, same-has}
+use Rattle.rate_expr.proofs.MaskSets.{below-has, same-has}
 use Rattle.rate_expr.proofs.Meetings.{MeetsAt}
 use Rattle.rate_expr.proofs.PathSteps.{meets_below, leads_below}
 

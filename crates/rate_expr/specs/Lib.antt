@@ -7,4 +7,5 @@ pub mod Plain
 pub mod Rates
 pub mod Readings
 pub mod Sets
+pub mod Shared
 pub mod Words

@@ -8,6 +8,7 @@ pub mod masks;
 mod part;
 mod positions;
 mod rate;
+mod shared_preds;
 mod state;
 #[cfg(test)]
 mod tests;
@@ -17,4 +18,5 @@ pub use laws::{
 };
 pub use positions::Positions;
 pub use rate::{MAX_POSITIONS, Rate};
+pub use shared_preds::SharedPreds;
 pub use state::State;

@@ -1,5 +1,5 @@
 //! The positions of a rate: its one-item parts, from left to right, and how words go through them.
-ghost use Rattle.std.specs.Prelude.{◌≡◌, ◌<◌, ◌≤◌, Some, IfOk, length, map, slice_get};
+ghost use Rattle.std.specs.Prelude.{◌≡◌, ◌<◌, ◌≤◌, Some, IfOk, length, slice_get};
 ghost use Rattle.language_base.specs.Limits.{max_positions};
 ghost use Rattle.predicate_cells.specs.Plain.{plain_of};
 ghost use Rattle.rate_expr.specs.FirstLastFollow.{AreSetsOf};
@@ -7,9 +7,11 @@ ghost use Rattle.rate_expr.specs.Paths.{AreOf};
 ghost use Rattle.rate_expr.specs.Plain as rates;
 ghost use Rattle.rate_expr.specs.Rates.{size_of};
 ghost use Rattle.rate_expr.specs.Sets.{AreSets};
+ghost use Rattle.rate_expr.specs.Shared.{listed, AreShared};
 
 use crate::build::add;
 use crate::rate::Rate;
+use crate::shared_preds::SharedPreds;
 use predicate_cells::Pred;
 use std::alloc::{AllocError, Global};
 use std::marker::Model;
@@ -22,15 +24,14 @@ pub struct Positions {
     first: u128,
     last: u128,
     follow: Vec<u128>,
-    preds: Vec<Pred>,
+    preds: SharedPreds,
 }
 
 impl Model for Positions {
-    ghost use Rattle.std.specs.Prelude.{map};
     ghost use Rattle.std.specs.Coded.{codes};
     ghost use Rattle.predicate_cells.specs.Coding.{coded_predicate};
-    ghost use Rattle.predicate_cells.specs.Plain.{plain_of};
     ghost use Rattle.rate_expr.specs.Sets.{Sets, AreSets};
+    ghost use Rattle.rate_expr.specs.Shared.{listed, AreShared};
 
     ghost Value = { Sets };
 
@@ -41,15 +42,15 @@ impl Model for Positions {
       first = p.first;
       last = p.last;
       follow = p.follow.items;
-      preds = map plain_of p.preds.items;
+      preds = listed p.preds;
     } };
 
-    ghost invariant = { λ p. AreSets (record {
+    ghost invariant = { λ p. AreShared p.preds × AreSets (record {
       nullable = p.nullable;
       first = p.first;
       last = p.last;
       follow = p.follow.items;
-      preds = map plain_of p.preds.items;
+      preds = listed p.preds;
     }) };
 }
 
@@ -61,8 +62,8 @@ impl Positions {
         ensures spells { IfOk result (λ sets. AreOf sets (rates.plain_of rate.now)) }
     {
         let mut follow = Vec::new(alloc);
-        let mut preds = Vec::new(alloc);
-        let part = add(alloc, rate, &mut follow, &mut preds)?;
+        let mut preds = SharedPreds::new(alloc);
+        let part = add(rate, &mut follow, &mut preds)?;
         Ok(Positions {
             nullable: part.nullable,
             first: part.first,
@@ -81,7 +82,7 @@ impl Positions {
             first: self.first,
             last: self.last,
             follow: Vec::from_slice(alloc, &self.follow)?,
-            preds: copies_of(alloc, &self.preds)?,
+            preds: self.preds.try_copy(alloc)?,
         })
     }
 
@@ -90,7 +91,7 @@ impl Positions {
         ensures count { result ≡ length self.now.preds }
         ensures sets { AreSets self.now }
     {
-        self.preds.len() as u32
+        self.preds.count() as u32
     }
 
     /// Whether the empty word is in the rate.
@@ -127,17 +128,15 @@ impl Positions {
         requires { position < length self.now.preds }
         ensures { slice_get self.now.preds position ≡ Some (plain_of result.now) }
     {
-        &self.preds[position as usize]
+        self.preds.get(position as usize)
     }
-}
 
-/// Equal predicates.
-fn copies_of(alloc: Global, preds: &[Pred]) -> Result<Vec<Pred>, AllocError>
-    ensures { IfOk result (λ copies. map plain_of copies.items ≡ map plain_of preds.now) }
-{
-    let mut copies = Vec::with_capacity(alloc, preds.len())?;
-    for pred in preds {
-        copies.push(pred.try_copy(alloc)?)?;
+    /// What items meet at all positions, equal predicates once.
+    pub fn preds(&self) -> &SharedPreds
+        ensures shared { AreShared result.now }
+        ensures listed { listed result.now ≡ self.now.preds }
+        ensures sets { AreSets self.now }
+    {
+        &self.preds
     }
-    Ok(copies)
 }

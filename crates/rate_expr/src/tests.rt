@@ -146,6 +146,23 @@ fn predicates_stand_from_left_to_right(rt: HostRuntime) -> Result<(), Fail> {
 }
 
 #[test]
+fn two_equal_predicates_are_kept_once(rt: HostRuntime) -> Result<(), Fail> {
+    let alloc = rt.alloc();
+    let both = seq(alloc, Rate::One(Pred::Lt(0, 5)), Rate::One(Pred::IsNum(3)))?;
+    let rate = seq(alloc, both, Rate::One(Pred::Lt(0, 5)))?;
+    assert!(rt; rate.positions() <= MAX_POSITIONS);
+    let sets = Positions::of(alloc, &rate)?.try_copy(alloc)?;
+    let preds = sets.preds();
+    assert_eq!(rt; preds.distinct().len(), 2);
+    assert!(rt; matches!(preds.distinct().get(0), Pred::Lt(0, 5)));
+    assert_eq!(rt;
+        (preds.positions_of(0), preds.positions_of(1)),
+        (0b_101, 0b_010)
+    );
+    Ok(())
+}
+
+#[test]
 fn a_mask_has_its_positions(rt: HostRuntime) {
     let mask = only(127) | only(3) | only(0);
     assert_eq!(rt; mask, (1 << 127) | 9);

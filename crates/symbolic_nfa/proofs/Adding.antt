@@ -1,23 +1,23 @@
--- A position that the masks of some cells get.
-use Rattle.std.proofs.Common.{◌≡◌, ◌≢◌, ◌⊎◌, inl, inr, ℕ, ◌+◌, ◌*◌, ◌%◌, ◌^◌, ◌<◌, ◌≤◌, ◌↔◌, List, length, get_or, set, refl, sym, ◌∙◌, subst, bit_or, slice_index, arith, get_or-set_other, get_or-set_same}
+-- Positions that the masks of some cells get.
+use Rattle.std.proofs.Common.{◌≡◌, ◌≢◌, ◌⊎◌, inl, inr, ℕ, ◌+◌, ◌<◌, ◌≤◌, ◌↔◌, List, length, get_or, set, refl, ◌∙◌, bit_or, slice_index, arith, get_or-set_other, get_or-set_same}
 use Rattle.std.proofs.lemmas.List.{length-set}
 use Rattle.std.specs.List.{Contains}
 use Rattle.rate_expr.specs.Sets.{Has}
-use Rattle.symbolic_nfa.specs.Tables.{AddsPosition}
-use Rattle.rate_expr.proofs.MaskMembers.{has_first, has_added, has_added_same}
+use Rattle.symbolic_nfa.specs.Tables.{AddsPositions}
+use Rattle.rate_expr.proofs.MaskMembers.{has_or, has_first, has_second}
 use Rattle.rate_expr.proofs.MaskSets.{below-more}
 
--- the masks of the cells of the set below a bound have got the position, and the others are as they were
-pub record AreAdded (old new : List ℕ) (bound position : ℕ) (cells : List ℕ) : Type 0 where
+-- the masks of the cells of the set below a bound have got the positions, and the others are as they were
+pub record AreAdded (old new : List ℕ) (bound positions : ℕ) (cells : List ℕ) : Type 0 where
   pub same : length new ≡ length old
   pub done : (cell other : ℕ) → cell < bound → Has (slice_index new cell) other
-      ↔ (Has (slice_index old cell) other ⊎ (other ≡ position) × Contains cells cell)
+      ↔ (Has (slice_index old cell) other ⊎ (Has positions other × Contains cells cell))
   pub rest : (cell : ℕ) → bound ≤ cell → slice_index new cell ≡ slice_index old cell
 
 -- none yet
 pub added-none :
-    (masks : List ℕ) (position : ℕ) (cells : List ℕ) → AreAdded masks masks 0 position cells
-added-none masks position cells = record {
+    (masks : List ℕ) (positions : ℕ) (cells : List ℕ) → AreAdded masks masks 0 positions cells
+added-none masks positions cells = record {
   same = refl;
   done = λ cell other below. absurd (omega arith);
   rest = λ cell above. refl;
@@ -25,40 +25,37 @@ added-none masks position cells = record {
 
 -- a cell of the set
 pub added-here :
-    (old new : List ℕ) (at position : ℕ) (cells : List ℕ) → AreAdded old new at position cells
+    (old new : List ℕ) (at positions : ℕ) (cells : List ℕ) → AreAdded old new at positions cells
     → at < length new → Contains cells at
-    → AreAdded old (set new at (bit_or (get_or new at 0) (2 ^ position))) (at + 1)
-    position cells
-added-here old new at position cells so_far within is_in =
-    let one = 2 ^ position in
-    let after = set new at (bit_or (get_or new at 0) one) in
-    let here : get_or after at 0 ≡ bit_or (get_or new at 0) one =
-    get_or-set_same new at (bit_or (get_or new at 0) one) 0 within in
+    → AreAdded old (set new at (bit_or (get_or new at 0) positions)) (at + 1)
+    positions cells
+added-here old new at positions cells so_far within is_in =
+    let after = set new at (bit_or (get_or new at 0) positions) in
+    let here : get_or after at 0 ≡ bit_or (get_or new at 0) positions =
+    get_or-set_same new at (bit_or (get_or new at 0) positions) 0 within in
     let before : get_or new at 0 ≡ get_or old at 0 = so_far.rest at (omega arith) in
     let at_here : (other : ℕ) → Has (get_or after at 0) other
-    ↔ (Has (get_or old at 0) other ⊎ (other ≡ position) × Contains cells at) =
+    ↔ (Has (get_or old at 0) other ⊎ (Has positions other × Contains cells at)) =
     λ other. rw (here, before) (
-      λ has. elim (has_added (get_or old at 0) position other has) [
+      λ has. elim (has_or (get_or old at 0) positions other has) [
         | inl kept ↦ inl kept
-        | inr same ↦ inr (same, is_in)
+        | inr more ↦ inr (more, is_in)
       ],
       λ has. elim has [
-        | inl kept ↦ has_first (get_or old at 0) one other kept
-        | inr (same, there) ↦
-            subst (λ (p : ℕ). Has (bit_or (get_or old at 0) one) p) (sym same)
-            (has_added_same (get_or old at 0) position)
+        | inl kept ↦ has_first (get_or old at 0) positions other kept
+        | inr (more, there) ↦ has_second (get_or old at 0) positions other more
       ],
     ) in
     record {
-      same = length-set new at (bit_or (get_or new at 0) one) ∙ so_far.same;
+      same = length-set new at (bit_or (get_or new at 0) positions) ∙ so_far.same;
       done = λ cell other below. elim (below-more cell at below) [
         | inr less ↦
-            let kept = get_or-set_other new at cell (bit_or (get_or new at 0) one) 0 (less_not less) in
+            let kept = get_or-set_other new at cell (bit_or (get_or new at 0) positions) 0 (less_not less) in
             rw kept (so_far.done cell other less)
         | inl same ↦ rw same (at_here other)
       ];
       rest = λ cell above.
-          get_or-set_other new at cell (bit_or (get_or new at 0) one) 0 (more_not above)
+          get_or-set_other new at cell (bit_or (get_or new at 0) positions) 0 (more_not above)
           ∙ so_far.rest cell (omega arith);
     }
   where
@@ -70,9 +67,9 @@ added-here old new at position cells so_far within is_in =
 
 -- any other
 pub added-passed :
-    (old new : List ℕ) (at position : ℕ) (cells : List ℕ) → AreAdded old new at position cells
-    → (Contains cells at → ⊥) → AreAdded old new (at + 1) position cells
-added-passed old new at position cells so_far is_out = record {
+    (old new : List ℕ) (at positions : ℕ) (cells : List ℕ) → AreAdded old new at positions cells
+    → (Contains cells at → ⊥) → AreAdded old new (at + 1) positions cells
+added-passed old new at positions cells so_far is_out = record {
   same = so_far.same;
   done = λ cell other below. elim (below-more cell at below) [
     | inr less ↦ so_far.done cell other less
@@ -86,9 +83,9 @@ added-passed old new at position cells so_far is_out = record {
 
 -- all of them
 pub added-all :
-    (old new : List ℕ) (bound position : ℕ) (cells : List ℕ) → AreAdded old new bound position cells
-    → length old ≤ bound → AddsPosition old new position cells
-added-all old new bound position cells all enough = record {
+    (old new : List ℕ) (bound positions : ℕ) (cells : List ℕ) → AreAdded old new bound positions cells
+    → length old ≤ bound → AddsPositions old new positions cells
+added-all old new bound positions cells all enough = record {
   same = all.same;
   has = λ cell other below. all.done cell other (omega arith);
 }

@@ -15,6 +15,13 @@ all-at P (first ∷ xs) zero x all found =
     let e : first ≡ x = cc in subst P e all.0
 all-at P (first ∷ xs) (suc i) x all found = all-at P xs i x all.1 found
 
+-- and what holds of the one at each place holds of each
+pub all-each :
+    {X : Type 0} (P : X → Type 0) (xs : List X)
+    → ((i : ℕ) (x : X) → slice_get xs i ≡ Some x → P x) → AllByRecursion P xs
+all-each P [] all = tt
+all-each P (x ∷ xs) all = (all 0 x refl, all-each P xs (λ i y found. all (suc i) y found))
+
 -- there is one element at a place
 pub one-at :
     {X : Type 0} (xs : List X) (i j : ℕ) (x y : X) → slice_get xs i ≡ Some x → i ≡ j
@@ -48,9 +55,3 @@ pub all-below :
     → AllByRecursion P xs
 all-below P xs bound all enough =
     all-each P xs (λ i x found. all i (lt_of_lt_of_le (slice_get_within xs i x found) enough) x found)
-  where
-    all-each :
-        {X : Type 0} (P : X → Type 0) (xs : List X)
-        → ((i : ℕ) (x : X) → slice_get xs i ≡ Some x → P x) → AllByRecursion P xs
-    all-each P [] all = tt
-    all-each P (x ∷ xs) all = (all 0 x refl, all-each P xs (λ i y found. all (suc i) y found))

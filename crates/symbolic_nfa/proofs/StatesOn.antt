@@ -1,12 +1,12 @@
 -- What masks say of states.
-use Rattle.std.proofs.Common.{arith, ◌≡◌, ℕ, Bool, List, ◌↔◌, get_or, sym, subst, ◌<◌, ◌≤◌, ◌^◌, IsTrue, not, nat_eq, bit_and}
+use Rattle.std.proofs.Common.{◌≡◌, ℕ, Bool, List, ◌↔◌, get_or, sym, subst, ◌<◌, IsTrue, bit_and}
 use Rattle.std.proofs.lemmas.Option.{slice_get_read}
 use Rattle.value_ops.specs.declared.field.Field.{Field}
 use Rattle.predicate_cells.specs.Cells.{Partition, cell_count, IsIn}
-use Rattle.rate_expr.specs.Sets.{Sets, AreSets, Has}
+use Rattle.rate_expr.specs.Sets.{Sets, Has}
 use Rattle.symbolic_nfa.specs.Automata.{Automaton, IsMet}
 use Rattle.symbolic_nfa.specs.Growth.{IsUseful}
-use Rattle.symbolic_nfa.specs.States.{GoesOn, StepsTo, IsAccepted, Extends}
+use Rattle.symbolic_nfa.specs.States.{GoesOn, StepsTo, Extends}
 use Rattle.symbolic_nfa.specs.Tables.{AreTables}
 use Rattle.rate_expr.specs.declared.state.State.{State}
 use Rattle.rate_expr.specs.declared.state.State.TheVariants.{Initial, At}

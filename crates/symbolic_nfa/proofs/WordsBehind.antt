@@ -1,5 +1,5 @@
 -- States, words and rates.
-use Rattle.std.proofs.Common.{◌≡◌, ℕ, List, [], ◌∷◌, ◌++◌, ◌↔◌, refl, ap, subst}
+use Rattle.std.proofs.Common.{ℕ, List, [], ◌∷◌, ◌++◌, ◌↔◌, refl, subst}
 use Rattle.value_ops.specs.declared.field.Field.{Field}
 use Rattle.rate_expr.specs.Behind.{IsBehind}
 use Rattle.rate_expr.specs.Language.{In}

@@ -15,8 +15,8 @@ pub record AreTables (nfa : Automaton) (met : List ℕ) (growing : ℕ) (begins 
   pub growing_is : (position : ℕ) → Has growing position ↔ Grows nfa position
   pub begins_is : IsTrue begins ↔ BeginsWords nfa
 
--- the masks of these cells get the position, and all keep what they had
-pub record AddsPosition (old new : List ℕ) (position : ℕ) (cells : List ℕ) : Type 0 where
+-- the masks of these cells get the positions, and all keep what they had
+pub record AddsPositions (old new : List ℕ) (positions : ℕ) (cells : List ℕ) : Type 0 where
   pub same : length new ≡ length old
-  pub has : (cell other : ℕ) → cell < length old → Has (slice_index new cell) other
-      ↔ (Has (slice_index old cell) other ⊎ (other ≡ position) × Contains cells cell)
+  pub has : (cell position : ℕ) → cell < length old → Has (slice_index new cell) position
+      ↔ (Has (slice_index old cell) position ⊎ (Has positions position × Contains cells cell))

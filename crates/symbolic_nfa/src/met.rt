@@ -1,13 +1,12 @@
 //! Which positions the items of each cell meet.
 ghost use Rattle.std.specs.Prelude.{◌≡◌, ◌≤◌, ◌<◌, IfOk, OnOk, length, fold, bit_or};
-ghost use Rattle.language_base.specs.Limits.{max_cells, max_positions};
+ghost use Rattle.language_base.specs.Limits.{max_cells};
 ghost use Rattle.rate_expr.specs.Sets.{AreSets};
 ghost use Rattle.symbolic_nfa.specs.Automata.{AreDecided, AreMet};
-ghost use Rattle.symbolic_nfa.specs.Tables.{AddsPosition};
+ghost use Rattle.symbolic_nfa.specs.Tables.{AddsPositions};
 
 use predicate_cells::{CellSet, Cells};
 use rate_expr::Positions;
-use rate_expr::masks::only;
 use std::alloc::{AllocError, Global};
 
 // For each cell, the positions that its items meet.
@@ -21,22 +20,22 @@ pub(crate) fn met_by_cells(
     ensures sets { OnOk result (AreSets positions.now) }
 {
     let mut met = vec![in alloc; 0; cells.count() as usize]?;
-    'positions: for position in 0..positions.count() {
-        let meeting = cells.mask(alloc, positions.pred(position))?;
-        add(&mut met, position, &meeting);
+    let preds = positions.preds();
+    'places: for place in 0..preds.distinct().len() {
+        let meeting = cells.mask(alloc, preds.distinct().get(place))?;
+        add(&mut met, preds.positions_of(place), &meeting);
     }
     Ok(met)
 }
 
-// Gives the position to the masks of the cells that are in the set.
-fn add(masks: &mut [u128], position: u32, set: &CellSet)
-    requires few { length masks.old ≤ max_cells }
-    requires position { position < max_positions }
-    ensures { AddsPosition masks.old masks.new position set.now }
+// Gives the positions to the masks of the cells that are in the set.
+fn add(masks: &mut [u128], positions: u128, set: &CellSet)
+    requires { length masks.old ≤ max_cells }
+    ensures { AddsPositions masks.old masks.new positions set.now }
 {
     'cells: for cell in 0..masks.len() {
         if set.has(cell as u32) {
-            masks[cell] |= only(position);
+            masks[cell] |= positions;
         }
     }
 }

@@ -66,8 +66,9 @@ impl Nfa {
     pub fn can_read(positions: &Positions, cells: &Cells) -> bool
         ensures { IsTrue result ↔ AreDecided positions.now cells.now }
     {
-        'positions: for position in 0..positions.count() {
-            if !cells.decides(positions.pred(position)) {
+        let preds = positions.preds().distinct();
+        'places: for place in 0..preds.len() {
+            if !cells.decides(preds.get(place)) {
                 return false;
             }
         }

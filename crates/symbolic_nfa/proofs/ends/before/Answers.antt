@@ -1,4 +1,4 @@
-use Rattle.std.proofs.Common.{arith, ◌<◌}
+use Rattle.std.proofs.Common.{arith}
 use Rattle.symbolic_nfa.proofs.Ending.{before-added, before-all, before-below, before-passed}
 use Rattle.symbolic_nfa.proofs.ends.before.Goals as goal
 use Rattle.symbolic_nfa.proofs.ends.before.Goals.{then-overlap, else-overlap}

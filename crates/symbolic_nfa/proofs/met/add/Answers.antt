@@ -8,7 +8,7 @@ cells-init c = added-none _ _ _
 
 pub cells-preserved : goal.cells-preserved
 cells-preserved c = elim c.if-has.branch [
-  | then-has w ↦ rw (w.masks-is, w.only.ensures)
+  | then-has w ↦ rw w.masks-is
       (added-here _ _ _ _ _ c.cells.invariant (omega arith)
       (c.has.ensures.0 w.if-has.true))
   | else-has w ↦ rw w.masks-is

@@ -2,4 +2,4 @@ use Rattle.symbolic_nfa.proofs.Adding.{AreAdded}
 use Rattle.symbolic_nfa.proofs.met.add.Given as goal
 
 abbrev pub invariant-cells : goal.invariant-cells
-invariant-cells l = AreAdded l.fn.masks l.masks l.cell l.position l.set
+invariant-cells l = AreAdded l.fn.masks l.masks l.cell l.positions l.set

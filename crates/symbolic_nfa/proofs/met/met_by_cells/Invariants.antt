@@ -1,5 +1,5 @@
 use Rattle.symbolic_nfa.proofs.Meeting.{AreMetBelow}
 use Rattle.symbolic_nfa.proofs.met.met_by_cells.Given as goal
 
-abbrev pub invariant-positions : goal.invariant-positions
-invariant-positions l = AreMetBelow l.positions l.cells l.met.items l.position
+abbrev pub invariant-places : goal.invariant-places
+invariant-places l = AreMetBelow l.positions l.preds.places l.cells l.met.items l.place

@@ -1,0 +1,110 @@
+//! Predicates of which equal ones are kept once.
+ghost use Rattle.std.specs.Prelude.{◌≡◌, ◌↔◌, ◌<◌, ◌≤◌, ◌++◌, ◌∷◌, [], ℕ, Some, IfOk, OnOk, length, slice_get};
+ghost use Rattle.language_base.specs.Limits.{max_positions};
+ghost use Rattle.predicate_cells.specs.Plain.{plain_of};
+ghost use Rattle.rate_expr.specs.Sets.{Has};
+ghost use Rattle.rate_expr.specs.Shared.{listed, AreShared};
+
+use crate::masks::only;
+use predicate_cells::{Pred, Preds};
+use std::alloc::{AllocError, Global};
+use std::marker::Model;
+
+/// The predicates of positions, seen as those that are kept and each position's place among them.
+#[derive(Drop)]
+pub struct SharedPreds {
+    distinct: Preds,
+    places: Vec<usize>,
+}
+
+impl Model for SharedPreds {
+    ghost use Rattle.std.specs.Coded.{codes};
+    ghost use Rattle.predicate_cells.specs.Coding.{coded_predicate};
+    ghost use Rattle.rate_expr.specs.Shared.{Shared};
+
+    ghost Value = { Shared };
+
+    ghost coded = { Prim.hlevel (codes, coded_predicate) };
+
+    ghost view = { λ p. record { distinct = p.distinct; places = p.places.items } };
+}
+
+impl SharedPreds {
+    /// None.
+    pub(crate) fn new(alloc: Global) -> SharedPreds
+        ensures { result ≡ record { distinct = []; places = [] } }
+    {
+        SharedPreds {
+            distinct: Preds::new(alloc),
+            places: Vec::new(alloc),
+        }
+    }
+
+    /// The predicate of one more position.
+    pub(crate) fn add(&mut self, pred: &Pred) -> Result<(), AllocError>
+        requires { AreShared self.old }
+        ensures shared { OnOk result (AreShared self.new) }
+        ensures listed { OnOk result (listed self.new ≡ listed self.old ++ plain_of pred.now ∷ []) }
+    {
+        match self.distinct.place_of(pred) {
+            Some(place) => {
+                self.places.push(place)?;
+                Ok(())
+            }
+            None => {
+                let place = self.distinct.len();
+                self.distinct.add(pred)?;
+                self.places.push(place)?;
+                Ok(())
+            }
+        }
+    }
+
+    /// An equal list.
+    pub(crate) fn try_copy(&self, alloc: Global) -> Result<SharedPreds, AllocError>
+        ensures { IfOk result (λ copy. copy ≡ self.now) }
+    {
+        Ok(SharedPreds {
+            distinct: self.distinct.try_copy(alloc)?,
+            places: Vec::from_slice(alloc, &self.places)?,
+        })
+    }
+
+    /// How many positions there are.
+    pub(crate) fn count(&self) -> usize
+        ensures { result ≡ length (listed self.now) }
+    {
+        self.places.len()
+    }
+
+    /// The predicate of a position.
+    pub(crate) fn get(&self, position: usize) -> &Pred
+        requires shared { AreShared self.now }
+        requires position { position < length (listed self.now) }
+        ensures { slice_get (listed self.now) position ≡ Some (plain_of result.now) }
+    {
+        self.distinct.get(self.places[position])
+    }
+
+    /// The predicates that are kept.
+    pub fn distinct(&self) -> &Preds
+        ensures { result.now ≡ self.now.distinct }
+    {
+        &self.distinct
+    }
+
+    /// The positions of the predicate at a place.
+    pub fn positions_of(&self, place: usize) -> u128
+        requires { length (listed self.now) ≤ max_positions }
+        ensures { (position : ℕ)
+            → Has result position ↔ (slice_get self.now.places position ≡ Some place) }
+    {
+        let mut found = 0;
+        'positions: for position in 0..self.places.len() {
+            if self.places[position] == place {
+                found |= only(position as u32);
+            }
+        }
+        found
+    }
+}
