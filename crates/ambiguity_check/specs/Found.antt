@@ -1,4 +1,4 @@
--- What a search finds, step by step.
+-- For the prover. What a search finds, step by step.
 use Rattle.std.specs.Prelude.{◌≡◌, ◌+◌, ◌≤◌, ℕ, ◌⊎◌, List, length}
 use Rattle.std.specs.List.{Contains}
 use Rattle.rate_expr.specs.Sets.{Has}

@@ -1,4 +1,4 @@
--- Two splits of one word, the left one of which ends the first part before the right one.
+-- For the prover. Two splits of one word, the left one of which ends the first part before the right one.
 use Rattle.std.specs.Prelude.{◌≡◌, ◌⊎◌, ℕ, true, List, slice_index}
 use Rattle.rate_expr.specs.Paths.{Follows}
 use Rattle.rate_expr.specs.Sets.{Sets, Has}

@@ -1,4 +1,4 @@
--- What an answered line shows.
+-- For the prover. What an answered line shows.
 use Rattle.std.specs.Prelude.{ℕ, List}
 use Rattle.io_edge.specs.Lines.{Shown, text, long}
 use Rattle.io_edge.specs.declared.under_way.Answer.{Answer}

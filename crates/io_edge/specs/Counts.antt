@@ -1,4 +1,4 @@
--- The counts by which an object of the outside tells that it failed, or that its input ended.
+-- Statement. The counts by which an object of the outside tells that it failed, or that its input ended.
 use Rattle.std.specs.Prelude.{◌≡◌, ◌<◌, ◌≤◌, ℕ, ◌+◌, ◌-◌, ◌^◌, min, Result, MatchResult, is_err, ◌==◌, if◌then◌else◌}
 
 -- a count after one more, kept at its last value

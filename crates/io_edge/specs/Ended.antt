@@ -1,4 +1,4 @@
--- What a call tells of the end of the input.
+-- Statement. What a call tells of the end of the input.
 use Rattle.std.specs.Prelude.{◌≡◌, ◌≤◌, ℕ, List, Option}
 use Rattle.std.specs.Io.KnownBytes.{IsAtEnd}
 use Rattle.io_edge.specs.Counts.{Rose}

@@ -1,4 +1,4 @@
--- How a line under way is kept.
+-- For the prover. How a line under way is kept.
 use Rattle.std.specs.Prelude.{◌≡◌, ◌<◌, ◌≤◌, ◌+◌, true, [], ◌++◌, replicate, vec_len, vec_capacity, if◌then◌else◌}
 use Rattle.io_edge.specs.Limits.{max_count, max_line}
 use Rattle.io_edge.specs.Started.{Started}

@@ -1,4 +1,4 @@
--- The limits of the lines of a source, each said once. The last value of each is accepted.
+-- Statement. The limits of the lines of a source, each said once. The last value of each is accepted.
 use Rattle.std.specs.Prelude.{ℕ, ◌-◌, ◌^◌}
 
 -- the bytes before the end of a line, where the line is shown

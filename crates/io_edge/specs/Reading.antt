@@ -1,4 +1,4 @@
--- A Lines as its contracts see it: where it stands in the bytes that it has taken.
+-- Statement. A Lines as its contracts see it: where it stands in the bytes that it has taken.
 use Rattle.std.specs.Prelude.{◌≡◌, ◌<◌, ◌⊎◌, ℕ, ◌+◌, Bool, true, false, List, [], ◌∷◌, ◌++◌, length}
 use Rattle.io_edge.specs.Lines.{Shown, lines_from, NoLf}
 

@@ -1,4 +1,4 @@
--- A source over a real file, of which no clause knows the bytes.
+-- Statement. A source over a real file, of which no clause knows the bytes.
 use Rattle.std.specs.Prelude.{◌≡◌, ◌<◌, ℕ, List, Result, Ok}
 use Rattle.io_edge.specs.Counts.{CountsFault, CountsEnd}
 

@@ -1,4 +1,4 @@
--- A line under way, as the contracts of its buffer see it.
+-- For the prover. A line under way, as the contracts of its buffer see it.
 use Rattle.std.specs.Prelude.{◌≡◌, ◌≤◌, ℕ, List, length}
 use Rattle.io_edge.specs.Limits.{max_line}
 

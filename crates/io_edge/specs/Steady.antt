@@ -1,4 +1,4 @@
--- A source and a sink in memory that never fail: what each of their calls does.
+-- Statement. A source and a sink in memory that never fail: what each of their calls does.
 use Rattle.std.specs.Prelude.{◌≡◌, ℕ, ◌+◌, ◌-◌, ◌^◌, List, length, min, Result, Ok}
 use Rattle.io_edge.specs.Counts.{CountsEnd}
 

@@ -1,4 +1,4 @@
--- The steps by which a line is found.
+-- For the prover. The steps by which a line is found.
 use Rattle.std.specs.Prelude.{◌≡◌, ◌≤◌, ℕ, true, false, List, [], ◌∷◌, Option, Some, None, Result, Ok, Err}
 use Rattle.std.specs.Io.KnownBytes.{Consumes}
 use Rattle.io_edge.specs.Lines.{Shown, NoLf}

@@ -1,4 +1,4 @@
--- What was taken of a source that is read to its end, or until so many bytes were taken.
+-- Statement. What was taken of a source that is read to its end, or until so many bytes were taken.
 use Rattle.std.specs.Prelude.{◌≡◌, ◌<◌, ◌≤◌, ℕ, List, length, take, Option, IfSome}
 use Rattle.std.specs.Io.KnownBytes.{Consumes}
 use Rattle.io_edge.specs.Ended.{MeetsEnd}

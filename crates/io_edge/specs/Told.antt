@@ -1,4 +1,4 @@
--- What an answer of `Lines::next` tells.
+-- Statement. What an answer of `Lines::next` tells.
 use Rattle.std.specs.Prelude.{◌≡◌, ◌⊎◌, ◌≤◌, ℕ, true, false, List, [], Option, Result, Ok, Err}
 use Rattle.std.specs.Io.KnownBytes.{Consumes}
 use Rattle.io_edge.specs.Ended.{MeetsEnd}

@@ -1,4 +1,4 @@
--- What a sink took of the bytes that it was handed.
+-- Statement. What a sink took of the bytes that it was handed.
 use Rattle.std.specs.Prelude.{◌≡◌, ℕ, List, ◌++◌, Option}
 use Rattle.std.specs.Io.KnownBytes.{Appends}
 

@@ -1,4 +1,4 @@
--- The fields of an item, however they are kept.
+-- For the prover. The fields of an item, however they are kept.
 use Rattle.std.specs.Prelude.{List}
 use Rattle.value_ops.specs.declared.field.Field.{Field}
 use Rattle.item_schema.specs.declared.item.Fields.{Fields}

@@ -1,4 +1,4 @@
--- The items that a stream may have.
+-- Statement. The items that a stream may have.
 use Rattle.std.specs.Prelude.{List, [], ◌∷◌, FitsSigned}
 use Rattle.std.specs.Int.{w64}
 use Rattle.value_ops.specs.declared.field.Field.{Field}

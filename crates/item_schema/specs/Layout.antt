@@ -1,4 +1,4 @@
--- The columns of a stream.
+-- Statement. The columns of a stream.
 use Rattle.std.specs.Prelude.{◌≤◌, ◌<◌, ◌&&◌, not, nat_le, nat_lt, Bool, true, false, List, [], ◌∷◌, length, codes, IsTrue}
 use Rattle.std.specs.List.{list_all, list_any}
 use Rattle.std.specs.Str.{bytes_eq}

@@ -1,4 +1,4 @@
--- Why a line is left out, said by the parts of its texts.
+-- Statement. Why a line is left out, said by the parts of its texts.
 use Rattle.std.specs.Prelude.{◌≡◌, ◌≢◌, ◌+◌, ◌⊎◌, ℕ, ℤ, List, ◌∷◌, length, Some, All, FitsSigned}
 use Rattle.std.specs.Int.{w64}
 use Rattle.std.specs.List.{Contains}

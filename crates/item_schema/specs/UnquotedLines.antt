@@ -1,4 +1,4 @@
--- Lines whose fields stand between their commas.
+-- Statement. Lines whose fields stand between their commas.
 use Rattle.std.specs.Prelude.{ℕ, Bool, ◌&&◌, ◌||◌, ◌==◌, not, nat_lt, List, [], ◌∷◌, length, Option, None, Some}
 use Rattle.std.specs.List.{list_any, slice_split, starts_with}
 

@@ -1,4 +1,4 @@
--- The limits of the language, each said once. The last value of each is accepted.
+-- Statement. The limits of the language, each said once. The last value of each is accepted.
 use Rattle.std.specs.Prelude.{ℕ}
 
 -- the bytes of a query text

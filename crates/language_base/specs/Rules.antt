@@ -1,4 +1,4 @@
--- The rules of the language by their numbers.
+-- Statement. The rules of the language by their numbers.
 use Rattle.std.specs.Prelude.{ℕ}
 use Rattle.language_base.specs.declared.rule.Rule.{Rule}
 use Rattle.language_base.specs.declared.rule.Rule.TheVariants.{Long, Token, Term, Depth, Form, Name, Nested, Size, Literal, Type_, Cells, Empty, Choice, Split, Iter, Reach, Rates, Compose}

@@ -1,4 +1,4 @@
--- Sets of cells.
+-- Statement. Sets of cells.
 use Rattle.std.specs.Prelude.{ℕ, ◌+◌, Bool, List, [], ◌∷◌, if◌then◌else◌}
 
 -- the numbers of the flags that are set, where the first has this number

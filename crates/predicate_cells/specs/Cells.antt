@@ -1,4 +1,4 @@
--- The cells of a stream: a class for each column.
+-- Statement. The cells of a stream: a class for each column.
 use Rattle.std.specs.Prelude.{◌≡◌, ◌<◌, ℕ, ◌+◌, ◌*◌, List, [], ◌∷◌, IsTrue}
 use Rattle.std.specs.List.{list_all, Contains}
 use Rattle.value_ops.specs.declared.field.Field.{Field}

@@ -1,4 +1,4 @@
--- The classes of a column: which of its fields no test tells apart.
+-- Statement. The classes of a column: which of its fields no test tells apart.
 use Rattle.std.specs.Prelude.{ℕ, ◌+◌, ◌==◌, ◌^◌, ℤ, pos, neg_ℤ, ◌+ℤ◌, Bool, ◌&&◌, List, [], ◌∷◌, ◌++◌, length, filter, count_by, if◌then◌else◌, int_lt, int_le}
 use Rattle.std.specs.List.{list_any, flat_map}
 use Rattle.std.specs.Ordering.{int_eq, nat_cmp, is_lt}

@@ -1,4 +1,4 @@
--- Predicates as lists of numbers, by which proofs tell them apart.
+-- For the prover. Predicates as lists of numbers, by which proofs tell them apart.
 use Rattle.std.specs.Prelude.{◌≡◌, ◌==◌, ℕ, ℤ, pos, List, [], ◌∷◌, if◌then◌else◌, refl}
 use Rattle.std.specs.Coded.{Coded, code_by, coded×, coded_ℕ, coded_ℤ, coded_list}
 use Rattle.std.proofs.Common.{◌∙◌, ap}

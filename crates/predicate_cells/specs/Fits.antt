@@ -1,4 +1,4 @@
--- Which predicates are ones on the items of a stream.
+-- Statement. Which predicates are ones on the items of a stream.
 use Rattle.std.specs.Prelude.{ℕ, Bool, true, false, ◌&&◌, List, slice_get}
 use Rattle.item_schema.specs.declared.column.Column.{Column}
 use Rattle.item_schema.specs.declared.column.Kind.{Kind}

@@ -1,4 +1,4 @@
--- Which cells a predicate marks.
+-- Statement. Which cells a predicate marks.
 use Rattle.std.specs.Prelude.{◌≡◌, ◌↔◌, ℕ, true, List}
 use Rattle.std.specs.List.{Contains}
 use Rattle.value_ops.specs.declared.field.Field.{Field}

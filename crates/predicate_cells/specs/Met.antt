@@ -1,4 +1,4 @@
--- Whether items meet a predicate.
+-- Statement. Whether items meet a predicate.
 use Rattle.std.specs.Prelude.{◌≡◌, true, false, List}
 use Rattle.value_ops.specs.declared.field.Field.{Field}
 use Rattle.item_schema.specs.declared.column.Column.{Column}

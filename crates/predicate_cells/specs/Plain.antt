@@ -1,4 +1,4 @@
--- A predicate in memory as a plain one.
+-- Statement. A predicate in memory as a plain one.
 use Rattle.predicate_cells.specs.Predicates as plain
 use Rattle.predicate_cells.specs.declared.pred.Pred.{Pred}
 use Rattle.predicate_cells.specs.declared.pred.Pred.TheVariants.{Any, Eq, Ne, Lt, Le, Gt, Ge, Between, EqText, NeText, IsNum, And', Or', Not'}

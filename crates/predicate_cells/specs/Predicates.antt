@@ -1,4 +1,4 @@
--- Predicates, without where they lie in memory.
+-- Statement. Predicates, without where they lie in memory.
 use Rattle.std.specs.Prelude.{ℕ, ℤ, List}
 
 -- a test of the field in a column, counted from 0, or tests joined

@@ -1,4 +1,4 @@
--- What the classes of a column are looked up in.
+-- For the prover. What the classes of a column are looked up in.
 use Rattle.std.specs.Prelude.{ℕ, ◌+◌, ◌-◌, ◌*◌, ◌==◌, ◌^◌, ℤ, pos, neg_ℤ, List, [], ◌∷◌, ◌++◌, length, filter, count_by, if◌then◌else◌, nat_le, int_le, slice_index_or}
 use Rattle.std.specs.List.{list_any, flat_map}
 use Rattle.std.specs.Ordering.{int_cmp, nat_cmp, is_lt}

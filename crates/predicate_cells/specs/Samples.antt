@@ -1,4 +1,4 @@
--- An item of each cell.
+-- For the prover. An item of each cell.
 use Rattle.std.specs.Prelude.{ℕ, ◌/◌, ◌%◌, List, [], ◌∷◌, ◌++◌, map, replicate, Option, None, Some}
 use Rattle.std.specs.List.{flat_map, range_with_len}
 use Rattle.value_ops.specs.declared.field.Field.{Field}

@@ -1,4 +1,4 @@
--- What a predicate says of an item.
+-- Statement. What a predicate says of an item.
 use Rattle.std.specs.Prelude.{ℕ, ℤ, Bool, true, false, ◌&&◌, ◌||◌, not, List, Option, None, Some, is_some, slice_get, int_lt, int_le}
 use Rattle.std.specs.Ordering.{int_eq}
 use Rattle.std.specs.Option.{option_map_or}

@@ -1,4 +1,4 @@
--- The forms: at each place the words, numbers, strings and calls that may stand there.
+-- Statement. The forms: at each place the words, numbers, strings and calls that may stand there.
 use Rattle.std.specs.Prelude.{ℕ, ℤ, pos, Bool, true, false, ◌&&◌, ◌||◌, ◌==◌, List, [], ◌∷◌, length, nat_le, codes, Option, Some, None, if◌then◌else◌}
 use Rattle.std.specs.Str.{bytes_eq}
 use Rattle.language_base.specs.declared.span.Span.{Span}

@@ -1,4 +1,4 @@
--- The forms that the tables of the program hold.
+-- For the prover. The forms that the tables of the program hold.
 use Rattle.query_forms.specs.Forms as forms
 use Rattle.query_forms.specs.declared.form.Form.{Form}
 

@@ -1,4 +1,4 @@
--- Lists of terms with what they say and their places, and the trees that say so.
+-- Statement. Lists of terms with what they say and their places, and the trees that say so.
 use Rattle.std.specs.Prelude.{◌≡◌, ◌≤◌, ℕ, ◌+◌, ℤ, List, length, slice_range}
 use Rattle.std.specs.Str.Parse.{signed_digits_value}
 use Rattle.language_base.specs.declared.span.Span.{Span}

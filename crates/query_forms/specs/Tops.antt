@@ -1,4 +1,4 @@
--- The top terms of a file, each by itself.
+-- For the prover. The top terms of a file, each by itself.
 use Rattle.std.specs.Prelude.{ℕ, ◌+◌, ◌-◌, Bool, false, ◌&&◌, ◌==◌, List, ◌∷◌, length, replicate, codes, nat_le, Option, if◌then◌else◌}
 use Rattle.std.specs.Str.{bytes_eq}
 use Rattle.language_base.specs.Limits.{max_columns}

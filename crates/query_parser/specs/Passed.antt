@@ -1,4 +1,4 @@
--- Trees that no rule of reading refuses.
+-- For the prover. Trees that no rule of reading refuses.
 use Rattle.std.specs.Prelude.{◌≡◌, ℕ, List, length, None}
 use Rattle.query_trees.specs.Trees.{Trees, first_deep}
 use Rattle.query_forms.specs.Terms.{Terms, Say}

@@ -1,4 +1,4 @@
--- Terms as plain ones, without where they lie in memory.
+-- Statement. Terms as plain ones, without where they lie in memory.
 use Rattle.std.specs.Prelude.{List, [], ◌∷◌}
 use Rattle.query_forms.specs.Terms as plain
 use Rattle.query_parser.specs.declared.term.Term.{Term, Word, Number, Text, Call', Row_of-Term, end_of-Term, more_of-Term}

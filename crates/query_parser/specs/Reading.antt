@@ -1,4 +1,4 @@
--- What a text is read to, and its first refusal. The relations are those of the language: tokens, terms over
+-- Statement. What a text is read to, and its first refusal. The relations are those of the language: tokens, terms over
 -- tokens, levels, forms and numbers, in this order.
 use Rattle.std.specs.Prelude.{◌≡◌, ◌<◌, ◌≤◌, ℕ, ◌+◌, List, length, Some, None}
 use Rattle.language_base.specs.Limits.{max_text}

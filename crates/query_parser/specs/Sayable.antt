@@ -1,4 +1,4 @@
--- Trees whose terms can be made.
+-- For the prover. Trees whose terms can be made.
 use Rattle.std.specs.Prelude.{◌≡◌, List, ℕ, FitsSigned}
 use Rattle.std.specs.Int.{w64}
 use Rattle.std.specs.Str.Parse.{signed_digits_value}

@@ -1,4 +1,4 @@
--- Why a text is not read to a file.
+-- Statement. Why a text is not read to a file.
 use Rattle.std.specs.Prelude.{ℕ, List}
 use Rattle.query_parser.specs.declared.stop.ReadStop.{ReadStop}
 use Rattle.query_parser.specs.declared.stop.ReadStop.TheVariants.{Refused, Memory}

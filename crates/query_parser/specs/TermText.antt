@@ -1,4 +1,4 @@
--- The text of one term.
+-- For the prover. The text of one term.
 use Rattle.std.specs.Prelude.{ℕ, List}
 use Rattle.query_forms.specs.Terms as plain
 use Rattle.query_parser.specs.declared.term.Term.{Term}

@@ -1,4 +1,4 @@
--- What a text begins with, as its length.
+-- For the prover. What a text begins with, as its length.
 use Rattle.std.specs.Prelude.{◌≡◌, ◌≤◌, ◌⊎◌, ℕ, ◌+◌, Bool, ◌||◌, ◌==◌, nat_lt, if◌then◌else◌, List, [], ◌∷◌, ◌++◌, length, take, take_while, drop, Option, Some, None}
 use Rattle.std.specs.Char.{is_ascii_digit}
 use Rattle.query_tokens.specs.declared.token.TokenKind.{TokenKind}

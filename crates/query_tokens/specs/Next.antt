@@ -1,4 +1,4 @@
--- What stands behind the blank at a place of a text.
+-- For the prover. What stands behind the blank at a place of a text.
 use Rattle.std.specs.Prelude.{◌≤◌, ◌<◌, ℕ, ◌+◌, ◌-◌, List, length, drop}
 use Rattle.query_tokens.specs.declared.token.Token.{Token}
 use Rattle.query_tokens.specs.declared.reading.Next.{Next}

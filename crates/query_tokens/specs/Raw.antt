@@ -1,4 +1,4 @@
--- The bytes of one token, and what may stand between tokens.
+-- Statement. The bytes of one token, and what may stand between tokens.
 use Rattle.std.specs.Prelude.{◌≡◌, ◌≢◌, ◌≤◌, ◌<◌, ◌⊎◌, ℕ, ◌+◌, ◌*◌, Bool, ◌||◌, ◌==◌, false, List, [], ◌∷◌, ◌++◌, All, IsTrue}
 use Rattle.std.specs.List.{flat_map, AllByRecursion}
 use Rattle.std.specs.Char.{is_ascii_alphabetic, is_ascii_alphanumeric}

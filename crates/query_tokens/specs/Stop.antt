@@ -1,4 +1,4 @@
--- Why a text gives no tokens.
+-- Statement. Why a text gives no tokens.
 use Rattle.std.specs.Prelude.{ℕ, List}
 use Rattle.query_tokens.specs.declared.token.Token.{Token}
 use Rattle.query_tokens.specs.declared.stop.TokenStop.{TokenStop}

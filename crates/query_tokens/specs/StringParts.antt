@@ -1,4 +1,4 @@
--- The parts that a string has, read from the front.
+-- For the prover. The parts that a string has, read from the front.
 use Rattle.std.specs.Prelude.{◌≡◌, ℕ, ◌+◌, ◌*◌, Bool, ◌||◌, ◌&&◌, not, ◌==◌, nat_lt, nat_le, if◌then◌else◌, List, [], ◌∷◌, ◌++◌, length, Option, Some, None}
 use Rattle.std.specs.Char.{digit_value}
 use Rattle.query_tokens.specs.Raw.{AreParts}

@@ -1,4 +1,4 @@
--- The tokens of a text, and the first place where there is none.
+-- Statement. The tokens of a text, and the first place where there is none.
 use Rattle.std.specs.Prelude.{◌≡◌, ℕ, ◌+◌, List, [], ◌∷◌, ◌++◌, length}
 use Rattle.query_tokens.specs.declared.token.Token.{Token}
 use Rattle.query_tokens.specs.Raw.{IsLongest, IsBlank, IsBlankToEnd, BeginsNone, BeginsNoBlank}

@@ -1,4 +1,4 @@
--- What is made of tokens that are known to be terms.
+-- For the prover. What is made of tokens that are known to be terms.
 use Rattle.std.specs.Prelude.{◌≡◌, ℕ, ◌+◌, nat_lt, if◌then◌else◌, List, [], ◌∷◌, ◌++◌, Option, Some, None, Vec, Result, Ok, Err}
 use Rattle.std.specs.declared.alloc.Global.{Global}
 use Rattle.language_base.specs.Limits.{max_level}

@@ -1,4 +1,4 @@
--- The steps of a reader of terms, which remembers no more than a place.
+-- For the prover. The steps of a reader of terms, which remembers no more than a place.
 use Rattle.std.specs.Prelude.{ℕ, ◌+◌, ◌-◌, Bool, false, ◌==◌, if◌then◌else◌, List, Option, Some, None, fold}
 use Rattle.query_tokens.specs.declared.token.Token.{Token}
 use Rattle.query_tokens.specs.declared.token.TokenKind.{TokenKind}

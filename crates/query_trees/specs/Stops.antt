@@ -1,4 +1,4 @@
--- Why tokens are refused.
+-- Statement. Why tokens are refused.
 use Rattle.std.specs.Prelude.{◌≡◌, ℕ, List, Some}
 use Rattle.query_tokens.specs.declared.token.Token.{Token}
 use Rattle.query_trees.specs.declared.stop.TreeStop.{TreeStop}

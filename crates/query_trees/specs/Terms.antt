@@ -1,4 +1,4 @@
--- The grammar of terms over tokens, and where tokens are no list of terms.
+-- Statement. The grammar of terms over tokens, and where tokens are no list of terms.
 use Rattle.std.specs.Prelude.{◌≡◌, ◌⊎◌, ℕ, List, [], ◌∷◌, ◌++◌}
 use Rattle.language_base.specs.declared.span.Span.{Span}
 use Rattle.query_tokens.specs.declared.token.Token.{Token}

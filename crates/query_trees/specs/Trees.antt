@@ -1,4 +1,4 @@
--- Lists of terms, as plain trees of tokens.
+-- Statement. Lists of terms, as plain trees of tokens.
 use Rattle.std.specs.Prelude.{ℕ, ◌+◌, List, [], ◌∷◌, nat_lt, if◌then◌else◌, Option, Some, None}
 use Rattle.language_base.specs.Limits.{max_level}
 use Rattle.language_base.specs.declared.span.Span.{Span}

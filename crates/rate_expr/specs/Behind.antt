@@ -1,4 +1,4 @@
--- The states of an automaton, each behind words.
+-- Statement. The states of an automaton, each behind words.
 use Rattle.std.specs.Prelude.{◌<◌, ◌^◌, ℕ, [], ◌∷◌, length}
 use Rattle.rate_expr.specs.Paths.{Leads}
 use Rattle.rate_expr.specs.Sets.{Sets, Has}

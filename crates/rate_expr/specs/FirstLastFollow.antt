@@ -1,4 +1,4 @@
--- The first, last and follow sets of a rate, as a textbook has them. The positions are the one-item
+-- Statement. The first, last and follow sets of a rate, as a textbook has them. The positions are the one-item
 -- parts, numbered from left to right, so that in a sequence and in a choice those of the second part
 -- come behind those of the first.
 use Rattle.std.specs.Prelude.{◌≡◌, ◌+◌, ◌⊎◌, ◌↔◌, ℕ, true}

@@ -1,4 +1,4 @@
--- The words of a rate, as a textbook has those of a regular expression.
+-- Statement. The words of a rate, as a textbook has those of a regular expression.
 use Rattle.std.specs.Prelude.{◌≡◌, ◌⊎◌, true, List, [], ◌∷◌, ◌++◌}
 use Rattle.std.specs.List.{AllByRecursion}
 use Rattle.value_ops.specs.declared.field.Field.{Field}

@@ -1,4 +1,4 @@
--- The sets of a rate, put together from those of its parts.
+-- For the prover. The sets of a rate, put together from those of its parts.
 use Rattle.std.specs.Prelude.{◌+◌, ◌^◌, ◌==◌, ◌&&◌, ◌||◌, ℕ, Bool, true, false, if◌then◌else◌, List, [], ◌∷◌, ◌++◌, bit_or, length}
 use Rattle.std.specs.Int.{bit_at}
 use Rattle.rate_expr.specs.declared.part.Part.{Part}

@@ -1,4 +1,4 @@
--- The paths of positions that words spell.
+-- Statement. The paths of positions that words spell.
 use Rattle.std.specs.Prelude.{◌≡◌, ℕ, true, List, [], ◌∷◌, Some, slice_get}
 use Rattle.value_ops.specs.declared.field.Field.{Field}
 use Rattle.predicate_cells.specs.Predicates.{Predicate}

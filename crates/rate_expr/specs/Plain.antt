@@ -1,4 +1,4 @@
--- A rate in memory as a plain one.
+-- Statement. A rate in memory as a plain one.
 use Rattle.predicate_cells.specs.Plain as predicate
 use Rattle.rate_expr.specs.Rates as plain
 use Rattle.rate_expr.specs.declared.rate.Rate.{Rate}

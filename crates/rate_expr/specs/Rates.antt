@@ -1,4 +1,4 @@
--- Rates, without where they lie in memory.
+-- Statement. Rates, without where they lie in memory.
 use Rattle.std.specs.Prelude.{ℕ, ◌+◌, List, [], ◌∷◌, ◌++◌}
 use Rattle.predicate_cells.specs.Predicates.{Predicate}
 

@@ -1,4 +1,4 @@
--- Which words rates have, and in how many readings, over all words of items of these columns.
+-- Statement. Which words rates have, and in how many readings, over all words of items of these columns.
 use Rattle.std.specs.Prelude.{◌≡◌, ◌≢◌, ◌↔◌, List, ◌∷◌, ◌++◌}
 use Rattle.std.specs.List.{AllByRecursion}
 use Rattle.value_ops.specs.declared.field.Field.{Field}

@@ -1,4 +1,4 @@
--- Words of items.
+-- Statement. Words of items.
 use Rattle.std.specs.Prelude.{List, [], ◌∷◌, ◌++◌}
 use Rattle.std.specs.List.{AllByRecursion}
 use Rattle.value_ops.specs.declared.field.Field.{Field}

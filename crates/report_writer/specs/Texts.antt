@@ -1,4 +1,4 @@
--- The texts that are written. Each is one line and ends with an LF.
+-- Statement. The texts that are written. Each is one line and ends with an LF.
 use Rattle.std.specs.Prelude.{ℕ, List, ◌++◌, codes, decimal, Option, Some, None}
 use Rattle.std.specs.Fmt.{signed_decimal}
 use Rattle.value_ops.specs.declared.scalar.Scalar.{Scalar}

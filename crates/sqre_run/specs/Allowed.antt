@@ -1,4 +1,4 @@
--- The rules of cells.
+-- For the prover. The rules of cells.
 use Rattle.std.specs.Prelude.{◌≡◌, ◌⊎◌, ◌<◌, ◌≤◌, [], ◌∷◌}
 use Rattle.predicate_cells.specs.Cells.{Partition}
 use Rattle.language_base.specs.declared.refusal.Refusal.{Refusal}

@@ -1,4 +1,4 @@
--- The shape of query that is built so far, in any spelling: the running sum of a column. A file that
+-- Statement. The shape of query that is built so far, in any spelling: the running sum of a column. A file that
 -- departs from it is told by the first term, in text order, that does.
 use Rattle.std.specs.Prelude.{ℕ, ℤ, ◌==◌, ◌&&◌, List, codes, Result, Ok, Err, if◌then◌else◌}
 use Rattle.std.specs.Str.{bytes_eq}

@@ -1,4 +1,4 @@
--- What a call of `sqre` did, by its status.
+-- Statement. What a call of `sqre` did, by its status.
 use Rattle.std.specs.Prelude.{◌≡◌, ◌⊎◌, ℕ, List, [], length, Option, IfSome}
 use Rattle.std.specs.Io.KnownBytes.{Appends, Consumes}
 use Rattle.io_edge.specs.Counts.{FailsBy, Rose}

@@ -1,4 +1,4 @@
--- What came of handing a text to the sink.
+-- For the prover. What came of handing a text to the sink.
 use Rattle.std.specs.Prelude.{◌≡◌, ℕ, List, Option, Some, None, Result, Ok, Err}
 use Rattle.std.specs.declared.alloc.AllocError.{AllocError}
 use Rattle.std.specs.Io.KnownBytes.{Appends}

@@ -1,4 +1,4 @@
--- What a run writes, as a function of the query and the item bytes.
+-- Statement. What a run writes, as a function of the query and the item bytes.
 use Rattle.std.specs.Prelude.{ℕ, Bool, true, false, List, [], ◌∷◌, ◌++◌, drop, Option, Some, None, Result, Ok, Err, option_to_list, if◌then◌else◌}
 use Rattle.std.specs.List.{flat_map, list_all}
 use Rattle.io_edge.specs.Lines.{Shown, text, long, lines}

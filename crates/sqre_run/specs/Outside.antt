@@ -1,4 +1,4 @@
--- What item source and sink tell at a moment, and how a run ended between two moments.
+-- Statement. What item source and sink tell at a moment, and how a run ended between two moments.
 use Rattle.std.specs.Prelude.{◌≡◌, ℕ, true, false, List, ◌++◌, length, Option, IfSome}
 use Rattle.std.specs.Io.KnownBytes.{Appends, Consumes}
 use Rattle.io_edge.specs.Counts.{Rose}

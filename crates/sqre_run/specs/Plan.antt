@@ -1,4 +1,4 @@
--- A query that is built so far: the running sum of a column.
+-- Statement. A query that is built so far: the running sum of a column.
 use Rattle.std.specs.Prelude.{ℕ, ℤ}
 use Rattle.item_schema.specs.Layout.{Layout}
 use Rattle.predicate_cells.specs.Plain.{plain_of}

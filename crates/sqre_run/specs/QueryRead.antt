@@ -1,4 +1,4 @@
--- What was read of the query source.
+-- Statement. What was read of the query source.
 use Rattle.std.specs.Prelude.{◌≡◌, ◌⊎◌, ℕ, ◌+◌, List, Option, Result, Ok, Err}
 use Rattle.io_edge.specs.Taken.{TakesFewer, TakesFirst}
 use Rattle.language_base.specs.Limits.{max_text}

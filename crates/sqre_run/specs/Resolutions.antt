@@ -1,4 +1,4 @@
--- What a file is resolved to, as it lies in memory.
+-- For the prover. What a file is resolved to, as it lies in memory.
 use Rattle.std.specs.Prelude.{◌≡◌, Result, Err}
 use Rattle.language_base.specs.declared.refusal.Refusal.{Refusal}
 use Rattle.sqre_run.specs.Plan.{plan_of}

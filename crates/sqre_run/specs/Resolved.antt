@@ -1,4 +1,4 @@
--- What a file of terms is resolved to: names to columns, terms to columns and predicates, in the order
+-- Statement. What a file of terms is resolved to: names to columns, terms to columns and predicates, in the order
 -- of the rules.
 use Rattle.std.specs.Prelude.{◌&&◌, Bool, [], codes, Option, None, Some, Result, Ok, Err, if◌then◌else◌}
 use Rattle.std.specs.Str.{bytes_eq}

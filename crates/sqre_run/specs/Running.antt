@@ -1,4 +1,4 @@
--- The run so far, as the loop keeps it.
+-- For the prover. The run so far, as the loop keeps it.
 use Rattle.std.specs.Prelude.{◌≡◌, ◌≤◌, ℕ, Bool, true, false, List, ◌++◌, length}
 use Rattle.std.specs.Io.KnownBytes.{IsAtEnd}
 use Rattle.io_edge.specs.Counts.{Rose}

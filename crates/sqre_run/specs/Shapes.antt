@@ -1,4 +1,4 @@
--- What a file says of its sum, without where it lies in memory.
+-- For the prover. What a file says of its sum, without where it lies in memory.
 use Rattle.query_parser.specs.Plain.{terms_of}
 use Rattle.sqre_run.specs.Built as plain
 use Rattle.sqre_run.specs.declared.built.Shape.{Shape}

@@ -1,4 +1,4 @@
--- Why there is no query to run.
+-- For the prover. Why there is no query to run.
 use Rattle.std.specs.Prelude.{ℕ, List, Option, IfSome}
 use Rattle.sqre_run.specs.Compiled.{Compiles, refused}
 use Rattle.sqre_run.specs.declared.query.QueryStop.{QueryStop}

@@ -1,4 +1,4 @@
--- What the terms of a stream say.
+-- Statement. What the terms of a stream say.
 use Rattle.std.specs.Prelude.{◌≡◌, ℕ, pos, ◌&&◌, Bool, List, [], ◌∷◌, ◌++◌, codes, false, nat_le, Option, None, Some, Result, Ok, Err, if◌then◌else◌}
 use Rattle.std.specs.List.{list_any}
 use Rattle.std.specs.Option.{ok_or, option_map_or}

@@ -1,4 +1,4 @@
--- What a run keeps of the lines so far.
+-- For the prover. What a run keeps of the lines so far.
 use Rattle.std.specs.Prelude.{◌≡◌, ℕ, Bool, true, false, List, [], ◌∷◌, ◌++◌, Option, None, Some, option_to_list, if◌then◌else◌}
 use Rattle.io_edge.specs.Lines.{Shown}
 use Rattle.value_ops.specs.declared.field.Field.{Field}

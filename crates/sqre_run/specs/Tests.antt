@@ -1,4 +1,4 @@
--- The predicates that terms write, over the columns of a stream.
+-- Statement. The predicates that terms write, over the columns of a stream.
 use Rattle.std.specs.Prelude.{ℕ, ℤ, List, [], ◌∷◌, codes, Option, None, Some, if◌then◌else◌, option_map, position}
 use Rattle.std.specs.Option.{option_and_then}
 use Rattle.std.specs.Str.{bytes_eq}

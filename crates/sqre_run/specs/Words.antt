@@ -1,4 +1,4 @@
--- The words of the command line.
+-- Statement. The words of the command line.
 use Rattle.std.specs.Prelude.{ℕ, Bool, false, List, [], ◌∷◌, codes, nat_eq}
 use Rattle.std.specs.Cmp.Lexicographic.{pointwise}
 

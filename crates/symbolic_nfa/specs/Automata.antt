@@ -1,4 +1,4 @@
--- What an automaton is made of.
+-- Statement. What an automaton is made of.
 use Rattle.std.specs.Prelude.{◌≡◌, ◌<◌, ◌^◌, ℕ, List, length, Some, slice_get}
 use Rattle.std.specs.List.{AllByRecursion, Contains}
 use Rattle.value_ops.specs.declared.field.Field.{Field}

@@ -1,4 +1,4 @@
--- Which positions lead to an end, told by masks alone.
+-- For the prover. Which positions lead to an end, told by masks alone.
 use Rattle.std.specs.Prelude.{ℕ, zero, suc}
 use Rattle.rate_expr.specs.Paths.{Follows}
 use Rattle.rate_expr.specs.Sets.{Sets, Has}

@@ -1,4 +1,4 @@
--- Where a word may still go on to an end.
+-- For the prover. Where a word may still go on to an end.
 use Rattle.std.specs.Prelude.{ℕ, List, ◌∷◌}
 use Rattle.value_ops.specs.declared.field.Field.{Field}
 use Rattle.rate_expr.specs.Paths.{Follows, Meets, LeadsOn}

@@ -1,4 +1,4 @@
--- Where an automaton goes from its states.
+-- Statement. Where an automaton goes from its states.
 use Rattle.std.specs.Prelude.{◌≡◌, ℕ, true, List, [], ◌∷◌}
 use Rattle.value_ops.specs.declared.field.Field.{Field}
 use Rattle.rate_expr.specs.Paths.{Follows, Meets, LeadsOn}

@@ -1,4 +1,4 @@
--- What an automaton keeps ready.
+-- For the prover. What an automaton keeps ready.
 use Rattle.std.specs.Prelude.{ℕ, Bool, ◌≡◌, ◌<◌, ◌^◌, ◌⊎◌, ◌↔◌, List, IsTrue, length, slice_index}
 use Rattle.std.specs.List.{Contains}
 use Rattle.rate_expr.specs.Sets.{AreSets, Has}

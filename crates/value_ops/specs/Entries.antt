@@ -1,4 +1,4 @@
--- The entries of a table: keys and what stands under them.
+-- Statement. The entries of a table: keys and what stands under them.
 use Rattle.std.specs.Prelude.{ℕ, List, [], ◌∷◌, map, Option, None, Some, if◌then◌else◌}
 use Rattle.std.specs.List.{IsDistinct}
 use Rattle.std.specs.Str.{bytes_eq}

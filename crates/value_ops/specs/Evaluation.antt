@@ -1,4 +1,4 @@
--- What expressions give, on the fields of an item or on a left and a right value.
+-- Statement. What expressions give, on the fields of an item or on a left and a right value.
 use Rattle.std.specs.Prelude.{ℕ, pos, if◌then◌else◌, List, fold, length, Option, None, Some, slice_get}
 use Rattle.std.specs.Option.{option_map}
 use Rattle.value_ops.specs.declared.expr.Var.{Var}

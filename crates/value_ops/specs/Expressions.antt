@@ -1,4 +1,4 @@
--- Expressions, without where they lie in memory.
+-- Statement. Expressions, without where they lie in memory.
 use Rattle.std.specs.Prelude.{ℤ, ℕ, List}
 use Rattle.value_ops.specs.declared.expr.Expr.{Expr}
 use Rattle.value_ops.specs.declared.expr.Expr.TheVariants.{Literal, Read, Unary', Binary', If', Sum, Count, Most', Least', Get'}

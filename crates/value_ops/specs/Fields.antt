@@ -1,4 +1,4 @@
--- What a field says, whatever the kind of its column.
+-- Statement. What a field says, whatever the kind of its column.
 use Rattle.std.specs.Prelude.{ℕ, List, Option, Some, None}
 use Rattle.value_ops.specs.declared.field.Field.{Field}
 use Rattle.value_ops.specs.declared.field.Field.TheVariants.{Int, Text, Val}

@@ -1,4 +1,4 @@
--- What the operators do with scalars: the exact result first, and its range afterwards.
+-- Statement. What the operators do with scalars: the exact result first, and its range afterwards.
 use Rattle.std.specs.Prelude.{ℤ, pos, ◌+ℤ◌, ◌-ℤ◌, ◌*ℤ◌, neg_ℤ, int_div, int_rem, int_lt, int_le, unsigned_abs, Bool, not, if◌then◌else◌, Option, Some, None}
 use Rattle.std.specs.Ordering.{int_eq}
 use Rattle.std.specs.Int.{int_min, int_max}

@@ -1,4 +1,4 @@
--- Numbers, and why a computation has none.
+-- Statement. Numbers, and why a computation has none.
 use Rattle.std.specs.Prelude.{ℤ, pos, negsuc, ◌+ℤ◌, ◌^◌, nat_lt, if◌then◌else◌, List, fold}
 use Rattle.value_ops.specs.declared.scalar.Scalar.{Scalar}
 use Rattle.value_ops.specs.declared.scalar.Scalar.TheVariants.{Number, Overflow}

@@ -1,4 +1,4 @@
--- What the evaluator's names stand for, as plain values.
+-- Statement. What the evaluator's names stand for, as plain values.
 use Rattle.std.specs.Option.{option_copied}
 use Rattle.value_ops.specs.declared.inputs.Inputs as memory
 use Rattle.value_ops.specs.declared.typing.Types as given

@@ -1,4 +1,4 @@
--- Texts as lists of bytes.
+-- Statement. Texts as lists of bytes.
 use Rattle.std.specs.Prelude.{ℕ, Bool, nat_lt, List, IsTrue}
 use Rattle.std.specs.List.{list_all}
 

@@ -1,4 +1,4 @@
--- The values that there are, by their types.
+-- Statement. The values that there are, by their types.
 use Rattle.std.specs.Prelude.{ℕ, List, FitsSigned}
 use Rattle.std.specs.Int.{w64}
 use Rattle.std.specs.List.{All}

@@ -1,4 +1,4 @@
--- The types of expressions.
+-- Statement. The types of expressions.
 use Rattle.std.specs.Prelude.{◌≡◌, List, map, Option, Some, slice_get, FitsSigned}
 use Rattle.std.specs.Int.{w64}
 use Rattle.std.specs.Option.{option_map, option_and_then}

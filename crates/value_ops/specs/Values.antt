@@ -1,4 +1,4 @@
--- Which values and fields take no memory.
+-- Statement. Which values and fields take no memory.
 use Rattle.value_ops.specs.declared.field.Field.{Field}
 use Rattle.value_ops.specs.declared.field.Field.TheVariants.{Int, Text, Val}
 use Rattle.value_ops.specs.declared.value.Value.{Value}
