@@ -1,5 +1,6 @@
 pub mod Columns
 pub mod Compilations
+pub mod Compiling
 pub mod Firsts
 pub mod Outcomes
 pub mod PredicateTerms

@@ -1,4 +1,5 @@
 -- For the prover. The rules of cells.
+use Rattle.language_base.specs.Limits.{max_cells}
 use Rattle.std.specs.Prelude.{◌≡◌, ◌⊎◌, ◌<◌, ◌≤◌, [], ◌∷◌}
 use Rattle.predicate_cells.specs.Cells.{Partition}
 use Rattle.language_base.specs.declared.refusal.Refusal.{Refusal}
@@ -15,12 +16,12 @@ cells_under plan = record { layout = plan.layout; preds = plan.predicate ∷ [] 
 
 -- the sum has not too many cells, and some item meets its predicate
 abbrev pub IsAllowed : Plan → Type 0
-IsAllowed plan = (cells_of plan ≤ 4096) × HasItem plan
+IsAllowed plan = (cells_of plan ≤ max_cells) × HasItem plan
 
 -- the rule of cells that a sum breaks first
 abbrev pub Breaks : Resolution → Refusal → Type 0
-Breaks found why = ((4096 < cells_of found.plan) × (why ≡ refusal Cells found.stream))
-    ⊎ ((cells_of found.plan ≤ 4096) × HasNoItem found.plan × (why ≡ refusal Empty found.atom))
+Breaks found why = ((max_cells < cells_of found.plan) × (why ≡ refusal Cells found.stream))
+    ⊎ ((cells_of found.plan ≤ max_cells) × HasNoItem found.plan × (why ≡ refusal Empty found.atom))
 
 -- it is the first rule of cells that the sum breaks, or memory was wanting
 abbrev pub IsDisallowed : Resolution → QueryStop → Type 0

@@ -1,9 +1,8 @@
 -- Statement. What a query text is compiled to.
 use Rattle.std.specs.Prelude.{◌≡◌, ◌≤◌, ◌<◌, ℕ, false, true, List, [], ◌∷◌, Ok, Err}
-use Rattle.value_ops.specs.declared.field.Field.{Field}
-use Rattle.item_schema.specs.Items.{IsItemOf}
+use Rattle.language_base.specs.Limits.{max_cells}
 use Rattle.predicate_cells.specs.Cells.{cell_count}
-use Rattle.predicate_cells.specs.Truth.{holds}
+use Rattle.predicate_cells.specs.Met.{IsMet, IsUnmet}
 use Rattle.language_base.specs.declared.refusal.Refusal.{Refusal}
 use Rattle.language_base.specs.declared.rule.Rule.TheVariants.{Cells, Empty}
 use Rattle.query_forms.specs.Terms.{Terms}
@@ -22,21 +21,21 @@ cells_of plan = cell_count (record { layout = plan.layout; preds = plan.predicat
 
 -- some item meets the predicate
 abbrev pub HasItem : Plan → Type 0
-HasItem plan = (item : List Field) × IsItemOf plan.layout.columns item × (holds plan.predicate item ≡ true)
+HasItem plan = IsMet plan.layout.columns plan.predicate
 
 -- no item does
 abbrev pub HasNoItem : Plan → Type 0
-HasNoItem plan = (item : List Field) → IsItemOf plan.layout.columns item → holds plan.predicate item ≡ false
+HasNoItem plan = IsUnmet plan.layout.columns plan.predicate
 
--- the text is compiled to this: a file that is resolved to a sum of at most 4,096 cells, some item of which
+-- the text is compiled to this: a file that is resolved to a sum of few enough cells, some item of which
 -- meets its predicate, or a refusal by the first rule that the text breaks
 pub data Compiles (text : List ℕ) : Query → Type 0 where
   built : (terms : Terms) (found : Resolution) → IsFileOf text terms → resolved terms ≡ Ok found
-      → cells_of found.plan ≤ 4096 → HasItem found.plan → Compiles text (sum found.plan)
+      → cells_of found.plan ≤ max_cells → HasItem found.plan → Compiles text (sum found.plan)
   broken : (why : Refusal) → IsRefused text why → Compiles text (refused why)
   unresolved : (terms : Terms) (why : Refusal) → IsFileOf text terms → resolved terms ≡ Err why
       → Compiles text (refused why)
   many_cells : (terms : Terms) (found : Resolution) → IsFileOf text terms → resolved terms ≡ Ok found
-      → 4096 < cells_of found.plan → Compiles text (refused (refusal Cells found.stream))
+      → max_cells < cells_of found.plan → Compiles text (refused (refusal Cells found.stream))
   empty : (terms : Terms) (found : Resolution) → IsFileOf text terms → resolved terms ≡ Ok found
-      → cells_of found.plan ≤ 4096 → HasNoItem found.plan → Compiles text (refused (refusal Empty found.atom))
+      → cells_of found.plan ≤ max_cells → HasNoItem found.plan → Compiles text (refused (refusal Empty found.atom))

@@ -2,6 +2,7 @@
 ghost use Rattle.std.specs.Prelude.{◌≡◌, ◌≤◌, IfErr, IfOk, IsTrue, OnOk};
 ghost use Rattle.predicate_cells.specs.Fits.{fits};
 ghost use Rattle.predicate_cells.specs.Plain.{plain_of};
+ghost use Rattle.language_base.specs.Limits.{max_cells};
 ghost use Rattle.sqre_run.specs.Allowed.{IsAllowed, IsDisallowed, cells_under};
 ghost use Rattle.sqre_run.specs.Compiled.{cells_of};
 ghost use Rattle.sqre_run.specs.Plan.{plan_of};
@@ -30,7 +31,7 @@ pub fn allowed(alloc: Global, found: &Resolution) -> Result<(), QueryStop>
 fn cells_under(alloc: Global, found: &Resolution) -> Result<Cells, QueryStop>
     requires { IsTrue (fits found.now.sum.schema.columns (plain_of found.now.sum.pred)) }
     ensures cells { IfOk result (λ cells. cells ≡ cells_under (plan_of found.now.sum)) }
-    ensures few { OnOk result (cells_of (plan_of found.now.sum) ≤ 4096) }
+    ensures few { OnOk result (cells_of (plan_of found.now.sum) ≤ max_cells) }
     ensures refused { IfErr result (IsDisallowed (plain_resolution found.now)) }
 {
     let mut preds = Preds::new(alloc);

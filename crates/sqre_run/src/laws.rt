@@ -11,6 +11,7 @@ pub fn whole_lines_come_first()
 
 /// A query text is compiled to one query, or has one refusal.
 pub fn one_query_per_text()
-    ensures { (text : List ℕ) (one other : Query) → Compiles text one → Compiles text other
+    ensures some { (text : List ℕ) → (query : Query) × Compiles text query }
+    ensures only { (text : List ℕ) (one other : Query) → Compiles text one → Compiles text other
         → other ≡ one }
 {}
