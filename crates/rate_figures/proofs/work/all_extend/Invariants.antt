@@ -1,4 +1,4 @@
-use Rattle.symbolic_nfa.specs.States.{IsStateOf}
+use Rattle.rate_expr.specs.Behind.{IsStateOf}
 use Rattle.rate_figures.proofs.work.all_extend.Given as goal
 
 abbrev pub invariant-items : goal.invariant-items
