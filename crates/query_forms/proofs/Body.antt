@@ -25,6 +25,9 @@ some_term : (text : List ℕ) (tree : Tree) (others : Trees) → Say text (tree_
 some_term text (Leaf token) others say = say
 some_term text (Call' first shape row place) others say = say
 
+some_said : (text : List ℕ) (tree : Tree) (others : Trees) (terms : Terms) → Say text (tree_before tree others) terms → terms ≡ none → ⊥
+some_said text tree others terms say is = some_term text tree others (subst (Say text (tree_before tree others)) is say)
+
 two_of_test : (test : Bool) (first others : Option Span) (span : Span) → cond test (first_of_two first others) (Some span) ≡ first_of_two (cond test first (Some span)) others
 two_of_test true first others span = refl
 two_of_test false first others span = refl
@@ -37,20 +40,20 @@ two_of_tests false true false count first others span same = refl
 two_of_tests false false high count first others span same = refl
 
 -- at `main`
-main_parts : (text : List ℕ) (end : ℕ) (tree : Tree) (others : Trees) (terms : Terms) → Say text (tree_before tree others) terms → is_call (codes "main") 1 (alone terms) ≡ true → unfit_body end terms ≡ first_of_two (unfit_call (codes "main") (Query ∷ []) (alone terms)) (first_place (behind terms))
-main_parts text end tree others none say is = absurd (some_term text tree others say)
-main_parts text end tree others (word bytes span rest) say is = absurd (cc)
-main_parts text end tree others (number value span rest) say is = absurd (cc)
-main_parts text end tree others (string bytes span rest) say is = absurd (cc)
-main_parts text end tree others (call head arguments span rest) say is = rw is
+pub main_parts : (end : ℕ) (terms : Terms) → (terms ≡ none → ⊥) → is_call (codes "main") 1 (alone terms) ≡ true → unfit_body end terms ≡ first_of_two (unfit_call (codes "main") (Query ∷ []) (alone terms)) (first_place (behind terms))
+main_parts end none some is = absurd (some refl)
+main_parts end (word bytes span rest) some is = absurd (cc)
+main_parts end (number value span rest) some is = absurd (cc)
+main_parts end (string bytes span rest) some is = absurd (cc)
+main_parts end (call head arguments span rest) some is = rw is
 
 -- at another top term, which is to be a `let`
-let_parts : (text : List ℕ) (end : ℕ) (tree : Tree) (others : Trees) (terms : Terms) → Say text (tree_before tree others) terms → is_call (codes "main") 1 (alone terms) ≡ false → unfit_body end terms ≡ first_of_two (unfit_call (codes "let") (Name ∷ Query ∷ []) (alone terms)) (unfit_body end (behind terms))
-let_parts text end tree others none say is = absurd (some_term text tree others say)
-let_parts text end tree others (word bytes span rest) say is = refl
-let_parts text end tree others (number value span rest) say is = refl
-let_parts text end tree others (string bytes span rest) say is = refl
-let_parts text end tree others (call head arguments span rest) say is =
+pub let_parts : (end : ℕ) (terms : Terms) → (terms ≡ none → ⊥) → is_call (codes "main") 1 (alone terms) ≡ false → unfit_body end terms ≡ first_of_two (unfit_call (codes "let") (Name ∷ Query ∷ []) (alone terms)) (unfit_body end (behind terms))
+let_parts end none some is = absurd (some refl)
+let_parts end (word bytes span rest) some is = refl
+let_parts end (number value span rest) some is = refl
+let_parts end (string bytes span rest) some is = refl
+let_parts end (call head arguments span rest) some is =
     rw is (two_of_test (is_let head (count_of arguments)) (first_unfit (Name ∷ Query ∷ []) arguments) (unfit_body end rest) span)
 
 le_of_test : (count : ℕ) → nat_le 2 count ≡ true → 2 ≤ count
@@ -62,12 +65,12 @@ count_fits count some =
     rw length_is (grind (arith, nat_tests))
 
 -- at the stream
-stream_parts : (text : List ℕ) (end : ℕ) (tree : Tree) (others : Trees) (terms : Terms) → Say text (tree_before tree others) terms → unfit_file end terms ≡ first_of_two (unfit_stream (alone terms)) (unfit_body end (behind terms))
-stream_parts text end tree others none say = absurd (some_term text tree others say)
-stream_parts text end tree others (word bytes span rest) say = refl
-stream_parts text end tree others (number value span rest) say = refl
-stream_parts text end tree others (string bytes span rest) say = refl
-stream_parts text end tree others (call head arguments span rest) say =
+pub stream_parts : (end : ℕ) (terms : Terms) → (terms ≡ none → ⊥) → unfit_file end terms ≡ first_of_two (unfit_stream (alone terms)) (unfit_body end (behind terms))
+stream_parts end none some = absurd (some refl)
+stream_parts end (word bytes span rest) some = refl
+stream_parts end (number value span rest) some = refl
+stream_parts end (string bytes span rest) some = refl
+stream_parts end (call head arguments span rest) some =
     two_of_tests (bytes_eq head (codes "stream")) (nat_le 2 (count_of arguments)) (nat_le (count_of arguments) 33) (count_of arguments == length (stream_places (count_of arguments)))
     (first_unfit (stream_places (count_of arguments)) arguments) (unfit_body end rest) span (count_fits (count_of arguments))
 
@@ -94,7 +97,7 @@ Rest-main text end list tree left unfit place answer had is inside behind_it ans
     let others = say_behind text tree (trees_of left) rest.0 rest.1 in
     answers ∙ ap (λ found. first_of_two found place) (inside (alone rest.0) first)
     ∙ ap (λ found. first_of_two (unfit_call (codes "main") (Query ∷ []) (alone rest.0)) found) (behind_it (behind rest.0) others)
-    ∙ sym (rest.2 ∙ main_parts text end tree (trees_of left) rest.0 rest.1 (sym (is (alone rest.0) first)))
+    ∙ sym (rest.2 ∙ main_parts end rest.0 (some_said text tree (trees_of left) rest.0 rest.1) (sym (is (alone rest.0) first)))
 
 -- the first unfit term is in the next, or in those behind it
 at_let : (text : List ℕ) (end : ℕ) (tree : Tree) (left : List Tree) (unfit : Option Span)
@@ -103,7 +106,7 @@ at_let : (text : List ℕ) (end : ℕ) (tree : Tree) (left : List Tree) (unfit :
     → (rest : Terms) → Say text (trees_of (tree ∷ left)) rest → unfit_body end rest ≡ first_of_two unfit (unfit_body end (behind rest))
 at_let text end tree left unfit other inside rest say =
     let first = say_alone text tree (trees_of left) rest say in
-    let_parts text end tree (trees_of left) rest say (sym (other (alone rest) first))
+    let_parts end rest (some_said text tree (trees_of left) rest say) (sym (other (alone rest) first))
     ∙ ap (λ found. first_of_two found (unfit_body end (behind rest))) (sym (inside (alone rest) first))
 
 -- the next is no `main`, and is unfit or has something unfit in it
@@ -131,7 +134,7 @@ pub file_found : (text : List ℕ) (end : ℕ) (list : List Tree) (tree : Tree) 
     → (terms : Terms) → Say text (trees_of list) terms → Some span ≡ unfit_file end terms
 file_found text end list tree left span is unfit terms say =
     let whole = subst (λ l. Say text (trees_of l) terms) is say in
-    sym (stream_parts text end tree (trees_of left) terms whole
+    sym (stream_parts end terms (some_said text tree (trees_of left) terms whole)
     ∙ ap (λ found. first_of_two found (unfit_body end (behind terms))) (sym (unfit (alone terms) (say_alone text tree (trees_of left) terms whole))))
 
 -- behind a stream the rest decides
@@ -142,7 +145,7 @@ pub file_read : (text : List ℕ) (end : ℕ) (list : List Tree) (tree : Tree) (
 file_read text end list tree left body is fits at_body terms say =
     let whole = subst (λ l. Say text (trees_of l) terms) is say in
     at_body (behind terms) (say_behind text tree (trees_of left) terms whole)
-    ∙ sym (stream_parts text end tree (trees_of left) terms whole
+    ∙ sym (stream_parts end terms (some_said text tree (trees_of left) terms whole)
     ∙ ap (λ found. first_of_two found (unfit_body end (behind terms))) (sym (fits (alone terms) (say_alone text tree (trees_of left) terms whole))))
 
 -- the first of the trees is of the text

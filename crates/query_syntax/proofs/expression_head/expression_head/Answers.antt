@@ -1,0 +1,21 @@
+use Rattle.std.proofs.Common.{refl, sym, ◌∙◌}
+use Rattle.query_forms.specs.declared.place.Place.TheVariants.{Expr}
+use Rattle.query_syntax.specs.ExpressionHeads.{expression_word, expression_places, expressions}
+use Rattle.query_syntax.proofs.TableRows.{expressions_are}
+use Rattle.query_syntax.proofs.Heads.{head_found, head_missing}
+use Rattle.query_syntax.proofs.expression_head.expression_head.Goals as goal
+
+pub unreachable-requires : goal.unreachable-requires
+unreachable-requires c =
+    head_missing _ expression_word expression_places Expr expressions c.args.word.now c.args.arguments.now refl c.requires
+    (sym c.in-None.is ∙ c.expression_named.ensures)
+
+pub returns-clause-word : goal.returns-clause-word
+returns-clause-word c =
+    (head_found _ expression_word expression_places Expr expressions c.args.word.now c.args.arguments.now c.in-Some.head expressions_are refl
+    c.requires (sym c.in-Some.is ∙ c.expression_named.ensures)).0
+
+pub returns-clause-places : goal.returns-clause-places
+returns-clause-places c =
+    (head_found _ expression_word expression_places Expr expressions c.args.word.now c.args.arguments.now c.in-Some.head expressions_are refl
+    c.requires (sym c.in-Some.is ∙ c.expression_named.ensures)).1

@@ -1,0 +1,68 @@
+-- The calls that are expressions and comparisons.
+use Rattle.std.specs.Prelude.{ℕ, List, [], ◌∷◌, codes}
+use Rattle.query_forms.specs.declared.place.Place.{Place}
+use Rattle.query_forms.specs.declared.place.Place.TheVariants as place
+use Rattle.query_syntax.specs.declared.operator.UnaryOp.TheVariants.{Neg, Abs}
+use Rattle.query_syntax.specs.declared.operator.BinaryOp.TheVariants.{Add, Sub, Mul, Div, Rem, Min, Max}
+use Rattle.query_syntax.specs.declared.operator.Compare.{Compare}
+use Rattle.query_syntax.specs.declared.operator.Compare.TheVariants.{Lt, Le, Gt, Ge, Eq, Ne}
+use Rattle.query_syntax.specs.declared.operator.Summary.TheVariants.{Sum, Count}
+use Rattle.query_syntax.specs.declared.operator.Extremum.TheVariants as extremum
+use Rattle.query_syntax.specs.declared.expression_head.ExpressionHead.{ExpressionHead}
+use Rattle.query_syntax.specs.declared.expression_head.ExpressionHead.TheVariants as head
+use Rattle.query_syntax.specs.Rows.{Row, row}
+use Rattle.query_syntax.specs.Words.{unary_word, binary_word, compare_word, summary_word, extremum_word}
+
+-- the head word of each
+abbrev pub expression_word : ExpressionHead → List ℕ
+expression_word (head.Unary operator) = unary_word operator
+expression_word (head.Binary operator) = binary_word operator
+expression_word head.If = codes "if"
+expression_word (head.Summary summary) = summary_word summary
+expression_word (head.Extremum extremum) = extremum_word extremum
+expression_word head.Get = codes "tget"
+
+-- and the places of its arguments
+abbrev pub expression_places : ExpressionHead → List Place
+expression_places (head.Unary operator) = place.Expr ∷ []
+expression_places (head.Binary operator) = place.Expr ∷ place.Expr ∷ []
+expression_places head.If = place.Compare ∷ place.Expr ∷ place.Expr ∷ []
+expression_places (head.Summary summary) = place.Name ∷ []
+expression_places (head.Extremum extremum) = place.Name ∷ place.Expr ∷ []
+expression_places head.Get = place.Name ∷ place.Text ∷ place.Expr ∷ []
+
+-- the places of the operands of a comparison
+abbrev pub compare_places : Compare → List Place
+compare_places compare = place.Expr ∷ place.Expr ∷ []
+
+-- one of the calls that are expressions
+abbrev expression : ExpressionHead → Row ExpressionHead
+expression head = row head (expression_word head) (expression_places head)
+
+-- all calls that are expressions
+abbrev pub expressions : List (Row ExpressionHead)
+expressions =
+    expression (head.Unary Neg)
+    ∷ expression (head.Unary Abs)
+    ∷ expression (head.Binary Add)
+    ∷ expression (head.Binary Sub)
+    ∷ expression (head.Binary Mul)
+    ∷ expression (head.Binary Div)
+    ∷ expression (head.Binary Rem)
+    ∷ expression (head.Binary Min)
+    ∷ expression (head.Binary Max)
+    ∷ expression head.If
+    ∷ expression (head.Summary Sum)
+    ∷ expression (head.Summary Count)
+    ∷ expression (head.Extremum extremum.Max)
+    ∷ expression (head.Extremum extremum.Min)
+    ∷ expression head.Get
+    ∷ []
+
+-- one of the calls that are comparisons
+abbrev comparison : Compare → Row Compare
+comparison compare = row compare (compare_word compare) (compare_places compare)
+
+-- all calls that are comparisons
+abbrev pub comparisons : List (Row Compare)
+comparisons = comparison Lt ∷ comparison Le ∷ comparison Gt ∷ comparison Ge ∷ comparison Eq ∷ comparison Ne ∷ []

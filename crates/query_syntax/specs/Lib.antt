@@ -1,0 +1,16 @@
+pub mod ExpressionHeads
+pub mod Expressions
+pub mod Files
+pub mod Fits
+pub mod Plain
+pub mod PredicateHeads
+pub mod Predicates
+pub mod Programs
+pub mod Queries
+pub mod QueryHeads
+pub mod RateHeads
+pub mod Rates
+pub mod Rows
+pub mod Tops
+pub mod Words
+pub mod Written

@@ -1,0 +1,40 @@
+-- The calls that are queries.
+use Rattle.std.specs.Prelude.{ℕ, List, [], ◌∷◌, codes}
+use Rattle.query_forms.specs.declared.place.Place.{Place}
+use Rattle.query_forms.specs.declared.place.Place.TheVariants as place
+use Rattle.query_syntax.specs.declared.query_head.QueryHead.{QueryHead}
+use Rattle.query_syntax.specs.declared.query_head.QueryHead.TheVariants.{Atom, Eps, Or, Split, Iter, Combine, Apply, Compose, Collect}
+use Rattle.query_syntax.specs.Rows.{Row, row}
+
+-- the head word of each
+abbrev pub query_word : QueryHead → List ℕ
+query_word Atom = codes "atom"
+query_word Eps = codes "eps"
+query_word Or = codes "or"
+query_word Split = codes "split"
+query_word Iter = codes "iter"
+query_word Combine = codes "combine"
+query_word Apply = codes "apply"
+query_word Compose = codes "compose"
+query_word Collect = codes "collect"
+
+-- and the places of its arguments
+abbrev pub query_places : QueryHead → List Place
+query_places Atom = place.Pred ∷ place.Expr ∷ []
+query_places Eps = place.Number ∷ []
+query_places Or = place.Query ∷ place.Query ∷ []
+query_places Split = place.Query ∷ place.Query ∷ place.Expr ∷ []
+query_places Iter = place.Query ∷ place.Number ∷ place.Expr ∷ []
+query_places Combine = place.Query ∷ place.Query ∷ place.Expr ∷ []
+query_places Apply = place.Query ∷ place.Expr ∷ []
+query_places Compose = place.Query ∷ place.Query ∷ []
+query_places Collect = place.Name ∷ place.Pred ∷ place.Rate ∷ place.Query ∷ []
+
+-- one of the calls that are queries
+abbrev query : QueryHead → Row QueryHead
+query head = row head (query_word head) (query_places head)
+
+-- all calls that are queries
+abbrev pub queries : List (Row QueryHead)
+queries =
+    query Atom ∷ query Eps ∷ query Or ∷ query Split ∷ query Iter ∷ query Combine ∷ query Apply ∷ query Compose ∷ query Collect ∷ []

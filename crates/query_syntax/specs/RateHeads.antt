@@ -1,0 +1,29 @@
+-- The calls that are rates.
+use Rattle.std.specs.Prelude.{ℕ, List, [], ◌∷◌, codes}
+use Rattle.query_forms.specs.declared.place.Place.{Place}
+use Rattle.query_forms.specs.declared.place.Place.TheVariants as place
+use Rattle.query_syntax.specs.declared.operator.Join.TheVariants.{Seq, Alt}
+use Rattle.query_syntax.specs.declared.rate_head.RateHead.{RateHead}
+use Rattle.query_syntax.specs.declared.rate_head.RateHead.TheVariants.{Item, Joined, Star}
+use Rattle.query_syntax.specs.Rows.{Row, row}
+use Rattle.query_syntax.specs.Words.{join_word}
+
+-- the head word of each
+abbrev pub rate_word : RateHead → List ℕ
+rate_word Item = codes "item"
+rate_word (Joined join) = join_word join
+rate_word Star = codes "star"
+
+-- and the places of its arguments
+abbrev pub rate_places : RateHead → List Place
+rate_places Item = place.Pred ∷ []
+rate_places (Joined join) = place.Rate ∷ place.Rate ∷ []
+rate_places Star = place.Rate ∷ []
+
+-- one of the calls that are rates
+abbrev rate : RateHead → Row RateHead
+rate head = row head (rate_word head) (rate_places head)
+
+-- all calls that are rates
+abbrev pub rates : List (Row RateHead)
+rates = rate Item ∷ rate (Joined Seq) ∷ rate (Joined Alt) ∷ rate Star ∷ []

@@ -1,0 +1,19 @@
+-- The calls that may stand at a place, each with what it is.
+use Rattle.std.specs.Prelude.{ℕ, ◌&&◌, ◌==◌, List, [], ◌∷◌, length, Option, Some, None, if◌then◌else◌}
+use Rattle.std.specs.Str.{bytes_eq}
+use Rattle.query_forms.specs.declared.place.Place.{Place}
+
+-- what a call is, its head word and the places of its arguments
+pub record Row (H : Type 0) : Type 0 where
+  pub is : H
+  pub word : List ℕ
+  pub places : List Place
+
+abbrev pub row : {H : Type 0} → H → List ℕ → List Place → Row H
+row is word places = record { is = is; word = word; places = places }
+
+-- what a call with this head word and so many arguments is, by the first row that has them
+abbrev pub head_in : {H : Type 0} → List (Row H) → List ℕ → ℕ → Option H
+head_in [] word count = None
+head_in (first ∷ rest) word count =
+    if bytes_eq first.word word && (length first.places == count) then Some first.is else head_in rest word count

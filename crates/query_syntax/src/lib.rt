@@ -1,0 +1,37 @@
+//! The syntax tree of a query file: a constructor for each form of the language, with its place in the text.
+#![tactic(auto)]
+
+mod expression;
+mod expression_head;
+mod expression_reading;
+mod leaf;
+mod leaf_reading;
+mod operator;
+mod predicate;
+mod predicate_head;
+mod predicate_reading;
+mod program;
+mod program_reading;
+mod query;
+mod query_head;
+mod query_reading;
+mod rate;
+mod rate_head;
+mod rate_reading;
+mod stream;
+mod stream_reading;
+mod syntax;
+#[cfg(test)]
+mod tests;
+
+pub use expression::{Comparison, Expression};
+pub use leaf::{Literal, Name, Number, Text};
+pub use operator::{
+    BinaryOp, Compare, Connective, Equality, Extremum, Join, Order, Summary, UnaryOp,
+};
+pub use predicate::Predicate;
+pub use program::{Let, Main, Program};
+pub use query::Query;
+pub use rate::Rate;
+pub use stream::{Column, Digits, Kind, Mode, Stream};
+pub use syntax::{read_syntax, syntax_of};

@@ -1,0 +1,40 @@
+//! The calls that are rates, by their head words.
+ghost use Rattle.std.specs.Prelude.{◌≡◌};
+ghost use Rattle.query_forms.specs.declared.place.Place.TheVariants as place;
+ghost use Rattle.query_syntax.specs.Fits.{AllFit, HasForm};
+ghost use Rattle.query_syntax.specs.RateHeads.{rate_places, rate_word, rates};
+ghost use Rattle.query_syntax.specs.Rows.{head_in};
+
+use crate::Join;
+use query_parser::Term;
+
+/// A call that is a rate.
+#[derive(Clone, Copy)]
+pub(crate) enum RateHead {
+    Item,
+    Joined(Join),
+    Star,
+}
+
+fn rate_named(word: &[u8], count: usize) -> Option<RateHead>
+    ensures { result ≡ head_in rates word.now count }
+{
+    match (word, count) {
+        (b"item", 1) => Some(RateHead::Item),
+        (b"seq", 2) => Some(RateHead::Joined(Join::Seq)),
+        (b"alt", 2) => Some(RateHead::Joined(Join::Alt)),
+        (b"star", 1) => Some(RateHead::Star),
+        _ => None,
+    }
+}
+
+pub(crate) fn rate_head(word: &[u8], arguments: &[Term]) -> RateHead
+    requires { HasForm place.Rate word.now arguments.now }
+    ensures word { word.now ≡ rate_word result }
+    ensures places { AllFit (rate_places result) arguments.now }
+{
+    match rate_named(word, arguments.len()) {
+        Some(head) => head,
+        None => unreachable!(),
+    }
+}
