@@ -1,0 +1,97 @@
+-- Statement. What queries mean: the value of a query on a word of items. It looks at the whole word anew, and knows
+-- of no state.
+use Rattle.std.specs.Prelude.{◌≡◌, ◌⊎◌, ℕ, pos, ◌||◌, true, List, [], ◌∷◌, ◌++◌, Option, Some, None, filter, if◌then◌else◌, slice_get}
+use Rattle.std.specs.Option.{option_and_then, unwrap_or}
+use Rattle.std.specs.List.{list_any}
+use Rattle.std.specs.Str.{bytes_eq}
+use Rattle.value_ops.specs.declared.field.Field.{Field}
+use Rattle.value_ops.specs.declared.scalar.Scalar.{Scalar}
+use Rattle.value_ops.specs.declared.scalar.Scalar.TheVariants.{Number}
+use Rattle.value_ops.specs.declared.value.Value.{Value}
+use Rattle.value_ops.specs.declared.value.Value.TheVariants as value
+use Rattle.value_ops.specs.declared.field.Field.TheVariants as field
+use Rattle.value_ops.specs.Evaluation.{given, value_of}
+use Rattle.value_ops.specs.Expressions.{Expression}
+use Rattle.value_ops.specs.Fields.{text_of}
+use Rattle.predicate_cells.specs.Predicates.{Predicate}
+use Rattle.predicate_cells.specs.Truth.{holds}
+use Rattle.rate_expr.specs.Language.{In}
+use Rattle.rate_expr.specs.Words.{Word, join}
+use Rattle.query_model.specs.Queries.{Qre, atom, eps, choice, split, iter, combine, apply, compose, collect}
+
+-- what an expression gives on one value
+abbrev pub on_one : Expression → Value → Option Value
+on_one expression left = value_of (given [] (Some left) None) expression
+
+-- what an expression gives on a left and a right value
+abbrev pub on_both : Expression → Value → Value → Option Value
+on_both expression left right = value_of (given [] (Some left) (Some right)) expression
+
+-- the value of a fold over pieces that have values, from a first value on
+abbrev pub Folds : (Word → Value → Type 0) → Expression → Value → List Word → Value → Type 0
+Folds D expression so_far [] value = value ≡ so_far
+Folds D expression so_far (piece ∷ pieces) value =
+    (last : Value) × (next : Value) × D piece last × (on_both expression so_far last ≡ Some next)
+    × Folds D expression next pieces value
+
+-- the value on a word as an item of a stream of values, if there is one
+abbrev pub Emits : (Word → Value → Type 0) → Word → Word → Type 0
+Emits D word items = ((value : Value) × D word value × (items ≡ (field.Val value ∷ []) ∷ []))
+    ⊎ (((value : Value) → D word value → ⊥) × (items ≡ []))
+
+-- the values on the prefixes of a word, from the empty one to the whole, behind a first part
+abbrev pub Outputs : (Word → Value → Type 0) → Word → Word → Word → Type 0
+Outputs D before [] items = Emits D before items
+Outputs D before (item ∷ word) items =
+    (first : Word) × (others : Word) × Emits D before first
+    × Outputs D (before ++ item ∷ []) word others × (items ≡ first ++ others)
+
+-- the text in a column
+abbrev pub key_of : ℕ → List Field → List ℕ
+key_of column item = unwrap_or (option_and_then text_of (slice_get item column)) []
+
+-- the items of a key, and those that meet the predicate
+abbrev pub projection : ℕ → Predicate → List ℕ → Word → Word
+projection column sync key word =
+    filter (λ item. holds sync item || bytes_eq (key_of column item) key) word
+
+-- a key behind those that were seen, if it is a new one
+abbrev pub with_key : List (List ℕ) → List ℕ → List (List ℕ)
+with_key keys key = if list_any (bytes_eq key) keys then keys else keys ++ key ∷ []
+
+-- the keys of the items that do not meet the predicate, in the order in which they appear, behind others
+abbrev pub keys_after : ℕ → Predicate → List (List ℕ) → Word → List (List ℕ)
+keys_after column sync keys [] = keys
+keys_after column sync keys (item ∷ word) = keys_after column sync
+    (if holds sync item then keys else with_key keys (key_of column item)) word
+
+-- the entries of keys: each that has a value, with this value
+abbrev pub AreEntries : (List ℕ → Value → Type 0) → List (List ℕ) → List (List ℕ × Scalar) → Type 0
+AreEntries D [] entries = entries ≡ []
+AreEntries D (key ∷ keys) entries =
+    ((scalar : Scalar) × (others : List (List ℕ × Scalar)) × D key (value.Scalar scalar)
+    × AreEntries D keys others × (entries ≡ (key, scalar) ∷ others))
+    ⊎ (((value : Value) → D key value → ⊥) × AreEntries D keys entries)
+
+-- the query gives this value to the word
+abbrev pub Den : Qre → Word → Value → Type 0
+Den (atom pred expression) word v =
+    (item : List Field) × (word ≡ item ∷ []) × (holds pred item ≡ true)
+    × (value_of (given item None None) expression ≡ Some v)
+Den (eps number) word v = (word ≡ []) × (v ≡ value.Scalar (Number number))
+Den (choice f g) word v = Den f word v ⊎ Den g word v
+Den (split f g expression) word v =
+    (first : Word) × (second : Word) × (x : Value) × (y : Value) × (word ≡ first ++ second)
+    × Den f first x × Den g second y × (on_both expression x y ≡ Some v)
+Den (iter f number expression) word v =
+    (pieces : List Word) × (word ≡ join pieces)
+    × Folds (Den f) expression (value.Scalar (Number number)) pieces v
+Den (combine f g expression) word v =
+    (x : Value) × (y : Value) × Den f word x × Den g word y × (on_both expression x y ≡ Some v)
+Den (apply f expression) word v = (x : Value) × Den f word x × (on_one expression x ≡ Some v)
+Den (compose f g) word v =
+    (x : Value) × (out : Word) × Den f word x × Outputs (Den f) [] word out × Den g out v
+Den (collect column sync rate f) word v =
+    (entries : List (List ℕ × Scalar)) × In rate word
+    × AreEntries (λ key value. Den f (projection column sync key word) value)
+    (keys_after column sync [] word) entries × (v ≡ value.Table entries)

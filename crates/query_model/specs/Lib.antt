@@ -1,0 +1,9 @@
+pub mod Bounds
+pub mod Checked
+pub mod Denotation
+pub mod Following
+pub mod Queries
+pub mod QueryTypes
+pub mod Rates
+pub mod Rules
+pub mod Sizes

@@ -1,0 +1,18 @@
+//! Queries and what they mean: the value of a query on a word, its rate, and the rules that make it one value.
+#![tactic(auto)]
+
+mod checked;
+mod follower;
+mod laws;
+mod query;
+#[cfg(test)]
+mod tests;
+
+pub use checked::Checked;
+pub use follower::Follower;
+pub use language_base::{Refusal, Rule, Span};
+pub use laws::{
+    a_word_has_at_most_one_value, queries_have_values_on_their_rates,
+    values_have_the_types_of_their_queries,
+};
+pub use query::{Query, Shape};
