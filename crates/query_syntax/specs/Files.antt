@@ -1,4 +1,4 @@
--- The terms that a whole file is written as.
+-- Statement. The terms that a whole file is written as.
 use Rattle.std.specs.Prelude.{pos, List, [], ◌∷◌, codes}
 use Rattle.query_forms.specs.Terms.{Terms, none, word, number, call}
 use Rattle.query_syntax.specs.declared.stream.Mode.{Mode}

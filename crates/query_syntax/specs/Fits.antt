@@ -1,4 +1,4 @@
--- Terms that have a form of their places.
+-- For the prover. Terms that have a form of their places.
 use Rattle.std.specs.Prelude.{◌≡◌, ℕ, List, [], ◌∷◌, length, Some, None}
 use Rattle.query_forms.specs.declared.place.Place.{Place}
 use Rattle.query_forms.specs.Terms.{none}

@@ -1,4 +1,4 @@
--- The plain trees that those of the program are.
+-- Statement. The plain trees that those of the program are.
 use Rattle.std.specs.Prelude.{map}
 use Rattle.query_syntax.specs.declared.expression.Expression as expression
 use Rattle.query_syntax.specs.declared.predicate.Predicate as predicate

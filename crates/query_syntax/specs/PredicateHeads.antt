@@ -1,4 +1,4 @@
--- The calls that are predicates.
+-- For the prover. The calls that are predicates.
 use Rattle.std.specs.Prelude.{ℕ, List, [], ◌∷◌, codes}
 use Rattle.query_forms.specs.declared.place.Place.{Place}
 use Rattle.query_forms.specs.declared.place.Place.TheVariants as place

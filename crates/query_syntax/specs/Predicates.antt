@@ -1,4 +1,4 @@
--- Predicates without where they lie in memory.
+-- Statement. Predicates without where they lie in memory.
 use Rattle.language_base.specs.declared.span.Span.{Span}
 use Rattle.query_syntax.specs.declared.leaf.Literal.{Literal}
 use Rattle.query_syntax.specs.declared.leaf.Name.{Name}

@@ -1,4 +1,4 @@
--- Files without where they lie in memory.
+-- Statement. Files without where they lie in memory.
 use Rattle.std.specs.Prelude.{List}
 use Rattle.language_base.specs.declared.span.Span.{Span}
 use Rattle.query_syntax.specs.declared.leaf.Name.{Name}

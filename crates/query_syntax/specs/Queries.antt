@@ -1,4 +1,4 @@
--- Queries without where they lie in memory.
+-- Statement. Queries without where they lie in memory.
 use Rattle.language_base.specs.declared.span.Span.{Span}
 use Rattle.query_syntax.specs.declared.leaf.Name.{Name}
 use Rattle.query_syntax.specs.declared.leaf.Number.{Number}

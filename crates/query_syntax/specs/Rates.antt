@@ -1,4 +1,4 @@
--- Written rates without where they lie in memory.
+-- Statement. Written rates without where they lie in memory.
 use Rattle.language_base.specs.declared.span.Span.{Span}
 use Rattle.query_syntax.specs.declared.operator.Join.{Join}
 use Rattle.query_syntax.specs.Predicates.{Predicate}

@@ -1,4 +1,4 @@
--- The calls that may stand at a place, each with what it is.
+-- For the prover. The calls that may stand at a place, each with what it is.
 use Rattle.std.specs.Prelude.{ℕ, ◌&&◌, ◌==◌, List, [], ◌∷◌, length, Option, Some, None, if◌then◌else◌}
 use Rattle.std.specs.Str.{bytes_eq}
 use Rattle.query_forms.specs.declared.place.Place.{Place}

@@ -1,4 +1,4 @@
--- The top terms of a file, as they fit.
+-- For the prover. The top terms of a file, as they fit.
 use Rattle.std.specs.Prelude.{◌≡◌, ℕ, List, [], ◌∷◌, ◌++◌, All, codes, None}
 use Rattle.query_forms.specs.declared.place.Place.{Place}
 use Rattle.query_forms.specs.declared.place.Place.TheVariants.{Query, Name}

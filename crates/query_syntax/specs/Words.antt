@@ -1,4 +1,4 @@
--- The words of the operators.
+-- Statement. The words of the operators.
 use Rattle.std.specs.Prelude.{ℕ, List, codes}
 use Rattle.query_syntax.specs.declared.operator.UnaryOp.{UnaryOp}
 use Rattle.query_syntax.specs.declared.operator.UnaryOp.TheVariants.{Neg, Abs}

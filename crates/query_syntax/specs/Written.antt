@@ -1,4 +1,4 @@
--- The terms that expressions, predicates, rates and queries are written as.
+-- Statement. The terms that expressions, predicates, rates and queries are written as.
 use Rattle.std.specs.Prelude.{codes}
 use Rattle.query_forms.specs.Terms.{Terms, none, word, string, call}
 use Rattle.query_forms.specs.Terms as terms
