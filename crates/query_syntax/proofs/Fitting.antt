@@ -68,13 +68,13 @@ item_fits (p ∷ places) (first ∷ list) one (suc index) place all within is at
     (omega arith) is at
 
 -- where a call is not unfit, it has a form
-form_of : (place : Place) (head : List ℕ) (span : Span) (inner : Terms) (places : Option (List Place))
+pub form_at : (place : Place) (head : List ℕ) (span : Span) (inner : Terms) (places : Option (List Place))
     → unfit_in places span (λ ps. first_unfit ps inner) ≡ None → (ps : List Place) × (places ≡ Some ps) × (first_unfit ps inner ≡ None)
-form_of place head span inner None fit = absurd (Some-no_none span fit)
-form_of place head span inner (Some ps) fit = (ps, refl, fit)
+form_at place head span inner None fit = absurd (Some-no_none span fit)
+form_at place head span inner (Some ps) fit = (ps, refl, fit)
 
 -- a form that is found for a call has as many places as the call has arguments
-places_count : (forms : List Form) (word : List ℕ) (count : ℕ) (places : List Place) → places_in forms word count ≡ Some places → count ≡ length places
+pub places_count : (forms : List Form) (word : List ℕ) (count : ℕ) (places : List Place) → places_in forms word count ≡ Some places → count ≡ length places
 places_count [] word count places is = absurd (cc)
 places_count (first ∷ rest) word count places is =
     elim (branch_taken (bytes_eq first.head word && (length first.arguments == count)) (Some first.arguments) (places_in rest word count) places is) [
@@ -94,7 +94,7 @@ call_form place term word arguments span fits is =
     let whole : first_unfit (place ∷ []) (call word (terms_of list) span none) ≡ None =
     ap (first_unfit (place ∷ [])) (sym (call_before word arguments span none)) ∙ subst (λ (t : Term). first_unfit (place ∷ []) (term_before t none) ≡ None) is fits.fit in
     let inside = unfit_in (places_of place word (count_of (terms_of list))) span (λ inner. first_unfit inner (terms_of list)) in
-    let found = form_of place word span (terms_of list) (places_of place word (count_of (terms_of list))) (first_of_two-none inside None whole).0 in
+    let found = form_at place word span (terms_of list) (places_of place word (count_of (terms_of list))) (first_of_two-none inside None whole).0 in
     let many = count_of_terms list in
     let form : places_of place word (length list) ≡ Some found.0 = ap (places_of place word) (sym many) ∙ found.1 in
     record {

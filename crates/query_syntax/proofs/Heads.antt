@@ -91,3 +91,16 @@ one_form place written places word arguments table has =
     by_head None missing = absurd (head_missing (Unit {0}) (λ _. written) (λ _. places) place rows word arguments table has missing)
     by_head (Some head) found =
         head_found (Unit {0}) (λ _. written) (λ _. places) place rows word arguments head ((refl, refl), tt) table has found
+
+-- a form that is found is that of a call that is found
+pub form_found : (H : Type 0) (word_of : H → List ℕ) (places_of : H → List Place) (rows : List (Row H)) (word : List ℕ) (count : ℕ) (places : List Place)
+    → AllByRecursion (IsOf H word_of places_of) rows → places_in (map form_of rows) word count ≡ Some places
+    → (head : H) × (word ≡ word_of head) × (places ≡ places_of head)
+form_found H word_of places_of rows word count places are found = by_head (head_in rows word count) refl
+  where
+    by_head : (head : Option H) → head_in rows word count ≡ head → (head : H) × (word ≡ word_of head) × (places ≡ places_of head)
+    by_head None missing = let none = missing_in H word_of places_of rows word count missing in absurd (cc)
+    by_head (Some head) is =
+        let at = found_in H word_of places_of rows word count head are is in
+        let some = at.1 in
+        (head, at.0, cc)

@@ -4,6 +4,7 @@
 mod expression;
 mod expression_head;
 mod expression_reading;
+mod laws;
 mod leaf;
 mod leaf_reading;
 mod operator;
@@ -25,6 +26,7 @@ mod syntax;
 mod tests;
 
 pub use expression::{Comparison, Expression};
+pub use laws::one_program;
 pub use leaf::{Literal, Name, Number, Text};
 pub use operator::{
     BinaryOp, Compare, Connective, Equality, Extremum, Join, Order, Summary, UnaryOp,
