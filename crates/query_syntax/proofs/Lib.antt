@@ -1,6 +1,8 @@
 pub mod Fitting
 pub mod Heads
 pub mod Lists
+pub mod OneProgram
+pub mod Readings
 pub mod SomeProgram
 pub mod SomeTrees
 pub mod TableRows

@@ -1,5 +1,5 @@
 -- Terms that have forms of their places are written by trees.
-use Rattle.std.proofs.Common.{◌≡◌, ℕ, zero, suc, ℤ, pos, negsuc, ◌+◌, ◌||◌, Bool, true, false, List, [], ◌∷◌, length, replicate, map, codes, Option, Some, None, refl, sym, ap, ◌∙◌, subst, arith}
+use Rattle.std.proofs.Common.{◌≡◌, ℕ, ℤ, pos, negsuc, ◌||◌, Bool, true, false, List, [], ◌∷◌, length, map, codes, Some, None, refl, ap, ◌∙◌, subst, arith}
 use Rattle.std.specs.List.{AllByRecursion}
 use Rattle.std.specs.Str.{bytes_eq}
 use Rattle.std.proofs.lemmas.Slice.Eq.{bytes_eq-Decides}
@@ -32,7 +32,7 @@ use Rattle.query_syntax.specs.declared.stream.Mode.TheVariants as mode
 use Rattle.query_syntax.specs.ExpressionHeads.{expression_word, expression_places, expressions, compare_places, comparisons}
 use Rattle.query_syntax.specs.Expressions as e
 use Rattle.query_syntax.specs.Expressions.{Expression}
-use Rattle.query_syntax.specs.Files.{all_before, column_before, digits_before, kind_before, mode_before}
+use Rattle.query_syntax.specs.Files.{column_before, digits_before, kind_before, mode_before}
 use Rattle.query_syntax.specs.PredicateHeads.{predicate_word, predicate_places, predicates}
 use Rattle.query_syntax.specs.Predicates as p
 use Rattle.query_syntax.specs.Predicates.{Predicate}
