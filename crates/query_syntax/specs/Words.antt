@@ -1,11 +1,11 @@
 -- Statement. The words of the operators.
 use Rattle.std.specs.Prelude.{ℕ, List, codes}
-use Rattle.query_syntax.specs.declared.operator.UnaryOp.{UnaryOp}
-use Rattle.query_syntax.specs.declared.operator.UnaryOp.TheVariants.{Neg, Abs}
-use Rattle.query_syntax.specs.declared.operator.BinaryOp.{BinaryOp}
-use Rattle.query_syntax.specs.declared.operator.BinaryOp.TheVariants.{Add, Sub, Mul, Div, Rem, Min, Max}
-use Rattle.query_syntax.specs.declared.operator.Compare.{Compare}
-use Rattle.query_syntax.specs.declared.operator.Compare.TheVariants.{Lt, Le, Gt, Ge, Eq, Ne}
+use Rattle.operators.specs.declared.unary.UnaryOp.{UnaryOp}
+use Rattle.operators.specs.declared.unary.UnaryOp.TheVariants.{Neg, Abs}
+use Rattle.operators.specs.declared.binary.BinaryOp.{BinaryOp}
+use Rattle.operators.specs.declared.binary.BinaryOp.TheVariants.{Add, Sub, Mul, Div, Rem, Min, Max}
+use Rattle.operators.specs.declared.compare.Compare.{Compare}
+use Rattle.operators.specs.declared.compare.Compare.TheVariants.{Lt, Le, Gt, Ge, Eq, Ne}
 use Rattle.query_syntax.specs.declared.operator.Summary.{Summary}
 use Rattle.query_syntax.specs.declared.operator.Summary.TheVariants.{Sum, Count}
 use Rattle.query_syntax.specs.declared.operator.Extremum.{Extremum}

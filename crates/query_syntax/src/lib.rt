@@ -28,9 +28,8 @@ mod tests;
 pub use expression::{Comparison, Expression};
 pub use laws::one_program;
 pub use leaf::{Literal, Name, Number, Text};
-pub use operator::{
-    BinaryOp, Compare, Connective, Equality, Extremum, Join, Order, Summary, UnaryOp,
-};
+pub use operator::{Connective, Equality, Extremum, Join, Order, Summary};
+pub use operators::{BinaryOp, Compare, UnaryOp};
 pub use predicate::Predicate;
 pub use program::{Let, Main, Program};
 pub use query::Query;

@@ -1,34 +1,4 @@
-//! The operators of expressions, predicates and rates.
-
-/// An operator on one number.
-#[derive(Clone, Copy, Debug, PartialEq, Eq)]
-pub enum UnaryOp {
-    Neg,
-    Abs,
-}
-
-/// An operator on two numbers.
-#[derive(Clone, Copy, Debug, PartialEq, Eq)]
-pub enum BinaryOp {
-    Add,
-    Sub,
-    Mul,
-    Div,
-    Rem,
-    Min,
-    Max,
-}
-
-/// A comparison of two numbers.
-#[derive(Clone, Copy, Debug, PartialEq, Eq)]
-pub enum Compare {
-    Lt,
-    Le,
-    Gt,
-    Ge,
-    Eq,
-    Ne,
-}
+//! The operators of table forms, predicates and rates.
 
 /// What is made of all values of a table.
 #[derive(Clone, Copy, Debug, PartialEq, Eq)]

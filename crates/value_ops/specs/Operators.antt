@@ -1,13 +1,11 @@
 -- Statement. What the operators do with scalars: the exact result first, and its range afterwards.
-use Rattle.std.specs.Prelude.{ℤ, pos, ◌+ℤ◌, ◌-ℤ◌, ◌*ℤ◌, neg_ℤ, int_div, int_rem, int_lt, int_le, unsigned_abs, Bool, not, if◌then◌else◌, Option, Some, None}
+use Rattle.std.specs.Prelude.{ℤ, pos, ◌+ℤ◌, ◌-ℤ◌, ◌*ℤ◌, neg_ℤ, int_div, int_rem, unsigned_abs, if◌then◌else◌, Option, Some, None}
 use Rattle.std.specs.Ordering.{int_eq}
 use Rattle.std.specs.Int.{int_min, int_max}
-use Rattle.value_ops.specs.declared.operator.BinaryOp.{BinaryOp}
-use Rattle.value_ops.specs.declared.operator.BinaryOp.TheVariants.{Add, Sub, Mul, Div, Rem, Min, Max}
-use Rattle.value_ops.specs.declared.operator.Compare.{Compare}
-use Rattle.value_ops.specs.declared.operator.Compare.TheVariants.{Lt, Le, Gt, Ge, Eq, Ne}
-use Rattle.value_ops.specs.declared.operator.UnaryOp.{UnaryOp}
-use Rattle.value_ops.specs.declared.operator.UnaryOp.TheVariants.{Neg, Abs}
+use Rattle.operators.specs.declared.binary.BinaryOp.{BinaryOp}
+use Rattle.operators.specs.declared.binary.BinaryOp.TheVariants.{Add, Sub, Mul, Div, Rem, Min, Max}
+use Rattle.operators.specs.declared.unary.UnaryOp.{UnaryOp}
+use Rattle.operators.specs.declared.unary.UnaryOp.TheVariants.{Neg, Abs}
 use Rattle.value_ops.specs.declared.scalar.Scalar.{Scalar}
 use Rattle.value_ops.specs.declared.scalar.Scalar.TheVariants.{Number, DivZero}
 use Rattle.value_ops.specs.Scalar.{in_range, on_numbers}
@@ -45,12 +43,3 @@ kept (Some number) = in_range number
 -- what an operator gives on two scalars
 abbrev pub binary_of : BinaryOp → Scalar → Scalar → Scalar
 binary_of op first second = on_numbers (λ a b. kept (exact op a b)) first second
-
--- whether two numbers compare so
-abbrev pub compares : Compare → ℤ → ℤ → Bool
-compares Lt first second = int_lt first second
-compares Le first second = int_le first second
-compares Gt first second = int_lt second first
-compares Ge first second = int_le second first
-compares Eq first second = int_eq first second
-compares Ne first second = not (int_eq first second)

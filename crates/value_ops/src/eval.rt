@@ -78,10 +78,10 @@ fn scalar(expr: &Expr, inputs: &Inputs) -> Scalar
             Some(found) => found,
             None => unreachable!(),
         },
-        Expr::Unary(op, inner) => op.of(scalar(inner, inputs)),
+        Expr::Unary(op, inner) => scalar(inner, inputs).unary(*op),
         Expr::Binary(op, first, second) => {
             let first = scalar(first, inputs);
-            op.of(first, scalar(second, inputs))
+            first.binary(*op, scalar(second, inputs))
         }
         Expr::If(test, first, second, met, other) => {
             match (scalar(first, inputs), scalar(second, inputs)) {
@@ -128,7 +128,7 @@ fn folded(op: BinaryOp, first: Scalar, table: &Table) -> Scalar
 {
     let mut so_far = first;
     for i in 0..table.len() {
-        so_far = op.of(so_far, table.value(i));
+        so_far = so_far.binary(op, table.value(i));
     }
     so_far
 }

@@ -1,103 +1,50 @@
-//! The operators of expressions.
+//! What the operators of expressions give on scalars.
 ghost use Rattle.std.specs.Prelude.{◌≡◌, ℤ, Option, SomeIff, FitsSigned, MatchOption};
 ghost use Rattle.std.specs.Int.{w64};
-ghost use Rattle.value_ops.specs.Operators.{binary_of, compares, exact, kept, unary_of};
+ghost use Rattle.value_ops.specs.Operators.{binary_of, exact, kept, unary_of};
 ghost use Rattle.value_ops.specs.Scalar.{in_range};
 
-use crate::Scalar;
+use crate::{BinaryOp, Scalar, UnaryOp};
 
-/// An operator on one scalar.
-#[derive(Clone, Copy, Debug, PartialEq, Eq)]
-pub enum UnaryOp {
-    /// The number with the other sign.
-    Neg,
-    /// The size of the number.
-    Abs,
-}
-
-/// An operator on two scalars.
-#[derive(Clone, Copy, Debug, PartialEq, Eq)]
-pub enum BinaryOp {
-    Add,
-    Sub,
-    Mul,
-    /// The quotient, cut towards zero.
-    Div,
-    /// What a division leaves, with the sign of the dividend.
-    Rem,
-    /// The lesser.
-    Min,
-    /// The greater.
-    Max,
-}
-
-/// A comparison of two numbers.
-#[derive(Clone, Copy, Debug, PartialEq, Eq)]
-pub enum Compare {
-    Lt,
-    Le,
-    Gt,
-    Ge,
-    Eq,
-    Ne,
-}
-
-impl UnaryOp {
-    /// What the operator gives. A scalar that is no number stays what it is.
-    pub fn of(self, operand: Scalar) -> Scalar
-        ensures { result ≡ unary_of self operand }
+impl Scalar {
+    /// What an operator gives on it. A scalar that is no number stays what it is.
+    pub fn unary(self, op: UnaryOp) -> Scalar
+        ensures { result ≡ unary_of op self }
     {
-        let Scalar::Number(number) = operand else {
-            return operand;
+        let Scalar::Number(number) = self else {
+            return self;
         };
-        match self {
+        match op {
             UnaryOp::Neg => or_overflow(number.checked_neg()),
             UnaryOp::Abs => or_overflow(number.checked_abs()),
         }
     }
-}
 
-impl BinaryOp {
-    /// What the operator gives. Where an operand is no number, it is the leftmost such operand.
-    pub fn of(self, first: Scalar, second: Scalar) -> Scalar
-        ensures { result ≡ binary_of self first second }
+    /// What an operator gives on it and another. Where an operand is no number, it is the leftmost
+    /// such operand.
+    pub fn binary(self, op: BinaryOp, other: Scalar) -> Scalar
+        ensures { result ≡ binary_of op self other }
     {
-        match (first, second) {
-            (Scalar::Number(first), Scalar::Number(second)) => self.of_numbers(first, second),
+        match (self, other) {
+            (Scalar::Number(first), Scalar::Number(second)) => of_numbers(op, first, second),
             (Scalar::Number(_), failed) => failed,
             (failed, _) => failed,
         }
     }
-
-    fn of_numbers(self, first: i64, second: i64) -> Scalar
-        ensures { result ≡ kept (exact self first second) }
-    {
-        match self {
-            BinaryOp::Add => or_overflow(first.checked_add(second)),
-            BinaryOp::Sub => or_overflow(first.checked_sub(second)),
-            BinaryOp::Mul => or_overflow(first.checked_mul(second)),
-            BinaryOp::Div | BinaryOp::Rem if second == 0 => Scalar::DivZero,
-            BinaryOp::Div => or_overflow(first.checked_div(second)),
-            BinaryOp::Rem => Scalar::Number(first.wrapping_rem(second)),
-            BinaryOp::Min => Scalar::Number(first.min(second)),
-            BinaryOp::Max => Scalar::Number(first.max(second)),
-        }
-    }
 }
 
-impl Compare {
-    /// Whether two numbers compare so.
-    pub fn holds(self, first: i64, second: i64) -> bool
-        ensures { result ≡ compares self first second }
-    {
-        match self {
-            Compare::Lt => first < second,
-            Compare::Le => first <= second,
-            Compare::Gt => first > second,
-            Compare::Ge => first >= second,
-            Compare::Eq => first == second,
-            Compare::Ne => first != second,
-        }
+fn of_numbers(op: BinaryOp, first: i64, second: i64) -> Scalar
+    ensures { result ≡ kept (exact op first second) }
+{
+    match op {
+        BinaryOp::Add => or_overflow(first.checked_add(second)),
+        BinaryOp::Sub => or_overflow(first.checked_sub(second)),
+        BinaryOp::Mul => or_overflow(first.checked_mul(second)),
+        BinaryOp::Div | BinaryOp::Rem if second == 0 => Scalar::DivZero,
+        BinaryOp::Div => or_overflow(first.checked_div(second)),
+        BinaryOp::Rem => Scalar::Number(first.wrapping_rem(second)),
+        BinaryOp::Min => Scalar::Number(first.min(second)),
+        BinaryOp::Max => Scalar::Number(first.max(second)),
     }
 }
 
@@ -137,7 +84,7 @@ mod tests {
             (BinaryOp::Min, MIN, MAX, Number(MIN)),
             (BinaryOp::Max, MIN, MAX, Number(MAX)),
         ] {
-            assert_eq!(rt; op.of(Number(first), Number(second)), result, "{op:?}");
+            assert_eq!(rt; Number(first).binary(op, Number(second)), result, "{op:?}");
         }
     }
 
@@ -155,8 +102,8 @@ mod tests {
             (MAX, MIN, Number(0), Number(MAX)),
         ] {
             let (first, second) = (Number(first), Number(second));
-            assert_eq!(rt; BinaryOp::Div.of(first, second), quotient);
-            assert_eq!(rt; BinaryOp::Rem.of(first, second), remainder);
+            assert_eq!(rt; first.binary(BinaryOp::Div, second), quotient);
+            assert_eq!(rt; first.binary(BinaryOp::Rem, second), remainder);
         }
     }
 
@@ -179,7 +126,7 @@ mod tests {
                 (Overflow, DivZero, Overflow),
                 (DivZero, Overflow, DivZero),
             ] {
-                assert_eq!(rt; op.of(first, second), result, "{op:?}");
+                assert_eq!(rt; first.binary(op, second), result, "{op:?}");
             }
         }
     }
@@ -194,24 +141,8 @@ mod tests {
             (Overflow, Overflow, Overflow),
             (DivZero, DivZero, DivZero),
         ] {
-            assert_eq!(rt; UnaryOp::Neg.of(operand), negated);
-            assert_eq!(rt; UnaryOp::Abs.of(operand), size);
-        }
-    }
-
-    #[test]
-    fn numbers_compare(rt: HostRuntime) {
-        for (test, below, same, above) in [
-            (Compare::Lt, true, false, false),
-            (Compare::Le, true, true, false),
-            (Compare::Gt, false, false, true),
-            (Compare::Ge, false, true, true),
-            (Compare::Eq, false, true, false),
-            (Compare::Ne, true, false, true),
-        ] {
-            assert_eq!(rt; test.holds(MIN, MAX), below, "{test:?}");
-            assert_eq!(rt; test.holds(-3, -3), same, "{test:?}");
-            assert_eq!(rt; test.holds(MAX, MIN), above, "{test:?}");
+            assert_eq!(rt; operand.unary(UnaryOp::Neg), negated);
+            assert_eq!(rt; operand.unary(UnaryOp::Abs), size);
         }
     }
 }

@@ -40,7 +40,7 @@ impl Add for Scalar {
     ghost add_gives = { λ first second sum. sum ≡ add first second };
 
     fn add(self, other: Scalar) -> Scalar {
-        BinaryOp::Add.of(self, other)
+        self.binary(BinaryOp::Add, other)
     }
 }
 

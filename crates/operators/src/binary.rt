@@ -1,0 +1,17 @@
+//! The operators on two numbers.
+
+/// An operator on two numbers.
+#[derive(Clone, Copy, Debug, PartialEq, Eq)]
+pub enum BinaryOp {
+    Add,
+    Sub,
+    Mul,
+    /// The quotient, cut towards zero.
+    Div,
+    /// What a division leaves, with the sign of the dividend.
+    Rem,
+    /// The lesser.
+    Min,
+    /// The greater.
+    Max,
+}
