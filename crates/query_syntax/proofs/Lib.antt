@@ -7,3 +7,4 @@ pub mod SomeProgram
 pub mod SomeTrees
 pub mod TableRows
 pub mod TopTerms
+pub mod WithinLimits

@@ -2,6 +2,7 @@ pub mod ExpressionHeads
 pub mod Expressions
 pub mod Files
 pub mod Fits
+pub mod Limits
 pub mod Plain
 pub mod PredicateHeads
 pub mod Predicates
@@ -11,6 +12,7 @@ pub mod QueryHeads
 pub mod RateHeads
 pub mod Rates
 pub mod Rows
+pub mod Spans
 pub mod Tops
 pub mod Words
 pub mod Written

@@ -19,6 +19,7 @@ mod query_reading;
 mod rate;
 mod rate_head;
 mod rate_reading;
+mod spans;
 mod stream;
 mod stream_reading;
 mod syntax;
@@ -26,7 +27,7 @@ mod syntax;
 mod tests;
 
 pub use expression::{Comparison, Expression};
-pub use laws::one_program;
+pub use laws::{one_program, streams_are_within_the_limits};
 pub use leaf::{Literal, Name, Number, Text};
 pub use operator::{Connective, Equality, Extremum, Join, Order, Summary};
 pub use operators::{BinaryOp, Compare, UnaryOp};
