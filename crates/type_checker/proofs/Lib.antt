@@ -1,0 +1,4 @@
+pub mod Repeats
+pub mod Resolving
+pub mod SomeItem
+pub mod Verdicts

@@ -1,0 +1,11 @@
+pub mod Built
+pub mod Cells
+pub mod Judged
+pub mod Layouts
+pub mod Names
+pub mod Plan
+pub mod Resolutions
+pub mod Resolved
+pub mod Steps
+pub mod Stops
+pub mod Tests

@@ -1,0 +1,10 @@
+-- Statement. Why no sum is made of a program.
+use Rattle.query_syntax.specs.Programs.{Program}
+use Rattle.type_checker.specs.Judged.{IsJudged, refused}
+use Rattle.type_checker.specs.declared.stop.CheckStop.{CheckStop}
+use Rattle.type_checker.specs.declared.stop.CheckStop.TheVariants.{Refused, Memory}
+
+-- the program is refused so; want of memory says nothing of it
+abbrev pub IsStopOf : Program → CheckStop → Type 0
+IsStopOf program (Refused refusal) = IsJudged program (refused refusal)
+IsStopOf program Memory = Unit {0}

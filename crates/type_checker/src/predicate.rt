@@ -1,0 +1,125 @@
+//! Predicates over the columns of a stream.
+ghost use Rattle.std.specs.Prelude.{◌≡◌, IfOk, option_map};
+ghost use Rattle.predicate_cells.specs.Plain.{plain_of};
+ghost use Rattle.query_syntax.specs.Plain.{plain_predicate};
+ghost use Rattle.type_checker.specs.Tests.{equality_test, joined_by, order_test, resolved_over};
+
+use crate::columns::column_named;
+use item_schema::Schema;
+use predicate_cells::Pred;
+use query_syntax::{Connective, Equality, Literal, Order, Predicate};
+use std::alloc::{AllocError, Global};
+
+/// The predicate over the columns of the schema, if each name in it is one of theirs.
+pub fn pred_over(
+    alloc: Global,
+    schema: &Schema,
+    predicate: &Predicate,
+) -> Result<Option<Pred>, AllocError>
+    ensures { IfOk result (λ found. option_map plain_of found
+        ≡ resolved_over schema.now.columns (plain_predicate predicate.now)) }
+{
+    match predicate {
+        Predicate::Any(_) => Ok(Some(Pred::Any)),
+        Predicate::Equality {
+            equality,
+            column,
+            literal,
+            ..
+        } => match column_named(schema, column.bytes.as_slice()) {
+            Some(column) => Ok(Some(equality_test(alloc, *equality, literal, column)?)),
+            None => Ok(None),
+        },
+        Predicate::Order {
+            order,
+            column,
+            bound,
+            ..
+        } => match column_named(schema, column.bytes.as_slice()) {
+            Some(column) => Ok(Some(order_test(*order, bound.value, column))),
+            None => Ok(None),
+        },
+        Predicate::Between {
+            column,
+            low,
+            high,
+            ..
+        } => match column_named(schema, column.bytes.as_slice()) {
+            Some(column) => Ok(Some(Pred::Between(column, low.value, high.value))),
+            None => Ok(None),
+        },
+        Predicate::IsNum { column, .. } => match column_named(schema, column.bytes.as_slice()) {
+            Some(column) => Ok(Some(Pred::IsNum(column))),
+            None => Ok(None),
+        },
+        Predicate::Joined {
+            connective,
+            left,
+            right,
+            ..
+        } => {
+            let Some(left) = pred_over(alloc, schema, left)? else {
+                return Ok(None);
+            };
+            let Some(right) = pred_over(alloc, schema, right)? else {
+                return Ok(None);
+            };
+            Ok(Some(joined_by(alloc, *connective, left, right)?))
+        }
+        Predicate::Not { operand, .. } => match pred_over(alloc, schema, operand)? {
+            Some(inner) => Ok(Some(Pred::Not(Box::new(alloc, inner)?))),
+            None => Ok(None),
+        },
+    }
+}
+
+fn equality_test(
+    alloc: Global,
+    equality: Equality,
+    literal: &Literal,
+    column: u32,
+) -> Result<Pred, AllocError>
+    ensures { IfOk result (λ test. plain_of test ≡ equality_test equality literal.now column) }
+{
+    match literal {
+        Literal::Number(number) => match equality {
+            Equality::Eq => Ok(Pred::Eq(column, number.value)),
+            Equality::Ne => Ok(Pred::Ne(column, number.value)),
+        },
+        Literal::Text(text) => {
+            let text = text.bytes.try_copy(alloc)?;
+            match equality {
+                Equality::Eq => Ok(Pred::EqText(column, text)),
+                Equality::Ne => Ok(Pred::NeText(column, text)),
+            }
+        }
+    }
+}
+
+fn order_test(order: Order, bound: i64, column: u32) -> Pred
+    ensures { plain_of result ≡ order_test order bound column }
+{
+    match order {
+        Order::Lt => Pred::Lt(column, bound),
+        Order::Le => Pred::Le(column, bound),
+        Order::Gt => Pred::Gt(column, bound),
+        Order::Ge => Pred::Ge(column, bound),
+    }
+}
+
+fn joined_by(
+    alloc: Global,
+    connective: Connective,
+    left: Pred,
+    right: Pred,
+) -> Result<Pred, AllocError>
+    ensures { IfOk result (λ pred.
+        plain_of pred ≡ joined_by connective (plain_of left) (plain_of right)) }
+{
+    let left = Box::new(alloc, left)?;
+    let right = Box::new(alloc, right)?;
+    match connective {
+        Connective::And => Ok(Pred::And(left, right)),
+        Connective::Or => Ok(Pred::Or(left, right)),
+    }
+}
