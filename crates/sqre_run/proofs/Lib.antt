@@ -1,15 +1,9 @@
-pub mod Columns
+pub mod Checks
 pub mod Compilations
-pub mod Compiling
-pub mod Firsts
 pub mod Outcomes
-pub mod PredicateTerms
-pub mod Repeats
 pub mod QueryReads
 pub mod Replies
-pub mod Resolving
 pub mod Showing
-pub mod SomeItem
 pub mod Takes
 pub mod Tallying
 pub mod Turns

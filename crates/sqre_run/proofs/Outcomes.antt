@@ -2,9 +2,10 @@
 use Rattle.std.proofs.Common.{◌≡◌, ℕ, List, [], Option, Some, None, IfSome, inl, inr, refl, sym, ap, subst}
 use Rattle.std.proofs.KnownBytes.{Consumes-nil}
 use Rattle.language_base.specs.declared.refusal.Refusal.{Refusal}
-use Rattle.sqre_run.specs.Compiled.{Query, sum, refused, Compiles}
+use Rattle.sqre_run.specs.Compiled.{Compiles}
+use Rattle.type_checker.specs.Judged.{Verdict, sum, refused}
 use Rattle.sqre_run.specs.Outside.{Outside, Ended}
-use Rattle.sqre_run.specs.Plan.{Plan}
+use Rattle.type_checker.specs.Plan.{Plan}
 use Rattle.sqre_run.specs.Call.{Outcome, Refuses, Completes}
 use Rattle.sqre_run.specs.Stops.{IsStopOf}
 use Rattle.sqre_run.specs.declared.query.QueryStop.TheVariants.{Refused as Refusing}
@@ -49,10 +50,10 @@ Completes-refused refusal Memory old new refuses no_sink = tt
 Completes-refused refusal status old new refuses no_sink = absurd refuses
 
 -- what completes a text's query completes each query that the text is compiled to
-only_query : (text : List ℕ) (query : Query) (status : Status) → Compiles text query → Completes query status
-    → (other : Query) → Compiles text other → Completes other status
+only_query : (text : List ℕ) (query : Verdict) (status : Status) → Compiles text query → Completes query status
+    → (other : Verdict) → Compiles text other → Completes other status
 only_query text query status compiles completes other compiles' =
-    subst (λ (q : Query). Completes q status) (sym (one_query text query other compiles compiles')) completes
+    subst (λ (q : Verdict). Completes q status) (sym (one_query text query other compiles compiles')) completes
 
 module _ (plan : Plan) (status : Status) (old new : Outside) (ended : Ended plan status old new) where
   -- the same for a query source that may tell its text
@@ -61,7 +62,7 @@ module _ (plan : Plan) (status : Status) (old new : Outside) (ended : Ended plan
   told_ended (Some text) compiles = Outcome-ended text plan compiles status old new ended
 
   pub told_complete : (query : Option (List ℕ)) → IfSome query (λ text. Compiles text (sum plan)) → (status ≡ ItemFault → ⊥) → (status ≡ SinkFault → ⊥)
-      → IfSome query (λ text. (compiled : Query) → Compiles text compiled → Completes compiled status)
+      → IfSome query (λ text. (compiled : Verdict) → Compiles text compiled → Completes compiled status)
   told_complete None compiles no_items no_sink = tt
   told_complete (Some text) compiles no_items no_sink =
       only_query text (sum plan) status compiles (Completes-ended plan status old new ended no_items no_sink)
@@ -75,7 +76,7 @@ told_refused (Some text) refusal status old taken stop refuses = Outcome-refused
 
 pub told_refused_complete : (query : Option (List ℕ)) (refusal : Refusal) (status : Status) (old new : Option (List ℕ))
     → IsStopOf query (Refusing refusal) → Refuses refusal status old new → (status ≡ SinkFault → ⊥)
-    → IfSome query (λ text. (compiled : Query) → Compiles text compiled → Completes compiled status)
+    → IfSome query (λ text. (compiled : Verdict) → Compiles text compiled → Completes compiled status)
 told_refused_complete None refusal status old new stop refuses no_sink = tt
 told_refused_complete (Some text) refusal status old new stop refuses no_sink =
     only_query text (refused refusal) status stop (Completes-refused refusal status old new refuses no_sink)

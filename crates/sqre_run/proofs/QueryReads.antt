@@ -1,15 +1,13 @@
 -- From what was read of a query source to what a call says of it.
-use Rattle.std.proofs.Common.{◌≡◌, ◌≤◌, inr, ℕ, List, length, Option, Result, Ok, Err, refl, arith}
+use Rattle.std.proofs.Common.{◌≤◌, inr, ℕ, List, length, Option, arith}
 use Rattle.std.specs.Io.KnownBytes.{IsAtEnd}
 use Rattle.io_edge.specs.Taken.{TakesFirst}
 use Rattle.language_base.specs.Limits.{max_text}
 use Rattle.language_base.specs.declared.refusal.Refusal.{Refusal}
 use Rattle.sqre_run.specs.Call.{Refuses}
 use Rattle.sqre_run.specs.Outside.{Outside, Ended}
-use Rattle.sqre_run.specs.Plan.{Plan}
-use Rattle.sqre_run.specs.QueryRead.{max_read, ReadsText, ReadsFor, ReadsQuery}
-use Rattle.sqre_run.specs.declared.query.QueryStop.{QueryStop}
-use Rattle.sqre_run.specs.declared.query.QueryStop.TheVariants as stop
+use Rattle.type_checker.specs.Plan.{Plan}
+use Rattle.sqre_run.specs.QueryRead.{max_read, ReadsText, ReadsQuery}
 use Rattle.sqre_run.specs.declared.status.Status.{Status}
 use Rattle.sqre_run.specs.declared.status.Status.TheVariants.{Done, Refused, Usage, QueryFault, ItemFault, SinkFault, Memory, Limit}
 
@@ -20,14 +18,6 @@ module _ (left left' : Option (List ℕ)) (ends ends' : ℕ) where
   text_at_end got takes short = (takes.end.at_end (omega arith)).1
 
   module _ (reads : ReadsText left left' ends ends') where
-    -- a text that was read is compiled or stops, and the source has not failed
-    pub reads_for : {A : Type 0} (result : Result A QueryStop) → (result ≡ Err stop.Failed → ⊥)
-        → ReadsFor left left' ends ends' result
-    reads_for (Ok query) calm = reads
-    reads_for (Err stop.Failed) calm = absurd (calm refl)
-    reads_for (Err (stop.Refused refusal)) calm = reads
-    reads_for (Err stop.Memory) calm = inr reads
-
     -- a run comes behind the text
     pub reads_run : (plan : Plan) (status : Status) (old new : Outside) → Ended plan status old new
         → ReadsQuery left left' ends ends' status

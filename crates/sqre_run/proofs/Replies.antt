@@ -1,7 +1,7 @@
 -- What is written for more lines comes behind what is written for those before.
 use Rattle.std.proofs.Common.{◌≡◌, List, ℕ, [], ◌∷◌, ◌++◌, sym, ap, ◌∙◌, append_assoc, append-nil}
 use Rattle.io_edge.specs.Lines.{Shown}
-use Rattle.sqre_run.specs.Plan.{Plan}
+use Rattle.type_checker.specs.Plan.{Plan}
 use Rattle.sqre_run.specs.Output.{answer, answers_after, answers}
 
 module _ (plan : Plan) where

@@ -13,7 +13,7 @@ use Rattle.item_schema.specs.Reading.{item_of}
 use Rattle.predicate_cells.specs.Truth.{holds, number_in}
 use Rattle.report_writer.specs.Texts.{answer_text, skip_text}
 use Rattle.sqre_run.specs.Output.{read_of, item_in, body_of, items_of, value_of, value_after, is_header, reply_to}
-use Rattle.sqre_run.specs.Plan.{Plan}
+use Rattle.type_checker.specs.Plan.{Plan}
 use Rattle.sqre_run.specs.Tallies.{Progress, IsBehind, RepliesTo, is_begun, with_item}
 
 -- the parts of one list and then those of one more

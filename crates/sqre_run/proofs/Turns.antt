@@ -12,7 +12,7 @@ use Rattle.io_edge.specs.declared.lines.Line.{Line}
 use Rattle.io_edge.specs.declared.lines.LineStop.{LineStop}
 use Rattle.io_edge.specs.declared.lines.LineStop.TheVariants.{Failed, Limit}
 use Rattle.sqre_run.specs.Output.{answers, answers_after}
-use Rattle.sqre_run.specs.Plan.{Plan}
+use Rattle.type_checker.specs.Plan.{Plan}
 use Rattle.sqre_run.specs.Tallies.{Progress, IsBehind, RepliesTo}
 use Rattle.sqre_run.specs.Outside.{Outside, Wrote, Ended}
 use Rattle.sqre_run.specs.Running.{Showed, Running}

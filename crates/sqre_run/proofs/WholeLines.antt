@@ -1,7 +1,7 @@
 -- The lines that an LF ends come plan among all lines, and so do the answers to them.
 use Rattle.std.proofs.Common.{◌≡◌, ℕ, Bool, true, false, cond, List, [], ◌∷◌, ◌++◌, refl, sym, ap, ◌∙◌, append-nil, ◌==◌}
 use Rattle.io_edge.specs.Lines.{Shown, ended_by_lf, last_line, lines_from}
-use Rattle.sqre_run.specs.Compiled.{Query, sum, refused}
+use Rattle.type_checker.specs.Judged.{Verdict, sum, refused}
 use Rattle.sqre_run.specs.Output.{answers, answers_after, output, output_lines, whole_output}
 use Rattle.sqre_run.proofs.Replies.{answers_after-append}
 
@@ -25,13 +25,13 @@ lines_from-front start (x ∷ bytes) =
     (lines_from-front [] bytes) (lines_from-front (start ++ x ∷ []) bytes)
 
 -- what is written for them is the front of what is written
-output_lines-front : (query : Query) (whole all : List Shown) → IsFront whole all
+output_lines-front : (query : Verdict) (whole all : List Shown) → IsFront whole all
     → (rest : List ℕ) × (output_lines query all ≡ output_lines query whole ++ rest)
 output_lines-front (sum plan) whole all (more, is) =
     (answers_after plan whole more, ap (answers plan) is ∙ answers_after-append plan [] whole more)
 output_lines-front (refused refusal) whole all front = ([], sym (append-nil _))
 
 -- the bytes for the lines that an LF ends are the front of all
-pub output-front : (query : Query) (bytes : List ℕ)
+pub output-front : (query : Verdict) (bytes : List ℕ)
     → (rest : List ℕ) × (output query bytes ≡ whole_output query bytes ++ rest)
 output-front query bytes = output_lines-front query _ _ (lines_from-front [] bytes)

@@ -6,10 +6,11 @@ use Rattle.io_edge.specs.Limits.{max_count}
 use Rattle.io_edge.specs.Written.{AppendsSome}
 use Rattle.language_base.specs.declared.refusal.Refusal.{Refusal}
 use Rattle.report_writer.specs.Texts.{refusal_text}
-use Rattle.sqre_run.specs.Compiled.{Query, sum, refused, Compiles}
+use Rattle.sqre_run.specs.Compiled.{Compiles}
+use Rattle.type_checker.specs.Judged.{Verdict, sum, refused}
 use Rattle.sqre_run.specs.Output.{output, whole_output}
 use Rattle.sqre_run.specs.Outside.{Outside, Wrote, WroteLines}
-use Rattle.sqre_run.specs.Plan.{Plan}
+use Rattle.type_checker.specs.Plan.{Plan}
 use Rattle.sqre_run.specs.declared.status.Status.{Status}
 use Rattle.sqre_run.specs.declared.status.Status.TheVariants.{Done, Refused, Usage, QueryFault, ItemFault, SinkFault, Memory, Limit}
 
@@ -51,7 +52,7 @@ Outcome text Usage old new = new ≡ old
 Outcome text QueryFault old new = new ≡ old
 Outcome text ItemFault old new = Runs text (λ plan.
     (got : List ℕ) × Wrote old new got (whole_output (sum plan) got))
-Outcome text SinkFault old new = (query : Query) × (got : List ℕ) × Compiles text query
+Outcome text SinkFault old new = (query : Verdict) × (got : List ℕ) × Compiles text query
     × Consumes old.left new.left got × AppendsSome old.taken new.taken (output query got)
 Outcome text Memory old new = (new ≡ old)
     ⊎ Runs text (λ plan. (got : List ℕ) × WroteLines plan old new got)
@@ -60,7 +61,7 @@ Outcome text Limit old new = Runs text (λ plan.
 
 -- How a call ends where no count of faults rose: a query at the end of its items or after 2^63-1
 -- bytes of them, and any other text with its refusal. Usage and Memory may come with both.
-abbrev pub Completes : Query → Status → Type 0
+abbrev pub Completes : Verdict → Status → Type 0
 Completes query Usage = Unit {0}
 Completes query Memory = Unit {0}
 Completes (sum plan) Done = Unit {0}

@@ -12,8 +12,8 @@ use Rattle.item_schema.specs.declared.stop.Cause.TheVariants as cause
 use Rattle.item_schema.specs.Reading.{item_of, skip}
 use Rattle.predicate_cells.specs.Truth.{holds, number_in}
 use Rattle.report_writer.specs.Texts.{answer_text, refusal_text, skip_text}
-use Rattle.sqre_run.specs.Compiled.{Query, sum, refused}
-use Rattle.sqre_run.specs.Plan.{Plan}
+use Rattle.type_checker.specs.Judged.{Verdict, sum, refused}
+use Rattle.type_checker.specs.Plan.{Plan}
 
 -- what a line behind the header gives: an item or the cause why it is skipped, and nothing where it is
 -- empty
@@ -78,14 +78,14 @@ abbrev pub answers : Plan → List Shown → List ℕ
 answers plan shown = answers_after plan [] shown
 
 -- what is written for a query and these lines
-abbrev pub output_lines : Query → List Shown → List ℕ
+abbrev pub output_lines : Verdict → List Shown → List ℕ
 output_lines (sum plan) shown = answers plan shown
 output_lines (refused refusal) shown = refusal_text refusal
 
 -- what a run writes for a query and item bytes
-abbrev pub output : Query → List ℕ → List ℕ
+abbrev pub output : Verdict → List ℕ → List ℕ
 output query bytes = output_lines query (lines bytes true)
 
 -- what it writes for the lines alone that an LF ends
-abbrev pub whole_output : Query → List ℕ → List ℕ
+abbrev pub whole_output : Verdict → List ℕ → List ℕ
 whole_output query bytes = output_lines query (lines bytes false)

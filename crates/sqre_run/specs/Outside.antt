@@ -6,7 +6,7 @@ use Rattle.io_edge.specs.Limits.{max_count}
 use Rattle.io_edge.specs.Lines.{Shown, lines}
 use Rattle.io_edge.specs.Written.{AppendsSome}
 use Rattle.sqre_run.specs.Output.{answers}
-use Rattle.sqre_run.specs.Plan.{Plan}
+use Rattle.type_checker.specs.Plan.{Plan}
 use Rattle.sqre_run.specs.declared.status.Status.{Status}
 use Rattle.sqre_run.specs.declared.status.Status.TheVariants.{Done, Refused, Usage, QueryFault, ItemFault, SinkFault, Memory, Limit}
 

@@ -6,7 +6,7 @@ use Rattle.io_edge.specs.Lines.{Shown, lines}
 use Rattle.io_edge.specs.Reading.{Reading, lines_after, count_of}
 use Rattle.sqre_run.specs.Output.{answers}
 use Rattle.sqre_run.specs.Outside.{Outside, Wrote}
-use Rattle.sqre_run.specs.Plan.{Plan}
+use Rattle.type_checker.specs.Plan.{Plan}
 use Rattle.sqre_run.specs.Tallies.{Progress, IsBehind}
 
 -- of the bytes taken these lines were shown: the lines of all are these and then those to come

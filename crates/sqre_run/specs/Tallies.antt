@@ -6,7 +6,7 @@ use Rattle.value_ops.specs.declared.scalar.Scalar.{Scalar}
 use Rattle.value_ops.specs.Scalar.{total}
 use Rattle.predicate_cells.specs.Truth.{holds, number_in}
 use Rattle.sqre_run.specs.Output.{answer, value_after}
-use Rattle.sqre_run.specs.Plan.{Plan}
+use Rattle.type_checker.specs.Plan.{Plan}
 
 -- the query, its value on the items so far, and whether a line has come
 pub record Progress : Type 0 where

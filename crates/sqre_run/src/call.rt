@@ -1,7 +1,8 @@
 //! The top call.
 ghost use Rattle.std.specs.Prelude.{◌≡◌, ◌↔◌, false, IfSome, map, string_bytes};
 ghost use Rattle.io_edge.specs.Counts.{Rose, FailsBy};
-ghost use Rattle.sqre_run.specs.Compiled.{Query, Compiles};
+ghost use Rattle.sqre_run.specs.Compiled.{Compiles};
+ghost use Rattle.type_checker.specs.Judged.{Verdict};
 ghost use Rattle.sqre_run.specs.Words.{is_run};
 ghost use Rattle.sqre_run.specs.Outside.{outside};
 ghost use Rattle.sqre_run.specs.QueryRead.{ReadsQuery};
@@ -40,7 +41,7 @@ pub fn sqre<Q: Source, S: Source, W: Sink>(
     ensures complete { (Rose (Q.faults query.old) (Q.faults query.new) → ⊥)
         → (Rose (S.faults items.old) (S.faults items.new) → ⊥)
         → (Rose (W.faults out.old) (W.faults out.new) → ⊥)
-        → IfSome (Q.left query.old) (λ text. (compiled : Query) → Compiles text compiled
+        → IfSome (Q.left query.old) (λ text. (compiled : Verdict) → Compiles text compiled
         → Completes compiled result) }
 {
     if !is_run(words) {

@@ -1,19 +1,18 @@
 //! The query: read from its source and compiled.
-ghost use Rattle.std.specs.Prelude.{◌≡◌, Some, Err, IfOk, IfErr, IfSome, OnOk};
+ghost use Rattle.std.specs.Prelude.{◌≡◌, Err, IfOk, IfErr, IfSome, OnOk};
 ghost use Rattle.io_edge.specs.Counts.{FailsBy, Rose};
-ghost use Rattle.sqre_run.specs.Compiled.{Compiles, sum};
-ghost use Rattle.sqre_run.specs.Plan.{plan_of};
+ghost use Rattle.sqre_run.specs.Compiled.{Compiles};
 ghost use Rattle.sqre_run.specs.QueryRead.{ReadsFor};
-ghost use Rattle.sqre_run.specs.Stops.{IsStopOf};
-ghost use Rattle.sqre_run.specs.declared.query.QueryStop.TheVariants.{Memory};
+ghost use Rattle.sqre_run.specs.Stops.{IsStopAt, IsStopOf};
+ghost use Rattle.type_checker.specs.Judged.{sum};
+ghost use Rattle.type_checker.specs.Plan.{plan_of};
 
-use crate::cells::allowed;
-use crate::resolved::resolve;
-use crate::sum::Sum;
 use io_edge::{Source, TakeStop, read_to_limit};
 use language_base::Refusal;
-use query_parser::{ReadStop, read_file};
-use std::alloc::{AllocError, Global};
+use query_parser::ReadStop;
+use query_syntax::read_syntax;
+use std::alloc::Global;
+use type_checker::{CheckStop, Sum, check};
 
 /// The most bytes that are read of a query: one more than a query may have.
 const MAX_READ: usize = 65_537;
@@ -24,14 +23,6 @@ pub enum QueryStop {
     Failed,
     Refused(Refusal),
     Memory,
-}
-
-impl From<AllocError> for QueryStop {
-    ghost from_gives = { λ _ stop. stop ≡ Memory };
-
-    fn from(_: AllocError) -> Self {
-        QueryStop::Memory
-    }
 }
 
 /// Reads the query to its first end, or until it is longer than a query may be, and compiles it.
@@ -45,25 +36,27 @@ pub fn compile<Q: Source>(alloc: Global, query: &mut Q) -> Result<Sum, QueryStop
     ensures cause { FailsBy (Q.faults query.old) (Q.faults query.new)
         (result ≡ Err QueryStop.Failed) }
 {
-    match read_to_limit(alloc, query, MAX_READ) {
-        Ok(text) => compile_text(alloc, text.as_slice()),
-        Err(TakeStop::Failed) => Err(QueryStop::Failed),
-        Err(TakeStop::Memory) => Err(QueryStop::Memory),
+    let text = match read_to_limit(alloc, query, MAX_READ) {
+        Ok(text) => text,
+        Err(TakeStop::Failed) => return Err(QueryStop::Failed),
+        Err(TakeStop::Memory) => return Err(QueryStop::Memory),
+    };
+    match compile_text(alloc, text.as_slice()) {
+        Ok(sum) => Ok(sum),
+        Err(CheckStop::Refused(refusal)) => Err(QueryStop::Refused(refusal)),
+        Err(CheckStop::Memory) => Err(QueryStop::Memory),
     }
 }
 
 // Compiles a text.
-fn compile_text(alloc: Global, text: &[u8]) -> Result<Sum, QueryStop>
+fn compile_text(alloc: Global, text: &[u8]) -> Result<Sum, CheckStop>
     ensures accepted { IfOk result (λ compiled. Compiles text.now (sum (plan_of compiled))) }
-    ensures refused { IfErr result (IsStopOf (Some text.now)) }
-    ensures not_failed { result ≡ Err QueryStop.Failed → ⊥ }
+    ensures refused { IfErr result (IsStopAt text.now) }
 {
-    let file = match read_file(alloc, text) {
-        Ok(file) => file,
-        Err(ReadStop::Refused(refusal)) => return Err(QueryStop::Refused(refusal)),
-        Err(ReadStop::Memory) => return Err(QueryStop::Memory),
+    let program = match read_syntax(alloc, text) {
+        Ok(program) => program,
+        Err(ReadStop::Refused(refusal)) => return Err(CheckStop::Refused(refusal)),
+        Err(ReadStop::Memory) => return Err(CheckStop::Memory),
     };
-    let found = resolve(alloc, file.terms())?;
-    allowed(alloc, &found)?;
-    Ok(found.sum)
+    check(alloc, &program)
 }

@@ -2,7 +2,7 @@
 ghost use Rattle.std.specs.Prelude.{◌≡◌, ◌≤◌, ℕ, List, [], Some, length, IfOk, IfSome};
 ghost use Rattle.std.specs.Io.KnownBytes.{Consumes};
 ghost use Rattle.sqre_run.specs.Call.{Runs};
-ghost use Rattle.sqre_run.specs.Compiled.{sum};
+ghost use Rattle.type_checker.specs.Judged.{sum};
 ghost use Rattle.sqre_run.specs.Output.{whole_output};
 
 use crate::{Status, sqre};

@@ -3,16 +3,16 @@ ghost use Rattle.std.specs.Prelude.{◌≡◌, ◌<◌, ◌≤◌, IfNone, IfSom
 ghost use Rattle.io_edge.specs.Counts.{FailsBy};
 ghost use Rattle.io_edge.specs.Limits.{max_count};
 ghost use Rattle.sqre_run.specs.Outside.{Outside, outside, Ended};
-ghost use Rattle.sqre_run.specs.Plan.{Plan, plan_of};
+ghost use Rattle.type_checker.specs.Plan.{Plan, plan_of};
 ghost use Rattle.sqre_run.specs.Running.{Running};
 ghost use Rattle.sqre_run.specs.Handed.{HandedOver};
 
 use crate::Status;
-use crate::sum::Sum;
 use crate::tally::Tally;
 use io_edge::{Line, LineStop, Lines, Sink, Source, write_all};
 use language_base::Bytes;
 use std::alloc::{AllocError, Global};
+use type_checker::Sum;
 
 /// Answers every line of the items.
 pub fn run<S: Source, W: Sink>(alloc: Global, sum: Sum, items: &mut S, out: &mut W) -> Status

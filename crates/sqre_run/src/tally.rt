@@ -3,15 +3,15 @@ ghost use Rattle.std.specs.Prelude.{◌≡◌, ◌&&◌, not, false, true, Some,
 ghost use Rattle.io_edge.specs.Lines.{text, long};
 ghost use Rattle.value_ops.specs.declared.scalar.Scalar.TheVariants.{Number};
 ghost use Rattle.item_schema.specs.Reading.{IsStopOf, item_of};
-ghost use Rattle.sqre_run.specs.Plan.{plan_of};
+ghost use Rattle.type_checker.specs.Plan.{plan_of};
 ghost use Rattle.sqre_run.specs.Tallies.{RepliesTo, with_item};
 
-use crate::sum::Sum;
 use item_schema::{Cause, Item, ItemStop, Skip, read_item};
 use predicate_cells::{holds, number_in};
 use report_writer::{answer_text, skip_text};
 use std::alloc::{AllocError, Global};
 use std::marker::Model;
+use type_checker::Sum;
 use value_ops::{Bytes, Scalar};
 
 /// How a line that is too long is skipped.
@@ -31,7 +31,7 @@ pub struct Tally {
 impl Model for Tally {
     ghost use Rattle.std.specs.Coded.{codes};
     ghost use Rattle.predicate_cells.specs.Coding.{coded_predicate};
-    ghost use Rattle.sqre_run.specs.Plan.{plan_of};
+    ghost use Rattle.type_checker.specs.Plan.{plan_of};
     ghost use Rattle.sqre_run.specs.Tallies.{Progress};
 
     ghost Value = { Progress };

@@ -1,5 +1,5 @@
 use Rattle.sqre_run.specs.Outside.{outside}
-use Rattle.sqre_run.specs.Plan.{plan_of}
+use Rattle.type_checker.specs.Plan.{plan_of}
 use Rattle.sqre_run.proofs.Outcomes.{told_complete, told_ended, told_refused, told_refused_complete}
 use Rattle.sqre_run.proofs.QueryReads.{reads_refusal, reads_run}
 use Rattle.sqre_run.proofs.call.sqre.Goals as goal

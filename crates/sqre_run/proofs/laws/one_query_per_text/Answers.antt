@@ -1,5 +1,4 @@
-use Rattle.sqre_run.proofs.Compilations.{one_query}
-use Rattle.sqre_run.proofs.Compiling.{some_query}
+use Rattle.sqre_run.proofs.Compilations.{one_query, some_query}
 use Rattle.sqre_run.proofs.laws.one_query_per_text.Goals as goal
 
 pub returns-clause-some : goal.returns-clause-some

@@ -1,7 +1,7 @@
 use Rattle.std.proofs.Common.{◌≡◌, ◌-◌}
 use Rattle.io_edge.specs.Limits.{max_count}
 use Rattle.sqre_run.specs.Outside.{outside}
-use Rattle.sqre_run.specs.Plan.{plan_of}
+use Rattle.type_checker.specs.Plan.{plan_of}
 use Rattle.sqre_run.specs.Running.{Running}
 use Rattle.sqre_run.proofs.run.run.Given as goal
 
