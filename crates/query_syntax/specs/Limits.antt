@@ -1,4 +1,4 @@
--- What a stream of a file keeps to.
+-- Statement. What a stream of a file keeps to.
 use Rattle.std.specs.Prelude.{◌≤◌, length}
 use Rattle.std.specs.List.{AllByRecursion}
 use Rattle.language_base.specs.Limits.{max_columns}

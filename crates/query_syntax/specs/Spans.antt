@@ -1,4 +1,4 @@
--- The places of trees.
+-- Statement. The places of trees.
 use Rattle.language_base.specs.declared.span.Span.{Span}
 use Rattle.query_syntax.specs.Expressions as e
 use Rattle.query_syntax.specs.Expressions.{Expression}

@@ -1,4 +1,4 @@
--- For the prover. Lists of predicates of which equal ones are kept once.
+-- Statement. Lists of predicates of which equal ones are kept once.
 use Rattle.std.specs.Prelude.{◌≡◌, ◌<◌, ℕ, List, Some, length, map, get_or, slice_get}
 use Rattle.predicate_cells.specs.Predicates.{Predicate, any}
 
