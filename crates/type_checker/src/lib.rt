@@ -11,6 +11,8 @@ mod resolved;
 mod stop;
 mod stream_schema;
 mod sum;
+#[cfg(test)]
+mod tests;
 
 pub use checking::check;
 pub use laws::one_verdict;
