@@ -1,0 +1,5 @@
+use Rattle.rate_equal.proofs.Gathered.{IsGathered}
+use Rattle.rate_equal.proofs.letters.letters.Given as goal
+
+abbrev pub invariant-cells : goal.invariant-cells
+invariant-cells l = IsGathered l.first l.second l.cell l.known.keys l.letters.items

@@ -1,0 +1,55 @@
+-- For the prover. The pairs of states that words lead to.
+use Rattle.std.specs.Prelude.{◌≡◌, ◌≤◌, ℕ, List, ◌++◌, length}
+use Rattle.std.specs.List.{Contains}
+use Rattle.value_ops.specs.declared.field.Field.{Field}
+use Rattle.item_schema.specs.Items.{IsItemOf}
+use Rattle.rate_expr.specs.Behind.{IsBehind}
+use Rattle.rate_expr.specs.Words.{Word, IsWordOf}
+use Rattle.rate_expr.specs.declared.state.State.{State}
+use Rattle.rate_expr.specs.declared.state.State.TheVariants.{Initial, At}
+use Rattle.symbolic_nfa.specs.Automata.{Automaton}
+use Rattle.symbolic_nfa.specs.States.{Steps}
+use Rattle.rate_equal.specs.Reach.{max_reach}
+use Rattle.rate_equal.specs.declared.pair.Pair.{Pair}
+
+-- the mask of a state's positions, of which the initial one has none
+abbrev pub mask_of : State → ℕ
+mask_of Initial = 0
+mask_of (At mask) = mask
+
+-- the states of the pair are those behind the word
+abbrev pub AreBehind : Automaton → Automaton → Word → Pair → Type 0
+AreBehind first second word pair =
+    IsBehind first.sets word pair.first × IsBehind second.sets word pair.second
+
+-- some word of items of the stream leads to the pair
+abbrev pub IsReached : Automaton → Automaton → Pair → Type 0
+IsReached first second pair = (word : Word) × IsWordOf first.cells.layout.columns word
+    × AreBehind first second word pair
+
+-- words lead to all of these, which are no more than may be
+pub record AreReached (first second : Automaton) (pairs : List Pair) : Type 0 where
+  pub each : (pair : Pair) → Contains pairs pair → IsReached first second pair
+  pub few : length pairs ≤ max_reach
+
+-- and each word leads to one of these
+pub record AreAll (first second : Automaton) (pairs : List Pair) : Type 0 where
+  pub reached : AreReached first second pairs
+  pub whole : (word : Word) → IsWordOf first.cells.layout.columns word
+      → (pair : Pair) × Contains pairs pair × AreBehind first second word pair
+
+-- each item of the stream leads from the pair to one of these
+abbrev pub LeadsInto : Automaton → Automaton → List Pair → Pair → Type 0
+LeadsInto first second pairs from = (item : List Field) → IsItemOf first.cells.layout.columns item
+    → (next : Pair) × Contains pairs next × Steps first.sets from.first item next.first
+    × Steps second.sets from.second item next.second
+
+-- the pairs are those before and some behind them
+abbrev pub IsGrown : List Pair → List Pair → Type 0
+IsGrown old new = (more : List Pair) × (new ≡ old ++ more)
+
+-- some pairs were put behind the others, and now each item leads from a pair to one of all
+pub record IsExplored (first second : Automaton) (from : Pair) (old new : List Pair) : Type 0 where
+  pub reached : AreReached first second new
+  pub grown : IsGrown old new
+  pub done : LeadsInto first second new from

@@ -1,0 +1,13 @@
+//! Whether two rates have the same words, and whether a rate has all of them but the empty one.
+#![tactic(auto)]
+
+mod equal;
+mod letters;
+mod pair;
+mod search;
+mod stop;
+#[cfg(test)]
+mod tests;
+
+pub use equal::{all_but_empty, same};
+pub use stop::EqualStop;

@@ -1,0 +1,33 @@
+//! Why two rates are not compared.
+
+use crate::pair::Pair;
+use std::alloc::{AllocError, AllocFailed};
+
+#[derive(Clone, Copy, Debug, PartialEq, Eq)]
+pub enum EqualStop {
+    /// Words lead to more than 4,096 states, or pairs of states.
+    Reach = 1,
+    Memory = 2,
+}
+
+impl From<AllocError> for EqualStop {
+    ghost use Rattle.std.specs.Prelude.{◌≡◌};
+    ghost use Rattle.rate_equal.specs.declared.stop.EqualStop.TheVariants.{Memory};
+
+    ghost from_gives = { λ _ stop. stop ≡ Memory };
+
+    fn from(_error: AllocError) -> EqualStop {
+        EqualStop::Memory
+    }
+}
+
+impl From<AllocFailed<Pair>> for EqualStop {
+    ghost use Rattle.std.specs.Prelude.{◌≡◌};
+    ghost use Rattle.rate_equal.specs.declared.stop.EqualStop.TheVariants.{Memory};
+
+    ghost from_gives = { λ _ stop. stop ≡ Memory };
+
+    fn from(_failed: AllocFailed<Pair>) -> EqualStop {
+        EqualStop::Memory
+    }
+}
