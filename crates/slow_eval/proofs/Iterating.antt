@@ -1,0 +1,159 @@
+-- The row of an iter.
+use Rattle.std.proofs.Common.{◌≡◌, ◌<◌, ◌≤◌, ℕ, zero, suc, ◌+◌, ◌++◌, ◌∙◌, List, [], ◌∷◌, Option, Some, None, length, take, drop, get_or, refl, sym, subst, ap, arith, take-add, length-take-le, inl, inr}
+use Rattle.std.specs.Prelude.{ℤ}
+use Rattle.value_ops.specs.declared.scalar.Scalar.TheVariants.{Number}
+use Rattle.value_ops.specs.declared.value.Value.{Value}
+use Rattle.value_ops.specs.declared.value.Value.TheVariants as value
+use Rattle.value_ops.specs.declared.value.ValueType.TheVariants as type
+use Rattle.value_ops.specs.Expressions.{Expression}
+use Rattle.item_schema.specs.declared.column.Column.{Column}
+use Rattle.rate_expr.specs.Language.{In}
+use Rattle.rate_expr.specs.Rates as rate
+use Rattle.rate_expr.specs.Readings.{HasOneFactoring}
+use Rattle.rate_expr.specs.Words.{Word, IsWordOf, join}
+use Rattle.rate_expr.proofs.Wording.{word_parts}
+use Rattle.query_model.specs.Denotation.{Den, Folds, on_both}
+use Rattle.query_model.specs.Following.{IsAnswer}
+use Rattle.query_model.specs.Queries.{Qre, iter}
+use Rattle.query_model.specs.QueryTypes.{type_of}
+use Rattle.query_model.specs.Rates.{rate_of}
+use Rattle.query_model.specs.Rules.{bound}
+use Rattle.query_model.proofs.InRates.{den_in}
+use Rattle.slow_eval.specs.Answers.{AreAnswers, CanBeRead}
+use Rattle.slow_eval.specs.Rows.{IsJoined, IsTypedOnBoth}
+use Rattle.slow_eval.proofs.Cutting.{IsCut, cut, front_word}
+use Rattle.slow_eval.proofs.Filling.{IsFilled, joined, put_or_same, skipped, some_not_none}
+use Rattle.slow_eval.proofs.Folding.{fold_less, fold_more, join_more, last_piece}
+use Rattle.slow_eval.proofs.Reading.{is_answer, is_none, of_piece, one_at, value_at}
+use Rattle.slow_eval.proofs.WellTyped.{typed_at, typed_on_both}
+use Rattle.slow_eval.proofs.Splitting.{answers_behind}
+
+-- The values on all pieces but the last, on the last, and on the whole, where the empty front has one
+pub record IsIterated (f : Qre) (number : ℤ) (e : Expression) (word : Word) (at : ℕ) (row : List (Option Value)) : Type 0 where
+  pub filled : IsFilled (Den (iter f number e)) (Den f) (Den (iter f number e)) e word at row
+  pub begins : get_or row 0 None ≡ None → ⊥
+
+-- a list with an element is not empty
+nothing_more : (pieces : List Word) → [] ∷ pieces ≡ [] → ⊥
+nothing_more pieces same = cc
+
+-- no piece is empty
+some_item : (columns : List Column) (r : rate.Expression) (piece : Word) → HasOneFactoring columns r → In r piece
+    → 0 < length piece
+some_item columns r [] one is =
+    let same : [] ∷ [] ≡ [] = one ([] ∷ []) [] tt (is, tt) tt refl in
+    absurd (nothing_more [] same)
+some_item columns r (item ∷ piece) one is = omega arith
+
+no_last : (f : Qre) (number : ℤ) (e : Expression) (word : Word) (at : ℕ) (row : List (Option Value))
+    → CanBeRead (iter f number e) word → IsIterated f number e word at row
+    → (place : ℕ) → place ≤ at → place ≤ length word → get_or row place None ≡ None
+    → (front : List Word) (last : Word) (v : Value) → take place word ≡ join front ++ last
+    → Folds (Den f) e (value.Scalar (Number number)) (front ++ last ∷ []) v → ⊥
+no_last f number e word at row can so_far place tried inside none front last v whole folds =
+    let (x, y, before, den, gives) = fold_less (Den f) e front last (value.Scalar (Number number)) v folds in
+    let c : IsCut word place (join front) last = cut word place (join front) last inside whole in
+    let parts = word_parts can.columns (join front) last
+    (subst (IsWordOf can.columns) whole (front_word can.columns word place can.is_word)) in
+    let some : 0 < length last = some_item can.columns (rate_of f) last can.clear.3
+    (den_in bound can.columns f last y can.clear.0 parts.1 den) in
+    let count : length (join front) + length last ≡ place = c.count in
+    so_far.filled.full (length (join front)) (omega arith) (length last) x y v (omega arith)
+    (front, sym c.front, before) (subst (λ u. Den f u y) c.rest den) gives
+    (subst (λ p. get_or row p None ≡ None) (sym c.count) none)
+
+no_fold : (f : Qre) (number : ℤ) (e : Expression) (word : Word) (at : ℕ) (row : List (Option Value))
+    → CanBeRead (iter f number e) word → IsIterated f number e word at row
+    → (place : ℕ) → place ≤ at → place ≤ length word → get_or row place None ≡ None
+    → (pieces : List Word) (v : Value) → take place word ≡ join pieces
+    → Folds (Den f) e (value.Scalar (Number number)) pieces v → ⊥
+no_fold f number e word at row can so_far place tried inside none pieces v whole folds =
+    elim (last_piece pieces) [
+      | inl empty ↦
+          let long : length (take place word) ≡ place = length-take-le place word inside in
+          let short : length (take place word) ≡ 0 = ap length whole ∙ ap (λ ps. length (join ps)) empty in
+          let first : place ≡ 0 = omega arith in
+          so_far.begins (subst (λ p. get_or row p None ≡ None) first none)
+      | inr (front, last, all) ↦
+          no_last f number e word at row can so_far place tried inside none front last v
+          (whole ∙ ap join all ∙ join_more front last)
+          (subst (λ ps. Folds (Den f) e (value.Scalar (Number number)) ps v) all folds)
+    ]
+
+-- a front that is no longer than those that were tried has its answer
+pub iter_answer : (f : Qre) (number : ℤ) (e : Expression) (word : Word) (at : ℕ) (row : List (Option Value))
+    → CanBeRead (iter f number e) word → IsIterated f number e word at row
+    → (place : ℕ) → place ≤ at → place ≤ length word
+    → IsAnswer (iter f number e) (take place word) (get_or row place None)
+iter_answer f number e word at row can so_far place tried inside =
+    is_answer (iter f number e) (take place word) (get_or row place None)
+    (λ v there. so_far.filled.sound place v inside there)
+    (λ none v (pieces, whole, folds).
+    no_fold f number e word at row can so_far place tried inside none pieces v whole folds)
+
+-- one more piece behind a front that has a value
+one_piece_more : (f : Qre) (number : ℤ) (e : Expression) (word : Word) (at m : ℕ) (x y v : Value)
+    → Den (iter f number e) (take at word) x → Den f (take m (drop at word)) y → on_both e x y ≡ Some v
+    → Den (iter f number e) (take (at + m) word) v
+one_piece_more f number e word at m x y v (pieces, whole, folds) den gives = (
+  pieces ++ take m (drop at word) ∷ [],
+  take-add at m word ∙ ap (λ u. u ++ take m (drop at word)) whole ∙ sym (join_more pieces (take m (drop at word))),
+  fold_more (Den f) e pieces (take m (drop at word)) (value.Scalar (Number number)) x y v folds den gives,
+)
+
+pub iter_typed : (f : Qre) (number : ℤ) (e : Expression) (word : Word) (at : ℕ) (row pieces : List (Option Value))
+    (x : Value) → CanBeRead (iter f number e) word → IsIterated f number e word at row → at ≤ length word
+    → get_or row at None ≡ Some x → AreAnswers f (drop at word) pieces
+    → (place : ℕ) (y : Value) → get_or pieces place None ≡ Some y → IsTypedOnBoth e x y
+iter_typed f number e word at row pieces x can so_far inside there answers place y there' =
+    typed_on_both type.Number (type_of can.columns f) type.Number e x y
+    (typed_at (iter f number e) word at x can (so_far.filled.sound at x inside there))
+    (typed_at f (drop at word) place y (of_piece f number e word at can)
+    (value_at f (drop at word) pieces place y answers there').1) can.clear.2
+
+-- the first place keeps an answer
+begins_still : (e : Expression) (x : Value) (right : List (Option Value)) (from : ℕ) (old new : List (Option Value))
+    (n : ℕ) → IsJoined e x right from old new → (get_or old 0 None ≡ None → ⊥) → length right ≡ n + 1
+    → get_or new 0 None ≡ None → ⊥
+begins_still e x right zero old new n is begins some none =
+    let inside : 0 < length right = omega arith in
+    elim (put_or_same e x _ _ _ (is.behind 0 inside)) [
+      | inl (y, there, (v, given, gives)) ↦ some_not_none v _ given none
+      | inr (free, same) ↦ begins (sym same ∙ none)
+    ]
+begins_still e x right (suc from) old new n is begins some none =
+    begins (sym (is.before 0 (omega arith)) ∙ none)
+
+-- a front with a value, and all pieces behind it
+pub iter_joined : (f : Qre) (number : ℤ) (e : Expression) (word : Word) (at : ℕ) (row new pieces : List (Option Value))
+    (x : Value) → CanBeRead (iter f number e) word → IsIterated f number e word at row → at ≤ length word
+    → get_or row at None ≡ Some x → AreAnswers f (drop at word) pieces → IsJoined e x pieces at row new
+    → IsIterated f number e word (at + 1) new
+iter_joined f number e word at row new pieces x can so_far inside there answers is_joined =
+    let den = so_far.filled.sound at x inside there in
+    record {
+      filled = joined (Den (iter f number e)) (Den f) (Den (iter f number e)) e word at row new pieces x so_far.filled
+          is_joined (answers_behind f word at pieces inside answers) inside
+          (λ other den'. one_at (iter f number e) word at x other can den den')
+          (λ m y v within right gives. one_piece_more f number e word at m x y v den right gives);
+      begins = begins_still e x pieces at row new _ is_joined so_far.begins answers.count;
+    }
+
+-- a front without a value
+pub iter_skipped : (f : Qre) (number : ℤ) (e : Expression) (word : Word) (at : ℕ) (row : List (Option Value))
+    → CanBeRead (iter f number e) word → IsIterated f number e word at row → at ≤ length word
+    → get_or row at None ≡ None → IsIterated f number e word (at + 1) row
+iter_skipped f number e word at row can so_far inside there = record {
+  filled = skipped (Den (iter f number e)) (Den f) (Den (iter f number e)) e word at row so_far.filled
+      (is_none (iter f number e) (take at word) _ (iter_answer f number e word at row can so_far at (omega arith) inside) there);
+  begins = so_far.begins;
+}
+
+-- all fronts have been tried
+pub iter_ended : (f : Qre) (number : ℤ) (e : Expression) (word : Word) (at : ℕ) (row : List (Option Value))
+    → CanBeRead (iter f number e) word → IsIterated f number e word at row → length word ≤ at
+    → AreAnswers (iter f number e) word row
+iter_ended f number e word at row can so_far all = record {
+  count = so_far.filled.count;
+  each = λ place inside. iter_answer f number e word at row can so_far place (omega arith) inside;
+}

@@ -1,0 +1,76 @@
+-- The row of a split.
+use Rattle.std.proofs.Common.{◌≡◌, ◌<◌, ◌≤◌, ℕ, ◌+◌, ◌-◌, List, Option, Some, None, length, take, drop, get_or, sym, subst, arith, take-add, length-drop}
+use Rattle.value_ops.specs.declared.value.Value.{Value}
+use Rattle.value_ops.specs.Expressions.{Expression}
+use Rattle.rate_expr.specs.Words.{Word}
+use Rattle.query_model.specs.Denotation.{Den}
+use Rattle.query_model.specs.Queries.{Qre, split}
+use Rattle.query_model.specs.QueryTypes.{type_of}
+use Rattle.slow_eval.specs.Answers.{AreAnswers, CanBeRead}
+use Rattle.slow_eval.specs.Rows.{IsJoined, IsTypedOnBoth}
+use Rattle.slow_eval.proofs.Cutting.{cut}
+use Rattle.slow_eval.proofs.Filling.{AreBehind, IsFilled, joined, skipped}
+use Rattle.slow_eval.proofs.Reading.{is_answer, is_none, is_value, of_front, of_rest, one_at, value_at}
+use Rattle.slow_eval.proofs.WellTyped.{typed_at, typed_on_both}
+
+-- the values on the left parts and the right ones, and on the whole
+abbrev pub IsSplit : Qre → Qre → Expression → Word → ℕ → List (Option Value) → Type 0
+IsSplit f g e word at row = IsFilled (Den f) (Den g) (Den (split f g e)) e word at row
+
+-- the answers of a query behind a front
+pub answers_behind : (g : Qre) (word : Word) (at : ℕ) (right : List (Option Value)) → at ≤ length word
+    → AreAnswers g (drop at word) right → AreBehind (Den g) word at right
+answers_behind g word at right inside answers =
+    let rest : length (drop at word) ≡ length word - at = length-drop at word in
+    let count : length right ≡ length (drop at word) + 1 = answers.count in
+    record {
+      count = omega arith;
+      some = λ m y within there. is_value g (take m (drop at word)) _ y (answers.each m (omega arith)) there;
+      none = λ m y within there den. is_none g (take m (drop at word)) _ (answers.each m (omega arith)) there y den;
+    }
+
+pub split_typed : (f g : Qre) (e : Expression) (word : Word) (at : ℕ) (lefts rights : List (Option Value)) (x : Value)
+    → CanBeRead (split f g e) word → AreAnswers f word lefts → get_or lefts at None ≡ Some x
+    → AreAnswers g (drop at word) rights → (place : ℕ) (y : Value) → get_or rights place None ≡ Some y
+    → IsTypedOnBoth e x y
+split_typed f g e word at lefts rights x can left there right place y there' =
+    typed_on_both (type_of can.columns f) (type_of can.columns g) _ e x y
+    (typed_at f word at x (of_front f g e word can) (value_at f word lefts at x left there).1)
+    (typed_at g (drop at word) place y (of_rest f g e word at can)
+    (value_at g (drop at word) rights place y right there').1) can.clear.2
+
+-- a left value, and all right ones behind it
+pub split_joined : (f g : Qre) (e : Expression) (word : Word) (at : ℕ) (lefts rights row new : List (Option Value))
+    (x : Value) → CanBeRead (split f g e) word → AreAnswers f word lefts → IsSplit f g e word at row
+    → get_or lefts at None ≡ Some x → AreAnswers g (drop at word) rights → IsJoined e x rights at row new
+    → IsSplit f g e word (at + 1) new
+split_joined f g e word at lefts rights row new x can left filled there right is_joined =
+    let found = value_at f word lefts at x left there in
+    joined (Den f) (Den g) (Den (split f g e)) e word at row new rights x filled is_joined
+    (answers_behind g word at rights found.0 right) found.0
+    (λ other den. one_at f word at x other (of_front f g e word can) found.1 den)
+    (λ m y v inside den gives. (take at word, take m (drop at word), x, y, take-add at m word, found.1, den, gives))
+
+-- no left value
+pub split_skipped : (f g : Qre) (e : Expression) (word : Word) (at : ℕ) (lefts row : List (Option Value))
+    → AreAnswers f word lefts → IsSplit f g e word at row → at < length lefts → get_or lefts at None ≡ None
+    → IsSplit f g e word (at + 1) row
+split_skipped f g e word at lefts row left filled below there =
+    let count : length lefts ≡ length word + 1 = left.count in
+    skipped (Den f) (Den g) (Den (split f g e)) e word at row filled
+    (is_none f (take at word) _ (left.each at (omega arith)) there)
+
+-- all fronts have been tried
+pub split_ended : (f g : Qre) (e : Expression) (word : Word) (at : ℕ) (row : List (Option Value))
+    → IsSplit f g e word at row → length word < at → AreAnswers (split f g e) word row
+split_ended f g e word at row filled all = record {
+  count = filled.count;
+  each = λ place inside. is_answer (split f g e) (take place word) (get_or row place None)
+      (λ v there. filled.sound place v inside there)
+      (λ none v (first, second, x, y, whole, left, right, gives).
+      let c = cut word place first second inside whole in
+      let count : length first + length second ≡ place = c.count in
+      filled.full (length first) (omega arith) (length second) x y v (omega arith)
+      (subst (λ u. Den f u x) c.front left) (subst (λ u. Den g u y) c.rest right) gives
+      (subst (λ p. get_or row p None ≡ None) (sym c.count) none));
+}

@@ -1,0 +1,24 @@
+-- Statement. The answers of a query on all fronts of a word.
+use Rattle.std.specs.Prelude.{◌≡◌, ◌≤◌, ℕ, ◌+◌, List, Option, length, take}
+use Rattle.value_ops.specs.declared.value.Value.{Value}
+use Rattle.item_schema.specs.declared.column.Column.{Column}
+use Rattle.rate_expr.specs.Words.{Word, IsWordOf}
+use Rattle.query_model.specs.Following.{IsAnswer}
+use Rattle.query_model.specs.Queries.{Qre}
+use Rattle.query_model.specs.Rules.{Standing, IsClear}
+use Rattle.slow_eval.specs.Rows.{answer_at}
+use Rattle.slow_eval.specs.Shapes.{HasPlainShapes}
+
+-- the query keeps the rules on columns of which the word is one, and has only the shapes that are searched
+pub record CanBeRead (query : Qre) (word : Word) : Type 0 where
+  pub standing : Standing
+  pub columns : List Column
+  pub clear : IsClear standing columns query
+  pub is_word : IsWordOf columns word
+  pub plain : HasPlainShapes query
+
+-- an answer on each front of the word, from the empty one to the whole
+pub record AreAnswers (query : Qre) (word : Word) (answers : List (Option Value)) : Type 0 where
+  pub count : length answers ≡ length word + 1
+  pub each : (place : ℕ) → place ≤ length word
+      → IsAnswer query (take place word) (answer_at answers place)

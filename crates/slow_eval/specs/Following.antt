@@ -1,0 +1,50 @@
+-- Statement. What the engine follows, and what it keeps.
+use Rattle.std.specs.Prelude.{◌≡◌, ℕ, ◌+◌, Bool, false, List, Option, Some, None, length, MatchOption}
+use Rattle.value_ops.specs.declared.value.Value.{Value}
+use Rattle.value_ops.specs.declared.value.Value.TheVariants as value
+use Rattle.value_ops.specs.Types.{IsValueOf}
+use Rattle.item_schema.specs.declared.column.Column.{Column}
+use Rattle.rate_expr.specs.Words.{Word, IsWordOf}
+use Rattle.query_model.specs.Following.{IsAnswer}
+use Rattle.query_model.specs.Queries.{Qre, plain_of}
+use Rattle.query_model.specs.QueryTypes.{type_of}
+use Rattle.slow_eval.specs.declared.slow.Slow.{Slow}
+use Rattle.slow_eval.specs.Shapes.{HasPlainShapes}
+
+-- its query, and the columns of its stream
+abbrev pub query_of : Slow → Qre
+query_of slow = plain_of slow.checked.now.main.shape
+
+abbrev pub columns_of : Slow → List Column
+columns_of slow = slow.checked.now.layout.columns
+
+-- how many items it keeps
+abbrev pub position_of : Slow → ℕ
+position_of slow = length slow.items.items
+
+-- memory was wanting
+abbrev pub is_lost : Slow → Bool
+is_lost slow = slow.failed
+
+-- what an answer takes: one, and one for each entry of a table
+abbrev pub size_of_answer : Option Value → ℕ
+size_of_answer None = 0
+size_of_answer (Some (value.Scalar scalar)) = 1
+size_of_answer (Some (value.Table entries)) = length entries + 1
+
+-- what it keeps, counted
+abbrev pub kept_of : Slow → ℕ
+kept_of slow = length slow.items.items + size_of_answer slow.answer
+
+-- the items are of the stream, an answer has the type of the query, and the query has only shapes that are searched
+pub record IsSound (slow : Slow) : Type 0 where
+  pub is_word : IsWordOf (columns_of slow) slow.items.items
+  pub typed : MatchOption slow.answer (Unit {0}) (IsValueOf (type_of (columns_of slow) (query_of slow)))
+  pub plain : HasPlainShapes (query_of slow)
+
+-- the word is that of the items, and the answer the query's on it
+pub record Follows (slow : Slow) (word : Word) : Type 0 where
+  pub sound : IsSound slow
+  pub found : slow.failed ≡ false
+  pub items : slow.items.items ≡ word
+  pub answer : IsAnswer (query_of slow) word slow.answer

@@ -1,0 +1,5 @@
+pub mod Answers
+pub mod Following
+pub mod Laws
+pub mod Rows
+pub mod Shapes

@@ -1,0 +1,13 @@
+//! The value of a query on the whole word of items, found anew after each item by search.
+#![tactic(auto)]
+
+mod follow;
+mod places;
+mod search;
+mod single;
+mod slow;
+#[cfg(test)]
+mod tests;
+
+pub use search::{answer_on, answers_on_fronts};
+pub use slow::Slow;

@@ -1,0 +1,46 @@
+//! The answers of the queries of one item, and of none.
+ghost use Rattle.std.specs.Prelude.{IfOk};
+ghost use Rattle.value_ops.specs.Expressions as values;
+ghost use Rattle.predicate_cells.specs.Plain as predicates;
+ghost use Rattle.query_model.specs.Queries.{atom, eps};
+ghost use Rattle.slow_eval.specs.Answers.{AreAnswers, CanBeRead};
+
+use crate::places::no_answers;
+use item_schema::Item;
+use predicate_cells::{Pred, holds};
+use std::alloc::{AllocError, Global};
+use value_ops::{Expr, Scalar, Value};
+
+/// An atom has a value on the front of one item alone.
+pub(crate) fn atom_answers(
+    alloc: Global,
+    pred: &Pred,
+    expression: &Expr,
+    word: &[Item],
+) -> Result<Vec<Option<Value>>, AllocError>
+    requires { let query = atom (predicates.plain_of pred.now) (values.plain_of expression.now) in
+        CanBeRead query word.now }
+    ensures { let query = atom (predicates.plain_of pred.now) (values.plain_of expression.now) in
+        IfOk result (λ answers. AreAnswers query word.now answers.items) }
+{
+    let mut answers = no_answers(alloc, word.len())?;
+    if let Some(item) = word.first() {
+        if holds(pred, item) {
+            answers[1] = Some(expression.eval(alloc, item.fields(), None, None)?);
+        }
+    }
+    Ok(answers)
+}
+
+/// The number has its place before the first item.
+pub(crate) fn eps_answers(
+    alloc: Global,
+    number: i64,
+    word: &[Item],
+) -> Result<Vec<Option<Value>>, AllocError>
+    ensures { IfOk result (λ answers. AreAnswers (eps number) word.now answers.items) }
+{
+    let mut answers = no_answers(alloc, word.len())?;
+    answers[0] = Some(Value::Scalar(Scalar::Number(number)));
+    Ok(answers)
+}
