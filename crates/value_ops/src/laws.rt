@@ -1,9 +1,11 @@
-//! What holds of every expression.
-ghost use Rattle.std.specs.Prelude.{◌≡◌, Some};
+//! What holds of every expression and of every text.
+ghost use Rattle.std.specs.Prelude.{◌≡◌, ◌<◌, ℕ, List, Some};
+ghost use Rattle.std.specs.List.{AllByRecursion};
 ghost use Rattle.value_ops.specs.declared.value.Value.{Value};
 ghost use Rattle.value_ops.specs.declared.value.ValueType.{ValueType};
 ghost use Rattle.value_ops.specs.Evaluation.{Inputs, value_of};
 ghost use Rattle.value_ops.specs.Expressions.{Expression};
+ghost use Rattle.value_ops.specs.Texts.{IsText};
 ghost use Rattle.value_ops.specs.Types.{IsValueOf, type_of};
 ghost use Rattle.value_ops.specs.Typing.{AreValues, HasType, types_of};
 
@@ -15,4 +17,10 @@ pub fn typed_expressions_have_values()
     ensures range { (inputs : Inputs) (expression : Expression) (type : ValueType) (value : Value)
         → AreValues inputs → HasType (types_of inputs) expression type
         → value_of inputs expression ≡ Some value → IsValueOf type value }
+{}
+
+/// Each number of a text is a byte, and numbers that are bytes are a text.
+pub fn texts_are_bytes()
+    ensures each { (numbers : List ℕ) → IsText numbers → AllByRecursion (λ n. n < 256) numbers }
+    ensures all { (numbers : List ℕ) → AllByRecursion (λ n. n < 256) numbers → IsText numbers }
 {}
