@@ -12,7 +12,7 @@ use Rattle.item_schema.specs.declared.stop.Skip.{Skip}
 use Rattle.item_schema.specs.Reading.{IsStopOf, after, field_of, fields_of, in_column, read_on, with_field}
 
 -- an element stands before those behind it
-drop-next : {A : Type 0} (xs : List A) (i : ℕ) (other : A) → i < length xs → drop i xs ≡ get_or xs i other ∷ drop (i + 1) xs
+pub drop-next : {A : Type 0} (xs : List A) (i : ℕ) (other : A) → i < length xs → drop i xs ≡ get_or xs i other ∷ drop (i + 1) xs
 drop-next xs i other within = rw add-one (drop-cons xs i other within)
 
 -- no fields before others

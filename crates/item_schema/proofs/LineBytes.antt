@@ -12,7 +12,7 @@ use Rattle.csv.specs.declared.parser.Action.{Action}
 use Rattle.csv.specs.declared.parser.Action.TheVariants as act
 use Rattle.value_ops.specs.Texts.{IsText, are_bytes}
 use Rattle.item_schema.specs.Reading.{record_of}
-use Rattle.item_schema.proofs.UnquotedLines.{goes_on}
+use Rattle.item_schema.proofs.CutLines.{goes_on}
 
 -- each of the texts is of bytes
 abbrev pub are_texts : List (List ℕ) → Bool

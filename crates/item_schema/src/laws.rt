@@ -1,7 +1,10 @@
 //! What holds of the items of all lines.
-ghost use Rattle.std.specs.Prelude.{◌≡◌, ◌↔◌, ℕ, List, Ok, Err};
+ghost use Rattle.std.specs.Prelude.{◌≡◌, ◌<◌, ◌↔◌, ℕ, List, Some, Ok, Err, false, length};
+ghost use Rattle.csv.specs.Reading.{strip_bom};
+ghost use Rattle.std.specs.List.{list_any};
+ghost use Rattle.item_schema.specs.CutLines.{is_break, texts_in};
 ghost use Rattle.item_schema.specs.Items.{IsItemOf};
-ghost use Rattle.item_schema.specs.Reading.{item_of};
+ghost use Rattle.item_schema.specs.Reading.{item_of, record_of};
 ghost use Rattle.item_schema.specs.Skipped.{SkipsLine};
 ghost use Rattle.item_schema.specs.Written.{WritesItem};
 ghost use Rattle.item_schema.specs.declared.column.Column.{Column};
@@ -25,4 +28,12 @@ pub fn lines_are_skipped_for_their_texts()
 pub fn lines_have_items_of_their_columns()
     ensures { (columns : List Column) (line : List ℕ) (fields : List Field) →
         IsText line → item_of columns line ≡ Ok fields → IsItemOf columns fields }
+{}
+
+/// The record of a line without CR and LF has the texts between those commas that are not quoted,
+/// where more than a byte order mark stands in it.
+pub fn lines_are_cut_outside_quotes()
+    ensures { (line : List ℕ) → 0 < length (strip_bom line)
+        → list_any is_break (strip_bom line) ≡ false
+        → record_of line ≡ Some (texts_in (strip_bom line)) }
 {}

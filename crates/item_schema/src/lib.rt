@@ -3,24 +3,26 @@
 
 mod column;
 mod cut;
+mod cut_line;
 mod field;
 mod item;
 mod laws;
 mod layout;
 mod number;
+mod place;
 mod reading;
 mod row;
 mod schema;
 mod stop;
-mod unquoted;
+mod text;
 
 pub use column::{Column, Kind};
 pub use item::Item;
 pub use laws::{
-    lines_are_skipped_for_their_texts, lines_have_items_of_their_columns, lines_write_their_items,
+    lines_are_cut_outside_quotes, lines_are_skipped_for_their_texts,
+    lines_have_items_of_their_columns, lines_write_their_items,
 };
 pub use layout::are_columns;
 pub use reading::read_item;
 pub use schema::Schema;
 pub use stop::{Cause, ItemStop, Skip};
-pub use unquoted::unquoted_lines_are_cut_at_commas;

@@ -3,8 +3,8 @@ ghost use Rattle.std.specs.Prelude.{◌≡◌, Ok, IfErr, IfOk};
 ghost use Rattle.item_schema.specs.Items.{IsItemOf};
 ghost use Rattle.item_schema.specs.Reading.{IsStopOf, item_of};
 
+use crate::cut_line::{commas, cut_item, without_mark};
 use crate::row::{read_row, row_fields};
-use crate::unquoted::{commas, unquoted_item};
 use crate::{Cause, Item, ItemStop, Schema};
 use std::alloc::Global;
 use value_ops::Field;
@@ -22,15 +22,18 @@ fn line_item(alloc: Global, schema: &Schema, line: &[u8]) -> Result<Item, ItemSt
     ensures item { IfOk result (λ item. item_of schema.now.columns line.now ≡ Ok item) }
     ensures stopped { IfErr result (IsStopOf (item_of schema.now.columns line.now)) }
 {
-    match commas(line) {
-        None => Ok(Item::from_fields(any_fields(alloc, schema, line)?)),
-        Some(commas) if commas == schema.columns().len() - 1 => unquoted_item(alloc, schema, line),
+    let bytes = without_mark(line);
+    match commas(bytes) {
+        None => Ok(Item::from_fields(broken_fields(alloc, schema, line)?)),
+        Some(commas) if !bytes.is_empty() && commas == schema.columns().len() - 1 => {
+            cut_item(alloc, schema, bytes)
+        }
         Some(_) => Err(ItemStop::skip(Cause::Columns, 0)),
     }
 }
 
-// The fields of any line, as `csv` gives them.
-fn any_fields(alloc: Global, schema: &Schema, line: &[u8]) -> Result<Vec<Field>, ItemStop>
+// The fields of a line with a CR or an LF, as `csv` gives them.
+fn broken_fields(alloc: Global, schema: &Schema, line: &[u8]) -> Result<Vec<Field>, ItemStop>
     ensures fields { IfOk result (λ fields. item_of schema.now.columns line.now ≡ Ok fields.items) }
     ensures stopped { IfErr result (IsStopOf (item_of schema.now.columns line.now)) }
 {

@@ -5,8 +5,8 @@ ghost use Rattle.item_schema.specs.Layout.{has_digits, is_read};
 
 use super::*;
 use crate::{
-    Column, Kind, are_columns, lines_are_skipped_for_their_texts,
-    lines_have_items_of_their_columns, lines_write_their_items, unquoted_lines_are_cut_at_commas,
+    Column, Kind, are_columns, lines_are_cut_outside_quotes, lines_are_skipped_for_their_texts,
+    lines_have_items_of_their_columns, lines_write_their_items,
 };
 use std::alloc::AllocError;
 use std::fmt::Write;
@@ -290,5 +290,5 @@ fn laws_of_lines(_rt: HostRuntime) {
     lines_write_their_items();
     lines_are_skipped_for_their_texts();
     lines_have_items_of_their_columns();
-    unquoted_lines_are_cut_at_commas();
+    lines_are_cut_outside_quotes();
 }

@@ -1,20 +1,41 @@
-use Rattle.std.proofs.Common.{◌≡◌, ◌≢◌, ◌-◌, count_by, length, ap, arith}
-use Rattle.std.proofs.lemmas.List.Splits.{length-slice_split}
-use Rattle.item_schema.specs.UnquotedLines.{is_comma}
-use Rattle.item_schema.proofs.UnquotedLines.{item_of-unquoted, item_of-columns}
+use Rattle.std.proofs.Common.{◌≡◌, ◌≢◌, ◌+◌, ◌<◌, ◌≤◌, List, length, ap, sym, ◌∙◌, arith}
+use Rattle.std.proofs.lemmas.Bool.Decides.{nat_tests}
+use Rattle.item_schema.specs.CutLines.{texts_in}
+use Rattle.item_schema.specs.Reading.{fields_of, item_of}
+use Rattle.item_schema.proofs.CutLines.{cut_item_of, uncut_item_of}
 use Rattle.item_schema.proofs.reading.line_item.Goals as goal
+use Rattle.item_schema.proofs.reading.line_item.Goals.{then-not-is_empty+else-commas-columns, else-not-is_empty}
 
-pub unquoted_item-requires : goal.unquoted_item-requires
-unquoted_item-requires c =
-    omega (arith, length-slice_split is_comma c.args.line.now, c.in-Some.ensures.1, c.columns.ensures.layout.some, ap length c.columns.ensures.columns)
+-- a line of as many texts as there are columns has the item of its texts
+cut : (c : goal.After-cut_item)
+    → item_of c.args.schema.now.columns c.args.line.now ≡ fields_of 1 c.args.schema.now.columns (texts_in c.without_mark-bytes.result.now)
+cut c =
+    let tested = sym c.is_empty.ensures ∙ c.if-not-is_empty.true in
+    let some : 0 < length c.without_mark-bytes.result.now = grind (arith, nat_tests, tested) in
+    let same : length c.columns.result.now ≡ length c.args.schema.now.columns = ap (λ columns. length columns) c.columns.ensures.columns in
+    let each : length (texts_in c.without_mark-bytes.result.now) ≡ length c.args.schema.now.columns =
+    omega (arith, c.in-Some.ensures.1, c.if-commas-columns.true, same, c.columns.ensures.layout.some) in
+    cut_item_of c.args.schema.now.columns c.args.line.now c.without_mark-bytes.result.now c.without_mark-bytes.ensures some c.in-Some.ensures.0 each
 
-pub returns-in-Some : goal.returns-in-Some
-returns-in-Some c =
-    let enough : count_by is_comma c.args.line.now ≡ length c.args.schema.now.columns - 1 = omega (arith, c.in-Some.ensures.1, ap length c.columns.ensures.columns) in
-    let item = item_of-unquoted c.args.schema.now.columns c.args.line.now c.in-Some.ensures.0 c.columns.ensures.layout.some enough in
-    record { item = rw item c.unquoted_item.ensures.item; stopped = rw item c.unquoted_item.ensures.stopped }
+pub returns-in-Some-clause-item : goal.returns-in-Some-clause-item
+returns-in-Some-clause-item c = rw (cut c) c.cut_item.ensures.item
+
+pub returns-in-Some-clause-stopped : goal.returns-in-Some-clause-stopped
+returns-in-Some-clause-stopped c = rw (cut c) c.cut_item.ensures.stopped
 
 pub returns-in-Some-2-clause-stopped : goal.returns-in-Some-2-clause-stopped
 returns-in-Some-2-clause-stopped c =
-    let other : count_by is_comma c.args.line.now ≢ length c.args.schema.now.columns - 1 = omega (arith, c.in-Some.ensures.1, ap length c.columns.ensures.columns) in
-    rw c.skip.ensures (item_of-columns c.args.schema.now.columns c.args.line.now c.in-Some.ensures.0 c.columns.ensures.layout.some other)
+    let other : 0 < length c.without_mark-bytes.result.now → length (texts_in c.without_mark-bytes.result.now) ≢ length c.args.schema.now.columns =
+    elim c.if-not-is_empty.branch [
+      | then-not-is_empty+else-commas-columns w ↦
+          λ some each.
+          let same : length w.columns.result.now ≡ length c.args.schema.now.columns = ap (λ columns. length columns) w.columns.ensures.columns in
+          w.if-commas-columns.false (omega (arith, c.in-Some.ensures.1, each, same))
+      | else-not-is_empty w ↦
+          λ some each.
+          let tested = sym c.is_empty.ensures ∙ w.if-not-is_empty.false in
+          let none : length c.without_mark-bytes.result.now ≡ 0 = grind (arith, nat_tests, tested) in
+          omega (arith, none, some)
+    ] in
+    rw (c.skip.ensures)
+    (uncut_item_of c.args.schema.now.columns c.args.line.now c.without_mark-bytes.result.now c.without_mark-bytes.ensures c.in-Some-2.ensures.0 other)

@@ -1,14 +1,13 @@
 use Rattle.std.proofs.Common.{◌≡◌, ◌+◌, length, vec_len}
-use Rattle.std.specs.List.{slice_split}
 use Rattle.std.specs.Option.{option_copied}
-use Rattle.item_schema.specs.UnquotedLines.{is_comma, texts_of}
+use Rattle.item_schema.specs.CutLines.{texts_in, texts_of}
 use Rattle.item_schema.specs.Reading.{fields_of, read_on}
-use Rattle.item_schema.proofs.unquoted.unquoted_fields.Given as goal
+use Rattle.item_schema.proofs.cut_line.cut_fields.Given as goal
 
 -- the fields so far, and the texts that are left
 abbrev pub invariant-texts : goal.invariant-texts
 invariant-texts l = record {
-  read : fields_of 1 l.schema.columns (slice_split is_comma l.line) ≡ read_on l.schema.columns l.fields.items (texts_of (option_copied l.rest));
+  read : fields_of 1 l.schema.columns (texts_in l.line) ≡ read_on l.schema.columns l.fields.items (texts_of (option_copied l.rest));
   left : vec_len l.fields + length (texts_of (option_copied l.rest)) ≡ length l.schema.columns;
 }
 

@@ -1,0 +1,57 @@
+-- The texts of a line: what stands between its commas, but for those between quotes.
+use Rattle.std.specs.Prelude.{ℕ, Bool, true, false, ◌==◌, ◌||◌, not, if◌then◌else◌, List, [], ◌∷◌, ◌++◌, Option, None, Some}
+use Rattle.item_schema.specs.declared.place.Place.{Place}
+use Rattle.item_schema.specs.declared.place.Place.TheVariants.{Front, Plain, Quoted, Behind}
+
+-- a comma
+abbrev pub is_comma : ℕ → Bool
+is_comma byte = byte == 44
+
+-- a quote
+abbrev pub is_quote : ℕ → Bool
+is_quote byte = byte == 34
+
+-- a CR or an LF
+abbrev pub is_break : ℕ → Bool
+is_break byte = byte == 13 || byte == 10
+
+-- a byte order mark
+abbrev pub mark : List ℕ
+mark = 239 ∷ 187 ∷ 191 ∷ []
+
+-- the byte ends the field: a comma that is not between quotes
+abbrev pub ends_field : Place → ℕ → Bool
+ends_field Front byte = is_comma byte
+ends_field Plain byte = is_comma byte
+ends_field Quoted byte = false
+ends_field Behind byte = is_comma byte
+
+-- the byte is one of the field: all but a quote that opens it or stands in it before another byte
+abbrev pub is_kept : Place → ℕ → Bool
+is_kept Front byte = not (is_quote byte)
+is_kept Plain byte = true
+is_kept Quoted byte = not (is_quote byte)
+is_kept Behind byte = true
+
+-- the place behind a byte: a quote opens a field only at its front, and two of them go on with it
+abbrev pub place_after : Place → ℕ → Place
+place_after Front byte = if is_comma byte then Front else if is_quote byte then Quoted else Plain
+place_after Plain byte = if is_comma byte then Front else Plain
+place_after Quoted byte = if is_quote byte then Behind else Quoted
+place_after Behind byte = if is_comma byte then Front else if is_quote byte then Quoted else Plain
+
+-- the texts of bytes that begin at a place of a field, of which this text stands before them
+unfoldable pub texts_at : Place → List ℕ → List ℕ → List (List ℕ)
+texts_at place text [] = text ∷ []
+texts_at place text (byte ∷ bytes) =
+    if ends_field place byte then text ∷ texts_at Front [] bytes
+    else texts_at (place_after place byte) (if is_kept place byte then text ++ byte ∷ [] else text) bytes
+
+-- the texts of a line
+abbrev pub texts_in : List ℕ → List (List ℕ)
+texts_in line = texts_at Front [] line
+
+-- those of what is left of a line, if a field is left
+abbrev pub texts_of : Option (List ℕ) → List (List ℕ)
+texts_of None = []
+texts_of (Some bytes) = texts_in bytes

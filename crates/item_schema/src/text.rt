@@ -1,0 +1,80 @@
+//! The text of a field.
+ghost use Rattle.std.specs.Prelude.{◌≡◌, [], ◌∷◌, IfOk};
+ghost use Rattle.std.specs.Option.{option_copied};
+ghost use Rattle.item_schema.specs.CutLines.{texts_at, texts_in, texts_of};
+ghost use Rattle.item_schema.specs.Texts.{bytes_of};
+ghost use Rattle.item_schema.specs.declared.place.Place.TheVariants.{Quoted};
+
+use crate::cut::cut_at;
+use crate::place::Place;
+use std::alloc::{AllocError, Global};
+
+/// A part of the line, or a copy of one without the quotes that do not belong to the text.
+#[derive(Drop)]
+pub(crate) enum Text<'l> {
+    Part(&'l [u8]),
+    Copy(Vec<u8>),
+}
+
+impl Text<'_> {
+    pub(crate) fn as_slice(&self) -> &[u8]
+        ensures { result.now ≡ bytes_of self.now }
+    {
+        match self {
+            Text::Part(bytes) => bytes,
+            Text::Copy(bytes) => bytes,
+        }
+    }
+}
+
+/// The first text of the bytes, and what is left of them behind its comma, if there is one.
+pub(crate) fn first_text(
+    alloc: Global,
+    bytes: &[u8],
+) -> Result<(Text<'_>, Option<&[u8]>), AllocError>
+    ensures { IfOk result (λ cut.
+        texts_in bytes.now ≡ bytes_of cut.0 ∷ texts_of (option_copied cut.1)) }
+{
+    if bytes.starts_with(b"\"") {
+        return quoted_text(alloc, &bytes[1..]);
+    }
+    let (text, rest) = cut_at(b',', bytes);
+    Ok((Text::Part(text), rest))
+}
+
+// The same of bytes behind a quote that opens a field.
+fn quoted_text(alloc: Global, bytes: &[u8]) -> Result<(Text<'_>, Option<&[u8]>), AllocError>
+    ensures { IfOk result (λ cut.
+        texts_at Quoted [] bytes.now ≡ bytes_of cut.0 ∷ texts_of (option_copied cut.1)) }
+{
+    let (text, behind) = cut_at(b'"', bytes);
+    let Some(behind) = behind else {
+        return Ok((Text::Part(text), None));
+    };
+    if behind.is_empty() {
+        return Ok((Text::Part(text), None));
+    }
+    if behind.starts_with(b",") {
+        return Ok((Text::Part(text), Some(&behind[1..])));
+    }
+    copied_text(alloc, bytes)
+}
+
+// The same, where more of the field stands behind a quote in it.
+fn copied_text(alloc: Global, bytes: &[u8]) -> Result<(Text<'_>, Option<&[u8]>), AllocError>
+    ensures { IfOk result (λ cut.
+        texts_at Quoted [] bytes.now ≡ bytes_of cut.0 ∷ texts_of (option_copied cut.1)) }
+{
+    let mut text = Vec::new(alloc);
+    let mut place = Place::Quoted;
+    'bytes: for (at, byte) in bytes.iter().enumerate() {
+        if place.ends_field(*byte) {
+            return Ok((Text::Copy(text), Some(&bytes[at + 1..])));
+        }
+        if place.keeps(*byte) {
+            text.push(*byte)?;
+        }
+        place = place.after(*byte);
+    }
+    Ok((Text::Copy(text), None))
+}
