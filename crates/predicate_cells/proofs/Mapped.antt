@@ -1,9 +1,9 @@
 -- Members of a list of images.
-use Rattle.std.proofs.Common.{◌≡◌, ◌↔◌, ℕ, ◌<◌, zero-le, is_some, List, [], ◌∷◌, map, length, slice_get, Option, Some, None, IsTrue, refl, sym, ap, ◌∙◌, true≢false, arith}
+use Rattle.std.proofs.Common.{◌≡◌, ◌↔◌, ℕ, ◌<◌, get_or, option_map, zero-le, is_some, List, [], ◌∷◌, map, length, slice_get, Option, Some, None, IsTrue, refl, sym, ap, ◌∙◌, true≢false, arith}
 use Rattle.std.specs.List.{Contains, HoldsAt, AllWithin}
 use Rattle.std.specs.Option.{MatchOption, IfSome, IfNone}
 use Rattle.std.proofs.lemmas.List.{length-map, get_or-map}
-use Rattle.std.proofs.lemmas.Option.{get_or_from_slice_get, slice_get-get_or, slice_get_within}
+use Rattle.std.proofs.lemmas.Option.{get_or_from_slice_get, slice_get-get_or, slice_get-map, slice_get_within}
 
 -- a search for the first element with the image has found it, or there is none
 abbrev pub SearchesImage : {A B : Type 0} → (A → B) → List A → B → Option ℕ → Type 0
@@ -36,3 +36,9 @@ pub found_is_member : {A : Type 0} (xs : List A) (x : A) (place : Option ℕ)
 found_is_member xs x (Some i) found missing =
     (λ some. (i, slice_get_within xs i x found, get_or_from_slice_get xs i x x found), λ has. refl)
 found_is_member xs x None found missing = (λ some. absurd (true≢false (sym some)), λ has. absurd (missing has))
+
+-- the image of an element stands where the element does
+pub image_got : {A B : Type 0} (f : A → B) (xs : List A) (i : ℕ) (x : A) (other : B) → slice_get xs i ≡ Some x
+    → get_or (map f xs) i other ≡ f x
+image_got f xs i x other found =
+    get_or_from_slice_get (map f xs) i (f x) other (slice_get-map f xs i ∙ ap (option_map f) found)

@@ -4,7 +4,10 @@ use Rattle.std.specs.List.{flat_map, range_with_len}
 use Rattle.value_ops.specs.declared.field.Field.{Field}
 use Rattle.value_ops.specs.declared.field.Field.TheVariants as field
 use Rattle.value_ops.specs.declared.value.Value.TheVariants as value
+use Rattle.predicate_cells.specs.CellSets.{flagged_from}
+use Rattle.predicate_cells.specs.Predicates.{Predicate}
 use Rattle.predicate_cells.specs.Ranks.{Ranks, count_in, field_in, cells_in}
+use Rattle.predicate_cells.specs.Truth.{holds}
 
 -- the fields with one of a class in front
 abbrev pub with_class : Ranks → List (List Field) → ℕ → List (List Field)
@@ -30,3 +33,7 @@ abbrev pub sample_of : List Ranks → ℕ → List Field
 sample_of [] cell = []
 sample_of (ranks ∷ others) cell =
     field_in ranks (cell / cells_in others) ∷ sample_of others (cell % cells_in others)
+
+-- the cells whose samples meet a predicate
+abbrev pub mask_in : List Ranks → Predicate → List ℕ
+mask_in columns pred = flagged_from 0 (map (holds pred) (samples columns))

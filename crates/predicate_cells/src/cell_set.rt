@@ -1,8 +1,9 @@
 //! A set of cells.
-ghost use Rattle.std.specs.Prelude.{◌≡◌, ◌↔◌, [], IsTrue};
+ghost use Rattle.std.specs.Prelude.{◌≡◌, ◌↔◌, [], IsTrue, IfOk};
 ghost use Rattle.std.specs.List.{Contains};
 ghost use Rattle.predicate_cells.specs.CellSets.{flagged_from};
 
+use std::alloc::{AllocError, Global};
 use std::marker::Model;
 
 /// Some of the cells of a stream, seen as their numbers in rising order.
@@ -26,6 +27,15 @@ impl CellSet {
         ensures { result ≡ flagged_from 0 flags.items }
     {
         CellSet { flags }
+    }
+
+    /// An equal set.
+    pub fn try_copy(&self, alloc: Global) -> Result<CellSet, AllocError>
+        ensures { IfOk result (λ copy. copy ≡ self.now) }
+    {
+        Ok(CellSet {
+            flags: Vec::from_slice(alloc, &self.flags)?,
+        })
     }
 
     pub fn has(&self, cell: u32) -> bool

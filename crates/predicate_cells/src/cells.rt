@@ -9,28 +9,33 @@ ghost use Rattle.predicate_cells.specs.Cells.{cell_count, cell_of, count_from, A
 
 use crate::classes::Classes;
 use crate::columns::{cell_among, classes_of, copies_of, count_of, fields_of};
-use crate::mask::truths_of;
+use crate::masks::{masks_like, masks_of};
 use crate::{CellSet, CellStop, Pred, Preds};
 use item_schema::{Item, Schema};
 use std::alloc::{AllocError, Global};
 use std::marker::Model;
 
-/// The cells of a schema's items under some predicates, seen as the schema and these predicates.
+/// The cells of a schema's items under some predicates, seen as the schema and these predicates. The
+/// cells of each predicate are found once, when they are made; that of equal ones as often as they
+/// are listed.
 #[derive(Drop)]
 pub struct Cells {
     schema: Schema,
     preds: Preds,
     columns: Vec<Classes>,
     count: u32,
+    // For each predicate, the cells whose items meet it.
+    masks: Vec<CellSet>,
 }
 
 impl Model for Cells {
-    ghost use Rattle.std.specs.Prelude.{◌≡◌, ◌≤◌};
+    ghost use Rattle.std.specs.Prelude.{◌≡◌, ◌≤◌, map};
     ghost use Rattle.std.specs.Coded.{codes};
     ghost use Rattle.language_base.specs.Limits.{max_cells};
     ghost use Rattle.predicate_cells.specs.Coding.{coded_predicate};
     ghost use Rattle.predicate_cells.specs.Cells.{Partition, cell_count, AllFit};
     ghost use Rattle.predicate_cells.specs.Ranks.{ranks_from};
+    ghost use Rattle.predicate_cells.specs.Samples.{mask_in};
 
     ghost Value = { Partition };
 
@@ -40,7 +45,8 @@ impl Model for Cells {
 
     ghost invariant = { λ c. AllFit c.schema.columns c.preds × (c.count ≤ max_cells)
         × (c.count ≡ cell_count (record { layout = c.schema; preds = c.preds }))
-        × (c.columns.items ≡ ranks_from 0 c.schema.columns c.preds) };
+        × (c.columns.items ≡ ranks_from 0 c.schema.columns c.preds)
+        × (c.masks.items ≡ map (mask_in c.columns.items) c.preds) };
 }
 
 impl Cells {
@@ -57,11 +63,13 @@ impl Cells {
         let Some(count) = count_of(&columns) else {
             return Err(CellStop::TooMany);
         };
+        let masks = masks_of(alloc, &columns, preds.as_slice())?;
         Ok(Cells {
             schema: schema.try_copy(alloc)?,
             preds: preds.try_copy(alloc)?,
             columns,
             count,
+            masks,
         })
     }
 
@@ -73,6 +81,7 @@ impl Cells {
             preds: self.preds.try_copy(alloc)?,
             columns: copies_of(alloc, &self.columns)?,
             count: self.count,
+            masks: masks_like(alloc, &self.masks)?,
         })
     }
 
@@ -107,14 +116,16 @@ impl Cells {
     }
 
     /// The cells of the items that meet the predicate.
-    pub fn mask(&self, alloc: Global, pred: &Pred) -> Result<CellSet, AllocError>
+    pub fn mask(&self, pred: &Pred) -> &CellSet
         requires { Contains self.now.preds (plain_of pred.now) }
-        ensures met { IfOk result (Marks self.now (plain_of pred.now)) }
-        ensures below { IfOk result (All (λ cell. cell < cell_count self.now)) }
-        ensures rise { IfOk result IsStrictlyIncreasing }
+        ensures met { Marks self.now (plain_of pred.now) result.now }
+        ensures below { All (λ cell. cell < cell_count self.now) result.now }
+        ensures rise { IsStrictlyIncreasing result.now }
     {
-        let truths = truths_of(alloc, &self.columns, pred)?;
-        Ok(CellSet::from_flags(truths))
+        match self.preds.place_of(pred) {
+            Some(place) => &self.masks[place],
+            None => unreachable!(),
+        }
     }
 
     /// How many cells there are.

@@ -9,6 +9,7 @@ mod columns;
 mod fits;
 mod laws;
 mod mask;
+mod masks;
 mod pred;
 mod preds;
 mod row;

@@ -65,7 +65,7 @@ fn count_of(alloc: Global, cells: &Cells) -> Result<u32, AllocError> {
 fn met(alloc: Global, cells: &Cells, pred: &Pred) -> Result<Vec<u32>, AllocError> {
     let mut met = Vec::new(alloc);
     if cells.decides(pred) {
-        let mask = cells.mask(alloc, pred)?;
+        let mask = cells.mask(pred);
         for cell in 0..cells.count() {
             if mask.has(cell) {
                 met.push(cell)?;
@@ -104,7 +104,7 @@ fn a_test_for_one_number_parts_three_cells(rt: HostRuntime) -> Result<(), Fail> 
     }
     assert_eq!(rt; met(alloc, &cells, &pred)?.as_slice(), [1].as_slice());
     assert!(rt; cells.decides(&pred));
-    assert!(rt; !cells.mask(alloc, &pred)?.is_empty());
+    assert!(rt; !cells.mask(&pred).is_empty());
     Ok(())
 }
 

@@ -22,8 +22,8 @@ pub(crate) fn met_by_cells(
     let mut met = vec![in alloc; 0; cells.count() as usize]?;
     let preds = positions.preds();
     'places: for place in 0..preds.distinct().len() {
-        let meeting = cells.mask(alloc, preds.distinct().get(place))?;
-        add(&mut met, preds.positions_of(place), &meeting);
+        let meeting = cells.mask(preds.distinct().get(place));
+        add(&mut met, preds.positions_of(place), meeting);
     }
     Ok(met)
 }

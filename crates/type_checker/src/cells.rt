@@ -21,7 +21,7 @@ pub fn allowed(alloc: Global, found: &Resolution) -> Result<(), CheckStop>
     ensures refused { IfErr result (IsDisallowed (plain_resolution found.now)) }
 {
     let cells = cells_under(alloc, found)?;
-    if cells.mask(alloc, &found.sum.pred)?.is_empty() {
+    if cells.mask(&found.sum.pred).is_empty() {
         return Err(CheckStop::refused(Rule::Empty, found.atom));
     }
     Ok(())

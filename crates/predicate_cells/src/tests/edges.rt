@@ -67,7 +67,7 @@ fn one_beginning_of_two_tests_is_one_class(rt: HostRuntime) -> Result<(), Fail> 
     let cells = cells_of(alloc, Kind::Int, &pred)?;
     assert_eq!(rt; cells.count(), 2);
     assert!(rt; cells.decides(&pred));
-    assert!(rt; cells.mask(alloc, &pred)?.is_empty());
+    assert!(rt; cells.mask(&pred).is_empty());
     Ok(())
 }
 

@@ -4,8 +4,8 @@ use Rattle.std.specs.List.{Contains}
 use Rattle.symbolic_nfa.proofs.Meeting.{met-added, met-all, kept_decided}
 use Rattle.symbolic_nfa.proofs.met.met_by_cells.Goals as goal
 
-pub mask-requires : goal.mask-requires
-mask-requires c =
+pub mask-meeting-requires : goal.mask-meeting-requires
+mask-meeting-requires c =
     kept_decided (λ pred. Contains c.args.cells.now.preds pred) _ _ _ _ c.preds-preds.ensures.listed
     c.preds-preds.ensures.shared c.requires (rw c.distinct-in-places.ensures at c.get.ensures)
 
@@ -17,7 +17,7 @@ places-preserved c =
     grind (arith, common_steps) in
     rw whole (met-added _ _ _ _ _ _ _ _ _ c.preds-preds.ensures.listed c.places.invariant
     (rw c.distinct-in-places.ensures at c.get.ensures) c.positions_of.ensures
-    c.in_ok-meeting.ensures.met
+    c.mask-meeting.ensures.met
     (rw (← c.deref_mut.ensures.value) c.add.ensures))
 
 pub returns-clause-met : goal.returns-clause-met
