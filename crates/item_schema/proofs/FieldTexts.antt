@@ -85,7 +85,7 @@ plain_texts text (byte ∷ bytes) = by_comma (is_comma byte) refl (plain_texts (
         ∙ rw (before_first-cons is_comma byte bytes is, after_first-cons is_comma byte bytes is, is) (rest ∙ rw (append_assoc text (byte ∷ []) (before_first is_comma bytes)) refl)
 
 -- a field that does not begin with a quote is one outside of quotes
-front_plain : (bytes : List ℕ) → is_quote (get_or bytes 0 0) ≡ false → texts_in bytes ≡ texts_at Plain [] bytes
+pub front_plain : (bytes : List ℕ) → is_quote (get_or bytes 0 0) ≡ false → texts_in bytes ≡ texts_at Plain [] bytes
 unfolding texts_at
 front_plain [] other = refl
 front_plain (byte ∷ bytes) other = rw other refl

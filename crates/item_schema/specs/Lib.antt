@@ -2,6 +2,7 @@ pub mod CutLines
 pub mod Fields
 pub mod Items
 pub mod Layout
+pub mod LineParts
 pub mod Reading
 pub mod Skipped
 pub mod Texts

@@ -3,7 +3,8 @@ ghost use Rattle.std.specs.Prelude.{◌≡◌, Ok, IfErr, IfOk};
 ghost use Rattle.item_schema.specs.Items.{IsItemOf};
 ghost use Rattle.item_schema.specs.Reading.{IsStopOf, item_of};
 
-use crate::cut_line::{commas, cut_item, without_mark};
+use crate::cut_line::without_mark;
+use crate::parts::parts_of;
 use crate::row::{read_row, row_fields};
 use crate::{Cause, Item, ItemStop, Schema};
 use std::alloc::Global;
@@ -23,10 +24,10 @@ fn line_item(alloc: Global, schema: &Schema, line: &[u8]) -> Result<Item, ItemSt
     ensures stopped { IfErr result (IsStopOf (item_of schema.now.columns line.now)) }
 {
     let bytes = without_mark(line);
-    match commas(bytes) {
+    match parts_of(bytes) {
         None => Ok(Item::from_fields(broken_fields(alloc, schema, line)?)),
-        Some(commas) if !bytes.is_empty() && commas == schema.columns().len() - 1 => {
-            cut_item(alloc, schema, bytes)
+        Some(parts) if !bytes.is_empty() && parts.commas() == schema.columns().len() - 1 => {
+            parts.item(alloc, schema, bytes)
         }
         Some(_) => Err(ItemStop::skip(Cause::Columns, 0)),
     }

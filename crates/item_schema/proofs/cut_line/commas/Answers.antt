@@ -1,4 +1,4 @@
-use Rattle.std.proofs.Common.{◌≡◌, true, false, [], sym, ◌∙◌, take_all, arith}
+use Rattle.std.proofs.Common.{true, false, [], sym, ◌∙◌, take_all, arith}
 use Rattle.std.proofs.lemmas.Grind.{common_steps}
 use Rattle.item_schema.proofs.FieldTexts.{count_at, none_at}
 use Rattle.item_schema.proofs.cut_line.commas.Goals as goal

@@ -1,4 +1,4 @@
-use Rattle.std.proofs.Common.{sym, ap, ◌∙◌}
+use Rattle.std.proofs.Common.{sym, ◌∙◌}
 use Rattle.std.proofs.lemmas.Result.{IfOk-weaker}
 use Rattle.item_schema.proofs.FieldTexts.{begin_quoted, begin_unquoted, behind_first}
 use Rattle.item_schema.proofs.text.first_text.Goals as goal
