@@ -34,7 +34,8 @@ impl Parts {
         requires each { length (texts_in line.now) ≡ length schema.now.columns }
         ensures item { IfOk result (λ item.
             fields_of 1 schema.now.columns (texts_in line.now) ≡ Ok item) }
-        ensures stopped { IfErr result (IsStopOf (fields_of 1 schema.now.columns (texts_in line.now))) }
+        ensures stopped { IfErr result
+            (IsStopOf (fields_of 1 schema.now.columns (texts_in line.now))) }
     {
         match self {
             Parts::Plain(_) => plain_item(alloc, schema, line),
