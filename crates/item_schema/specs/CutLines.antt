@@ -1,4 +1,4 @@
--- The texts of a line: what stands between its commas, but for those between quotes.
+-- Statement. The texts of a line: what stands between its commas, but for those between quotes.
 use Rattle.std.specs.Prelude.{ℕ, Bool, true, false, ◌==◌, ◌||◌, not, if◌then◌else◌, List, [], ◌∷◌, ◌++◌, Option, None, Some}
 use Rattle.item_schema.specs.declared.place.Place.{Place}
 use Rattle.item_schema.specs.declared.place.Place.TheVariants.{Front, Plain, Quoted, Behind}
@@ -45,7 +45,8 @@ unfoldable pub texts_at : Place → List ℕ → List ℕ → List (List ℕ)
 texts_at place text [] = text ∷ []
 texts_at place text (byte ∷ bytes) =
     if ends_field place byte then text ∷ texts_at Front [] bytes
-    else texts_at (place_after place byte) (if is_kept place byte then text ++ byte ∷ [] else text) bytes
+    else texts_at (place_after place byte)
+    (if is_kept place byte then text ++ byte ∷ [] else text) bytes
 
 -- the texts of a line
 abbrev pub texts_in : List ℕ → List (List ℕ)

@@ -1,4 +1,4 @@
--- The text of a field, however it is kept.
+-- For the prover. The text of a field, however it is kept.
 use Rattle.std.specs.Prelude.{ℕ, List}
 use Rattle.item_schema.specs.declared.text.Text.{Text}
 use Rattle.item_schema.specs.declared.text.Text.TheVariants.{Part, Copy}

@@ -68,7 +68,8 @@ pub(crate) fn cut_item(alloc: Global, schema: &Schema, line: &[u8]) -> Result<It
 // The item of a line that has the text of the only column.
 fn only_item(alloc: Global, column: &Column, line: &[u8]) -> Result<Item, ItemStop>
     requires { length (texts_in line.now) ≡ 1 }
-    ensures item { IfOk result (λ item. fields_of 1 (column.now ∷ []) (texts_in line.now) ≡ Ok item) }
+    ensures item { IfOk result (λ item.
+        fields_of 1 (column.now ∷ []) (texts_in line.now) ≡ Ok item) }
     ensures stopped { IfErr result (IsStopOf (fields_of 1 (column.now ∷ []) (texts_in line.now))) }
 {
     let (text, _) = first_text(alloc, line)?;
