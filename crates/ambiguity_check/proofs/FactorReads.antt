@@ -1,11 +1,10 @@
 -- What is read on a walk of two factorings.
-use Rattle.std.proofs.Common.{◌≡◌, ℕ, List, [], ◌∷◌, ◌++◌, ◌∙◌, refl, sym, ap, subst, inl, inr, arith, length-append}
+use Rattle.std.proofs.Common.{◌≡◌, ℕ, ◌+◌, List, [], ◌∷◌, ◌++◌, ◌∙◌, refl, sym, ap, subst, inl, inr, arith, length, length-append}
 use Rattle.std.specs.List.{AllByRecursion}
 use Rattle.item_schema.specs.declared.column.Column.{Column}
 use Rattle.rate_expr.specs.Language.{In}
 use Rattle.rate_expr.specs.Paths.{Follows, Leads, Spells, AreOf}
 use Rattle.rate_expr.specs.Rates.{Expression}
-use Rattle.rate_expr.specs.Readings.{HasTwoFactorings}
 use Rattle.rate_expr.specs.Sets.{Sets, Has}
 use Rattle.rate_expr.specs.Words.{Word, IsWordOf, join}
 use Rattle.rate_expr.proofs.PathSteps.{leads_one, leads_more}
@@ -15,21 +14,24 @@ use Rattle.ambiguity_check.specs.declared.graph.Node.{Node}
 use Rattle.ambiguity_check.specs.declared.graph.Phase.{Phase}
 use Rattle.ambiguity_check.specs.declared.graph.Phase.TheVariants.{Together, Parted, Rejoined}
 use Rattle.ambiguity_check.specs.Factorings.{BeginsFactors, FactorsOn, Factors, GoesOnward}
+use Rattle.ambiguity_check.specs.Lengths.{TwoFactoringsOf}
 use Rattle.ambiguity_check.specs.Meetings.{MeetOne, AreMeetings}
 use Rattle.ambiguity_check.specs.Overlaps.{IsInRows}
-use Rattle.ambiguity_check.specs.Walks.{IsReached, at_once, later}
+use Rattle.ambiguity_check.specs.Walks.{IsWalk, at_once, later}
 use Rattle.ambiguity_check.proofs.FactorRuns.{ReadsFactors, ReadsLonger, factors_on, longer_on, begin_apart, join_more, all_more, all_as}
+use Rattle.ambiguity_check.proofs.Walking.{one_longer}
 
 module _ (columns : List Column) (sets : Sets) (rows : List ℕ)
     (are : AreMeetings columns sets sets rows) where
-  -- a walk leads to the node
-  abbrev pub Reached : Node → Type 0
-  Reached node = IsReached (BeginsFactors sets) (Factors sets) (IsInRows rows) node
+  -- a walk of so many items leads to the node
+  abbrev pub Walk : ℕ → Node → Type 0
+  Walk items node = IsWalk (BeginsFactors sets) (Factors sets) (IsInRows rows) items node
 
-  -- the left one has read a first factor and more, and the right one the same word with a longer first
-  -- factor
-  pub record AreParted (left right : ℕ) : Type 0 where
+  -- the left one has read a first factor and more, and the right one the same word of so many items with
+  -- a longer first factor
+  pub record AreParted (items left right : ℕ) : Type 0 where
     pub read : Word
+    pub long : length read ≡ items
     pub first : Word
     pub is : IsWordOf columns read
     pub spells : Spells sets first
@@ -37,17 +39,19 @@ module _ (columns : List Column) (sets : Sets) (rows : List ℕ)
     pub by_right : ReadsLonger sets first read right
 
   -- what was read: first one word in the first factors of both
-  abbrev pub AreRead : Phase → ℕ → ℕ → Type 0
-  AreRead Together left right = (w : Word) × IsWordOf columns w × Leads sets w left × Leads sets w right
-  AreRead Parted left right = AreParted left right
-  AreRead Rejoined left right = AreParted left right
+  abbrev pub AreRead : ℕ → Phase → ℕ → ℕ → Type 0
+  AreRead items Together left right =
+      (w : Word) × (length w ≡ items) × IsWordOf columns w × Leads sets w left × Leads sets w right
+  AreRead items Parted left right = AreParted items left right
+  AreRead items Rejoined left right = AreParted items left right
 
   -- one more item is read by each in its own way
-  parted_on : (left right : ℕ) (node : Node) → AreParted left right → GoesOnward sets left node.left
-      → GoesOnward sets right node.right → MeetOne columns sets sets node.left node.right
-      → AreParted node.left node.right
-  parted_on left right node reads goes goes' one = record {
+  parted_on : (items left right : ℕ) (node : Node) → AreParted items left right
+      → GoesOnward sets left node.left → GoesOnward sets right node.right
+      → MeetOne columns sets sets node.left node.right → AreParted (items + 1) node.left node.right
+  parted_on items left right node reads goes goes' one = record {
     read = reads.read ++ one.0 ∷ [];
+    long = one_longer reads.read one.0 items reads.long;
     first = reads.first;
     is = word_more columns reads.read one.0 reads.is one.1;
     spells = reads.spells;
@@ -56,12 +60,13 @@ module _ (columns : List Column) (sets : Sets) (rows : List ℕ)
   }
 
   -- one more item is read behind the left one's first factor
-  now_parted : (left right : ℕ) (node : Node) → AreRead Together left right → Has sets.last left
-      → Has sets.first node.left
+  now_parted : (items left right : ℕ) (node : Node) → AreRead items Together left right
+      → Has sets.last left → Has sets.first node.left
       → Follows sets right node.right → MeetOne columns sets sets node.left node.right
-      → AreParted node.left node.right
-  now_parted left right node (w, is, leads, leads') ends begins follows one = record {
+      → AreParted (items + 1) node.left node.right
+  now_parted items left right node (w, long, is, leads, leads') ends begins follows one = record {
     read = w ++ one.0 ∷ [];
+    long = one_longer w one.0 items long;
     first = w;
     is = word_more columns w one.0 is one.1;
     spells = spells_at sets w left leads ends;
@@ -83,38 +88,42 @@ module _ (columns : List Column) (sets : Sets) (rows : List ℕ)
   }
 
   -- one more item is read
-  reads_on : (phase : Phase) (left right : ℕ) (node : Node) → AreRead phase left right
-      → FactorsOn sets phase left right node
-      → MeetOne columns sets sets node.left node.right → AreRead node.phase node.left node.right
-  reads_on Together left right node (w, is, leads, leads') (inl (phase, follows, follows')) one =
-      subst (λ p. AreRead p node.left node.right) (sym phase) (
+  reads_on : (items : ℕ) (phase : Phase) (left right : ℕ) (node : Node) → AreRead items phase left right
+      → FactorsOn sets phase left right node → MeetOne columns sets sets node.left node.right
+      → AreRead (items + 1) node.phase node.left node.right
+  reads_on items Together left right node (w, long, is, leads, leads')
+      (inl (phase, follows, follows')) one =
+      subst (λ p. AreRead (items + 1) p node.left node.right) (sym phase) (
         w ++ one.0 ∷ [],
+        one_longer w one.0 items long,
         word_more columns w one.0 is one.1,
         leads_more sets w left one.0 node.left leads follows one.2,
         leads_more sets w right one.0 node.right leads' follows' one.3,
       )
-  reads_on Together left right node reads (inr (ends, phase, begins, follows)) one =
-      subst (λ p. AreRead p node.left node.right) (sym phase)
-      (now_parted left right node reads ends begins follows one)
-  reads_on Parted left right node reads (phase, goes, goes') one =
-      subst (λ p. AreRead p node.left node.right) (sym phase)
-      (parted_on left right node reads goes goes' one)
-  reads_on Rejoined left right node reads (phase, goes, goes') one =
-      subst (λ p. AreRead p node.left node.right) (sym phase)
-      (parted_on left right node reads goes goes' one)
+  reads_on items Together left right node reads (inr (ends, phase, begins, follows)) one =
+      subst (λ p. AreRead (items + 1) p node.left node.right) (sym phase)
+      (now_parted items left right node reads ends begins follows one)
+  reads_on items Parted left right node reads (phase, goes, goes') one =
+      subst (λ p. AreRead (items + 1) p node.left node.right) (sym phase)
+      (parted_on items left right node reads goes goes' one)
+  reads_on items Rejoined left right node reads (phase, goes, goes') one =
+      subst (λ p. AreRead (items + 1) p node.left node.right) (sym phase)
+      (parted_on items left right node reads goes goes' one)
 
   -- what a walk reads
-  pub walk_reads : (node : Node) → Reached node → AreRead node.phase node.left node.right
-  walk_reads _ (at_once node begins met) =
+  pub walk_reads : (items : ℕ) (node : Node) → Walk items node
+      → AreRead items node.phase node.left node.right
+  walk_reads _ _ (at_once node begins met) =
       let one = (are node.left node.right).0 met in
-      subst (λ p. AreRead p node.left node.right) (sym begins.0) (
+      subst (λ p. AreRead 1 p node.left node.right) (sym begins.0) (
         one.0 ∷ [],
+        refl,
         (one.1, tt),
         leads_one sets one.0 node.left begins.1 one.2,
         leads_one sets one.0 node.right begins.2 one.3,
       )
-  walk_reads _ (later before node walk goes met) =
-      reads_on before.phase before.left before.right node (walk_reads before walk) goes
+  walk_reads _ _ (later items before node walk goes met) =
+      reads_on items before.phase before.left before.right node (walk_reads items before walk) goes
       ((are node.left node.right).0 met)
 
   module _ (r : Expression) (of_r : AreOf sets r) where
@@ -123,28 +132,31 @@ module _ (columns : List Column) (sets : Sets) (rows : List ℕ)
     all_in words all = all_as (Spells sets) (In r) (λ word. (of_r word).1) words all
 
     -- what was read to an end by each in its own way has two factorings
-    pub two_factorings : (left right : ℕ) → AreParted left right → Has sets.last left
-        → Has sets.last right → HasTwoFactorings columns r
-    two_factorings left right reads ends ends' =
+    pub two_factorings : (items left right : ℕ) → AreParted items left right → Has sets.last left
+        → Has sets.last right → TwoFactoringsOf columns r items
+    two_factorings items left right reads ends ends' =
         let one = reads.by_left in
         let other = reads.by_right in
         let whole : reads.first ++ join (one.words ++ one.last ∷ []) ≡ reads.read =
         ap (λ v. reads.first ++ v) (join_more one.words one.last) ∙ sym one.whole in
         let whole' : join (other.words ++ other.last ∷ [])
         ≡ reads.read = join_more other.words other.last ∙ sym other.whole in
-        record {
-          us = reads.first ∷ (one.words ++ one.last ∷ []);
-          vs = other.words ++ other.last ∷ [];
-          word = rw whole reads.is;
-          first = all_in (reads.first ∷ (one.words ++ one.last ∷ [])) (
-            reads.spells,
-            all_more (Spells sets) one.words one.last one.spelled
-                (spells_at sets one.last left one.leads ends),
-          );
-          second = all_in (other.words ++ other.last ∷ [])
-              (all_more (Spells sets) other.words other.last other.spelled
-              (spells_at sets other.last right other.leads ends'));
-          same = whole ∙ sym whole';
-          differ = begin_apart sets reads.first (one.words ++ one.last ∷ []) other.words other.last
-              other.longer;
-        }
+        (
+          record {
+            us = reads.first ∷ (one.words ++ one.last ∷ []);
+            vs = other.words ++ other.last ∷ [];
+            word = rw whole reads.is;
+            first = all_in (reads.first ∷ (one.words ++ one.last ∷ [])) (
+              reads.spells,
+              all_more (Spells sets) one.words one.last one.spelled
+                  (spells_at sets one.last left one.leads ends),
+            );
+            second = all_in (other.words ++ other.last ∷ [])
+                (all_more (Spells sets) other.words other.last other.spelled
+                (spells_at sets other.last right other.leads ends'));
+            same = whole ∙ sym whole';
+            differ = begin_apart sets reads.first (one.words ++ one.last ∷ []) other.words other.last
+                other.longer;
+          },
+          ap length whole ∙ reads.long,
+        )

@@ -1,8 +1,8 @@
 -- How the meetings are found, a cell after another.
-use Rattle.std.proofs.Common.{◌≡◌, ℕ, ◌+◌, ◌<◌, ◌≤◌, ◌∙◌, List, length, replicate, inl, inr, ⊎_elim, arith}
+use Rattle.std.proofs.Common.{◌≡◌, ℕ, ◌+◌, ◌<◌, ◌≤◌, ◌∙◌, List, length, replicate, refl, Bool, true, false, not, eqb, ◌&&◌, inl, inr, ⊎_elim, arith}
 use Rattle.std.specs.Prelude.{slice_index}
 use Rattle.std.proofs.Math.ListN.{length-replicate}
-use Rattle.std.proofs.lemmas.Bool.{cases_lt}
+use Rattle.std.proofs.lemmas.Bool.{cases_lt, eqb-true}
 use Rattle.value_ops.specs.declared.field.Field.{Field}
 use Rattle.item_schema.specs.Items.{IsItemOf}
 use Rattle.predicate_cells.specs.Cells.{Partition, CellsHaveItems, cell_count, cell_of}
@@ -13,6 +13,16 @@ use Rattle.ambiguity_check.specs.Meetings.{MeetOne, AreMeetings, IsJoined}
 use Rattle.rate_expr.proofs.MaskMembers.{has_zero}
 use Rattle.rate_expr.proofs.MaskSets.{has-below}
 use Rattle.ambiguity_check.proofs.Marking.{empty_row}
+
+-- masks that a test finds the same
+pub same_masks : (a b c d : ℕ) → false ≡ not (eqb a b && eqb c d) → (a ≡ b) × (c ≡ d)
+same_masks a b c d is = go (eqb a b) (eqb c d) refl refl is
+  where
+    go : (one two : Bool) → eqb a b ≡ one → eqb c d ≡ two → false ≡ not (one && two) → (a ≡ b) × (c ≡ d)
+    go true true one two e = (eqb-true a b one, eqb-true c d two)
+    go true false one two e = absurd (cc)
+    go false true one two e = absurd (cc)
+    go false false one two e = absurd (cc)
 
 module _ (cells : Partition) (first second : Sets) where
   -- the rows have the meetings by items of the cells below one
@@ -59,6 +69,21 @@ module _ (cells : Partition) (first second : Sets) where
                   (second_met.whole right item (is, this) second_meets)
             ];
       }
+
+  -- the rows have the meetings of the cell before
+  abbrev pub HaveMasks : ℕ → ℕ → List ℕ → Type 0
+  HaveMasks first_mask second_mask rows = (left right : ℕ) → Has first_mask left
+      → Has second_mask right → Has (slice_index rows left) right
+
+  -- a cell whose masks are those of the cell before adds nothing
+  pub joined_already : (first_mask second_mask : ℕ) (rows : List ℕ)
+      → HaveMasks first_mask second_mask rows → IsJoined rows first_mask second_mask rows
+  joined_already first_mask second_mask rows have = record {
+    same = refl;
+    kept = λ left right has. has;
+    joined = have;
+    only = λ left right has. inl has;
+  }
 
   -- behind all cells
   pub filled_all : ((item : List Field) → cell_of cells item < cell_count cells)

@@ -1,54 +1,43 @@
 -- How the rows of meetings are filled.
-use Rattle.std.proofs.Common.{◌≡◌, ◌≢◌, ℕ, ◌+◌, ◌<◌, ◌⊎◌, ◌∙◌, List, length, refl, inl, inr, ⊎_elim, arith, subst, sym}
+use Rattle.std.proofs.Common.{◌≡◌, ◌≢◌, ℕ, ◌<◌, ◌⊎◌, ◌↔◌, ◌∙◌, List, length, refl, inl, inr, ⊎_elim, subst, sym}
 use Rattle.std.specs.Prelude.{slice_index, bit_or}
 use Rattle.std.proofs.Math.ListN.{set, length-set}
-use Rattle.std.proofs.lemmas.Bool.{cases_lt, cases_eq}
+use Rattle.std.proofs.lemmas.Bool.{cases_eq}
 use Rattle.std.proofs.lemmas.List.{get_or-set_same, get_or-set_other}
-use Rattle.rate_expr.specs.Sets.{Has}
+use Rattle.rate_expr.specs.Sets.{Has, IsLowest}
 use Rattle.ambiguity_check.specs.Meetings.{IsJoined}
-use Rattle.rate_expr.proofs.MaskMembers.{has_or, has_first, has_second}
+use Rattle.ambiguity_check.proofs.Gathering.{one_lowest}
+use Rattle.rate_expr.proofs.MaskMembers.{has_or, has_first, has_second, has_zero}
 
--- the rows below a place were filled
-pub record JoinedBelow (old : List ℕ) (first second : ℕ) (end : ℕ) (new : List ℕ) : Type 0 where
+-- the rows of a mask were filled, but for those that are left
+pub record AreJoined (old : List ℕ) (first second rest : ℕ) (new : List ℕ) : Type 0 where
   pub same : length new ≡ length old
+  pub left : (left : ℕ) → Has rest left → Has first left
   pub kept : (left right : ℕ) → Has (slice_index old left) right → Has (slice_index new left) right
-  pub joined : (left right : ℕ) → left < end → Has first left → Has second right
-      → Has (slice_index new left) right
+  pub joined : (left right : ℕ) → Has first left → Has second right
+      → Has rest left ⊎ Has (slice_index new left) right
   pub only : (left right : ℕ) → Has (slice_index new left) right
       → Has (slice_index old left) right ⊎ (Has first left × Has second right)
 
 -- no row was filled
-pub joined_none : (old : List ℕ) (first second : ℕ) → JoinedBelow old first second 0 old
+pub joined_none : (old : List ℕ) (first second : ℕ) → AreJoined old first second first old
 joined_none old first second = record {
   same = refl;
+  left = λ left has. has;
   kept = λ left right has. has;
-  joined = λ left right below. absurd (omega arith);
+  joined = λ left right has has'. inl has;
   only = λ left right has. inl has;
 }
 
 -- all rows were filled
-pub joined_all : (old : List ℕ) (first second end : ℕ) (new : List ℕ)
-    → ((place : ℕ) → Has first place → place < end)
-    → JoinedBelow old first second end new → IsJoined old first second new
-joined_all old first second end new above below = record {
-  same = below.same;
-  kept = below.kept;
-  joined = λ left right in_first. below.joined left right (above left in_first) in_first;
-  only = below.only;
-}
-
--- a place that is not in the mask is passed over
-pub joined_skip : (old : List ℕ) (first second place : ℕ) (new : List ℕ) → (Has first place → ⊥)
-    → JoinedBelow old first second place new → JoinedBelow old first second (place + 1) new
-joined_skip old first second place new without below = record {
-  same = below.same;
-  kept = below.kept;
-  joined = λ left right less in_first. elim (cases_lt left place) [
-    | inl lt ↦ below.joined left right lt in_first
-    | inr ge ↦ let same : left ≡ place = omega arith in absurd
-        (without (subst (λ (p : ℕ). Has first p) same in_first))
-  ];
-  only = below.only;
+pub joined_all : (old : List ℕ) (first second : ℕ) (new : List ℕ)
+    → AreJoined old first second 0 new → IsJoined old first second new
+joined_all old first second new all = record {
+  same = all.same;
+  kept = all.kept;
+  joined = λ left right has has'. ⊎_elim (λ waits. absurd (has_zero left waits)) (λ is. is)
+      (all.joined left right has has');
+  only = all.only;
 }
 
 module _ (rows : List ℕ) (second place : ℕ) (within : place < length rows) where
@@ -73,20 +62,28 @@ module _ (rows : List ℕ) (second place : ℕ) (within : place < length rows) w
   ]
 
   -- one more row was filled
-  pub joined_next : (old : List ℕ) (first : ℕ) → Has first place
-      → JoinedBelow old first second place rows
-      → JoinedBelow old first second (place + 1) filled
-  joined_next old first has below = record {
-    same = length-set rows place _ ∙ below.same;
-    kept = λ left right was. fill_keeps left right (below.kept left right was);
-    joined = λ left right less in_first in_second'. elim (cases_eq left place) [
-      | inl same ↦ rw (this_row left same) (has_second (slice_index rows left) second right in_second')
-      | inr differ ↦ fill_keeps left right (below.joined left right (omega arith) in_first in_second')
-    ];
+  pub joined_next : (old : List ℕ) (first rest after : ℕ) → IsLowest rest place
+      → ((at : ℕ) → Has after at ↔ (Has rest at × (IsLowest rest at → ⊥)))
+      → AreJoined old first second rest rows → AreJoined old first second after filled
+  joined_next old first rest after lowest exact so_far = record {
+    same = length-set rows place _ ∙ so_far.same;
+    left = λ left has. so_far.left left ((exact left).0 has).0;
+    kept = λ left right was. fill_keeps left right (so_far.kept left right was);
+    joined = λ left right has has'. ⊎_elim
+        (λ waits. elim (cases_eq left place) [
+          | inl same ↦ inr (rw (this_row left same)
+              (has_second (slice_index rows left) second right has'))
+          | inr differ ↦ inl ((exact left).1
+              (waits, λ also. differ (one_lowest rest place left lowest also)))
+        ])
+        (λ is. inr (fill_keeps left right is)) (so_far.joined left right has has');
     only = λ left right is. elim (cases_eq left place) [
-      | inl same ↦ ⊎_elim (λ was. below.only left right was)
-          (λ new. inr (subst (λ (p : ℕ). Has first p) (sym same) has, new))
+      | inl same ↦ ⊎_elim (λ was. so_far.only left right was)
+          (λ new. inr (
+            subst (λ (p : ℕ). Has first p) (sym same) (so_far.left place lowest.has),
+            new,
+          ))
           (has_or (slice_index rows left) second right (rw (this_row left same) at is))
-      | inr differ ↦ below.only left right (rw (other_row left differ) at is)
+      | inr differ ↦ so_far.only left right (rw (other_row left differ) at is)
     ];
   }

@@ -5,10 +5,13 @@ pub mod FactorRuns
 pub mod FactorWalks
 pub mod Filling
 pub mod Finding
+pub mod Gathering
 pub mod Joining
 pub mod Marking
 pub mod Moving
 pub mod OverlapWalks
+pub mod Phases
 pub mod Searches
 pub mod SplitReads
 pub mod SplitWalks
+pub mod Walking

@@ -1,75 +1,181 @@
--- What a search keeps: all nodes that are marked are reached, and those that do not wait lead to marked ones.
-use Rattle.std.proofs.Common.{◌≡◌, ℕ, ◌⊎◌, ◌↔◌, List, length, [], ◌∷◌, ◌++◌, inl, inr, ⊎_elim, subst, arith}
-use Rattle.std.specs.List.{Contains}
-use Rattle.std.proofs.lemmas.List.Elements.{Contains-push, Contains-push_cases, Contains-append_left}
+-- The levels of a search: the first, the next, and what is seen where one is empty.
+use Rattle.std.proofs.Common.{◌≡◌, ℕ, ◌+◌, ◌<◌, ◌≤◌, ◌⊎◌, ◌↔◌, List, inl, inr, ⊎_elim, subst, arith}
+use Rattle.std.specs.Prelude.{sum, slice_index}
+use Rattle.std.specs.Int.{bit_at}
+use Rattle.std.proofs.lemmas.Bool.{cases_eq, cases_lt}
 use Rattle.ambiguity_check.specs.declared.graph.Moves.{Moves}
 use Rattle.ambiguity_check.specs.declared.graph.Node.{Node}
-use Rattle.ambiguity_check.specs.Walks.{IsIn, IsReached, at_once, later}
-use Rattle.ambiguity_check.specs.Marked.{IsMarked, AreReached}
-use Rattle.ambiguity_check.specs.Found.{AreFound}
+use Rattle.ambiguity_check.specs.Walks.{IsIn, IsWalk, at_once, later}
+use Rattle.ambiguity_check.specs.Marked.{row_of, IsMarked, AreReached}
+use Rattle.ambiguity_check.specs.Found.{AreFound, IsBehind}
+use Rattle.ambiguity_check.specs.Levels.{Searched, IsShortest, IsLevel}
+use Rattle.ambiguity_check.proofs.Marking.{marked_sum}
+use Rattle.ambiguity_check.proofs.Walking.{walk_some, walk_cases}
+
+-- a node is in a set or not
+in_or_not : (rows : List ℕ) (node : Node) → IsMarked rows node ⊎ (IsMarked rows node → ⊥)
+in_or_not rows node = cases_eq (bit_at (slice_index rows (row_of node)) node.right) 1
 
 module _ (begins : Node → Type 0) (goes_on : Node → Node → Type 0) (meet : Node → Type 0) where
-  -- all nodes behind a node are marked
-  abbrev pub IsDone : List ℕ → Node → Type 0
-  IsDone marks node = (next : Node) → goes_on node next → meet next → IsMarked marks next
+  -- a walk of so many items
+  abbrev Walk : ℕ → Node → Type 0
+  Walk items node = IsWalk begins goes_on meet items node
 
-  -- a search with these marks, in which these nodes wait
-  pub record IsSearch (marks : List ℕ) (waiting : List Node) : Type 0 where
-    pub begun : (node : Node) → begins node → meet node → IsMarked marks node
-    pub reached : (node : Node) → IsMarked marks node → IsReached begins goes_on meet node
-    pub done : (node : Node) → IsMarked marks node → Contains waiting node ⊎ IsDone marks node
-    pub waits : (node : Node) → Contains waiting node → IsMarked marks node
+  -- a search behind so many items
+  abbrev Level : ℕ → Searched → Type 0
+  Level items search = IsLevel begins goes_on meet items search
 
-  -- behind the first moves
-  pub search_begins : (starts : Moves) (none marks : List ℕ) (waiting : List Node)
-      → ((node : Node) → IsMarked none node → ⊥) → ((node : Node) → IsIn starts node ↔ begins node)
-      → AreFound (λ node. IsIn starts node × meet node) none [] marks waiting → IsSearch marks waiting
-  search_begins starts none marks waiting empty firsts found = record {
-    begun = λ node first both. found.marked node ((firsts node).1 first, both);
-    reached = λ node is. ⊎_elim (λ was. absurd (empty node was))
-        (λ new. at_once node ((firsts node).0 new.0.0) new.0.1) (found.only node is);
-    done = λ node is. ⊎_elim (λ was. absurd (empty node was)) (λ new. inl new.1) (found.only node is);
-    waits = λ node in'. ⊎_elim (λ was. absurd (omega (arith, was.1))) (λ is. is)
-        (found.waits_only node in');
+  -- a walk of one item is to one of the first nodes
+  one_item : (items : ℕ) (node : Node) → items ≤ 1 → Walk items node → begins node × meet node
+  one_item items node one walk = ⊎_elim (λ first. (first.1, first.2))
+      (λ more. let some = walk_some begins goes_on meet more.0 more.1 more.3 in
+      absurd (omega (arith, more.2)))
+      (walk_cases begins goes_on meet items node walk)
+
+  -- behind the first item
+  pub level_begins : (starts : Moves) (none none' seen latest : List ℕ)
+      → ((node : Node) → IsMarked none node → ⊥) → ((node : Node) → IsMarked none' node → ⊥)
+      → ((node : Node) → IsIn starts node ↔ begins node)
+      → AreFound (λ node. IsIn starts node × meet node) none none' seen latest
+      → Level 1 (record { seen = seen; latest = latest })
+  level_begins starts none none' seen latest empty empty' firsts found = record {
+    begun = omega arith;
+    seen = λ node. (
+      λ is. ⊎_elim (λ was. absurd (empty node was))
+          (λ new. (1, omega arith, at_once node ((firsts node).0 new.0.0) new.0.1)) (found.only node is),
+      λ some. let first = one_item some.0 node some.1 some.2 in
+          found.marked node ((firsts node).1 first.0, first.1),
+    );
+    latest = λ node. (
+      λ is. ⊎_elim (λ was. absurd (empty' node was))
+          (λ new. record {
+            walk = at_once node ((firsts node).0 new.0.0) new.0.1;
+            none = λ fewer less walk. let some = walk_some begins goes_on meet fewer node walk in
+                omega arith;
+          }) (found.new node is),
+      λ shortest. let first = one_item 1 node (omega arith) shortest.walk in
+          ⊎_elim (λ was. absurd (empty node was)) (λ new. new.1)
+          (found.only node (found.marked node ((firsts node).1 first.0, first.1))),
+    );
   }
 
-  -- behind the moves of a node that waited
-  pub search_goes_on : (moves : Moves) (from : Node) (marks : List ℕ) (waiting : List Node)
-      (marks' : List ℕ) (waiting' : List Node)
-      → ((node : Node) → IsIn moves node ↔ goes_on from node) → IsSearch marks (waiting ++ from ∷ [])
-      → AreFound (λ node. IsIn moves node × meet node) marks waiting marks' waiting'
-      → IsSearch marks' waiting'
-  search_goes_on moves from marks waiting marks' waiting' nexts before found = record {
-    begun = λ node first both. found.kept node (before.begun node first both);
-    reached = λ node is. ⊎_elim (λ was. before.reached node was)
-        (λ new. later from node (before.reached from (before.waits from (Contains-push waiting from)))
-        ((nexts node).0 new.0.0) new.0.1)
-        (found.only node is);
-    done = λ node is. ⊎_elim (was_done node) (λ new. inl new.1) (found.only node is);
-    waits = λ node in'. ⊎_elim (λ was. found.kept node
-        (before.waits node (Contains-append_left waiting (from ∷ []) node was)))
-        (λ is. is) (found.waits_only node in');
-  }
-    where
-      from_done : IsDone marks' from
-      from_done next step both = found.marked next ((nexts next).1 step, both)
+  module _ (items : ℕ) (old : Searched) (level : Level items old) where
+    -- a node that is not seen and is behind the level has a shortest walk of one item more
+    new_walk : (node : Node) → IsBehind goes_on meet old.latest node → (IsMarked old.seen node → ⊥)
+        → IsShortest begins goes_on meet (items + 1) node
+    new_walk node (before, marked, goes, met) new = record {
+      walk = later items before node ((level.latest before).0 marked).walk goes met;
+      none = λ fewer less walk. new ((level.seen node).1 (fewer, omega arith, walk));
+    }
 
-      was_done : (node : Node) → IsMarked marks node → Contains waiting' node ⊎ IsDone marks' node
-      was_done node was = ⊎_elim
-          (λ in'. ⊎_elim (λ still. inl (found.waits node still))
-          (λ same. inr (subst (IsDone marks') same from_done))
-          (Contains-push_cases waiting from node in'))
-          (λ done. inr (λ next step both. found.kept next (done next step both))) (before.done node was)
+    -- and each node with such a walk is behind the level
+    behind_level : (node : Node) → IsShortest begins goes_on meet (items + 1) node
+        → IsBehind goes_on meet old.latest node
+    behind_level node shortest = ⊎_elim
+        (λ first. let begun = level.begun in absurd (omega (arith, first.0)))
+        (λ more.
+            let same : more.0 ≡ items = omega (arith, more.2) in
+            let walk : Walk items more.1 = subst (λ (n : ℕ). Walk n more.1) same more.3 in
+            (
+              more.1,
+              (level.latest more.1).1 (record {
+                walk = walk;
+                none = λ fewer less walk'. shortest.none (fewer + 1) (omega arith)
+                    (later fewer more.1 node walk' more.4 more.5);
+              }),
+              more.4,
+              more.5,
+            ))
+        (walk_cases begins goes_on meet (items + 1) node shortest.walk)
 
-  module _ (marks : List ℕ) (waiting : List Node) (none : length waiting ≡ 0)
-      (end : IsSearch marks waiting) where
-    -- all nodes of a walk are marked
-    all_marked : (node : Node) → IsReached begins goes_on meet node → IsMarked marks node
-    all_marked _ (at_once node first both) = end.begun node first both
-    all_marked _ (later before node walk step both) =
-        ⊎_elim (λ in'. absurd (omega (arith, in'.1))) (λ done. done node step both)
-        (end.done before (all_marked before walk))
+    -- behind one more item
+    pub level_advances : (clear seen latest : List ℕ) → sum clear ≡ 0
+        → AreFound (IsBehind goes_on meet old.latest) old.seen clear seen latest
+        → Level (items + 1) (record { seen = seen; latest = latest })
+    level_advances clear seen latest none found = record {
+      begun = omega arith;
+      seen = λ node. (
+        λ is. ⊎_elim (λ was. let some = (level.seen node).0 was in (some.0, more some.0 some.1, some.2))
+            (λ new. (items + 1, omega arith, (new_level node new.0))) (found.only node is),
+        λ some. elim (cases_lt some.0 (items + 1)) [
+          | inl less ↦ found.kept node ((level.seen node).1 (some.0, at_most some.0 less, some.2))
+          | inr most ↦ by_one_more node
+              (subst (λ (n : ℕ). Walk n node) (between some.0 some.1 most) some.2)
+        ],
+      );
+      latest = λ node. (
+        λ is. ⊎_elim (λ was. let some = marked_sum clear node was in absurd (omega (arith, none)))
+            (λ new. new_walk node new.0 new.1) (found.new node is),
+        λ shortest. ⊎_elim
+            (λ was. let some = (level.seen node).0 was in
+            absurd (shortest.none some.0 (above some.0 some.1) some.2))
+            (λ new. new.1) (found.only node (found.marked node (behind_level node shortest))),
+      );
+    }
+      where
+        more : (n : ℕ) → n ≤ items → n ≤ items + 1
+        more n le = omega arith
 
-    -- where none waits
-    pub search_ends : AreReached begins goes_on meet marks
-    search_ends node = (end.reached node, all_marked node)
+        at_most : (n : ℕ) → n < items + 1 → n ≤ items
+        at_most n less = omega arith
+
+        above : (n : ℕ) → n ≤ items → n < items + 1
+        above n le = omega arith
+
+        between : (n : ℕ) → n ≤ items + 1 → items + 1 ≤ n → n ≡ items + 1
+        between n le ge = omega arith
+
+        new_level : (node : Node) → IsBehind goes_on meet old.latest node → Walk (items + 1) node
+        new_level node (before, marked, goes, met) =
+            later items before node ((level.latest before).0 marked).walk goes met
+
+        by_one_more : (node : Node) → Walk (items + 1) node → IsMarked seen node
+        by_one_more node walk = elim (in_or_not old.seen node) [
+          | inl was ↦ found.kept node was
+          | inr new ↦ found.marked node (behind_level node (record {
+            walk = walk;
+            none = λ fewer less walk'. new ((level.seen node).1 (fewer, at_most fewer less, walk'));
+          }))
+        ]
+
+    module _ (none : (node : Node) → IsMarked old.latest node → ⊥) where
+      -- the nodes behind those that are seen are seen
+      seen_on : (before node : Node) → IsMarked old.seen before → goes_on before node → meet node
+          → IsMarked old.seen node
+      seen_on before node was goes met = elim (in_or_not old.seen node) [
+        | inl is ↦ is
+        | inr not' ↦ absurd (new_node not' ((level.seen before).0 was))
+      ]
+        where
+          next : (n : ℕ) → n < items → n + 1 ≤ items
+          next n less = omega arith
+
+          same : (n : ℕ) → n ≤ items → items ≤ n → n ≡ items
+          same n le ge = omega arith
+
+          new_node : (IsMarked old.seen node → ⊥)
+              → (some : ℕ) × (some ≤ items) × Walk some before → ⊥
+          new_node not' (some, few, walk) = elim (cases_lt some items) [
+            | inl less ↦ not' ((level.seen node).1
+                (some + 1, next some less, later some before node walk goes met))
+            | inr most ↦ none before ((level.latest before).1 (record {
+              walk = subst (λ (n : ℕ). Walk n before) (same some few most) walk;
+              none = λ fewer less walk'. not' ((level.seen node).1
+                  (fewer + 1, next fewer less, later fewer before node walk' goes met));
+            }))
+          ]
+
+      -- all nodes of walks are seen
+      all_seen : (some : ℕ) (node : Node) → Walk some node → IsMarked old.seen node
+      all_seen _ _ (at_once node first met) =
+          let begun = level.begun in
+          (level.seen node).1 (1, omega arith, at_once node first met)
+      all_seen _ _ (later some before node walk goes met) =
+          seen_on before node (all_seen some before walk) goes met
+
+      -- where no node is latest
+      pub level_over : AreReached begins goes_on meet old.seen
+      level_over node = (
+        λ is. let some = (level.seen node).0 is in (some.0, some.2),
+        λ walk. all_seen walk.0 node walk.1,
+      )

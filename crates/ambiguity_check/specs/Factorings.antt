@@ -29,3 +29,7 @@ FactorsOn sets _ left right node =
 -- one more item may lead from the first node to the second
 abbrev pub Factors : Sets → Node → Node → Type 0
 Factors sets before node = FactorsOn sets before.phase before.left before.right node
+
+-- both end there
+abbrev pub EndsFactors : Sets → Node → Type 0
+EndsFactors sets node = (node.phase ≡ Parted) × Has sets.last node.left × Has sets.last node.right

@@ -1,5 +1,7 @@
 pub mod Factorings
 pub mod Found
+pub mod Lengths
+pub mod Levels
 pub mod Marked
 pub mod Meetings
 pub mod Overlaps

@@ -1,6 +1,7 @@
 -- For the prover. Sets of nodes as masks.
-use Rattle.std.specs.Prelude.{◌≡◌, ◌+◌, ◌*◌, ◌<◌, ℕ, ◌⊎◌, List, slice_index, sum_by, ◌-◌, ◌^◌}
+use Rattle.std.specs.Prelude.{◌≡◌, ◌+◌, ◌*◌, ◌≤◌, ℕ, ◌⊎◌, List, slice_index, sum, sum_by, ◌-◌, ◌^◌}
 use Rattle.rate_expr.specs.Sets.{Has}
+use Rattle.ambiguity_check.specs.declared.graph.Phase.{Phase}
 use Rattle.ambiguity_check.specs.declared.graph.Node.{Node}
 use Rattle.ambiguity_check.specs.Walks.{phases, rank, IsReached}
 
@@ -16,12 +17,19 @@ IsMarked rows node = Has (slice_index rows (row_of node)) node.right
 abbrev pub room : List ℕ → ℕ
 room rows = sum_by (λ row. 2 ^ 128 - row) rows
 
--- the set has one more node
-pub record IsMarkedToo (old : List ℕ) (node : Node) (new : List ℕ) : Type 0 where
-  pub marked : IsMarked new node
-  pub kept : (other : Node) → IsMarked old other → IsMarked new other
-  pub only : (other : Node) → IsMarked new other → IsMarked old other ⊎ (other ≡ node)
-  pub room : (IsMarked old node → ⊥) → room new < room old
+-- the node has this phase, this place on the left and a place of the mask on the right
+abbrev pub IsInRow : Phase → ℕ → ℕ → Node → Type 0
+IsInRow phase left mask node =
+    (node.phase ≡ phase) × (node.left ≡ left) × Has mask node.right
+
+-- the set has the nodes of a row too; where they are new, it has as much less room
+pub record AreMarkedToo (old : List ℕ) (phase : Phase) (left mask : ℕ) (new : List ℕ) : Type 0 where
+  pub marked : (node : Node) → IsInRow phase left mask node → IsMarked new node
+  pub kept : (node : Node) → IsMarked old node → IsMarked new node
+  pub only : (node : Node) → IsMarked new node → IsMarked old node ⊎ IsInRow phase left mask node
+  pub larger : sum new ≤ sum old + mask
+  pub room : ((node : Node) → IsInRow phase left mask node → IsMarked old node → ⊥)
+      → room new + mask ≤ room old
 
 -- the set has exactly the nodes that walks lead to
 abbrev pub AreReached : (Node → Type 0) → (Node → Node → Type 0) → (Node → Type 0) → List ℕ → Type 0

@@ -18,3 +18,8 @@ FollowsBoth first second before node = (node.phase ≡ Together)
 -- the row of the place on the left has the place on the right
 abbrev pub IsInRows : List ℕ → Node → Type 0
 IsInRows rows node = Has (slice_index rows node.left) node.right
+
+-- both end there
+abbrev pub EndsBoth : Sets → Sets → Node → Type 0
+EndsBoth first second node =
+    (node.phase ≡ Together) × Has first.last node.left × Has second.last node.right

@@ -1,5 +1,5 @@
 -- For the prover. Walks of two readings of one word.
-use Rattle.std.specs.Prelude.{◌≡◌, ℕ, ◌⊎◌, IsSomeAnd}
+use Rattle.std.specs.Prelude.{◌≡◌, ◌+◌, ℕ, ◌⊎◌, IsSomeAnd}
 use Rattle.rate_expr.specs.Sets.{Has}
 use Rattle.ambiguity_check.specs.declared.graph.Phase.{Phase}
 use Rattle.ambiguity_check.specs.declared.graph.Phase.TheVariants.{Together, Parted, Rejoined}
@@ -25,10 +25,14 @@ IsOf move node = (node.phase ≡ move.phase) × Has move.left node.left × Has m
 abbrev pub IsIn : Moves → Node → Type 0
 IsIn moves node = IsOf moves.stay node ⊎ IsSomeAnd moves.turn (λ move. IsOf move node)
 
--- a walk leads to the node: it begins with one of the first nodes, goes on along edges, and some
--- item meets both places of each node
-pub data IsReached (begins : Node → Type 0) (goes_on : Node → Node → Type 0) (meet : Node → Type 0)
-    : Node → Type 0 where
-  at_once : (node : Node) → begins node → meet node → IsReached begins goes_on meet node
-  later : (before node : Node) → IsReached begins goes_on meet before → goes_on before node
-      → meet node → IsReached begins goes_on meet node
+-- a walk of so many items leads to the node: it begins with one of the first nodes, goes on along
+-- edges, and some item meets both places of each node
+pub data IsWalk (begins : Node → Type 0) (goes_on : Node → Node → Type 0) (meet : Node → Type 0)
+    : ℕ → Node → Type 0 where
+  at_once : (node : Node) → begins node → meet node → IsWalk begins goes_on meet 1 node
+  later : (items : ℕ) (before node : Node) → IsWalk begins goes_on meet items before
+      → goes_on before node → meet node → IsWalk begins goes_on meet (items + 1) node
+
+-- some walk leads to the node
+abbrev pub IsReached : (Node → Type 0) → (Node → Node → Type 0) → (Node → Type 0) → Node → Type 0
+IsReached begins goes_on meet node = (items : ℕ) × IsWalk begins goes_on meet items node

@@ -4,10 +4,10 @@ ghost use Rattle.rate_expr.specs.Paths.{AreOf};
 ghost use Rattle.rate_expr.specs.Rates.{Expression};
 ghost use Rattle.rate_expr.specs.Readings.{HasOneFactoring, HasTwoFactorings};
 
-use crate::graph::{Graph, Move, Moves, Node, Phase};
+use crate::graph::{Graph, Move, Moves, Phase};
 use crate::meetings::meetings;
-use crate::readings::{behind, onward, row};
-use crate::search::reach;
+use crate::reach::reach;
+use crate::readings::{all_behind, all_onward, behind, onward, row};
 use rate_expr::Positions;
 use rate_expr::masks::has;
 use std::alloc::{AllocError, Global};
@@ -65,25 +65,25 @@ impl Graph for Factorings<'_> {
         }
     }
 
-    fn moves(&self, from: Node) -> Moves {
-        match from.phase {
+    fn moves(&self, phase: Phase, left: u32, rights: u128) -> Moves {
+        match phase {
             Phase::Together => Moves {
                 stay: Move {
                     phase: Phase::Together,
-                    left: behind(self.positions, from.left),
-                    right: behind(self.positions, from.right),
+                    left: behind(self.positions, left),
+                    right: all_behind(self.positions, rights),
                 },
-                turn: has(self.positions.last(), from.left).then_some(Move {
+                turn: has(self.positions.last(), left).then_some(Move {
                     phase: Phase::Parted,
                     left: self.positions.first(),
-                    right: behind(self.positions, from.right),
+                    right: all_behind(self.positions, rights),
                 }),
             },
             Phase::Parted | Phase::Rejoined => Moves {
                 stay: Move {
                     phase: Phase::Parted,
-                    left: onward(self.positions, from.left),
-                    right: onward(self.positions, from.right),
+                    left: onward(self.positions, left),
+                    right: all_onward(self.positions, rights),
                 },
                 turn: None,
             },

@@ -7,7 +7,7 @@ ghost use Rattle.rate_expr.specs.Sets.{Has};
 
 /// How far two readings have gone apart.
 #[derive(Clone, Copy)]
-pub(crate) enum Phase {
+pub enum Phase {
     /// Both have ended the same parts of the word.
     Together,
     /// The left one has ended a part in which the right one went on.
@@ -31,29 +31,29 @@ impl Phase {
 
 /// Where two readings are behind an item.
 #[derive(Clone, Copy)]
-pub(crate) struct Node {
-    pub(crate) phase: Phase,
-    pub(crate) left: u32,
-    pub(crate) right: u32,
+pub struct Node {
+    pub phase: Phase,
+    pub left: u32,
+    pub right: u32,
 }
 
 /// The nodes of a phase whose places are in two masks.
 #[derive(Clone, Copy)]
-pub(crate) struct Move {
-    pub(crate) phase: Phase,
-    pub(crate) left: u128,
-    pub(crate) right: u128,
+pub struct Move {
+    pub phase: Phase,
+    pub left: u128,
+    pub right: u128,
 }
 
 /// Where one more item may lead: without a part that ends, and with one that does.
 #[derive(Clone, Copy)]
-pub(crate) struct Moves {
-    pub(crate) stay: Move,
-    pub(crate) turn: Option<Move>,
+pub struct Moves {
+    pub stay: Move,
+    pub turn: Option<Move>,
 }
 
 /// Two readings of one word. What items there are is known by `meets` alone.
-pub(crate) trait Graph {
+pub trait Graph {
     ghost use Rattle.ambiguity_check.specs.declared.graph.Node.{Node};
 
     // The first item may lead there.
@@ -69,9 +69,10 @@ pub(crate) trait Graph {
     fn starts(&self) -> Moves
         ensures { (node : Node) → IsIn result node ↔ begins self.now node };
 
-    /// Where one more item may lead.
-    fn moves(&self, from: Node) -> Moves
-        ensures { (node : Node) → IsIn result node ↔ goes_on self.now from node };
+    /// Where one more item may lead from the nodes of a row.
+    fn moves(&self, phase: Phase, left: u32, rights: u128) -> Moves
+        ensures { (node : Node) → IsIn result node ↔ ((right : ℕ) × Has rights right
+            × goes_on self.now (record { phase = phase; left = left; right = right }) node) };
 
     /// The places on the right that share an item with the place on the left.
     fn meets(&self, phase: Phase, left: u32) -> u128

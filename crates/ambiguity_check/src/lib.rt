@@ -3,9 +3,11 @@
 
 mod factorings;
 mod graph;
+mod level;
 mod marks;
 mod meetings;
 mod overlaps;
+mod reach;
 mod readings;
 mod search;
 mod splits;
@@ -13,5 +15,8 @@ mod splits;
 mod tests;
 
 pub use factorings::one_factoring;
+pub use graph::{Graph, Move, Moves, Node, Phase};
+pub use marks::Marks;
 pub use overlaps::disjoint;
+pub use search::Search;
 pub use splits::one_split;

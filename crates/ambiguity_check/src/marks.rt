@@ -1,13 +1,13 @@
 //! The nodes that a search has come to.
-ghost use Rattle.std.specs.Prelude.{◌≡◌, ◌<◌, ◌+◌, ◌*◌, IfOk, List, ℕ, slice_index, length, MatchBool};
+ghost use Rattle.std.specs.Prelude.{◌≡◌, ◌<◌, ◌+◌, ◌*◌, IfOk, List, ℕ, slice_index, length, sum, MatchBool};
 ghost use Rattle.language_base.specs.Limits.{max_positions};
 ghost use Rattle.ambiguity_check.specs.declared.graph.Node.{Node};
 ghost use Rattle.ambiguity_check.specs.Walks.{phases, rank, IsOf};
-ghost use Rattle.ambiguity_check.specs.Marked.{IsMarked, IsMarkedToo};
+ghost use Rattle.ambiguity_check.specs.Marked.{IsMarked, AreMarkedToo};
 
-use crate::graph::{Move, Node, Phase};
+use crate::graph::{Move, Phase};
 use rate_expr::MAX_POSITIONS;
-use rate_expr::masks::{end_of, has, only, overlap};
+use rate_expr::masks::{end_of, has, overlap};
 use std::alloc::{AllocError, Global};
 use std::marker::Model;
 
@@ -19,7 +19,7 @@ const ROWS: usize = PHASES * MAX_POSITIONS as usize;
 
 /// Some nodes, seen as a mask of the places on the right for each place on the left and phase.
 #[derive(Drop)]
-pub(crate) struct Marks {
+pub struct Marks {
     rows: Vec<u128>,
 }
 
@@ -44,7 +44,7 @@ impl Marks {
     }
 
     /// The places on the right of the nodes with this place on the left.
-    pub(crate) fn row(&self, phase: Phase, left: u32) -> u128
+    pub fn row(&self, phase: Phase, left: u32) -> u128
         ensures { result ≡ slice_index self.now (phases * left + rank phase) }
     {
         self.rows
@@ -54,7 +54,7 @@ impl Marks {
     }
 
     /// Whether some of these nodes is in the set.
-    pub(crate) fn has_some(&self, nodes: Move) -> bool
+    pub fn has_some(&self, nodes: Move) -> bool
         ensures { MatchBool result ((node : Node) × IsMarked self.now node × IsOf nodes node)
             ((node : Node) → IsMarked self.now node → IsOf nodes node → ⊥) }
     {
@@ -66,14 +66,41 @@ impl Marks {
         false
     }
 
-    /// One more node.
-    pub(crate) fn add(&mut self, node: Node)
-        requires left { node.left < max_positions }
-        requires right { node.right < max_positions }
-        ensures { IsMarkedToo self.old node self.new }
+    /// A number above the places on the left of all these nodes.
+    pub(crate) fn end(&self) -> u32
+        ensures { (node : Node) → IsMarked self.now node → node.left < result }
     {
-        let row = PHASES * node.left as usize + node.phase.rank();
+        (self.rows.len() / PHASES) as u32
+    }
+
+    /// Whether there are no nodes.
+    pub fn is_empty(&self) -> bool
+        ensures { MatchBool result ((node : Node) → IsMarked self.now node → ⊥)
+            ((node : Node) × IsMarked self.now node) }
+    {
+        'rows: for row in 0..ROWS {
+            let mask = self.rows[row];
+            if mask != 0 {
+                return false;
+            }
+        }
+        true
+    }
+
+    /// No nodes any more.
+    pub(crate) fn clear(&mut self)
+        ensures { sum self.new ≡ 0 }
+    {
+        self.rows.fill(0);
+    }
+
+    /// More nodes of one row.
+    pub(crate) fn add(&mut self, phase: Phase, left: u32, rights: u128)
+        requires { left < max_positions }
+        ensures { AreMarkedToo self.old phase left rights self.new }
+    {
+        let row = PHASES * left as usize + phase.rank();
         let mask = self.rows[row];
-        self.rows[row] = mask | only(node.right);
+        self.rows[row] = mask | rights;
     }
 }

@@ -3,7 +3,7 @@ ghost use Rattle.std.specs.Prelude.{◌≡◌, ◌<◌, ℕ, IfOk, length};
 ghost use Rattle.rate_expr.specs.Sets.{Has};
 ghost use Rattle.ambiguity_check.specs.Meetings.{AreMeetings, IsJoined};
 
-use rate_expr::masks::{end_of, has};
+use rate_expr::masks::{lowest, without_lowest};
 use std::alloc::{AllocError, Global};
 use symbolic_nfa::Nfa;
 
@@ -14,8 +14,13 @@ pub(crate) fn meetings(alloc: Global, first: &Nfa, second: &Nfa) -> Result<Vec<u
         AreMeetings first.now.cells.layout.columns first.now.sets second.now.sets rows.items) }
 {
     let mut rows = vec![in alloc; 0u128; first.count() as usize]?;
+    let mut before = (0, 0);
     'cells: for cell in 0..first.cells().count() {
-        join(&mut rows, first.met_by(cell), second.met_by(cell));
+        let met = (first.met_by(cell), second.met_by(cell));
+        if met != before {
+            join(&mut rows, met.0, met.1);
+            before = met;
+        }
     }
     Ok(rows)
 }
@@ -25,9 +30,9 @@ fn join(rows: &mut [u128], first: u128, second: u128)
     requires { (place : ℕ) → Has first place → place < length rows.old }
     ensures { IsJoined rows.old first second rows.new }
 {
-    'places: for place in 0..end_of(first) {
-        if has(first, place) {
-            rows[place as usize] |= second;
-        }
+    let mut rest = first;
+    'places: while rest != 0 {
+        rows[lowest(rest) as usize] |= second;
+        rest = without_lowest(rest);
     }
 }

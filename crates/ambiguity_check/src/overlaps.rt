@@ -4,10 +4,10 @@ ghost use Rattle.rate_expr.specs.Paths.{AreOf};
 ghost use Rattle.rate_expr.specs.Rates.{Expression};
 ghost use Rattle.rate_expr.specs.Readings.{AreDisjoint, Overlap};
 
-use crate::graph::{Graph, Move, Moves, Node, Phase};
+use crate::graph::{Graph, Move, Moves, Phase};
 use crate::meetings::meetings;
-use crate::readings::{behind, row};
-use crate::search::reach;
+use crate::reach::reach;
+use crate::readings::{all_behind, behind, row};
 use rate_expr::Positions;
 use std::alloc::{AllocError, Global};
 use symbolic_nfa::Nfa;
@@ -67,12 +67,12 @@ impl Graph for Pairs<'_> {
         }
     }
 
-    fn moves(&self, from: Node) -> Moves {
+    fn moves(&self, _: Phase, left: u32, rights: u128) -> Moves {
         Moves {
             stay: Move {
                 phase: Phase::Together,
-                left: behind(self.first, from.left),
-                right: behind(self.second, from.right),
+                left: behind(self.first, left),
+                right: all_behind(self.second, rights),
             },
             turn: None,
         }

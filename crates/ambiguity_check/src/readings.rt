@@ -5,7 +5,7 @@ ghost use Rattle.rate_expr.specs.Sets.{Has};
 ghost use Rattle.ambiguity_check.specs.Factorings.{GoesOnward};
 
 use rate_expr::Positions;
-use rate_expr::masks::has;
+use rate_expr::masks::{has, lowest, overlap, without_lowest};
 
 /// The positions behind a position.
 pub(crate) fn behind(positions: &Positions, position: u32) -> u128
@@ -16,6 +16,20 @@ pub(crate) fn behind(positions: &Positions, position: u32) -> u128
     } else {
         0
     }
+}
+
+/// The positions behind some of a mask.
+pub(crate) fn all_behind(positions: &Positions, mask: u128) -> u128
+    ensures { (next : ℕ) → Has result next
+        ↔ ((from : ℕ) × Has mask from × Follows positions.now from next) }
+{
+    let mut found = 0;
+    let mut rest = mask;
+    'positions: while rest != 0 {
+        found |= behind(positions, lowest(rest));
+        rest = without_lowest(rest);
+    }
+    found
 }
 
 /// The row of a place, which is empty past the last.
@@ -31,6 +45,19 @@ pub(crate) fn onward(positions: &Positions, position: u32) -> u128
 {
     let within = behind(positions, position);
     if has(positions.last(), position) {
+        within | positions.first()
+    } else {
+        within
+    }
+}
+
+/// The positions behind some of a mask in words that follow one another.
+pub(crate) fn all_onward(positions: &Positions, mask: u128) -> u128
+    ensures { (next : ℕ) → Has result next
+        ↔ ((from : ℕ) × Has mask from × GoesOnward positions.now from next) }
+{
+    let within = all_behind(positions, mask);
+    if overlap(mask, positions.last()) {
         within | positions.first()
     } else {
         within

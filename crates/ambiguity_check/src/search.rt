@@ -1,85 +1,87 @@
-//! The search for all nodes that walks of a graph lead to.
-ghost use Rattle.std.specs.Prelude.{◌≡◌, ◌<◌, IfOk, OnOk, ℕ};
-ghost use Rattle.language_base.specs.Limits.{max_positions};
+//! The search for all nodes that walks of a graph lead to, level by level.
+ghost use Rattle.std.specs.Prelude.{◌≡◌, ◌+◌, ◌<◌, ◌≤◌, IfOk, ℕ, MatchBool, sum};
 ghost use Rattle.ambiguity_check.specs.declared.graph.Node.{Node};
-ghost use Rattle.ambiguity_check.specs.Walks.{IsOf, IsIn};
-ghost use Rattle.ambiguity_check.specs.Marked.{IsMarked, AreReached};
-ghost use Rattle.ambiguity_check.specs.Found.{IsInRow, AreFound};
-ghost use Rattle.rate_expr.specs.Sets.{Has};
+ghost use Rattle.ambiguity_check.specs.Marked.{IsMarked, room};
+ghost use Rattle.ambiguity_check.specs.Levels.{IsLevel};
 
-use crate::graph::{Graph, Move, Moves, Node, Phase};
+use crate::graph::Graph;
+use crate::level::{mark_level, mark_moves};
 use crate::marks::Marks;
-use rate_expr::masks::{end_of, has};
 use std::alloc::{AllocError, Global};
+use std::marker::Model;
+use std::mem;
 
-/// The nodes that walks of the graph lead to.
-pub(crate) fn reach<G: Graph>(alloc: Global, graph: &G) -> Result<Marks, AllocError>
-    ensures { IfOk result
-        (AreReached (G.begins graph.now) (G.goes_on graph.now) (G.meet graph.now)) }
-{
-    let mut marks = Marks::new(alloc)?;
-    let mut waiting = Vec::new(alloc);
-    mark_moves(graph, graph.starts(), &mut marks, &mut waiting)?;
-    'waiting: while let Some(from) = waiting.pop() {
-        mark_moves(graph, graph.moves(from), &mut marks, &mut waiting)?;
-    }
-    Ok(marks)
+/// The nodes that walks of up to so many items lead to, and those of them that no shorter walk leads to.
+#[derive(Drop)]
+pub struct Search {
+    seen: Marks,
+    latest: Marks,
+    // Where the next level is gathered.
+    next: Marks,
 }
 
-// Marks what the moves lead to. What was not marked has to wait for its own moves.
-fn mark_moves<G: Graph>(
-    graph: &G,
-    moves: Moves,
-    marks: &mut Marks,
-    waiting: &mut Vec<Node>,
-) -> Result<(), AllocError>
-    ensures { OnOk result (AreFound (λ node. IsIn moves node × G.meet graph.now node)
-        marks.old waiting.old.items marks.new waiting.new.items) }
-{
-    mark_move(graph, moves.stay, marks, waiting)?;
-    if let Some(turn) = moves.turn {
-        mark_move(graph, turn, marks, waiting)?;
-    }
-    Ok(())
+impl Model for Search {
+    ghost use Rattle.ambiguity_check.specs.Levels.{Searched};
+
+    ghost Value = { Searched };
+
+    ghost view = { λ s. record { seen = s.seen; latest = s.latest } };
 }
 
-fn mark_move<G: Graph>(
-    graph: &G,
-    step: Move,
-    marks: &mut Marks,
-    waiting: &mut Vec<Node>,
-) -> Result<(), AllocError>
-    ensures { OnOk result (AreFound (λ node. IsOf step node × G.meet graph.now node)
-        marks.old waiting.old.items marks.new waiting.new.items) }
-{
-    'lefts: for left in 0..end_of(step.left) {
-        if has(step.left, left) {
-            let met = step.right & graph.meets(step.phase, left);
-            let found = met & !marks.row(step.phase, left);
-            mark_row(step.phase, left, found, marks, waiting)?;
-        }
+impl Search {
+    /// The nodes behind the first item.
+    pub fn begin<G: Graph>(alloc: Global, graph: &G) -> Result<Search, AllocError>
+        ensures { IfOk result
+            (IsLevel (G.begins graph.now) (G.goes_on graph.now) (G.meet graph.now) 1) }
+    {
+        let mut seen = Marks::new(alloc)?;
+        let mut latest = Marks::new(alloc)?;
+        mark_moves(graph, graph.starts(), &mut seen, &mut latest);
+        Ok(Search {
+            seen,
+            latest,
+            next: Marks::new(alloc)?,
+        })
     }
-    Ok(())
-}
 
-fn mark_row(
-    phase: Phase,
-    left: u32,
-    found: u128,
-    marks: &mut Marks,
-    waiting: &mut Vec<Node>,
-) -> Result<(), AllocError>
-    requires within { left < max_positions }
-    requires fresh { (node : Node) → IsInRow phase left found node → IsMarked marks.old node → ⊥ }
-    ensures { OnOk result (AreFound (IsInRow phase left found)
-        marks.old waiting.old.items marks.new waiting.new.items) }
-{
-    'rights: for right in 0..end_of(found) {
-        if has(found, right) {
-            let node = Node { phase, left, right };
-            marks.add(node);
-            waiting.push(node)?;
-        }
+    /// The nodes behind one more item.
+    pub fn advance<G: Graph>(&mut self, graph: &G)
+        ensures level { (items : ℕ)
+            → IsLevel (G.begins graph.now) (G.goes_on graph.now) (G.meet graph.now) items self.old
+            → IsLevel (G.begins graph.now) (G.goes_on graph.now) (G.meet graph.now) (items + 1) self.new }
+        ensures fewer { room self.new.seen + sum self.new.latest ≤ room self.old.seen }
+    {
+        self.next.clear();
+        mark_level(graph, &self.latest, &mut self.seen, &mut self.next);
+        mem::swap(&mut self.latest, &mut self.next);
     }
-    Ok(())
+
+    /// Whether no node was new behind the last item: then none is behind more.
+    pub fn is_over(&self) -> bool
+        ensures { MatchBool result ((node : Node) → IsMarked self.now.latest node → ⊥)
+            ((node : Node) × IsMarked self.now.latest node) }
+    {
+        self.latest.is_empty()
+    }
+
+    /// All nodes so far.
+    pub(crate) fn into_seen(self) -> Marks
+        ensures { result ≡ self.seen }
+    {
+        self.seen
+    }
+
+    /// The nodes so far.
+    pub fn seen(&self) -> &Marks
+        ensures { result.now ≡ self.now.seen }
+    {
+        &self.seen
+    }
+
+    /// Those that were not seen before the last item.
+    pub fn latest(&self) -> &Marks
+        ensures { result.now ≡ self.now.latest }
+    {
+        &self.latest
+    }
 }

@@ -1,20 +1,21 @@
 //! Whether words split in one way into a word of one rate and then one of another.
-ghost use Rattle.std.specs.Prelude.{◌≡◌, ◌↔◌, IfOk, MatchBool, IsSomeAnd};
+ghost use Rattle.std.specs.Prelude.{◌≡◌, ◌↔◌, ℕ, IfOk, MatchBool, IsSomeAnd};
 ghost use Rattle.rate_expr.specs.Paths.{AreOf};
 ghost use Rattle.rate_expr.specs.Rates.{Expression};
+ghost use Rattle.rate_expr.specs.Sets.{Has};
 ghost use Rattle.rate_expr.specs.Readings.{HaveOneSplit, HaveTwoSplits};
 ghost use Rattle.ambiguity_check.specs.declared.graph.Node.{Node};
 ghost use Rattle.ambiguity_check.specs.Walks.{IsOf};
 ghost use Rattle.ambiguity_check.specs.Splits.{left_of, right_of, TurnsTo, EndsSplits};
 ghost use Rattle.ambiguity_check.specs.Marked.{IsMarked};
 
-use crate::graph::{Graph, Move, Moves, Node, Phase};
+use crate::graph::{Graph, Move, Moves, Phase};
 use crate::marks::Marks;
 use crate::meetings::meetings;
-use crate::readings::{behind, row};
-use crate::search::reach;
+use crate::reach::reach;
+use crate::readings::{all_behind, behind, row};
 use rate_expr::Positions;
-use rate_expr::masks::has;
+use rate_expr::masks::{has, overlap};
 use std::alloc::{AllocError, Global};
 use symbolic_nfa::Nfa;
 
@@ -71,19 +72,20 @@ impl Splits<'_> {
     }
 
     // Where an item leads in front of which one of the first parts ends.
-    fn turn(&self, from: Node) -> Option<Move>
+    fn turn(&self, phase: Phase, left: u32, rights: u128) -> Option<Move>
         ensures { (node : Node) → IsSomeAnd result (λ step. IsOf step node)
-            ↔ TurnsTo self.now.first.now self.now.second.now from.phase from.left from.right node }
+            ↔ ((right : ℕ) × Has rights right
+            × TurnsTo self.now.first.now self.now.second.now phase left right node) }
     {
-        match from.phase {
-            Phase::Together => has(self.first.last(), from.left).then_some(Move {
+        match phase {
+            Phase::Together => has(self.first.last(), left).then_some(Move {
                 phase: Phase::Parted,
                 left: self.second.first(),
-                right: behind(self.first, from.right),
+                right: all_behind(self.first, rights),
             }),
-            Phase::Parted => has(self.first.last(), from.right).then_some(Move {
+            Phase::Parted => overlap(rights, self.first.last()).then_some(Move {
                 phase: Phase::Rejoined,
-                left: behind(self.second, from.left),
+                left: behind(self.second, left),
                 right: self.second.first(),
             }),
             Phase::Rejoined => None,
@@ -137,14 +139,14 @@ impl Graph for Splits<'_> {
         }
     }
 
-    fn moves(&self, from: Node) -> Moves {
+    fn moves(&self, phase: Phase, left: u32, rights: u128) -> Moves {
         Moves {
             stay: Move {
-                phase: from.phase,
-                left: behind(self.left(from.phase), from.left),
-                right: behind(self.right(from.phase), from.right),
+                phase,
+                left: behind(self.left(phase), left),
+                right: all_behind(self.right(phase), rights),
             },
-            turn: self.turn(from),
+            turn: self.turn(phase, left, rights),
         }
     }
 

@@ -3,6 +3,5 @@ use Rattle.ambiguity_check.proofs.Marking.{marks_read}
 use Rattle.ambiguity_check.proofs.marks.Marks.add.Goals as goal
 
 pub returns : goal.returns
-returns c = rw c.only.ensures
-    (marks_read _ _ _ _ _ c.self.view_is (ap (λ r. 3 * c.args.node.left + r) c.rank.ensures)
-    (grind arith) c.index-mask.ensures (search rules))
+returns c = marks_read _ _ _ _ _ _ _ c.self.view_is (ap (λ r. 3 * c.args.left + r) c.rank.ensures)
+    (grind arith) c.index-mask.ensures (search rules) (search rules)

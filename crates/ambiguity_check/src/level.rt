@@ -1,0 +1,63 @@
+//! What a search finds behind a level.
+ghost use Rattle.ambiguity_check.specs.Walks.{IsOf, IsIn};
+ghost use Rattle.ambiguity_check.specs.Found.{AreFound, IsBehind, IsBehindPhase};
+
+use crate::graph::{Graph, Move, Moves, Phase};
+use crate::marks::Marks;
+use rate_expr::masks::{lowest, without_lowest};
+
+/// Marks what is behind the nodes of a level.
+pub(crate) fn mark_level<G: Graph>(graph: &G, level: &Marks, seen: &mut Marks, next: &mut Marks)
+    ensures { AreFound (IsBehind (G.goes_on graph.now) (G.meet graph.now) level.now)
+        seen.old next.old seen.new next.new }
+{
+    mark_phase(graph, Phase::Together, level, seen, next);
+    mark_phase(graph, Phase::Parted, level, seen, next);
+    mark_phase(graph, Phase::Rejoined, level, seen, next);
+}
+
+// Each row of the level is followed to each row of its moves: n^2 pairs of rows for n places, where all are new at once.
+// Only where each row has but one node more in each level are n levels of n^2 pairs gone through.
+fn mark_phase<G: Graph>(
+    graph: &G,
+    phase: Phase,
+    level: &Marks,
+    seen: &mut Marks,
+    next: &mut Marks,
+)
+    ensures { AreFound (IsBehindPhase (G.goes_on graph.now) (G.meet graph.now) level.now phase)
+        seen.old next.old seen.new next.new }
+{
+    'lefts: for left in 0..level.end() {
+        let rights = level.row(phase, left);
+        if rights != 0 {
+            mark_moves(graph, graph.moves(phase, left, rights), seen, next);
+        }
+    }
+}
+
+/// Marks what the moves lead to. What was not seen is in the next level.
+pub(crate) fn mark_moves<G: Graph>(graph: &G, moves: Moves, seen: &mut Marks, next: &mut Marks)
+    ensures { AreFound (λ node. IsIn moves node × G.meet graph.now node)
+        seen.old next.old seen.new next.new }
+{
+    mark_move(graph, moves.stay, seen, next);
+    if let Some(turn) = moves.turn {
+        mark_move(graph, turn, seen, next);
+    }
+}
+
+fn mark_move<G: Graph>(graph: &G, step: Move, seen: &mut Marks, next: &mut Marks)
+    ensures { AreFound (λ node. IsOf step node × G.meet graph.now node)
+        seen.old next.old seen.new next.new }
+{
+    let mut rest = step.left;
+    'lefts: while rest != 0 {
+        let left = lowest(rest);
+        let met = step.right & graph.meets(step.phase, left);
+        let found = met & !seen.row(step.phase, left);
+        seen.add(step.phase, left, found);
+        next.add(step.phase, left, found);
+        rest = without_lowest(rest);
+    }
+}
