@@ -1,10 +1,12 @@
 -- For the prover. Two splits of one word, the left one of which ends the first part before the right one.
 use Rattle.std.specs.Prelude.{◌≡◌, ◌⊎◌, ℕ, true, List, slice_index}
+use Rattle.item_schema.specs.declared.column.Column.{Column}
 use Rattle.rate_expr.specs.Paths.{Follows}
 use Rattle.rate_expr.specs.Sets.{Sets, Has}
 use Rattle.ambiguity_check.specs.declared.graph.Node.{Node}
 use Rattle.ambiguity_check.specs.declared.graph.Phase.{Phase}
 use Rattle.ambiguity_check.specs.declared.graph.Phase.TheVariants.{Together, Parted, Rejoined}
+use Rattle.ambiguity_check.specs.Meetings.{AreMeetings}
 
 -- what the left one reads in a phase
 abbrev pub left_of : Sets → Sets → Phase → Sets
@@ -54,6 +56,12 @@ rows_in together parted rejoined Rejoined = rejoined
 abbrev pub MeetIn : List ℕ → List ℕ → List ℕ → Node → Type 0
 MeetIn together parted rejoined node =
     Has (slice_index (rows_in together parted rejoined node.phase) node.left) node.right
+
+-- the rows of each phase have the meetings of what is read in it
+abbrev pub AreRows : List Column → Sets → Sets → List ℕ → List ℕ → List ℕ → Type 0
+AreRows columns first second together parted rejoined = (phase : Phase)
+    → AreMeetings columns (left_of first second phase) (right_of first second phase)
+    (rows_in together parted rejoined phase)
 
 -- both end there: the right one with an empty second part, or each in its second part
 abbrev pub EndsSplits : Sets → Sets → Node → Type 0

@@ -1,8 +1,9 @@
 //! Whether words factor in one way into words of a rate.
-ghost use Rattle.std.specs.Prelude.{IfOk, MatchBool};
+ghost use Rattle.std.specs.Prelude.{◌≡◌, IfOk, MatchBool};
 ghost use Rattle.rate_expr.specs.Paths.{AreOf};
 ghost use Rattle.rate_expr.specs.Rates.{Expression};
 ghost use Rattle.rate_expr.specs.Readings.{HasOneFactoring, HasTwoFactorings};
+ghost use Rattle.ambiguity_check.specs.Meetings.{AreMeetings};
 
 use crate::graph::{Graph, Move, Moves, Phase};
 use crate::meetings::meetings;
@@ -23,10 +24,7 @@ pub fn one_factoring(alloc: Global, nfa: &Nfa) -> Result<bool, AllocError>
     if positions.nullable() {
         return Ok(false);
     }
-    let factorings = Factorings {
-        positions,
-        rows: meetings(alloc, nfa, nfa)?,
-    };
+    let factorings = Factorings::new(alloc, nfa)?;
     let marks = reach(alloc, &factorings)?;
     let ends = Move {
         phase: Phase::Parted,
@@ -36,12 +34,26 @@ pub fn one_factoring(alloc: Global, nfa: &Nfa) -> Result<bool, AllocError>
     Ok(!marks.has_some(ends))
 }
 
-// Two factorings of one word, the first factors of which differ, the left one's being the shorter:
-// the rate, and for each position those that some item meets with it.
+/// Two factorings of one word, the first factors of which differ, the left one's being the shorter.
 #[derive(Drop)]
-struct Factorings<'a> {
-    positions: &'a Positions,
-    rows: Vec<u128>,
+pub struct Factorings<'a> {
+    pub positions: &'a Positions,
+    /// For each position those that some item meets with it.
+    pub rows: Vec<u128>,
+}
+
+impl<'a> Factorings<'a> {
+    /// The factorings of words of the automaton's items.
+    pub fn new(alloc: Global, nfa: &'a Nfa) -> Result<Factorings<'a>, AllocError>
+        ensures sets { IfOk result (λ factorings. factorings.positions.now ≡ nfa.now.sets) }
+        ensures rows { IfOk result (λ factorings. AreMeetings nfa.now.cells.layout.columns
+            nfa.now.sets nfa.now.sets factorings.rows.items) }
+    {
+        Ok(Factorings {
+            positions: nfa.positions(),
+            rows: meetings(alloc, nfa, nfa)?,
+        })
+    }
 }
 
 impl Graph for Factorings<'_> {

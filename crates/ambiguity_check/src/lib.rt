@@ -3,6 +3,7 @@
 
 mod factorings;
 mod graph;
+mod laws;
 mod level;
 mod marks;
 mod meetings;
@@ -14,9 +15,10 @@ mod splits;
 #[cfg(test)]
 mod tests;
 
-pub use factorings::one_factoring;
+pub use factorings::{Factorings, one_factoring};
 pub use graph::{Graph, Move, Moves, Node, Phase};
 pub use marks::Marks;
-pub use overlaps::disjoint;
+pub use laws::{overlaps_are_walks, two_factorings_are_walks, two_splits_are_walks};
+pub use overlaps::{Pairs, disjoint};
 pub use search::Search;
-pub use splits::one_split;
+pub use splits::{Splits, one_split};

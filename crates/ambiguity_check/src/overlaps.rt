@@ -3,6 +3,7 @@ ghost use Rattle.std.specs.Prelude.{◌≡◌, IfOk, MatchBool};
 ghost use Rattle.rate_expr.specs.Paths.{AreOf};
 ghost use Rattle.rate_expr.specs.Rates.{Expression};
 ghost use Rattle.rate_expr.specs.Readings.{AreDisjoint, Overlap};
+ghost use Rattle.ambiguity_check.specs.Meetings.{AreMeetings};
 
 use crate::graph::{Graph, Move, Moves, Phase};
 use crate::meetings::meetings;
@@ -24,11 +25,7 @@ pub fn disjoint(alloc: Global, first: &Nfa, second: &Nfa) -> Result<bool, AllocE
     if left.nullable() && right.nullable() {
         return Ok(false);
     }
-    let pairs = Pairs {
-        first: left,
-        second: right,
-        rows: meetings(alloc, first, second)?,
-    };
+    let pairs = Pairs::new(alloc, first, second)?;
     let marks = reach(alloc, &pairs)?;
     let ends = Move {
         phase: Phase::Together,
@@ -38,13 +35,30 @@ pub fn disjoint(alloc: Global, first: &Nfa, second: &Nfa) -> Result<bool, AllocE
     Ok(!marks.has_some(ends))
 }
 
-// A reading by each of two rates, and for each position of the first those of the second that some
-// item meets with it.
+/// A reading by each of two rates.
 #[derive(Drop)]
-struct Pairs<'a> {
-    first: &'a Positions,
-    second: &'a Positions,
-    rows: Vec<u128>,
+pub struct Pairs<'a> {
+    pub first: &'a Positions,
+    pub second: &'a Positions,
+    /// For each position of the first those of the second that some item meets with it.
+    pub rows: Vec<u128>,
+}
+
+impl<'a> Pairs<'a> {
+    /// The readings of words of the automata's items.
+    pub fn new(alloc: Global, first: &'a Nfa, second: &'a Nfa) -> Result<Pairs<'a>, AllocError>
+        requires { first.now.cells ≡ second.now.cells }
+        ensures first { IfOk result (λ pairs. pairs.first.now ≡ first.now.sets) }
+        ensures second { IfOk result (λ pairs. pairs.second.now ≡ second.now.sets) }
+        ensures rows { IfOk result (λ pairs. AreMeetings first.now.cells.layout.columns
+            first.now.sets second.now.sets pairs.rows.items) }
+    {
+        Ok(Pairs {
+            first: first.positions(),
+            second: second.positions(),
+            rows: meetings(alloc, first, second)?,
+        })
+    }
 }
 
 impl Graph for Pairs<'_> {

@@ -56,10 +56,10 @@ pub(crate) fn all_onward(positions: &Positions, mask: u128) -> u128
     ensures { (next : ℕ) → Has result next
         ↔ ((from : ℕ) × Has mask from × GoesOnward positions.now from next) }
 {
-    let within = all_behind(positions, mask);
+    let followers = all_behind(positions, mask);
     if overlap(mask, positions.last()) {
-        within | positions.first()
+        followers | positions.first()
     } else {
-        within
+        followers
     }
 }

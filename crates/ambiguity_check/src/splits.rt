@@ -6,7 +6,7 @@ ghost use Rattle.rate_expr.specs.Sets.{Has};
 ghost use Rattle.rate_expr.specs.Readings.{HaveOneSplit, HaveTwoSplits};
 ghost use Rattle.ambiguity_check.specs.declared.graph.Node.{Node};
 ghost use Rattle.ambiguity_check.specs.Walks.{IsOf};
-ghost use Rattle.ambiguity_check.specs.Splits.{left_of, right_of, TurnsTo, EndsSplits};
+ghost use Rattle.ambiguity_check.specs.Splits.{left_of, right_of, TurnsTo, EndsSplits, AreRows};
 ghost use Rattle.ambiguity_check.specs.Marked.{IsMarked};
 
 use crate::graph::{Graph, Move, Moves, Phase};
@@ -27,27 +27,40 @@ pub fn one_split(alloc: Global, first: &Nfa, second: &Nfa) -> Result<bool, Alloc
         (HaveOneSplit first.now.cells.layout.columns r s)
         (HaveTwoSplits first.now.cells.layout.columns r s)) }
 {
-    let splits = Splits {
-        first: first.positions(),
-        second: second.positions(),
-        together: meetings(alloc, first, first)?,
-        parted: meetings(alloc, second, first)?,
-        rejoined: meetings(alloc, second, second)?,
-    };
+    let splits = Splits::new(alloc, first, second)?;
     let marks = reach(alloc, &splits)?;
     Ok(!splits.end_in(&marks))
 }
 
-// Two splits of one word, where the left one ends the first part before the right one: the two
-// rates, and in each phase for each position of the left one those of the right one that some item
-// meets with it.
+/// Two splits of one word, where the left one ends the first part before the right one. The rows of a
+/// phase have for each position of the left one those of the right one that some item meets with it.
 #[derive(Drop)]
-struct Splits<'a> {
-    first: &'a Positions,
-    second: &'a Positions,
-    together: Vec<u128>,
-    parted: Vec<u128>,
-    rejoined: Vec<u128>,
+pub struct Splits<'a> {
+    pub first: &'a Positions,
+    pub second: &'a Positions,
+    pub together: Vec<u128>,
+    pub parted: Vec<u128>,
+    pub rejoined: Vec<u128>,
+}
+
+impl<'a> Splits<'a> {
+    /// The splits of words of the automata's items.
+    pub fn new(alloc: Global, first: &'a Nfa, second: &'a Nfa) -> Result<Splits<'a>, AllocError>
+        requires { first.now.cells ≡ second.now.cells }
+        ensures first { IfOk result (λ splits. splits.first.now ≡ first.now.sets) }
+        ensures second { IfOk result (λ splits. splits.second.now ≡ second.now.sets) }
+        ensures rows { IfOk result (λ splits. AreRows first.now.cells.layout.columns
+            first.now.sets second.now.sets
+            splits.together.items splits.parted.items splits.rejoined.items) }
+    {
+        Ok(Splits {
+            first: first.positions(),
+            second: second.positions(),
+            together: meetings(alloc, first, first)?,
+            parted: meetings(alloc, second, first)?,
+            rejoined: meetings(alloc, second, second)?,
+        })
+    }
 }
 
 impl Splits<'_> {
@@ -92,8 +105,8 @@ impl Splits<'_> {
         }
     }
 
-    // Whether both end in some of the nodes.
-    fn end_in(&self, marks: &Marks) -> bool
+    /// Whether both end in some of the nodes.
+    pub fn end_in(&self, marks: &Marks) -> bool
         ensures { MatchBool result
             ((node : Node) × IsMarked marks.now node
             × EndsSplits self.now.first.now self.now.second.now node)

@@ -4,7 +4,8 @@ use Rattle.ambiguity_check.proofs.overlaps.disjoint.Goals.{else-nullable-via-the
 
 pub returns : goal.returns
 returns c = λ r s of_r of_s.
-    let reached = rw (c.positions-left.ensures, c.positions-right.ensures) at c.in_ok-marks.ensures in
+    let reached = rw (c.in_ok-pairs.ensures.first, c.in_ok-pairs.ensures.second) at
+    c.in_ok-marks.ensures in
     let found = rw (
       c.last.ensures,
       c.last-2.ensures,
@@ -12,7 +13,7 @@ returns c = λ r s of_r of_s.
       c.positions-right.ensures,
     ) at c.has_some.ensures in
     disjoint_says c.args.first.now.cells.layout.columns c.args.first.now.sets c.args.second.now.sets _
-    c.in_ok-meetings.ensures
+    c.in_ok-pairs.ensures.rows
     r s of_r of_s _ _ (λ left right. elim c.else-nullable.branch [
       | else-nullable-via-then-nullable+else-nullable-2 w ↦ cc
       | else-nullable-via-else-nullable w ↦ cc
