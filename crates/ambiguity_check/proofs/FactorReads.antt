@@ -140,8 +140,7 @@ module _ (columns : List Column) (sets : Sets) (rows : List ℕ)
         let whole : reads.first ++ join (one.words ++ one.last ∷ []) ≡ reads.read =
         ap (λ v. reads.first ++ v) (join_more one.words one.last) ∙ sym one.whole in
         let whole' : join (other.words ++ other.last ∷ [])
-        ≡ reads.read = join_more other.words other.last ∙ sym other.whole in
-        (
+        ≡ reads.read = join_more other.words other.last ∙ sym other.whole in (
           record {
             us = reads.first ∷ (one.words ++ one.last ∷ []);
             vs = other.words ++ other.last ∷ [];

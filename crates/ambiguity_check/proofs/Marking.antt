@@ -183,8 +183,7 @@ pub some_marked : (rows : List ℕ) (row mask : ℕ) → slice_index rows row �
     → mask < 2 ^ 128 → (node : Node) × IsMarked rows node
 some_marked rows row mask is some fits =
     let parts = row_parts row in
-    let place = trailing_zeros w128 mask in
-    (
+    let place = trailing_zeros w128 mask in (
       node_at parts.0 parts.1 place,
       rw (← parts.2, is) (has-lowest mask some fits),
     )

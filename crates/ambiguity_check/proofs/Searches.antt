@@ -74,18 +74,17 @@ module _ (begins : Node → Type 0) (goes_on : Node → Node → Type 0) (meet :
     behind_level node shortest = ⊎_elim
         (λ first. let begun = level.begun in absurd (omega (arith, first.0)))
         (λ more.
-            let same : more.0 ≡ items = omega (arith, more.2) in
-            let walk : Walk items more.1 = subst (λ (n : ℕ). Walk n more.1) same more.3 in
-            (
-              more.1,
-              (level.latest more.1).1 (record {
-                walk = walk;
-                none = λ fewer less walk'. shortest.none (fewer + 1) (omega arith)
-                    (later fewer more.1 node walk' more.4 more.5);
-              }),
-              more.4,
-              more.5,
-            ))
+        let same : more.0 ≡ items = omega (arith, more.2) in
+        let walk : Walk items more.1 = subst (λ (n : ℕ). Walk n more.1) same more.3 in (
+          more.1,
+          (level.latest more.1).1 (record {
+            walk = walk;
+            none = λ fewer less walk'. shortest.none (fewer + 1) (omega arith)
+                (later fewer more.1 node walk' more.4 more.5);
+          }),
+          more.4,
+          more.5,
+        ))
         (walk_cases begins goes_on meet (items + 1) node shortest.walk)
 
     -- behind one more item

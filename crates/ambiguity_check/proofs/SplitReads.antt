@@ -186,8 +186,10 @@ module _ (columns : List Column) (first second : Sets) (together parted rejoined
             v' = [];
             word = is;
             first = ((of_r u).1 spells, (of_s t).1 (spells_at second t left leads ends));
-            second = ((of_r (u ++ t)).1 (spells_at first (u ++ t) right leads' ends'),
-                (of_s []).1 nullable);
+            second = (
+              (of_r (u ++ t)).1 (spells_at first (u ++ t) right leads' ends'),
+              (of_s []).1 nullable,
+            );
             same = sym (append-nil (u ++ t));
             differ = longer u t (leads_some second t left leads);
           },

@@ -119,8 +119,12 @@ module _ (columns : List Column) (first second : Sets) (together parted rejoined
       let node = node_at Rejoined on.0 by_second'.0 in (
         node,
         as_many (length (u ++ t) + 1 + length z) (length (u ++ (t ++ item ∷ z))) node
-            (omega (arith, length-append u t, length-append u (t ++ item ∷ z),
-            length-append t (item ∷ z)))
+            (omega (
+              arith,
+              length-append u t,
+              length-append u (t ++ item ∷ z),
+              length-append t (item ∷ z),
+            ))
             (goes_along Rejoined z (length (u ++ t) + 1) through.2.0 by_second'.1.0 on.0 by_second'.0
             (later (length (u ++ t)) (node_at Parted through.0 on'.0)
             (node_at Rejoined through.2.0 by_second'.1.0)

@@ -1,4 +1,4 @@
-//! Walks to an end are the words with two readings, and have as many items.
+//! What a search that is over has seen, and which words the walks to an end are.
 ghost use Rattle.std.specs.Prelude.{◌≡◌, ◌≤◌, ◌<◌, ℕ, List, true};
 ghost use Rattle.item_schema.specs.declared.column.Column.{Column};
 ghost use Rattle.rate_expr.specs.Paths.{AreOf};
@@ -6,9 +6,24 @@ ghost use Rattle.rate_expr.specs.Rates.{Expression};
 ghost use Rattle.rate_expr.specs.Sets.{Sets};
 ghost use Rattle.ambiguity_check.specs.Factorings.{BeginsFactors, Factors, EndsFactors};
 ghost use Rattle.ambiguity_check.specs.Lengths.{EndsBehind, OverlapOf, TwoSplitsOf, TwoFactoringsOf};
+ghost use Rattle.ambiguity_check.specs.declared.graph.Node.{Node};
+ghost use Rattle.ambiguity_check.specs.Levels.{Searched, IsLevel};
+ghost use Rattle.ambiguity_check.specs.Marked.{IsMarked, AreReached};
 ghost use Rattle.ambiguity_check.specs.Meetings.{AreMeetings};
 ghost use Rattle.ambiguity_check.specs.Overlaps.{BeginsBoth, FollowsBoth, IsInRows, EndsBoth};
 ghost use Rattle.ambiguity_check.specs.Splits.{AreRows, BeginsSplits, GoesOn, MeetIn, EndsSplits};
+
+use crate::graph::Graph;
+
+/// Where a level is empty, all nodes are seen that walks lead to.
+pub fn all_are_seen_behind_an_empty_level<G: Graph>(graph: &G)
+    ensures { (items : ℕ) (search : Searched)
+        → IsLevel (G.begins graph.now) (G.goes_on graph.now) (G.meet graph.now) items search
+        → ((node : Node) → IsMarked search.latest node → ⊥)
+        → AreReached (G.begins graph.now) (G.goes_on graph.now) (G.meet graph.now) search.seen }
+{
+    let _ = graph;
+}
 
 /// A walk of pairs to an end is a word of both rates. Only the empty word has no walk.
 pub fn overlaps_are_walks()

@@ -18,13 +18,7 @@ pub(crate) fn mark_level<G: Graph>(graph: &G, level: &Marks, seen: &mut Marks, n
 
 // Each row of the level is followed to each row of its moves: n^2 pairs of rows for n places, where all are new at once.
 // Only where each row has but one node more in each level are n levels of n^2 pairs gone through.
-fn mark_phase<G: Graph>(
-    graph: &G,
-    phase: Phase,
-    level: &Marks,
-    seen: &mut Marks,
-    next: &mut Marks,
-)
+fn mark_phase<G: Graph>(graph: &G, phase: Phase, level: &Marks, seen: &mut Marks, next: &mut Marks)
     ensures { AreFound (IsBehindPhase (G.goes_on graph.now) (G.meet graph.now) level.now phase)
         seen.old next.old seen.new next.new }
 {

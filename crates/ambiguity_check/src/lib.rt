@@ -17,8 +17,11 @@ mod tests;
 
 pub use factorings::{Factorings, one_factoring};
 pub use graph::{Graph, Move, Moves, Node, Phase};
+pub use laws::{
+    all_are_seen_behind_an_empty_level, overlaps_are_walks, two_factorings_are_walks,
+    two_splits_are_walks,
+};
 pub use marks::Marks;
-pub use laws::{overlaps_are_walks, two_factorings_are_walks, two_splits_are_walks};
 pub use overlaps::{Pairs, disjoint};
 pub use search::Search;
 pub use splits::{Splits, one_split};

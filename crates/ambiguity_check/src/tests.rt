@@ -3,6 +3,7 @@
 // `ab;` a sequence, `ab|` a choice and `a*` a star.
 ghost use Rattle.std.specs.Prelude.{◌≡◌, IfSome};
 
+mod by_levels;
 mod by_words;
 
 use crate::{disjoint, one_factoring, one_split};
@@ -253,6 +254,8 @@ enum Shape {
     // The same again and again.
     Rounds(u32),
     Crowd(u32),
+    // So many, each of which may come behind each, and then an item of a number.
+    CrowdTo(u32, i64),
     Written(&'static str),
 }
 
@@ -261,6 +264,11 @@ fn rate_in(alloc: Global, shape: Shape) -> Option<Rate> {
         Shape::Items(count) => items(alloc, count),
         Shape::Rounds(count) => star(alloc, items(alloc, count)?),
         Shape::Crowd(count) => crowd(alloc, count),
+        Shape::CrowdTo(count, number) => {
+            let first = Box::new(alloc, crowd(alloc, count)?).ok()?;
+            let second = Box::new(alloc, Rate::One(Pred::Eq(0, number))).ok()?;
+            Some(Rate::Seq(first, second))
+        }
         Shape::Written(text) => rate_of(alloc, text),
     }
 }
@@ -308,6 +316,25 @@ fn rates_may_have_128_positions(rt: HostRuntime) {
         ),
         // An item in either part.
         (Asked::OneSplit, Shape::Crowd(24), Shape::Crowd(24), false),
+    ] {
+        let got = answer_in(rt.alloc(), asked, first, second);
+        assert_eq!(rt; got, Some(want));
+    }
+}
+
+#[test]
+fn each_of_128_positions_may_come_behind_each(rt: HostRuntime) {
+    let ends_in_1 = Shape::CrowdTo(127, 1);
+    for (asked, first, second, want) in [
+        // No item is 1 and 2.
+        (Asked::Disjoint, ends_in_1, Shape::CrowdTo(127, 2), true),
+        (Asked::Disjoint, ends_in_1, Shape::Crowd(128), false),
+        // The second part is the last item.
+        (Asked::OneSplit, ends_in_1, Shape::Written("2"), true),
+        // 11 ends the first part with either.
+        (Asked::OneSplit, ends_in_1, Shape::Crowd(128), false),
+        // 11 is one factor or two.
+        (Asked::OneFactoring, ends_in_1, ends_in_1, false),
     ] {
         let got = answer_in(rt.alloc(), asked, first, second);
         assert_eq!(rt; got, Some(want));

@@ -1,0 +1,7 @@
+use Rattle.ambiguity_check.proofs.Searches.{level_over}
+use Rattle.ambiguity_check.proofs.laws.all_are_seen_behind_an_empty_level.Goals as goal
+
+pub returns : goal.returns
+returns g c = λ items search level none.
+    level_over (g.G.Graph.begins c.args.graph.now) (g.G.Graph.goes_on c.args.graph.now)
+    (g.G.Graph.meet c.args.graph.now) items search level none
