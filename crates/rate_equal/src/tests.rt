@@ -78,6 +78,15 @@ fn rounds(alloc: Global, length: usize) -> Result<Rate, AllocError> {
     star(alloc, round)
 }
 
+// Words whose length is no multiple of the number.
+fn off_rounds(alloc: Global, length: usize) -> Result<Rate, AllocError> {
+    let mut rate = seq(alloc, rounds(alloc, length)?, one(Pred::Any))?;
+    for _ in 2..length {
+        rate = seq(alloc, rate, alt(alloc, Rate::Empty, one(Pred::Any))?)?;
+    }
+    Ok(rate)
+}
+
 // Words in which a 1 stands so many items before the last.
 fn one_before(alloc: Global, count: usize) -> Result<Rate, AllocError> {
     let mut rate = seq(alloc, all(alloc)?, one(Pred::Eq(0, 1)))?;
@@ -120,6 +129,19 @@ fn rounds_of_other_lengths_differ(rt: HostRuntime) -> Result<(), Fail> {
     let (threes, fives) = (rounds(alloc, 3)?, rounds(alloc, 5)?);
     assert_eq!(rt; compare(&rt, alloc, &threes, &fives)?, Ok(false));
     assert_eq!(rt; compare(&rt, alloc, &fives, &fives)?, Ok(true));
+    Ok(())
+}
+
+// Of words of at least one item, those of 63 are the first whose length is a multiple of both 7 and 9.
+#[test]
+fn rates_may_differ_at_63_items_first(rt: HostRuntime) -> Result<(), Fail> {
+    let alloc = rt.alloc();
+    let off = alt(alloc, off_rounds(alloc, 7)?, off_rounds(alloc, 9)?)?;
+    assert_eq!(rt; has_all(&rt, alloc, &off)?, Ok(false));
+    let all_but_63s = alt(alloc, Rate::Empty, off)?;
+    assert_eq!(rt; compare(&rt, alloc, &all_but_63s, &all(alloc)?)?, Ok(false));
+    let whole = alt(alloc, all_but_63s, rounds(alloc, 63)?)?;
+    assert_eq!(rt; compare(&rt, alloc, &whole, &all(alloc)?)?, Ok(true));
     Ok(())
 }
 
