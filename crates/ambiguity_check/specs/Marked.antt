@@ -1,4 +1,4 @@
--- For the prover. Sets of nodes as masks.
+-- Statement. Sets of nodes as masks.
 use Rattle.std.specs.Prelude.{◌≡◌, ◌+◌, ◌*◌, ◌≤◌, ℕ, ◌⊎◌, List, slice_index, sum, sum_by, ◌-◌, ◌^◌}
 use Rattle.rate_expr.specs.Sets.{Has}
 use Rattle.ambiguity_check.specs.declared.graph.Phase.{Phase}

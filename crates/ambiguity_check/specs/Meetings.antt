@@ -1,4 +1,4 @@
--- For the prover. Which places of two automata some item meets together.
+-- Statement. Which places of two automata some item meets together.
 use Rattle.std.specs.Prelude.{◌≡◌, ◌↔◌, ◌⊎◌, ℕ, List, length, slice_index}
 use Rattle.value_ops.specs.declared.field.Field.{Field}
 use Rattle.item_schema.specs.declared.column.Column.{Column}

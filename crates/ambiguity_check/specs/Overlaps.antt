@@ -1,4 +1,4 @@
--- For the prover. Two readings of one word, each by a rate of its own.
+-- Statement. Two readings of one word, each by a rate of its own.
 use Rattle.std.specs.Prelude.{◌≡◌, ℕ, List, slice_index}
 use Rattle.rate_expr.specs.Paths.{Follows}
 use Rattle.rate_expr.specs.Sets.{Sets, Has}

@@ -1,4 +1,4 @@
--- For the prover. Two splits of one word, the left one of which ends the first part before the right one.
+-- Statement. Two splits of one word, the left one of which ends the first part before the right one.
 use Rattle.std.specs.Prelude.{◌≡◌, ◌⊎◌, ℕ, true, List, slice_index}
 use Rattle.item_schema.specs.declared.column.Column.{Column}
 use Rattle.rate_expr.specs.Paths.{Follows}

@@ -1,4 +1,4 @@
--- For the prover. Walks of two readings of one word.
+-- Statement. Walks of two readings of one word.
 use Rattle.std.specs.Prelude.{◌≡◌, ◌+◌, ℕ, ◌⊎◌, IsSomeAnd}
 use Rattle.rate_expr.specs.Sets.{Has}
 use Rattle.ambiguity_check.specs.declared.graph.Phase.{Phase}
