@@ -64,7 +64,7 @@ emits_some columns D decides word is =
       | inr none ↦ ([], inr (none, refl))
     ]
 
-outputs_some : (columns : List Column) (D : Word → Value → Type 0) → Decides columns D
+pub outputs_some : (columns : List Column) (D : Word → Value → Type 0) → Decides columns D
     → (before word : Word) → IsWordOf columns before → IsWordOf columns word
     → (items : Word) × Outputs D before word items
 outputs_some columns D decides before [] is rest = emits_some columns D decides before is
@@ -122,7 +122,7 @@ with_type : (columns : List Column) (f : Qre) (word : Word) → IsClear bound co
 with_type columns f word clear is (v, den) = (v, den, den_typed bound columns f word v clear is den)
 
 -- whether there is a value, since it is decided whether the word is in the rate
-decided : (columns : List Column) (f : Qre) (word : Word) → IsClear bound columns f → IsWordOf columns word
+pub decided : (columns : List Column) (f : Qre) (word : Word) → IsClear bound columns f → IsWordOf columns word
     → (In (rate_of f) word → (v : Value) × Den f word v)
     → ((v : Value) × Den f word v) ⊎ ((v : Value) → Den f word v → ⊥)
 decided columns f word clear is some =

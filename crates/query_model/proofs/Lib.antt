@@ -1,3 +1,4 @@
+pub mod Decided
 pub mod Defined
 pub mod Expressed
 pub mod Inside

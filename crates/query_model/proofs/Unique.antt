@@ -62,7 +62,7 @@ emits_one columns D one word items others is emits emits' =
       ]
     ]
 
-outputs_one : (columns : List Column) (D : Word → Value → Type 0) → IsOne columns D
+pub outputs_one : (columns : List Column) (D : Word → Value → Type 0) → IsOne columns D
     → (before word items others : Word) → IsWordOf columns before → IsWordOf columns word
     → Outputs D before word items → Outputs D before word others → items ≡ others
 outputs_one columns D one before [] items others is rest outputs outputs' =

@@ -2,8 +2,10 @@ pub mod Bounds
 pub mod Checked
 pub mod Denotation
 pub mod Following
+pub mod Monitors
 pub mod Queries
 pub mod QueryTypes
 pub mod Rates
 pub mod Rules
+pub mod Shapes
 pub mod Sizes

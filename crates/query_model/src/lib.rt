@@ -12,7 +12,7 @@ pub use checked::Checked;
 pub use follower::Follower;
 pub use language_base::{Refusal, Rule, Span};
 pub use laws::{
-    a_word_has_at_most_one_value, queries_have_values_on_their_rates,
-    values_have_the_types_of_their_queries,
+    a_word_has_at_most_one_value, each_word_has_a_value_or_none,
+    queries_have_values_on_their_rates, values_have_the_types_of_their_queries,
 };
 pub use query::{Query, Shape};

@@ -2,8 +2,8 @@
 ghost use Rattle.std.specs.Prelude.{◌<◌};
 
 use crate::{
-    Query, Shape, Span, a_word_has_at_most_one_value, queries_have_values_on_their_rates,
-    values_have_the_types_of_their_queries,
+    Query, Shape, Span, a_word_has_at_most_one_value, each_word_has_a_value_or_none,
+    queries_have_values_on_their_rates, values_have_the_types_of_their_queries,
 };
 use predicate_cells::Pred;
 use rate_expr::Rate;
@@ -74,6 +74,7 @@ fn a_copy_has_the_places_of_the_query(rt: HostRuntime) -> Result<(), Fail> {
     };
     assert_eq!(rt; (item.span.from, *first), (37, 0));
     a_word_has_at_most_one_value();
+    each_word_has_a_value_or_none();
     queries_have_values_on_their_rates();
     values_have_the_types_of_their_queries();
     Ok(())

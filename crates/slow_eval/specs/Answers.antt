@@ -7,7 +7,7 @@ use Rattle.query_model.specs.Following.{IsAnswer}
 use Rattle.query_model.specs.Queries.{Qre}
 use Rattle.query_model.specs.Rules.{Standing, IsClear}
 use Rattle.slow_eval.specs.Rows.{answer_at}
-use Rattle.slow_eval.specs.Shapes.{HasPlainShapes}
+use Rattle.query_model.specs.Shapes.{HasPlainShapes}
 
 -- the query keeps the rules on columns of which the word is one, and has only the shapes that are searched
 pub record CanBeRead (query : Qre) (word : Word) : Type 0 where

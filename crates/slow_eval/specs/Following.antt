@@ -9,7 +9,7 @@ use Rattle.query_model.specs.Following.{IsAnswer}
 use Rattle.query_model.specs.Queries.{Qre, plain_of}
 use Rattle.query_model.specs.QueryTypes.{type_of}
 use Rattle.slow_eval.specs.declared.slow.Slow.{Slow}
-use Rattle.slow_eval.specs.Shapes.{HasPlainShapes}
+use Rattle.query_model.specs.Shapes.{HasPlainShapes}
 
 -- its query, and the columns of its stream
 abbrev pub query_of : Slow → Qre

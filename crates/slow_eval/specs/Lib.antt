@@ -2,4 +2,3 @@ pub mod Answers
 pub mod Following
 pub mod Laws
 pub mod Rows
-pub mod Shapes

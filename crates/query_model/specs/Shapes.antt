@@ -1,4 +1,4 @@
--- Statement. The queries that the search reads.
+-- Statement. Queries without composition and collection.
 use Rattle.query_model.specs.Queries.{Qre, atom, eps, choice, split, iter, combine, apply, compose, collect}
 
 -- no compose and no collect stands in the query
