@@ -1,8 +1,11 @@
 -- Statement. The texts that are written. Each is one line and ends with an LF.
-use Rattle.std.specs.Prelude.{ℕ, List, ◌++◌, codes, decimal, Option, Some, None}
+use Rattle.std.specs.Prelude.{ℕ, ◌+◌, ◌/◌, ◌%◌, ◌==◌, ◌&&◌, ◌||◌, not, nat_le, nat_lt, List, [], ◌∷◌, ◌++◌, codes, decimal, Option, Some, None, if◌then◌else◌}
 use Rattle.std.specs.Fmt.{signed_decimal}
+use Rattle.std.specs.List.{flat_map}
 use Rattle.value_ops.specs.declared.scalar.Scalar.{Scalar}
 use Rattle.value_ops.specs.declared.scalar.Scalar.TheVariants.{Number, Overflow, DivZero}
+use Rattle.value_ops.specs.declared.value.Value.{Value}
+use Rattle.value_ops.specs.declared.value.Value.TheVariants as value
 use Rattle.item_schema.specs.declared.stop.Cause.{Cause}
 use Rattle.item_schema.specs.declared.stop.Cause.TheVariants as cause
 use Rattle.item_schema.specs.declared.stop.Skip.{Skip}
@@ -10,11 +13,49 @@ use Rattle.language_base.specs.declared.refusal.Refusal.{Refusal}
 use Rattle.language_base.specs.declared.rule.Rule.{Rule}
 use Rattle.language_base.specs.declared.rule.Rule.TheVariants.{Long, Token, Term, Depth, Form, Name, Nested, Size, Literal, Type_, Cells, Empty, Choice, Split, Iter, Reach, Rates, Compose}
 
+-- a number, or why there is none
+abbrev pub scalar_text : Scalar → List ℕ
+scalar_text (Number number) = signed_decimal number
+scalar_text Overflow = codes "overflow"
+scalar_text DivZero = codes "divzero"
+
+-- an upper-case hexadecimal digit
+abbrev pub hex_digit : ℕ → ℕ
+hex_digit digit = if nat_lt digit 10 then 48 + digit else 55 + digit
+
+-- a byte of a key: from a space to `~` as it is, but for the quote and the backslash, and every other
+-- byte by its two digits
+abbrev pub byte_text : ℕ → List ℕ
+byte_text byte =
+    if nat_le 32 byte && nat_le byte 126 && not (byte == 34 || byte == 92) then byte ∷ []
+    else codes "\\x" ++ hex_digit (byte / 16) ∷ hex_digit (byte % 16) ∷ []
+
+-- a key with its quotes
+abbrev pub key_text : List ℕ → List ℕ
+key_text key = 34 ∷ flat_map byte_text key ++ 34 ∷ []
+
+-- an entry: its key, a colon and its scalar
+abbrev pub entry_text : List ℕ × Scalar → List ℕ
+entry_text entry = key_text entry.0 ++ codes ":" ++ scalar_text entry.1
+
+-- entries, with a comma between them
+abbrev pub entries_text : List (List ℕ × Scalar) → List ℕ
+entries_text [] = []
+entries_text (entry ∷ []) = entry_text entry
+entries_text (entry ∷ others) = entry_text entry ++ codes "," ++ entries_text others
+
+-- entries in braces
+abbrev pub table_text : List (List ℕ × Scalar) → List ℕ
+table_text entries = codes "{" ++ entries_text entries ++ codes "}"
+
+-- a scalar or a table
+abbrev pub value_text : Value → List ℕ
+value_text (value.Scalar scalar) = scalar_text scalar
+value_text (value.Table entries) = table_text entries
+
 -- a value, or that there is none
-abbrev pub answer_text : Option Scalar → List ℕ
-answer_text (Some (Number number)) = signed_decimal number ++ codes "\n"
-answer_text (Some Overflow) = codes "overflow\n"
-answer_text (Some DivZero) = codes "divzero\n"
+abbrev pub answer_text : Option Value → List ℕ
+answer_text (Some value) = value_text value ++ codes "\n"
 answer_text None = codes "undefined\n"
 
 -- a cause by its name

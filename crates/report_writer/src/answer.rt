@@ -1,30 +1,44 @@
 //! The text of an answer.
-ghost use Rattle.std.specs.Prelude.{◌≡◌, IfOk};
-ghost use Rattle.report_writer.specs.Texts.{answer_text};
+ghost use Rattle.std.specs.Option.{option_copied};
+ghost use Rattle.std.specs.Prelude.{◌≡◌, ◌++◌, IfOk, OnOk};
+ghost use Rattle.report_writer.specs.Texts.{answer_text, scalar_text, value_text};
 
+use crate::table_text::push_table;
 use itoa::Buffer;
 use std::alloc::{AllocError, Global};
-use value_ops::{Bytes, Scalar};
+use value_ops::{Bytes, Scalar, Value};
 
 /// The text of a value, or of none.
-pub fn answer_text(alloc: Global, answer: Option<Scalar>) -> Result<Bytes, AllocError>
-    ensures { IfOk result (λ text. text ≡ answer_text answer) }
+pub fn answer_text(alloc: Global, answer: Option<&Value>) -> Result<Bytes, AllocError>
+    ensures { IfOk result (λ text. text ≡ answer_text (option_copied answer.entry)) }
 {
-    match answer {
-        Some(Scalar::Number(number)) => number_text(alloc, number),
-        Some(Scalar::Overflow) => Bytes::from_slice(alloc, b"overflow\n"),
-        Some(Scalar::DivZero) => Bytes::from_slice(alloc, b"divzero\n"),
-        None => Bytes::from_slice(alloc, b"undefined\n"),
+    let Some(value) = answer else {
+        return Bytes::from_slice(alloc, b"undefined\n");
+    };
+    let mut text = Vec::new(alloc);
+    push_value(value, &mut text)?;
+    text.push(b'\n')?;
+    Ok(Bytes::from_vec(text))
+}
+
+fn push_value(value: &Value, text: &mut Vec<u8>) -> Result<(), AllocError>
+    ensures { OnOk result (text.new.items ≡ text.old.items ++ value_text value.now) }
+{
+    match value {
+        Value::Scalar(scalar) => push_scalar(*scalar, text),
+        Value::Table(table) => push_table(table, text),
     }
 }
 
-fn number_text(alloc: Global, number: i64) -> Result<Bytes, AllocError>
-    ensures { IfOk result (λ text. text ≡ answer_text (Some (Scalar.Number number))) }
+pub(crate) fn push_scalar(scalar: Scalar, text: &mut Vec<u8>) -> Result<(), AllocError>
+    ensures { OnOk result (text.new.items ≡ text.old.items ++ scalar_text scalar) }
 {
-    let mut buffer = Buffer::new();
-    let digits = buffer.format(number).as_bytes();
-    let mut text = Vec::with_capacity(alloc, digits.len() + 1)?;
-    text.extend_from_slice(digits)?;
-    text.push(b'\n')?;
-    Ok(Bytes::from_vec(text))
+    match scalar {
+        Scalar::Number(number) => {
+            let mut buffer = Buffer::new();
+            text.extend_from_slice(buffer.format(number).as_bytes())
+        }
+        Scalar::Overflow => text.extend_from_slice(b"overflow"),
+        Scalar::DivZero => text.extend_from_slice(b"divzero"),
+    }
 }

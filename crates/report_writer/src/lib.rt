@@ -2,8 +2,10 @@
 #![tactic(auto)]
 
 mod answer;
+mod key_text;
 mod refusal;
 mod skip;
+mod table_text;
 #[cfg(test)]
 mod tests;
 

@@ -2,20 +2,63 @@
 use crate::{answer_text, refusal_text, skip_text};
 use item_schema::{Cause, Skip};
 use language_base::{Refusal, Rule, Span};
+use std::alloc::{AllocError, Global};
 use std::test::Fail;
-use value_ops::Scalar;
+use value_ops::{Scalar, Table, Value};
 
 #[test]
-fn answers_are_values_or_none(rt: HostRuntime) -> Result<(), Fail> {
-    for (answer, wanted) in [
-        (Some(Scalar::Number(i64::MIN)), "-9223372036854775808\n"),
-        (Some(Scalar::Number(0)), "0\n"),
-        (Some(Scalar::Overflow), "overflow\n"),
-        (Some(Scalar::DivZero), "divzero\n"),
-        (None, "undefined\n"),
+fn answers_are_scalars_or_none(rt: HostRuntime) -> Result<(), Fail> {
+    for (scalar, wanted) in [
+        (Scalar::Number(i64::MIN), "-9223372036854775808\n"),
+        (Scalar::Number(i64::MAX), "9223372036854775807\n"),
+        (Scalar::Number(0), "0\n"),
+        (Scalar::Overflow, "overflow\n"),
+        (Scalar::DivZero, "divzero\n"),
     ] {
-        let text = answer_text(rt.alloc(), answer)?;
+        let text = answer_text(rt.alloc(), Some(&Value::Scalar(scalar)))?;
         assert_eq!(rt; text.as_slice(), wanted.as_bytes());
+    }
+    let text = answer_text(rt.alloc(), None)?;
+    assert_eq!(rt; text.as_slice(), b"undefined\n".as_slice());
+    Ok(())
+}
+
+// The table of these entries, but for keys that come again.
+fn table_of(alloc: Global, entries: &[(&[u8], Scalar)]) -> Result<Value, AllocError> {
+    let mut table = Table::new(alloc);
+    for (key, scalar) in entries {
+        if table.get(key).is_none() {
+            table.push(key, *scalar)?;
+        }
+    }
+    Ok(Value::Table(table))
+}
+
+#[test]
+fn tables_are_entries_in_braces(rt: HostRuntime) -> Result<(), Fail> {
+    let table: [(&[(&[u8], Scalar)], &[u8]); 4] = [
+        (&[], b"{}\n"),
+        (&[(b"north", Scalar::Number(-3))], b"{\"north\":-3}\n"),
+        (
+            &[
+                (b"b", Scalar::Overflow),
+                (b"", Scalar::Number(i64::MIN)),
+                (b"a", Scalar::DivZero),
+            ],
+            b"{\"b\":overflow,\"\":-9223372036854775808,\"a\":divzero}\n",
+        ),
+        (
+            &[
+                (b"\"\\ ~!", Scalar::Number(1)),
+                (b"\x00\x1f\x7f\x80\xff,:", Scalar::Number(i64::MAX)),
+            ],
+            b"{\"\\x22\\x5C ~!\":1,\"\\x00\\x1F\\x7F\\x80\\xFF,:\":9223372036854775807}\n",
+        ),
+    ];
+    for (entries, wanted) in table {
+        let value = table_of(rt.alloc(), entries)?;
+        let text = answer_text(rt.alloc(), Some(&value))?;
+        assert_eq!(rt; text.as_slice(), wanted);
     }
     Ok(())
 }
