@@ -1,0 +1,80 @@
+//! Adds up the last column of the items of standard input and writes the sum behind each: what lines, items and answers
+//! cost without a query. The words are the kinds of the columns.
+#![tactic(auto)]
+
+use io_edge::{LazyFile, Line, Lines, Sink, StdoutSink, write_all};
+use item_schema::{Column, Item, ItemStop, Kind, Schema, are_columns, read_item};
+use language_base::Bytes;
+use report_writer::{answer_text, skip_text};
+use std::alloc::{AllocError, Global};
+use std::{env, io};
+use value_ops::{Scalar, Value};
+
+fn main(rt: HostRuntime) -> io::Result<()> {
+    let alloc = rt.alloc();
+    let words: Vec<String> = env::args(&rt)?.skip(1).collect(alloc)?;
+    let columns = columns_of(alloc, &words)?;
+    if !are_columns(&columns) {
+        return println!(rt; "the words are the kinds of 1 to 32 columns: int, text, hundredths");
+    }
+    let schema = Schema::new(false, columns);
+    let mut source = LazyFile::new(rt, alloc, "-")?;
+    let mut lines = Lines::new(alloc)?;
+    let mut out = StdoutSink::new(rt);
+    let mut sum = Scalar::Number(0);
+    for _ in 0..u64::MAX {
+        let Ok(Line::Whole(line)) = lines.next(&mut source) else {
+            return Ok(());
+        };
+        let text = reply_to(alloc, &schema, line, &mut sum)?;
+        if write_all(&mut out, text.as_slice()).is_err() {
+            return Ok(());
+        }
+    }
+    Ok(())
+}
+
+fn columns_of(alloc: Global, words: &[String]) -> Result<Vec<Column>, AllocError> {
+    let mut columns = Vec::new(alloc);
+    for (index, word) in words.iter().enumerate() {
+        let name = format!(in alloc; "{index}")?;
+        columns.push(Column {
+            name: Bytes::from_slice(alloc, name.as_bytes())?,
+            kind: kind_of(word.as_str()),
+        })?;
+    }
+    Ok(columns)
+}
+
+fn kind_of(word: &str) -> Kind {
+    match word {
+        "text" => Kind::Text,
+        "hundredths" => Kind::Fixed(2),
+        _ => Kind::Int,
+    }
+}
+
+/// What is written for a line: the sum behind it, or why it is no item.
+fn reply_to(
+    alloc: Global,
+    schema: &Schema,
+    line: &[u8],
+    sum: &mut Scalar,
+) -> Result<Bytes, AllocError> {
+    match read_item(alloc, schema, line) {
+        Ok(item) => {
+            *sum = sum_with(*sum, &item);
+            answer_text(alloc, Some(&Value::Scalar(*sum)))
+        }
+        Err(ItemStop::Skip(skip)) => skip_text(alloc, skip),
+        Err(ItemStop::Memory) => Err(AllocError),
+    }
+}
+
+/// The sum with the number in the last column, if one stands there.
+fn sum_with(sum: Scalar, item: &Item) -> Scalar {
+    match item.fields().last().and_then(|field| field.scalar()) {
+        Some(scalar) => sum + scalar,
+        None => sum,
+    }
+}
