@@ -1,4 +1,4 @@
--- Statement. Two factorings of one word, the first factors of which differ, the left one's being the shorter.
+-- Statement. Two factorings of one word whose first factors differ, the left one's being the shorter.
 use Rattle.std.specs.Prelude.{◌≡◌, ◌⊎◌, ℕ}
 use Rattle.rate_expr.specs.Paths.{Follows}
 use Rattle.rate_expr.specs.Sets.{Sets, Has}

@@ -1,4 +1,4 @@
--- Statement. Two splits of one word, the left one of which ends the first part before the right one.
+-- Statement. Two factorings of one word whose first factors differ, the left one's being the shorter.
 use Rattle.std.specs.Prelude.{◌≡◌, ◌⊎◌, ℕ, true, List, slice_index}
 use Rattle.item_schema.specs.declared.column.Column.{Column}
 use Rattle.rate_expr.specs.Paths.{Follows}

@@ -56,8 +56,8 @@ pub fn two_splits_are_walks()
         (MeetIn together parted rejoined) (EndsSplits first second) items }
 {}
 
-/// A walk of factorings to an end is a word with two factorings. Where factors that are the same are in
-/// front of those that differ, the walk is of the items behind them.
+/// A walk of factorings to an end is a word with two factorings. Where factors that are the same are
+/// in front of those that differ, the walk is of the items behind them.
 pub fn two_factorings_are_walks()
     ensures sound { (columns : List Column) (sets : Sets) (rows : List ℕ)
         → AreMeetings columns sets sets rows → (r : Expression) → AreOf sets r → (items : ℕ)

@@ -16,8 +16,9 @@ pub(crate) fn mark_level<G: Graph>(graph: &G, level: &Marks, seen: &mut Marks, n
     mark_phase(graph, Phase::Rejoined, level, seen, next);
 }
 
-// Each row of the level is followed to each row of its moves: n^2 pairs of rows for n places, where all are new at once.
-// Only where each row has but one node more in each level are n levels of n^2 pairs gone through.
+// Each row of the level is followed to each row of its moves, so for n places a level costs n^2 steps
+// at most. A row is in at most n levels, those in which one of its nodes is the latest: the worst,
+// where each has one new node in each of n levels, is n^3 steps.
 fn mark_phase<G: Graph>(graph: &G, phase: Phase, level: &Marks, seen: &mut Marks, next: &mut Marks)
     ensures { AreFound (IsBehindPhase (G.goes_on graph.now) (G.meet graph.now) level.now phase)
         seen.old next.old seen.new next.new }

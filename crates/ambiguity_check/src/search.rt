@@ -11,7 +11,8 @@ use std::alloc::{AllocError, Global};
 use std::marker::Model;
 use std::mem;
 
-/// The nodes that walks of up to so many items lead to, and those of them that no shorter walk leads to.
+/// The nodes that walks of up to so many items lead to, and those of them that no shorter walk leads
+/// to.
 #[derive(Drop)]
 pub struct Search {
     seen: Marks,
@@ -48,7 +49,8 @@ impl Search {
     pub fn advance<G: Graph>(&mut self, graph: &G)
         ensures level { (items : ℕ)
             → IsLevel (G.begins graph.now) (G.goes_on graph.now) (G.meet graph.now) items self.old
-            → IsLevel (G.begins graph.now) (G.goes_on graph.now) (G.meet graph.now) (items + 1) self.new }
+            → IsLevel (G.begins graph.now) (G.goes_on graph.now) (G.meet graph.now)
+            (items + 1) self.new }
         ensures fewer { room self.new.seen + sum self.new.latest ≤ room self.old.seen }
     {
         self.next.clear();

@@ -32,8 +32,9 @@ pub fn one_split(alloc: Global, first: &Nfa, second: &Nfa) -> Result<bool, Alloc
     Ok(!splits.end_in(&marks))
 }
 
-/// Two splits of one word, where the left one ends the first part before the right one. The rows of a
-/// phase have for each position of the left one those of the right one that some item meets with it.
+/// Two splits of one word, where the left one ends the first part before the right one. The rows of
+/// a phase have for each position of the left one those of the right one that some item meets with
+/// it.
 #[derive(Drop)]
 pub struct Splits<'a> {
     pub first: &'a Positions,

@@ -62,8 +62,8 @@ fn a_level_has_the_nodes_that_no_shorter_walk_leads_to(rt: HostRuntime) {
     ];
     assert_eq!(rt; pairs.as_slice(), want.as_slice());
 
-    // The first item is in the first part of both, or in the second of the left one; the next one may be in
-    // the second part of both.
+    // The first item is in the first part of both, or in the second of the left one; the next one
+    // may be in the second part of both.
     let splits = levels_of_splits(rt.alloc(), "x*", "x*", 2).expect(&rt, "two levels");
     let want = [[1, 0, 1, 0, 0, 0], [0, 0, 0, 0, 1, 0]];
     assert_eq!(rt; splits.as_slice(), want.as_slice());
