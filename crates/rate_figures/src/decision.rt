@@ -1,7 +1,8 @@
 //! Decisions on an automaton and itself.
 
 use ambiguity_check::{disjoint, one_factoring, one_split};
-use std::alloc::{AllocError, Global};
+use rate_equal::{EqualStop, same};
+use std::alloc::Global;
 use symbolic_nfa::Nfa;
 
 /// What is decided.
@@ -10,11 +11,12 @@ pub(crate) enum Decision {
     Disjoint,
     OneSplit,
     OneFactoring,
+    Same,
 }
 
 impl Decision {
     /// The last answer of so many.
-    pub(crate) fn repeated(self, alloc: Global, nfa: &Nfa, times: u32) -> Result<bool, AllocError> {
+    pub(crate) fn repeated(self, alloc: Global, nfa: &Nfa, times: u32) -> Result<bool, EqualStop> {
         let mut answer = true;
         for _ in 0..times {
             answer = self.made(alloc, nfa)?;
@@ -22,11 +24,12 @@ impl Decision {
         Ok(answer)
     }
 
-    fn made(self, alloc: Global, nfa: &Nfa) -> Result<bool, AllocError> {
+    fn made(self, alloc: Global, nfa: &Nfa) -> Result<bool, EqualStop> {
         match self {
-            Decision::Disjoint => disjoint(alloc, nfa, nfa),
-            Decision::OneSplit => one_split(alloc, nfa, nfa),
-            Decision::OneFactoring => one_factoring(alloc, nfa),
+            Decision::Disjoint => Ok(disjoint(alloc, nfa, nfa)?),
+            Decision::OneSplit => Ok(one_split(alloc, nfa, nfa)?),
+            Decision::OneFactoring => Ok(one_factoring(alloc, nfa)?),
+            Decision::Same => same(alloc, nfa, nfa),
         }
     }
 }

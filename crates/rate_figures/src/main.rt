@@ -7,6 +7,8 @@ mod work;
 
 use crate::crowd::crowd;
 use crate::work::Work;
+use rate_equal::EqualStop;
+use std::alloc::AllocError;
 use std::{env, io};
 
 /// The words are a kind of work, how many positions the automaton has, how many numbers each of its two columns is
@@ -15,13 +17,17 @@ fn main(rt: HostRuntime) -> io::Result<()> {
     let alloc = rt.alloc();
     let words: Vec<String> = env::args(&rt)?.skip(1).collect(alloc)?;
     let Some(work) = Work::named(words.get(0).map_or("", |word| word.as_str())) else {
-        return println!(rt; "step, extends, disjoint, one_split or one_factoring");
+        return println!(rt; "step, extends, disjoint, one_split, one_factoring or same");
     };
     match crowd(alloc, number(&words, 1), number(&words, 2))? {
         Some(nfa) => {
-            let answer = work.done(alloc, &nfa, number(&words, 3))?;
             let (positions, cells) = (nfa.count(), nfa.cells().count());
-            println!(rt; "{positions} positions, {cells} cells: {answer}")
+            print!(rt; "{positions} positions, {cells} cells: ")?;
+            match work.done(alloc, &nfa, number(&words, 3)) {
+                Ok(answer) => println!(rt; "{answer}"),
+                Err(EqualStop::Reach) => println!(rt; "too many pairs of states"),
+                Err(EqualStop::Memory) => Err(AllocError.into()),
+            }
         }
         None => println!(rt; "too many positions or cells"),
     }

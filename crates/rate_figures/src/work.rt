@@ -4,6 +4,7 @@ ghost use Rattle.predicate_cells.specs.Cells.{cell_count};
 
 use crate::decision::Decision;
 use item_schema::Item;
+use rate_equal::EqualStop;
 use std::alloc::{AllocError, Global};
 use symbolic_nfa::{Nfa, State};
 use value_ops::Field;
@@ -26,12 +27,13 @@ impl Work {
             "disjoint" => Some(Work::Decide(Decision::Disjoint)),
             "one_split" => Some(Work::Decide(Decision::OneSplit)),
             "one_factoring" => Some(Work::Decide(Decision::OneFactoring)),
+            "same" => Some(Work::Decide(Decision::Same)),
             _ => None,
         }
     }
 
     /// The last answer of so many.
-    pub(crate) fn done(self, alloc: Global, nfa: &Nfa, times: u32) -> Result<bool, AllocError> {
+    pub(crate) fn done(self, alloc: Global, nfa: &Nfa, times: u32) -> Result<bool, EqualStop> {
         let cell = nfa.cells().of(&greatest(alloc)?);
         match self {
             Work::Step => Ok(nfa.accepts(behind(nfa, cell, times))),
