@@ -5,7 +5,7 @@ use Rattle.std.proofs.lemmas.Nat.{or_lt, pow_pos}
 use Rattle.std.proofs.lemmas.Bool.Decides.{eqb_tells}
 use Rattle.rate_expr.specs.Paths.{Follows}
 use Rattle.rate_expr.specs.Sets.{Sets, AreSets, Has, IsLowest}
-use Rattle.symbolic_nfa.specs.States.{GoesOn}
+use Rattle.symbolic_nfa.specs.States.{AreWaysOn, GoesOn}
 use Rattle.rate_expr.specs.declared.state.State.TheVariants.{At}
 use Rattle.symbolic_nfa.proofs.Lists.{all-at, one-at}
 use Rattle.rate_expr.proofs.MaskMembers.{has_first, has_or, has_second, has_zero}
@@ -73,12 +73,15 @@ gathered-step sets mask rest found low after follow are so_far is exact less rea
 
 -- all of them
 pub gathered-end :
-    (sets : Sets) (mask found next : ℕ) → AreGathered sets mask 0 found
-    → Has found next ↔ GoesOn sets (At mask) next
-gathered-end sets mask found next all = (
-  λ has. all.sound next has,
-  λ (from, has, follows). elim (all.whole from next has follows) [
-    | inl waits ↦ absurd (has_zero from waits)
-    | inr has_next ↦ has_next
-  ],
-)
+    (sets : Sets) (mask found : ℕ) → AreGathered sets mask 0 found
+    → AreWaysOn sets (At mask) found
+gathered-end sets mask found all = record {
+  within = all.within;
+  exact = λ next. (
+    λ has. all.sound next has,
+    λ (from, has, follows). elim (all.whole from next has follows) [
+      | inl waits ↦ absurd (has_zero from waits)
+      | inr has_next ↦ has_next
+    ],
+  );
+}

@@ -1,12 +1,13 @@
 -- What masks say of states.
-use Rattle.std.proofs.Common.{◌≡◌, ℕ, Bool, List, ◌↔◌, get_or, sym, subst, ◌<◌, IsTrue, bit_and}
+use Rattle.std.proofs.Common.{◌≡◌, ℕ, Bool, List, ◌↔◌, ◌^◌, get_or, length, sym, subst, ◌<◌, IsTrue, bit_and, arith}
+use Rattle.std.proofs.lemmas.Nat.{and_le_r}
 use Rattle.std.proofs.lemmas.Option.{slice_get_read}
 use Rattle.value_ops.specs.declared.field.Field.{Field}
 use Rattle.predicate_cells.specs.Cells.{Partition, cell_count, IsIn}
-use Rattle.rate_expr.specs.Sets.{Sets, Has}
+use Rattle.rate_expr.specs.Sets.{Sets}
 use Rattle.symbolic_nfa.specs.Automata.{Automaton, IsMet}
 use Rattle.symbolic_nfa.specs.Growth.{IsUseful}
-use Rattle.symbolic_nfa.specs.States.{GoesOn, StepsTo, Extends}
+use Rattle.symbolic_nfa.specs.States.{AreWaysOn, GoesOn, StepsTo, Extends}
 use Rattle.symbolic_nfa.specs.Tables.{AreTables}
 use Rattle.rate_expr.specs.declared.state.State.{State}
 use Rattle.rate_expr.specs.declared.state.State.TheVariants.{Initial, At}
@@ -14,15 +15,15 @@ use Rattle.rate_expr.proofs.MaskSets.{AreMeeting, has-and, has-and_both}
 
 -- the positions in which words go on, of those that the items of the cell meet
 pub steps_to-and :
-    (sets : Sets) (cells : Partition) (state : State) (cell on met : ℕ) (item : List Field)
-    → ((next : ℕ) → Has on next ↔ GoesOn sets state next) → IsMet sets cells cell met
-    → IsIn cells cell item → StepsTo sets state item (bit_and on met)
-steps_to-and sets cells state cell on met item exact is_met is_in = record {
+    (sets : Sets) (cells : Partition) (state : State) (cell ways met : ℕ) (item : List Field)
+    → AreWaysOn sets state ways → IsMet sets cells cell met
+    → IsIn cells cell item → StepsTo sets state item (bit_and ways met)
+steps_to-and sets cells state cell ways met item are is_met is_in = record {
   sound = λ next has.
-      let both = has-and on met next has in
-      ((exact next).0 both.0, is_met.sound next item is_in both.1);
+      let both = has-and ways met next has in
+      ((are.exact next).0 both.0, is_met.sound next item is_in both.1);
   whole = λ next goes_on meets.
-      has-and_both on met next ((exact next).1 goes_on) (is_met.whole next item is_in meets);
+      has-and_both ways met next ((are.exact next).1 goes_on) (is_met.whole next item is_in meets);
 }
 
 -- the table has the mask of each cell
@@ -41,20 +42,23 @@ pub tables_of :
 tables_of nfa seen met growing begins same tables =
     subst (λ (a : Automaton). AreTables a met growing begins) same tables
 
--- so a step over the tables is one
-pub step-at :
-    (nfa seen : Automaton) (met : List ℕ) (growing : ℕ) (begins : Bool) → nfa ≡ seen
-    → AreTables nfa met growing begins → (state : State) (cell on mask : ℕ)
-    → cell < cell_count seen.cells → mask ≡ get_or met cell mask
-    → ((next : ℕ) → Has on next ↔ GoesOn nfa.sets state next)
-    → (item : List Field) → IsIn seen.cells cell item → StepsTo seen.sets state item (bit_and on mask)
-step-at nfa seen met growing begins same tables state cell on mask below read exact item is_in =
-    let is_met =
-    met-at seen met growing begins cell mask (tables_of nfa seen met growing begins same tables)
-    below read in
-    let exact_there =
-    subst (λ (a : Automaton). (next : ℕ) → Has on next ↔ GoesOn a.sets state next) same exact in
-    steps_to-and seen.sets seen.cells state cell on mask item exact_there is_met is_in
+-- so the table's mask of the cell gives a step along the ways on
+module _ (nfa seen : Automaton) (met : List ℕ) (growing : ℕ) (begins : Bool) (same : nfa ≡ seen)
+    (tables : AreTables nfa met growing begins) (ways cell mask : ℕ)
+    (below : cell < cell_count seen.cells) (read : mask ≡ get_or met cell mask) where
+  is_met : IsMet seen.sets seen.cells cell mask
+  is_met =
+      met-at seen met growing begins cell mask (tables_of nfa seen met growing begins same tables)
+      below read
+
+  pub step_along-at :
+      (state : State) → AreWaysOn seen.sets state ways
+      → (item : List Field) → IsIn seen.cells cell item → StepsTo seen.sets state item (bit_and ways mask)
+  step_along-at state are item is_in =
+      steps_to-and seen.sets seen.cells state cell ways mask item are is_met is_in
+
+  pub step_along-below : bit_and ways mask < 2 ^ length seen.sets.preds
+  step_along-below = let met_below = is_met.within in omega (arith, and_le_r ways mask)
 
 -- a state extends exactly where a word goes on from it in a useful position
 extends-useful :

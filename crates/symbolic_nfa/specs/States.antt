@@ -1,5 +1,5 @@
 -- Statement. Where an automaton goes from its states.
-use Rattle.std.specs.Prelude.{◌≡◌, ℕ, true, List, [], ◌∷◌}
+use Rattle.std.specs.Prelude.{◌≡◌, ◌<◌, ◌^◌, ◌↔◌, ℕ, true, List, [], ◌∷◌, length}
 use Rattle.value_ops.specs.declared.field.Field.{Field}
 use Rattle.rate_expr.specs.Paths.{Follows, Meets, LeadsOn}
 use Rattle.rate_expr.specs.Sets.{Sets, Has}
@@ -16,6 +16,11 @@ IsMetBy nfa cell mask = IsMet nfa.sets nfa.cells cell mask
 abbrev pub GoesOn : Sets → State → ℕ → Type 0
 GoesOn sets Initial next = Has sets.first next
 GoesOn sets (At mask) next = (from : ℕ) × Has mask from × Follows sets from next
+
+-- the mask has exactly the positions in which a word may go on from the state
+pub record AreWaysOn (sets : Sets) (state : State) (ways : ℕ) : Type 0 where
+  pub within : ways < 2 ^ length sets.preds
+  pub exact : (next : ℕ) → Has ways next ↔ GoesOn sets state next
 
 -- one more item leads from the state to the mask of all positions in which the word goes on and that
 -- the item meets

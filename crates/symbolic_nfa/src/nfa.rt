@@ -4,8 +4,9 @@ ghost use Rattle.value_ops.specs.declared.field.Field.{Field};
 ghost use Rattle.predicate_cells.specs.Cells.{cell_count, IsIn};
 ghost use Rattle.rate_expr.specs.Behind.{IsStateOf};
 ghost use Rattle.rate_expr.specs.Sets.{AreSets};
+ghost use Rattle.rate_expr.specs.declared.state.State.{State};
 ghost use Rattle.symbolic_nfa.specs.Automata.{AreDecided};
-ghost use Rattle.symbolic_nfa.specs.States.{Extends, IsAccepted, IsMetBy, Steps};
+ghost use Rattle.symbolic_nfa.specs.States.{AreWaysOn, Extends, IsAccepted, IsMetBy, Steps};
 
 use crate::ends::{before, ending_through};
 use crate::met::{met_by_cells, union_of};
@@ -129,6 +130,25 @@ impl Nfa {
         }
     }
 
+    /// The positions in which a word may go on from the state, whatever its next item.
+    pub fn ways_on(&self, state: State) -> u128
+        requires { IsStateOf self.now.sets state }
+        ensures { AreWaysOn self.now.sets state result }
+    {
+        ways_on(&self.positions, state)
+    }
+
+    /// The state after one more item of the cell, from one whose ways on are these.
+    pub fn step_along(&self, ways: u128, cell: u32) -> State
+        requires { cell < cell_count self.now.cells }
+        ensures steps { (state : State) → AreWaysOn self.now.sets state ways
+            → (item : List Field) → IsIn self.now.cells cell item
+            → Steps self.now.sets state item result }
+        ensures state { IsStateOf self.now.sets result }
+    {
+        State::At(ways & self.met[cell as usize])
+    }
+
     /// The state after one more item of the cell.
     pub fn step(&self, state: State, cell: u32) -> State
         requires state { IsStateOf self.now.sets state }
@@ -137,7 +157,7 @@ impl Nfa {
             → Steps self.now.sets state item result }
         ensures state { IsStateOf self.now.sets result }
     {
-        State::At(ways_on(&self.positions, state) & self.met[cell as usize])
+        self.step_along(self.ways_on(state), cell)
     }
 
     /// Whether a word may end in the state.

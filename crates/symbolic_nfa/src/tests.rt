@@ -215,6 +215,39 @@ fn items_may_have_128_positions(rt: HostRuntime) -> Result<(), Fail> {
     Ok(assert_wide_choice(&rt, rt.alloc())?)
 }
 
+fn ways_on(rt: &impl Abort, nfa: &Nfa, state: State) -> u128 {
+    assert!(rt; nfa.has_state(state));
+    nfa.ways_on(state)
+}
+
+fn step_along(
+    rt: &impl Abort,
+    alloc: Global,
+    nfa: &Nfa,
+    ways: u128,
+    digit: u8,
+) -> Result<State, AllocError> {
+    let cell = cell_of(alloc, nfa.cells(), digit)?;
+    assert!(rt; cell < nfa.cells().count());
+    Ok(nfa.step_along(ways, cell))
+}
+
+// Words go on in both positions, and behind the last they do not.
+fn assert_ways(rt: &impl Abort, alloc: Global, cells: &Cells) -> Result<(), AllocError> {
+    let nfa = nfa_of(rt, alloc, "x*1;", cells)?;
+    let ways = ways_on(rt, &nfa, State::Initial);
+    assert!(rt; ways == 0b_11 && ways_on(rt, &nfa, State::At(0b_10)) == 0);
+    assert_eq!(rt; step_along(rt, alloc, &nfa, ways, b'1')?, State::At(0b_11));
+    assert_eq!(rt; step_along(rt, alloc, &nfa, ways, b'2')?, State::At(0b_01));
+    Ok(())
+}
+
+#[test]
+fn ways_on_are_found_once_for_all_items(rt: HostRuntime) -> Result<(), Fail> {
+    let cells = cells_of(&rt, rt.alloc(), "1x")?;
+    Ok(assert_ways(&rt, rt.alloc(), &cells)?)
+}
+
 fn can_read(rt: &impl Abort, alloc: Global, rate: &str, cells: &str) -> Result<bool, CellStop> {
     let positions = positions_of(rt, alloc, rate)?;
     Ok(Nfa::can_read(&positions, &cells_of(rt, alloc, cells)?))

@@ -1,9 +1,8 @@
 //! Where words go on from a state.
-ghost use Rattle.std.specs.Prelude.{ℕ, ◌<◌, ◌^◌, ◌↔◌, length};
+ghost use Rattle.std.specs.Prelude.{◌<◌, ◌^◌, length};
 ghost use Rattle.rate_expr.specs.Behind.{IsStateOf};
-ghost use Rattle.rate_expr.specs.Sets.{AreSets, Has};
-ghost use Rattle.rate_expr.specs.declared.state.State.{State};
-ghost use Rattle.symbolic_nfa.specs.States.{GoesOn};
+ghost use Rattle.rate_expr.specs.Sets.{AreSets};
+ghost use Rattle.symbolic_nfa.specs.States.{AreWaysOn};
 
 use rate_expr::masks::{lowest, without_lowest};
 use rate_expr::{Positions, State};
@@ -12,8 +11,7 @@ use rate_expr::{Positions, State};
 pub(crate) fn ways_on(positions: &Positions, state: State) -> u128
     requires sets { AreSets positions.now }
     requires state { IsStateOf positions.now state }
-    ensures exact { (next : ℕ) → Has result next ↔ GoesOn positions.now state next }
-    ensures within { result < 2 ^ length positions.now.preds }
+    ensures { AreWaysOn positions.now state result }
 {
     match state {
         State::Initial => positions.first(),
@@ -25,8 +23,7 @@ pub(crate) fn ways_on(positions: &Positions, state: State) -> u128
 fn behind(positions: &Positions, mask: u128) -> u128
     requires sets { AreSets positions.now }
     requires state { mask < 2 ^ length positions.now.preds }
-    ensures exact { (next : ℕ) → Has result next ↔ GoesOn positions.now (State.At mask) next }
-    ensures within { result < 2 ^ length positions.now.preds }
+    ensures { AreWaysOn positions.now (State.At mask) result }
 {
     let mut found = 0;
     let mut rest = mask;
