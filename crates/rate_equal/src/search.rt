@@ -53,10 +53,12 @@ fn go_on(
     ensures too_many { result ≡ Err Reach → ReachPairs first.now.cells.layout.columns
         first.now.sets second.now.sets (max_reach + 1) }
 {
+    let first_ways = first.ways_on(from.first);
+    let second_ways = second.ways_on(from.second);
     'letters: for &letter in letters {
         let pair = Pair {
-            first: first.step(from.first, letter),
-            second: second.step(from.second, letter),
+            first: first.step_along(first_ways, letter),
+            second: second.step_along(second_ways, letter),
         };
         pairs.insert(pair)?;
         if pairs.len() > MAX_REACH {
