@@ -1,39 +1,64 @@
--- Statement. How a program is judged.
-use Rattle.std.specs.Prelude.{◌≡◌, ◌≤◌, ◌<◌, ℕ, [], ◌∷◌, Ok, Err}
-use Rattle.language_base.specs.Limits.{max_cells}
+-- Statement. How a program is judged: pass by pass, and the first pass that finds a broken rule decides. The passes of the text,
+-- which make the program, come before.
+use Rattle.std.specs.Prelude.{◌≡◌, Option, None, Some, Result, Ok, Err}
 use Rattle.language_base.specs.declared.refusal.Refusal.{Refusal}
-use Rattle.language_base.specs.declared.rule.Rule.TheVariants.{Cells, Empty}
-use Rattle.predicate_cells.specs.Cells.{cell_count}
-use Rattle.predicate_cells.specs.Met.{IsMet, IsUnmet}
-use Rattle.query_syntax.specs.Programs.{Program}
-use Rattle.type_checker.specs.Plan.{Plan}
-use Rattle.type_checker.specs.Resolved.{Resolution, resolved}
-use Rattle.type_checker.specs.Steps.{refusal}
+use Rattle.language_base.specs.declared.rule.Rule.TheVariants.{Cells, Form, Name, Size}
+use Rattle.item_schema.specs.Layout.{Layout}
+use Rattle.item_schema.specs.declared.column.Column.{Column}
+use Rattle.query_model.specs.Monitors.{Monitor}
+use Rattle.query_model.specs.Queries.{Qre}
+use Rattle.query_model.specs.Rules.{free}
+use Rattle.query_syntax.specs.Programs.{Program, Stream}
+use Rattle.query_syntax.specs.Queries.{Query}
+use Rattle.query_syntax.specs.Spans.{query_span}
+use Rattle.type_checker.specs.Layouts.{layout_of}
+use Rattle.type_checker.specs.Names.{first_repeated}
+use Rattle.type_checker.specs.Nodes.{Node, nodes_in, places_of}
+use Rattle.type_checker.specs.Resolved.{outside, resolved}
+use Rattle.type_checker.specs.Sizes.{derives_many_cells, first_node, has_few_cells, has_few_nodes, has_few_slots, has_many_positions}
+use Rattle.type_checker.specs.Steps.{◌>>=◌, because, provided, unless}
+use Rattle.type_checker.specs.Unbuilt.{first_unbuilt}
+use Rattle.type_checker.specs.WordRules.{FirstBroken}
 
--- a sum that is run, or a refusal
+-- Positions and slots: the rate of each node has at most 128 positions, and little is kept for the whole.
+unfoldable pub limited : Layout → Query → Qre → Result (Unit {0}) Refusal
+limited layout tree query = do
+  positions ← because Size (unless (first_node has_many_positions layout.columns query (places_of tree)))
+  provided Size (query_span tree) (has_few_slots query)
+
+-- Cells: first those of the stream's items, then those of the values inside.
+unfoldable pub parted : Stream → Query → Qre → Result (Unit {0}) Refusal
+parted stream tree query = do
+  cells ← provided Cells stream.span (has_few_cells (layout_of stream).columns query)
+  because Cells (unless (first_node (λ node. derives_many_cells node.columns node.query)
+      (layout_of stream).columns query (places_of tree)))
+
+-- All passes but the last: terms that are not built, columns that are declared twice, nodes, names and types,
+-- positions and slots, cells.
+unfoldable pub measured : Program → Result Qre Refusal
+measured program = do
+  built ← because Form (unless (first_unbuilt program))
+  distinct ← because Name (unless (first_repeated program.stream.columns))
+  few ← provided Size (query_span program.main.query) (has_few_nodes program.main.query)
+  query ← resolved outside (layout_of program.stream).columns program.main.query
+  small ← limited (layout_of program.stream) program.main.query query
+  cells ← parted program.stream program.main.query query
+  Ok query
+
+-- the last: the rules of words at the nodes of the query
+abbrev pub BreaksFirst : Program → Qre → Option Refusal → Type 0
+BreaksFirst program query why = FirstBroken
+    (nodes_in (layout_of program.stream).columns free query) (places_of program.main.query) why
+
+-- a query that is run, or a refusal
 pub data Verdict : Type 0 where
-  sum : Plan → Verdict
+  accepted : Monitor → Verdict
   refused : Refusal → Verdict
 
--- how many cells the items have under the sum's predicate
-abbrev pub cells_of : Plan → ℕ
-cells_of plan = cell_count (record { layout = plan.layout; preds = plan.predicate ∷ [] })
-
--- some item meets the predicate
-abbrev pub HasItem : Plan → Type 0
-HasItem plan = IsMet plan.layout.columns plan.predicate
-
--- no item does
-abbrev pub HasNoItem : Plan → Type 0
-HasNoItem plan = IsUnmet plan.layout.columns plan.predicate
-
--- the program is judged so: it is a sum of few enough cells, some item of which meets its predicate, or it is refused by
--- the first rule that it breaks
+-- the program is judged so
 pub data IsJudged (program : Program) : Verdict → Type 0 where
-  accepted : (found : Resolution) → resolved program ≡ Ok found → cells_of found.plan ≤ max_cells → HasItem found.plan
-      → IsJudged program (sum found.plan)
-  unresolved : (why : Refusal) → resolved program ≡ Err why → IsJudged program (refused why)
-  many_cells : (found : Resolution) → resolved program ≡ Ok found → max_cells < cells_of found.plan
-      → IsJudged program (refused (refusal Cells found.stream))
-  empty : (found : Resolution) → resolved program ≡ Ok found → cells_of found.plan ≤ max_cells → HasNoItem found.plan
-      → IsJudged program (refused (refusal Empty found.atom))
+  sound : (query : Qre) → measured program ≡ Ok query → BreaksFirst program query None
+      → IsJudged program (accepted (record { layout = layout_of program.stream; query = query }))
+  unmeasured : (why : Refusal) → measured program ≡ Err why → IsJudged program (refused why)
+  ambiguous : (query : Qre) (why : Refusal) → measured program ≡ Ok query
+      → BreaksFirst program query (Some why) → IsJudged program (refused why)

@@ -1,33 +1,90 @@
--- For the prover. What a program is resolved to, as it lies in memory.
-use Rattle.std.specs.Prelude.{◌≡◌, Result, Err}
+-- For the prover. What a query, or an expression in it, is resolved to.
+use Rattle.std.specs.Prelude.{◌≡◌, true, List, map, Option, Some, Result, Ok}
+use Rattle.item_schema.specs.declared.column.Column.{Column}
 use Rattle.language_base.specs.declared.refusal.Refusal.{Refusal}
-use Rattle.query_syntax.specs.Plain.{plain_predicate}
-use Rattle.type_checker.specs.Built as plain
-use Rattle.type_checker.specs.Plan.{plan_of}
+use Rattle.language_base.specs.declared.rule.Rule.TheVariants.{Name, Type_}
+use Rattle.language_base.specs.declared.span.Span.{Span}
+use Rattle.query_model.specs.Queries.{Qre, plain_of}
+use Rattle.query_model.specs.QueryTypes.{of_columns, type_of_expression}
+use Rattle.query_model.specs.Rules.{IsTyped}
+use Rattle.query_syntax.specs.Expressions as e
+use Rattle.query_syntax.specs.Queries as q
+use Rattle.type_checker.specs.Expressions.{Scope, expression_over, is_number, is_typed}
+use Rattle.type_checker.specs.Findings.{IsResolved, IsUnresolved, places_in}
+use Rattle.type_checker.specs.Nodes.{places_of}
 use Rattle.type_checker.specs.Resolved as whole
-use Rattle.type_checker.specs.declared.built.Atom.{Atom}
-use Rattle.type_checker.specs.declared.built.Shape.{Shape}
-use Rattle.type_checker.specs.declared.resolved.Resolution.{Resolution}
+use Rattle.type_checker.specs.Resolved.{Nesting}
+use Rattle.type_checker.specs.Steps.{◌>>=◌, found, provided}
+use Rattle.type_checker.specs.declared.naming.Typed.{Typed}
+use Rattle.type_checker.specs.declared.shapes.Items.{Items}
 use Rattle.type_checker.specs.declared.stop.CheckStop.{CheckStop}
-use Rattle.type_checker.specs.declared.stop.CheckStop.TheVariants.{Refused, Memory}
+use Rattle.value_ops.specs.Expressions.{Expression}
+use Rattle.value_ops.specs.Expressions as values
+use Rattle.value_ops.specs.Typing.{IsNumber, Types}
+use Rattle.value_ops.specs.declared.expr.Expr.{Expr}
+use Rattle.value_ops.specs.declared.value.ValueType.{ValueType}
 
--- an atom
-abbrev pub plain_atom : Atom → plain.Atom
-plain_atom atom = record {
-  predicate = plain_predicate atom.predicate.now;
-  value = atom.value.now;
-  span = atom.span;
-}
+-- the columns of a stream
+abbrev pub columns_of : Items → List Column
+columns_of items = items.schema.now.columns
 
--- a sum before names are resolved
-abbrev pub plain_shape : Shape → plain.Shape
-plain_shape shape = record { atom = plain_atom shape.atom; first = shape.first }
+-- the types are those of the columns
+abbrev pub HasTypes : Items → Type 0
+HasTypes items = items.types.now ≡ (of_columns (columns_of items)).fields
 
--- a sum with its places
-abbrev pub plain_resolution : Resolution → whole.Resolution
-plain_resolution found = record { plan = plan_of found.sum; stream = found.stream; atom = found.atom }
+-- a query as it is written is resolved to this one
+pub record IsMade (columns : List Column) (tree : q.Query) (made : Typed) : Type 0 where
+  pub resolved : (nesting : Nesting)
+      → whole.resolved nesting columns tree ≡ Ok (plain_of made.query.shape)
+  pub typed : IsResolved columns made
+  pub places : places_in made.query ≡ places_of tree
 
--- it is the refusal, or memory was wanting
-abbrev pub IsUnresolved : {A : Type 0} → Result A Refusal → CheckStop → Type 0
-IsUnresolved found (Refused refusal) = found ≡ Err refusal
-IsUnresolved found Memory = Unit {0}
+-- it is refused so
+abbrev pub IsRefused : List Column → q.Query → CheckStop → Type 0
+IsRefused columns tree stop = (nesting : Nesting) → IsUnresolved (whole.resolved nesting columns tree) stop
+
+-- a node is made of one operand, whatever that was written as, or of two
+abbrev pub IsMadeOfOne : (q.Query → q.Query) → Typed → Typed → Type 0
+IsMadeOfOne node operand made =
+    (columns : List Column) (f : q.Query) → IsMade columns f operand → IsMade columns (node f) made
+
+abbrev pub IsMadeOfTwo : (q.Query → q.Query → q.Query) → Typed → Typed → Typed → Type 0
+IsMadeOfTwo node left right made =
+    (columns : List Column) (f g : q.Query) → IsMade columns f left → IsMade columns g right
+    → IsMade columns (node f g) made
+
+-- a node is refused over one operand, or over two
+abbrev pub IsRefusedOverOne : (q.Query → q.Query) → Typed → CheckStop → Type 0
+IsRefusedOverOne node operand stop =
+    (columns : List Column) (f : q.Query) → IsMade columns f operand → IsRefused columns (node f) stop
+
+abbrev pub IsRefusedOverTwo : (q.Query → q.Query → q.Query) → Typed → Typed → CheckStop → Type 0
+IsRefusedOverTwo node left right stop =
+    (columns : List Column) (f g : q.Query) → IsMade columns f left → IsMade columns g right
+    → IsRefused columns (node f g) stop
+
+-- what is made of an expression that is well typed
+abbrev pub typed_then : Scope → Types → e.Expression → Span → (Expression → Qre) → Result Qre Refusal
+typed_then scope types tree span make =
+    found Name span (expression_over scope tree) >>= (λ (expression : Expression).
+    provided Type_ span (is_typed types expression) >>= (λ (typed : Unit {0}). Ok (make expression)))
+
+-- and of one that is a number
+abbrev pub number_then : Scope → Types → e.Expression → Span → (Expression → Qre) → Result Qre Refusal
+number_then scope types tree span make =
+    found Name span (expression_over scope tree) >>= (λ (expression : Expression).
+    provided Type_ span (is_number types expression) >>= (λ (typed : Unit {0}). Ok (make expression)))
+
+-- an expression and its type
+pub record IsValueOver (scope : Scope) (types : Types) (tree : e.Expression) (value : Expr) (ty : ValueType)
+    : Type 0 where
+  pub named : expression_over scope tree ≡ Some (values.plain_of value)
+  pub passes : is_typed types (values.plain_of value) ≡ true
+  pub typed : IsTyped types (values.plain_of value)
+  pub type : ty ≡ type_of_expression types (values.plain_of value)
+
+-- a number
+pub record IsNumberOver (scope : Scope) (types : Types) (tree : e.Expression) (value : Expr) : Type 0 where
+  pub named : expression_over scope tree ≡ Some (values.plain_of value)
+  pub passes : is_number types (values.plain_of value) ≡ true
+  pub number : IsNumber types (values.plain_of value)

@@ -1,44 +1,89 @@
--- Statement. What a program is before its cells are asked: a sum whose names are columns and whose tests are of the kinds of
--- their columns, or the first rule that it breaks.
-use Rattle.std.specs.Prelude.{◌&&◌, Result, Ok}
-use Rattle.item_schema.specs.Layout.{Layout}
-use Rattle.predicate_cells.specs.Fits.{fits, has_numbers}
+-- Statement. Names and types: a query as it is written is resolved, or the first node that breaks a rule of names, of
+-- nesting or of types is told. The operands of a node are asked from left to right and then the node; at
+-- one node names are asked first, then whether a collection may stand there, then types.
+use Rattle.std.specs.Prelude.{ℕ, Bool, ◌&&◌, true, false, List, Result, Ok, Err}
+use Rattle.std.specs.List.{list_all}
 use Rattle.language_base.specs.declared.refusal.Refusal.{Refusal}
-use Rattle.language_base.specs.declared.rule.Rule.TheVariants.{Form, Name, Type_}
-use Rattle.language_base.specs.declared.span.Span.{Span}
-use Rattle.query_syntax.specs.Programs.{Program, Stream}
-use Rattle.type_checker.specs.Built.{Shape, shape_of}
-use Rattle.type_checker.specs.Layouts.{layout_of}
-use Rattle.type_checker.specs.Names.{column_named, first_repeated}
-use Rattle.type_checker.specs.Plan.{Plan}
-use Rattle.type_checker.specs.Steps.{◌>>=◌, because, found, provided, unless}
+use Rattle.language_base.specs.declared.rule.Rule.TheVariants.{Name, Nested, Type_}
+use Rattle.item_schema.specs.declared.column.Column.{Column}
+use Rattle.value_ops.specs.declared.value.ValueType.{ValueType}
+use Rattle.value_ops.specs.declared.value.ValueType.TheVariants.{Number, Table}
+use Rattle.predicate_cells.specs.Fits.{fits, has_texts}
+use Rattle.rate_expr.specs.Rates.{preds_of}
+use Rattle.query_model.specs.Queries.{Qre, atom, eps, choice, split, iter, combine, apply, compose, collect}
+use Rattle.query_model.specs.QueryTypes as types
+use Rattle.query_model.specs.QueryTypes.{derived_columns, type_of}
+use Rattle.query_syntax.specs.Queries as q
+use Rattle.query_syntax.specs.Queries.{Query}
+use Rattle.type_checker.specs.Expressions.{expression_over, is_number, is_typed, of_item, of_one, of_two}
+use Rattle.type_checker.specs.Names.{column_named}
+use Rattle.type_checker.specs.Rates.{rate_over}
+use Rattle.type_checker.specs.Steps.{◌>>=◌, found, provided, refusal}
 use Rattle.type_checker.specs.Tests.{resolved_over}
 
--- a sum with the places of its stream and its atom
-pub record Resolution : Type 0 where
-  pub plan : Plan
-  pub stream : Span
-  pub atom : Span
+-- whether a collection may stand at a place: not inside of another, nor on a stream of values
+pub data Nesting : Type 0 where
+  outside : Nesting
+  inside : Nesting
 
--- the columns of a stream, each of which has a name of its own
-unfoldable pub layout_in : Stream → Result Layout Refusal
-layout_in stream = do
-  distinct ← because Name (unless (first_repeated stream.columns))
-  Ok (layout_of stream)
+-- it may
+abbrev pub may_collect : Nesting → Bool
+may_collect outside = true
+may_collect inside = false
 
--- the sum of a shape over these columns: first all names are to be columns, then all tests and the value
--- are to be of the kinds of their columns
-unfoldable pub plan_in : Shape → Layout → Result Plan Refusal
-plan_in shape layout = do
-  predicate ← found Name shape.atom.span (resolved_over layout.columns shape.atom.predicate)
-  column ← found Name shape.atom.span (column_named layout.columns shape.atom.value)
-  typed ← provided Type_ shape.atom.span (fits layout.columns predicate && has_numbers layout.columns column)
-  Ok (record { layout = layout; predicate = predicate; column = column; first = shape.first })
+-- two types are one
+abbrev pub same_type : ValueType → ValueType → Bool
+same_type Number Number = true
+same_type Table Table = true
+same_type _ _ = false
 
--- the sum of a program
-unfoldable pub resolved : Program → Result Resolution Refusal
-resolved program = do
-  shape ← because Form (shape_of program)
-  layout ← layout_in program.stream
-  plan ← plan_in shape layout
-  Ok (record { plan = plan; stream = program.stream.span; atom = shape.atom.span })
+-- the query over these columns
+unfoldable pub resolved : Nesting → List Column → Query → Result Qre Refusal
+resolved nesting columns (q.name name) = Err (refusal Name name.span)
+resolved nesting columns (q.atom predicate value span) = do
+  pred ← found Name span (resolved_over columns predicate)
+  expression ← found Name span (expression_over (of_item columns) value)
+  tests ← provided Type_ span (fits columns pred)
+  typed ← provided Type_ span (is_typed (types.of_columns columns) expression)
+  Ok (atom pred expression)
+resolved nesting columns (q.eps number span) = Ok (eps number.value)
+resolved nesting columns (q.or left right span) = do
+  f ← resolved nesting columns left
+  g ← resolved nesting columns right
+  typed ← provided Type_ span (same_type (type_of columns g) (type_of columns f))
+  Ok (choice f g)
+resolved nesting columns (q.split left right value span) = do
+  f ← resolved nesting columns left
+  g ← resolved nesting columns right
+  expression ← found Name span (expression_over of_two value)
+  typed ← provided Type_ span (is_typed (types.of_two (type_of columns f) (type_of columns g)) expression)
+  Ok (split f g expression)
+resolved nesting columns (q.iter operand first step span) = do
+  f ← resolved nesting columns operand
+  expression ← found Name span (expression_over of_two step)
+  typed ← provided Type_ span (is_number (types.of_two Number (type_of columns f)) expression)
+  Ok (iter f first.value expression)
+resolved nesting columns (q.combine left right value span) = do
+  f ← resolved nesting columns left
+  g ← resolved nesting columns right
+  expression ← found Name span (expression_over of_two value)
+  typed ← provided Type_ span (is_typed (types.of_two (type_of columns f) (type_of columns g)) expression)
+  Ok (combine f g expression)
+resolved nesting columns (q.apply operand value span) = do
+  f ← resolved nesting columns operand
+  expression ← found Name span (expression_over of_one value)
+  typed ← provided Type_ span (is_typed (types.of_one (type_of columns f)) expression)
+  Ok (apply f expression)
+resolved nesting columns (q.compose left right span) = do
+  f ← resolved nesting columns left
+  g ← resolved inside (derived_columns (type_of columns f)) right
+  Ok (compose f g)
+resolved nesting columns (q.collect key sync rate operand span) = do
+  f ← resolved inside columns operand
+  column ← found Name span (column_named columns key.bytes)
+  pred ← found Name span (resolved_over columns sync)
+  words ← found Name span (rate_over columns rate)
+  nested ← provided Nested span (may_collect nesting)
+  typed ← provided Type_ span (has_texts columns column && (fits columns pred
+      && list_all (fits columns) (preds_of words)))
+  Ok (collect column pred words f)

@@ -1,4 +1,4 @@
--- Statement. Why no sum is made of a program.
+-- Statement. Why no query is made of a program.
 use Rattle.query_syntax.specs.Programs.{Program}
 use Rattle.type_checker.specs.Judged.{IsJudged, refused}
 use Rattle.type_checker.specs.declared.stop.CheckStop.{CheckStop}

@@ -1,44 +1,61 @@
-//! The rules of cells: how many a sum may tell apart, and that some item meets its predicate.
-ghost use Rattle.std.specs.Prelude.{◌≡◌, ◌≤◌, IfErr, IfOk, IsTrue, OnOk};
-ghost use Rattle.language_base.specs.Limits.{max_cells};
-ghost use Rattle.predicate_cells.specs.Fits.{fits};
-ghost use Rattle.predicate_cells.specs.Plain.{plain_of};
-ghost use Rattle.type_checker.specs.Cells.{IsAllowed, IsDisallowed, cells_under};
-ghost use Rattle.type_checker.specs.Judged.{cells_of};
-ghost use Rattle.type_checker.specs.Plan.{plan_of};
-ghost use Rattle.type_checker.specs.Resolutions.{plain_resolution};
+//! The cells of the items of a query's stream.
+ghost use Rattle.std.specs.Prelude.{◌≡◌, [], ◌∷◌, ◌++◌, false, true, Err, IfOk, OnOk};
+ghost use Rattle.predicate_cells.specs.Cells.{AllFit};
+ghost use Rattle.predicate_cells.specs.Plain as predicate;
+ghost use Rattle.predicate_cells.specs.declared.stop.CellStop.TheVariants.{TooMany};
+ghost use Rattle.query_model.specs.Queries.{plain_of};
+ghost use Rattle.query_model.specs.Shapes.{HasPlainShapes};
+ghost use Rattle.query_model.specs.Sizes.{predicates_of};
+ghost use Rattle.type_checker.specs.Findings.{HaveSameMembers};
+ghost use Rattle.type_checker.specs.Sizes.{has_few_cells};
 
-use crate::CheckStop;
-use crate::resolved::Resolution;
-use language_base::Rule;
-use predicate_cells::{CellStop, Cells, Preds};
-use std::alloc::Global;
+use item_schema::Schema;
+use predicate_cells::{CellStop, Cells, Pred, Preds};
+use query_model::{Query, Shape};
+use std::alloc::{AllocError, Global};
 
-/// Accepts a sum that has not too many cells, where some item meets its predicate.
-pub fn allowed(alloc: Global, found: &Resolution) -> Result<(), CheckStop>
-    requires { IsTrue (fits found.now.sum.schema.columns (plain_of found.now.sum.pred)) }
-    ensures allowed { OnOk result (IsAllowed (plan_of found.now.sum)) }
-    ensures refused { IfErr result (IsDisallowed (plain_resolution found.now)) }
-{
-    let cells = cells_under(alloc, found)?;
-    if cells.mask(&found.sum.pred).is_empty() {
-        return Err(CheckStop::refused(Rule::Empty, found.atom));
-    }
-    Ok(())
-}
-
-// The cells of a sum's items under its predicate.
-fn cells_under(alloc: Global, found: &Resolution) -> Result<Cells, CheckStop>
-    requires { IsTrue (fits found.now.sum.schema.columns (plain_of found.now.sum.pred)) }
-    ensures cells { IfOk result (λ cells. cells ≡ cells_under (plan_of found.now.sum)) }
-    ensures few { OnOk result (cells_of (plan_of found.now.sum) ≤ max_cells) }
-    ensures refused { IfErr result (IsDisallowed (plain_resolution found.now)) }
+/// The cells of the schema's items under the predicates of the query, each of them once.
+pub fn cells_of(alloc: Global, schema: &Schema, query: &Query) -> Result<Cells, CellStop>
+    requires plain { HasPlainShapes (plain_of query.now.shape) }
+    requires fit { AllFit schema.now.columns (predicates_of (plain_of query.now.shape)) }
+    ensures layout { IfOk result (λ cells. cells.layout ≡ schema.now) }
+    ensures members { IfOk result (λ cells.
+        HaveSameMembers cells.preds (predicates_of (plain_of query.now.shape))) }
+    ensures few { OnOk result
+        (has_few_cells schema.now.columns (plain_of query.now.shape) ≡ true) }
+    ensures too_many { result ≡ Err TooMany
+        → has_few_cells schema.now.columns (plain_of query.now.shape) ≡ false }
 {
     let mut preds = Preds::new(alloc);
-    preds.add(&found.sum.pred)?;
-    match Cells::new(alloc, &found.sum.schema, &preds) {
-        Ok(cells) => Ok(cells),
-        Err(CellStop::TooMany) => Err(CheckStop::refused(Rule::Cells, found.stream)),
-        Err(CellStop::Memory) => Err(CheckStop::Memory),
+    add_those_of(query, &mut preds)?;
+    Cells::new(alloc, schema, &preds)
+}
+
+fn add_those_of(query: &Query, preds: &mut Preds) -> Result<(), AllocError>
+    requires { HasPlainShapes (plain_of query.now.shape) }
+    ensures { OnOk result (HaveSameMembers preds.new
+        (preds.old ++ predicates_of (plain_of query.now.shape))) }
+{
+    match &query.shape {
+        Shape::Atom(pred, _) => add_once(pred, preds),
+        Shape::Or(first, second)
+        | Shape::Split(first, second, _)
+        | Shape::Combine(first, second, _) => {
+            add_those_of(first, preds)?;
+            add_those_of(second, preds)
+        }
+        Shape::Iter(inner, ..) | Shape::Apply(inner, _) => add_those_of(inner, preds),
+        // No query of plain shapes is a composition or a collection.
+        Shape::Eps(_) | Shape::Compose(..) | Shape::Collect(..) => Ok(()),
+    }
+}
+
+fn add_once(pred: &Pred, preds: &mut Preds) -> Result<(), AllocError>
+    ensures { OnOk result (HaveSameMembers preds.new
+        (preds.old ++ predicate.plain_of pred.now ∷ [])) }
+{
+    match preds.place_of(pred) {
+        Some(_) => Ok(()),
+        None => preds.add(pred),
     }
 }

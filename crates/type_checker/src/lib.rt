@@ -1,20 +1,26 @@
-//! The checker of query files: a syntax tree is the sum that is run, or breaks a first rule of names, types or cells.
+//! The checker of query files: a syntax tree is a query with one meaning, or breaks a first rule.
 #![tactic(auto)]
 
-mod built;
 mod cells;
 mod checking;
 mod columns;
+mod expression;
 mod laws;
+mod measured;
+mod naming;
+mod nodes;
 mod predicate;
-mod resolved;
+mod shapes;
+mod sizes;
 mod stop;
 mod stream_schema;
-mod sum;
 #[cfg(test)]
 mod tests;
+mod typed;
+mod unbuilt;
+mod word_rules;
+mod words;
 
 pub use checking::check;
 pub use laws::one_verdict;
 pub use stop::CheckStop;
-pub use sum::Sum;

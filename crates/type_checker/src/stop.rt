@@ -1,4 +1,4 @@
-//! Why no sum is made of a program.
+//! Why no query is made of a program.
 ghost use Rattle.std.specs.Prelude.{◌≡◌};
 
 use language_base::{Refusal, Rule, Span};

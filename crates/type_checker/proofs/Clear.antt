@@ -1,0 +1,93 @@
+-- A query whose types are kept and that breaks no rule of words keeps all rules.
+use Rattle.std.proofs.Common.{◌≡◌, ◌&&◌, inl, inr, Bool, true, false, List, [], ◌∷◌, ◌++◌, length, None, refl, arith}
+use Rattle.std.specs.List.{AllByRecursion, list_all}
+use Rattle.language_base.specs.declared.span.Span.{Span}
+use Rattle.item_schema.specs.declared.column.Column.{Column}
+use Rattle.predicate_cells.specs.Fits.{fits}
+use Rattle.predicate_cells.specs.Predicates.{Predicate}
+use Rattle.predicate_cells.proofs.AllMembers.{all_back, all_front}
+use Rattle.query_model.specs.Queries.{Qre, atom, eps, choice, split, iter, combine, apply, compose, collect}
+use Rattle.query_model.specs.Rules.{IsClear, Standing, bound}
+use Rattle.query_model.specs.Sizes.{predicates_of}
+use Rattle.type_checker.specs.Findings.{KeepsTypes}
+use Rattle.type_checker.specs.Nodes.{Node, nodes_in}
+use Rattle.type_checker.specs.WordRules.{Breaks, FirstBroken}
+
+-- the node breaks no rule of words
+abbrev IsKept : Node → Type 0
+IsKept node = Breaks node None
+
+-- where no node is refused, none breaks a rule
+all_kept : (nodes : List Node) (places : List Span) → length nodes ≡ length places → FirstBroken nodes places None
+    → AllByRecursion IsKept nodes
+all_kept [] places same kept = tt
+all_kept (node ∷ nodes) [] same kept = absurd (omega arith)
+all_kept (node ∷ nodes) (span ∷ spans) same (inl (rule, broken, is)) = absurd (cc)
+all_kept (node ∷ nodes) (span ∷ spans) same (inr (here, rest)) = (here, all_kept nodes spans (omega arith) rest)
+
+module _ (nodes others : List Node) (node : Node) (kept : AllByRecursion IsKept (nodes ++ others ++ node ∷ [])) where
+  operands_kept : AllByRecursion IsKept (nodes ++ others)
+  operands_kept = all_front IsKept (nodes ++ others) (node ∷ []) kept
+
+  left_kept : AllByRecursion IsKept nodes
+  left_kept = all_front IsKept nodes others operands_kept
+
+  right_kept : AllByRecursion IsKept others
+  right_kept = all_back IsKept nodes others operands_kept
+
+  root_kept : IsKept node
+  root_kept = (all_back IsKept (nodes ++ others) (node ∷ []) kept).0
+
+module _ (nodes : List Node) (node : Node) (kept : AllByRecursion IsKept (nodes ++ node ∷ [])) where
+  operand_kept : AllByRecursion IsKept nodes
+  operand_kept = all_front IsKept nodes (node ∷ []) kept
+
+  last_kept : IsKept node
+  last_kept = (all_back IsKept nodes (node ∷ []) kept).0
+
+module _ (columns : List Column) where
+  clear_of : (standing : Standing) (query : Qre) → KeepsTypes columns query
+      → AllByRecursion IsKept (nodes_in columns standing query) → IsClear standing columns query
+  clear_of standing (atom pred e) types ((item, is, meets), rest) =
+      (record { fit = types.0; item = item; is_item = is; meets = meets }, types.1)
+  clear_of standing (eps number) types kept = types
+  clear_of standing (choice f g) (left, right, same) kept =
+      let fs = nodes_in columns bound f in let gs = nodes_in columns bound g in
+      let root : Node = record { columns = columns; standing = standing; query = choice f g } in (
+        clear_of bound f left (left_kept fs gs root kept),
+        clear_of bound g right (right_kept fs gs root kept),
+        same,
+        root_kept fs gs root kept,
+      )
+  clear_of standing (split f g e) (left, right, typed) kept =
+      let fs = nodes_in columns bound f in let gs = nodes_in columns bound g in
+      let root : Node = record { columns = columns; standing = standing; query = split f g e } in (
+        clear_of bound f left (left_kept fs gs root kept),
+        clear_of bound g right (right_kept fs gs root kept),
+        typed,
+        root_kept fs gs root kept,
+      )
+  clear_of standing (iter f number e) (inner, fits, typed) kept =
+      let fs = nodes_in columns bound f in
+      let root : Node = record { columns = columns; standing = standing; query = iter f number e } in
+      (clear_of bound f inner (operand_kept fs root kept), fits, typed, last_kept fs root kept)
+  clear_of standing (combine f g e) (left, right, typed) kept =
+      let fs = nodes_in columns bound f in let gs = nodes_in columns bound g in
+      let root : Node = record { columns = columns; standing = standing; query = combine f g e } in (
+        clear_of bound f left (left_kept fs gs root kept),
+        clear_of bound g right (right_kept fs gs root kept),
+        typed,
+        (root_kept fs gs root kept).1,
+      )
+  clear_of standing (apply f e) (inner, typed) kept =
+      let fs = nodes_in columns bound f in
+      let root : Node = record { columns = columns; standing = standing; query = apply f e } in
+      (clear_of bound f inner (operand_kept fs root kept), typed)
+  clear_of standing (compose f g) types kept = absurd types
+  clear_of standing (collect column sync rate f) types kept = absurd types
+
+  pub clear_from : (standing : Standing) (query : Qre) (places : List Span) → KeepsTypes columns query
+      → length (nodes_in columns standing query) ≡ length places
+      → FirstBroken (nodes_in columns standing query) places None → IsClear standing columns query
+  clear_from standing query places types same kept =
+      clear_of standing query types (all_kept (nodes_in columns standing query) places same kept)

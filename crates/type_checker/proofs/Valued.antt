@@ -1,0 +1,59 @@
+-- What the passes over an expression find, from its names and its types.
+use Rattle.std.proofs.Common.{◌≡◌, Bool, true, false, Option, Some, None, Result, Ok, Err, option_map, refl, sym, ◌∙◌, ap, subst}
+use Rattle.language_base.specs.declared.refusal.Refusal.{Refusal}
+use Rattle.language_base.specs.declared.rule.Rule.TheVariants.{Name, Type_}
+use Rattle.language_base.specs.declared.span.Span.{Span}
+use Rattle.query_model.specs.Queries.{Qre}
+use Rattle.query_syntax.specs.Expressions as e
+use Rattle.value_ops.specs.Expressions.{Expression}
+use Rattle.value_ops.specs.Typing.{HasType, IsNumber, Types}
+use Rattle.value_ops.specs.declared.value.ValueType.{ValueType}
+use Rattle.value_ops.specs.declared.value.ValueType.TheVariants.{Number, Table}
+use Rattle.type_checker.specs.Expressions.{Scope, expression_over, is_number, is_typed}
+use Rattle.type_checker.specs.Resolutions.{number_then, typed_then}
+use Rattle.type_checker.specs.Scopes.{HasFittingNumbers}
+use Rattle.type_checker.specs.Steps.{◌>>=◌, found, provided, refusal}
+use Rattle.type_checker.proofs.WellTyped.{is_number_true, no_number, table_is_no_number, untyped}
+
+module _ (scope : Scope) (types : Types) (tree : e.Expression) (span : Span) where
+  -- a name stands for nothing
+  pub unnamed : None ≡ expression_over scope tree → (make : Expression → Qre)
+      → typed_then scope types tree span make ≡ Err (refusal Name span)
+  unnamed is make = rw (← is) refl
+
+  pub unnamed_number : None ≡ expression_over scope tree → (make : Expression → Qre)
+      → number_then scope types tree span make ≡ Err (refusal Name span)
+  unnamed_number is make = rw (← is) refl
+
+  module _ (value : Expression) (named : Some value ≡ expression_over scope tree) where
+    -- the types do not fit
+    fails : is_typed types value ≡ false → (make : Expression → Qre)
+        → typed_then scope types tree span make ≡ Err (refusal Type_ span)
+    fails is make = rw (← named, is) refl
+
+    fails_number : is_number types value ≡ false → (make : Expression → Qre)
+        → number_then scope types tree span make ≡ Err (refusal Type_ span)
+    fails_number is make = rw (← named, is) refl
+
+    pub unfit : HasFittingNumbers value → ((type : ValueType) → HasType types value type → ⊥) →
+        (make : Expression → Qre)
+        → typed_then scope types tree span make ≡ Err (refusal Type_ span)
+    unfit fits none make = fails (untyped types value fits none) make
+
+    pub unfit_number : HasFittingNumbers value → ((type : ValueType) → HasType types value type → ⊥)
+        → (make : Expression → Qre) → number_then scope types tree span make ≡ Err (refusal Type_ span)
+    unfit_number fits none make = fails_number (no_number types value fits (none Number)) make
+
+    pub table_number : HasFittingNumbers value → HasType types value Table → (make : Expression → Qre)
+        → number_then scope types tree span make ≡ Err (refusal Type_ span)
+    table_number fits table make =
+        fails_number (no_number types value fits (table_is_no_number types value table)) make
+
+    -- they fit
+    pub fit : is_typed types value ≡ true → (make : Expression → Qre)
+        → typed_then scope types tree span make ≡ Ok (make value)
+    fit is make = rw (← named, is) refl
+
+    pub fit_number : is_number types value ≡ true → (make : Expression → Qre)
+        → number_then scope types tree span make ≡ Ok (make value)
+    fit_number is make = rw (← named, is) refl

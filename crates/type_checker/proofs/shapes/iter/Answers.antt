@@ -1,0 +1,27 @@
+use Rattle.std.proofs.Common.{refl, rules}
+use Rattle.std.proofs.lemmas.Result.{err_from_is_err_and}
+use Rattle.query_model.specs.Queries.{Qre, iter}
+use Rattle.query_syntax.specs.Plain.{plain_expression}
+use Rattle.value_ops.specs.Expressions as values
+use Rattle.value_ops.specs.Shown.{shown_types}
+use Rattle.type_checker.proofs.Operands.{one_shape, one_span}
+use Rattle.type_checker.proofs.Shaping.{iter_refused, iter_made}
+use Rattle.type_checker.proofs.shapes.iter.Goals as goal
+
+pub returns-in_err-step-clause-refused : goal.returns-in_err-step-clause-refused
+returns-in_err-step-clause-refused c =
+    let err = err_from_is_err_and c.from_residual.result c.from_residual.ensures.1 in
+    rw (err.1, err.2)
+    (λ columns f is. iter_refused columns f c.args.operand is (plain_expression c.args.step.now) c.args.span
+    (shown_types c.of_two-types.result) c.args.first.now c.of_two-types.ensures _ c.in_err-step.ensures.refused)
+
+pub returns-clause-made : goal.returns-clause-made
+returns-clause-made c =
+    λ columns f is. iter_made columns f c.args.operand is (plain_expression c.args.step.now) c.args.span
+    (shown_types c.of_two-types.result) c.args.first.now c.of_two-types.ensures c.in_ok-step.step _
+    c.in_ok-step.ensures.made
+    (search rules)
+    (one_shape c.in_ok-inner.inner.value c.args.operand.query c.in_ok-inner.ensures
+    (λ (a : Qre). iter a c.args.first.now.value (values.plain_of c.in_ok-step.step)) _ (search rules))
+    (one_span c.in_ok-inner.inner.value c.args.operand.query c.in_ok-inner.ensures _ refl)
+    refl refl

@@ -1,0 +1,105 @@
+-- Statement. Expressions whose names are resolved, and which of them are well typed.
+use Rattle.std.specs.Prelude.{ℕ, Bool, true, false, ◌&&◌, ◌||◌, List, Option, None, Some, codes, option_map, if◌then◌else◌}
+use Rattle.std.specs.Str.{bytes_eq}
+use Rattle.item_schema.specs.declared.column.Column.{Column}
+use Rattle.query_syntax.specs.Expressions as e
+use Rattle.query_syntax.specs.declared.operator.Extremum.{Extremum}
+use Rattle.query_syntax.specs.declared.operator.Extremum.TheVariants as extremum
+use Rattle.query_syntax.specs.declared.operator.Summary.{Summary}
+use Rattle.query_syntax.specs.declared.operator.Summary.TheVariants as summary
+use Rattle.value_ops.specs.Expressions.{Expression, literal, read, unary, binary, choice, sum, count, most, least, entry}
+use Rattle.value_ops.specs.Typing.{Types, type_named}
+use Rattle.value_ops.specs.declared.expr.Var.{Var}
+use Rattle.value_ops.specs.declared.expr.Var.TheVariants.{Field, Left, Right}
+use Rattle.value_ops.specs.declared.value.ValueType.{ValueType}
+use Rattle.value_ops.specs.declared.value.ValueType.TheVariants.{Number, Table}
+use Rattle.type_checker.specs.Names.{column_named}
+
+-- what the names of an expression stand for: the columns of an item, one value, or two
+pub data Scope : Type 0 where
+  of_item : List Column → Scope
+  of_one : Scope
+  of_two : Scope
+
+-- what a name stands for there
+abbrev pub named_in : Scope → List ℕ → Option Var
+named_in (of_item columns) name = option_map Field (column_named columns name)
+named_in of_one name = if bytes_eq name (codes "x") then Some Left else None
+named_in of_two name =
+    if bytes_eq name (codes "x") then Some Left
+    else if bytes_eq name (codes "y") then Some Right else None
+
+-- a number that is made of a table
+abbrev pub summary_of : Summary → Var → Expression
+summary_of summary.Sum table = sum table
+summary_of summary.Count table = count table
+
+-- the greatest or the least in a table, where a first number is one of them
+abbrev pub extremum_of : Extremum → Var → Expression → Expression
+extremum_of extremum.Max table first = most table first
+extremum_of extremum.Min table first = least table first
+
+-- two expressions joined, where there are both
+abbrev pub both_of : (Expression → Expression → Expression) → Option Expression → Option Expression
+    → Option Expression
+both_of joined (Some left) (Some right) = Some (joined left right)
+both_of joined _ _ = None
+
+-- a choice, where there are all four parts
+abbrev pub choice_of : (Expression → Expression → Expression → Expression → Expression)
+    → Option Expression → Option Expression → Option Expression → Option Expression → Option Expression
+choice_of joined (Some left) (Some right) (Some met) (Some other) = Some (joined left right met other)
+choice_of joined _ _ _ _ = None
+
+-- a table's name and an expression, where there are both
+abbrev pub table_form : (Var → Expression → Expression) → Option Var → Option Expression → Option Expression
+table_form joined (Some table) (Some inner) = Some (joined table inner)
+table_form joined _ _ = None
+
+-- the expression, if each name in it stands for something
+abbrev pub expression_over : Scope → e.Expression → Option Expression
+expression_over scope (e.number n) = Some (literal n.value)
+expression_over scope (e.name n) = option_map read (named_in scope n.bytes)
+expression_over scope (e.unary operator inner span) = option_map (unary operator) (expression_over scope inner)
+expression_over scope (e.binary operator left right span) =
+    both_of (binary operator) (expression_over scope left) (expression_over scope right)
+expression_over scope (e.choice compare left right at met other span) =
+    choice_of (choice compare) (expression_over scope left) (expression_over scope right)
+    (expression_over scope met) (expression_over scope other)
+expression_over scope (e.summary operator table span) =
+    option_map (summary_of operator) (named_in scope table.bytes)
+expression_over scope (e.extremum operator table first span) =
+    table_form (extremum_of operator) (named_in scope table.bytes) (expression_over scope first)
+expression_over scope (e.get table key other span) =
+    table_form (λ name inner. entry name key.bytes inner) (named_in scope table.bytes)
+    (expression_over scope other)
+
+-- the name stands for something of this type
+abbrev pub is_of : ValueType → Option ValueType → Bool
+is_of Number (Some Number) = true
+is_of Table (Some Table) = true
+is_of _ _ = false
+
+-- Well typed, and a number: operators, comparisons and branches take numbers, and what is made of a table takes a
+-- name of one.
+abbrev pub is_number : Types → Expression → Bool
+is_number types (literal number) = true
+is_number types (read name) = is_of Number (type_named types name)
+is_number types (unary operator inner) = is_number types inner
+is_number types (binary operator left right) = is_number types left && is_number types right
+is_number types (choice compare left right met other) =
+    (is_number types left && is_number types right) && (is_number types met && is_number types other)
+is_number types (sum table) = is_of Table (type_named types table)
+is_number types (count table) = is_of Table (type_named types table)
+is_number types (most table first) = is_of Table (type_named types table) && is_number types first
+is_number types (least table first) = is_of Table (type_named types table) && is_number types first
+is_number types (entry table key other) = is_of Table (type_named types table) && is_number types other
+
+-- a bare name of a table
+abbrev pub is_table : Types → Expression → Bool
+is_table types (read name) = is_of Table (type_named types name)
+is_table types _ = false
+
+-- well typed
+abbrev pub is_typed : Types → Expression → Bool
+is_typed types expression = is_number types expression || is_table types expression

@@ -1,0 +1,102 @@
+-- For the prover. What a pass over a query finds, as its caller needs it.
+use Rattle.std.specs.Prelude.{◌≡◌, ◌↔◌, Result, Err, List, ◌∷◌, [], ◌++◌, Some, true, Ok, FitsSigned}
+use Rattle.std.specs.List.{Contains}
+use Rattle.language_base.specs.declared.refusal.Refusal.{Refusal}
+use Rattle.language_base.specs.declared.span.Span.{Span}
+use Rattle.predicate_cells.specs.Predicates.{Predicate}
+use Rattle.query_model.specs.Queries.{spans_of, Qre, atom, eps, choice, split, iter, combine, apply, compose, collect, plain_of}
+use Rattle.item_schema.specs.declared.column.Column.{Column}
+use Rattle.predicate_cells.specs.Cells.{Partition}
+use Rattle.rate_expr.specs.FirstLastFollow.{AreSetsOf}
+use Rattle.rate_expr.specs.Paths.{AreOf}
+use Rattle.symbolic_nfa.specs.Automata.{Automaton}
+use Rattle.query_model.specs.QueryTypes.{derived_columns, type_of, of_columns, of_one, of_two}
+use Rattle.query_model.specs.Rates.{rate_of}
+use Rattle.query_model.specs.Rules.{Standing, bound, IsTyped}
+use Rattle.query_model.specs.Shapes.{HasPlainShapes}
+use Rattle.query_model.specs.Sizes.{HasFewPositions, predicates_of}
+use Rattle.query_model.specs.declared.query.Query.{Query}
+use Rattle.type_checker.specs.Nodes.{Node, nodes_in}
+use Rattle.type_checker.specs.WordRules.{FirstBroken}
+use Rattle.std.specs.Int.{w64}
+use Rattle.predicate_cells.specs.Fits.{fits}
+use Rattle.type_checker.specs.declared.naming.Typed.{Typed}
+use Rattle.type_checker.specs.declared.stop.CheckStop.{CheckStop}
+use Rattle.type_checker.specs.declared.stop.CheckStop.TheVariants.{Refused, Memory}
+use Rattle.value_ops.specs.Typing.{HasType}
+use Rattle.value_ops.specs.declared.value.ValueType.TheVariants.{Number}
+
+-- it is the refusal, or memory was wanting
+abbrev pub IsUnresolved : {A : Type 0} → Result A Refusal → CheckStop → Type 0
+IsUnresolved found (Refused refusal) = found ≡ Err refusal
+IsUnresolved found Memory = Unit {0}
+
+-- the places of the nodes of a query in memory
+abbrev pub places_in : Query → List Span
+places_in query = spans_of query.shape ++ query.span ∷ []
+
+-- two lists have the same members
+abbrev pub HaveSameMembers : List Predicate → List Predicate → Type 0
+HaveSameMembers one other = (pred : Predicate) → Contains one pred ↔ Contains other pred
+
+-- the query has only the shapes that are built, each of its rates has few positions, and the cells were
+-- made with each of its predicates
+
+-- the query has only the shapes that are built, each of its rates has few positions, and the cells
+-- were made with each of its predicates
+pub record CanBeAsked (cells : Partition) (query : Qre) : Type 0 where
+  pub plain : HasPlainShapes query
+  pub few : HasFewPositions query
+  pub members : (pred : Predicate) → Contains (predicates_of query) pred → Contains cells.preds pred
+
+-- the automaton is one of the query's rate
+pub record IsAutomatonOf (query : Qre) (nfa : Automaton) : Type 0 where
+  pub sets : AreSetsOf nfa.sets (rate_of query)
+  pub spells : AreOf nfa.sets (rate_of query)
+
+-- the nodes of the operands of a query
+abbrev pub operand_nodes : List Column → Standing → Qre → List Node
+operand_nodes columns standing (atom pred expression) = []
+operand_nodes columns standing (eps number) = []
+operand_nodes columns standing (choice f g) = nodes_in columns bound f ++ nodes_in columns bound g
+operand_nodes columns standing (split f g expression) =
+    nodes_in columns bound f ++ nodes_in columns bound g
+operand_nodes columns standing (iter f number expression) = nodes_in columns bound f
+operand_nodes columns standing (combine f g expression) =
+    nodes_in columns bound f ++ nodes_in columns bound g
+operand_nodes columns standing (apply f expression) = nodes_in columns bound f
+operand_nodes columns standing (compose f g) =
+    nodes_in columns standing f ++ nodes_in (derived_columns (type_of columns f)) standing g
+operand_nodes columns standing (collect column sync rate f) = nodes_in columns bound f
+
+-- the refusal is that of the first node that breaks a rule of words, or memory was wanting
+abbrev pub IsBrokenBy : List Node → List Span → CheckStop → Type 0
+IsBrokenBy nodes places (Refused refusal) = FirstBroken nodes places (Some refusal)
+IsBrokenBy nodes places Memory = Unit {0}
+
+-- at each node tests are of the kinds of their columns, expressions are well typed and numbers of 64 bits
+abbrev pub KeepsTypes : List Column → Qre → Type 0
+KeepsTypes columns (atom pred expression) =
+    (fits columns pred ≡ true) × IsTyped (of_columns columns) expression
+KeepsTypes columns (eps number) = FitsSigned w64 number
+KeepsTypes columns (choice f g) =
+    KeepsTypes columns f × KeepsTypes columns g × (type_of columns g ≡ type_of columns f)
+KeepsTypes columns (split f g expression) =
+    KeepsTypes columns f × KeepsTypes columns g
+    × IsTyped (of_two (type_of columns f) (type_of columns g)) expression
+KeepsTypes columns (iter f number expression) =
+    KeepsTypes columns f × FitsSigned w64 number
+    × HasType (of_two Number (type_of columns f)) expression Number
+KeepsTypes columns (combine f g expression) =
+    KeepsTypes columns f × KeepsTypes columns g
+    × IsTyped (of_two (type_of columns f) (type_of columns g)) expression
+KeepsTypes columns (apply f expression) =
+    KeepsTypes columns f × IsTyped (of_one (type_of columns f)) expression
+KeepsTypes columns (compose f g) = ⊥
+KeepsTypes columns (collect column sync rate f) = ⊥
+
+-- a query with its type, made of shapes that are built
+pub record IsResolved (columns : List Column) (made : Typed) : Type 0 where
+  pub type : made.ty ≡ type_of columns (plain_of made.query.shape)
+  pub keeps : KeepsTypes columns (plain_of made.query.shape)
+  pub plain : HasPlainShapes (plain_of made.query.shape)

@@ -1,0 +1,22 @@
+-- Statement. The written rates of collections, whose names are resolved.
+use Rattle.std.specs.Prelude.{List, Option, None, Some, option_map}
+use Rattle.item_schema.specs.declared.column.Column.{Column}
+use Rattle.query_syntax.specs.Rates as written
+use Rattle.query_syntax.specs.declared.operator.Join.{Join}
+use Rattle.query_syntax.specs.declared.operator.Join.TheVariants.{Seq, Alt}
+use Rattle.rate_expr.specs.Rates.{Expression, empty, one, sequence, choice, star}
+use Rattle.type_checker.specs.Tests.{resolved_over}
+
+-- two rates joined, where there are both
+abbrev pub joined_rates : Join → Option Expression → Option Expression → Option Expression
+joined_rates Seq (Some first) (Some second) = Some (sequence first second)
+joined_rates Alt (Some first) (Some second) = Some (choice first second)
+joined_rates join _ _ = None
+
+-- the rate over these columns, if each name in it is one of theirs
+abbrev pub rate_over : List Column → written.Rate → Option Expression
+rate_over columns (written.eps span) = Some empty
+rate_over columns (written.item predicate span) = option_map one (resolved_over columns predicate)
+rate_over columns (written.joined join first second span) =
+    joined_rates join (rate_over columns first) (rate_over columns second)
+rate_over columns (written.star inner span) = option_map star (rate_over columns inner)

@@ -1,0 +1,27 @@
+-- For the prover. What the names of an expression stand for, and the numbers in it, as they lie in memory.
+use Rattle.std.specs.Prelude.{FitsSigned}
+use Rattle.std.specs.Int.{w64}
+use Rattle.value_ops.specs.Expressions.{Expression, literal, read, unary, binary, choice, sum, count, most, least, entry}
+use Rattle.type_checker.specs.Expressions.{Scope, of_item, of_one, of_two}
+use Rattle.type_checker.specs.declared.expression.Scope as memory
+use Rattle.type_checker.specs.declared.expression.Scope.TheVariants.{Item, One, Two}
+
+-- what names stand for
+abbrev pub plain_scope : memory.Scope → Scope
+plain_scope (Item schema) = of_item schema.now.columns
+plain_scope One = of_one
+plain_scope Two = of_two
+
+-- the numbers of an expression are of 64 bits
+abbrev pub HasFittingNumbers : Expression → Type 0
+HasFittingNumbers (literal number) = FitsSigned w64 number
+HasFittingNumbers (read name) = Unit {0}
+HasFittingNumbers (unary operator inner) = HasFittingNumbers inner
+HasFittingNumbers (binary operator left right) = HasFittingNumbers left × HasFittingNumbers right
+HasFittingNumbers (choice compare left right met other) =
+    HasFittingNumbers left × HasFittingNumbers right × HasFittingNumbers met × HasFittingNumbers other
+HasFittingNumbers (sum name) = Unit {0}
+HasFittingNumbers (count name) = Unit {0}
+HasFittingNumbers (most name first) = HasFittingNumbers first
+HasFittingNumbers (least name first) = HasFittingNumbers first
+HasFittingNumbers (entry name key other) = HasFittingNumbers other

@@ -1,0 +1,216 @@
+//! Expressions whose names are resolved.
+ghost use Rattle.std.specs.Prelude.{◌≡◌, IfOk, IfSome, option_map};
+ghost use Rattle.query_syntax.specs.Plain.{plain_expression};
+ghost use Rattle.type_checker.specs.Expressions.{expression_over, extremum_of, named_in, summary_of, table_form};
+ghost use Rattle.type_checker.specs.Scopes.{HasFittingNumbers, plain_scope};
+ghost use Rattle.value_ops.specs.Expressions.{entry, plain_of};
+
+use crate::columns::column_named;
+use item_schema::Schema;
+use query_syntax::{Expression, Extremum, Name, Summary, Text};
+use std::alloc::{AllocError, Global};
+use value_ops::{Expr, Var};
+
+/// What the names of an expression stand for.
+#[derive(Clone, Copy)]
+pub enum Scope<'s> {
+    /// The columns of an item.
+    Item(&'s Schema),
+    /// One value, `x`.
+    One,
+    /// Two values, `x` and `y`.
+    Two,
+}
+
+/// The expression, if each name in it stands for something.
+#[cycle(resolve)]
+pub fn expression_over(
+    alloc: Global,
+    scope: Scope<'_>,
+    expression: &Expression,
+) -> Result<Option<Expr>, AllocError>
+    ensures made { IfOk result (λ found. option_map plain_of found
+        ≡ expression_over (plain_scope scope.entry) (plain_expression expression.now)) }
+    ensures numbers { IfOk result (λ found.
+        IfSome found (λ made. HasFittingNumbers (plain_of made))) }
+{
+    match expression {
+        Expression::Number(number) => Ok(Some(Expr::Literal(number.value))),
+        Expression::Name(name) => match named_in(scope, name.bytes.as_slice()) {
+            Some(name) => Ok(Some(Expr::Read(name))),
+            None => Ok(None),
+        },
+        Expression::Unary {
+            operator,
+            operand,
+            ..
+        } => match boxed_over(alloc, scope, operand)? {
+            Some(inner) => Ok(Some(Expr::Unary(*operator, inner))),
+            None => Ok(None),
+        },
+        Expression::Binary {
+            operator,
+            left,
+            right,
+            ..
+        } => {
+            let Some(left) = boxed_over(alloc, scope, left)? else {
+                return Ok(None);
+            };
+            let Some(right) = boxed_over(alloc, scope, right)? else {
+                return Ok(None);
+            };
+            Ok(Some(Expr::Binary(*operator, left, right)))
+        }
+        Expression::If {
+            test,
+            holds,
+            fails,
+            ..
+        } => {
+            let Some(left) = boxed_over(alloc, scope, &test.left)? else {
+                return Ok(None);
+            };
+            let Some(right) = boxed_over(alloc, scope, &test.right)? else {
+                return Ok(None);
+            };
+            let Some(holds) = boxed_over(alloc, scope, holds)? else {
+                return Ok(None);
+            };
+            let Some(fails) = boxed_over(alloc, scope, fails)? else {
+                return Ok(None);
+            };
+            Ok(Some(Expr::If(test.compare, left, right, holds, fails)))
+        }
+        Expression::Summary { summary, table, .. } => {
+            match named_in(scope, table.bytes.as_slice()) {
+                Some(table) => Ok(Some(summary_of(*summary, table))),
+                None => Ok(None),
+            }
+        }
+        Expression::Extremum {
+            extremum,
+            table,
+            first,
+            ..
+        } => extremum_over(alloc, scope, *extremum, table, first),
+        Expression::Get {
+            table,
+            key,
+            absent,
+            ..
+        } => entry_over(alloc, scope, table, key, absent),
+    }
+}
+
+#[cycle(resolve)]
+fn boxed_over(
+    alloc: Global,
+    scope: Scope<'_>,
+    expression: &Expression,
+) -> Result<Option<Box<Expr>>, AllocError>
+    ensures made { IfOk result (λ found. option_map (λ made. plain_of made.value) found
+        ≡ expression_over (plain_scope scope.entry) (plain_expression expression.now)) }
+    ensures numbers { IfOk result (λ found.
+        IfSome found (λ made. HasFittingNumbers (plain_of made.value))) }
+{
+    match expression_over(alloc, scope, expression)? {
+        Some(made) => Ok(Some(Box::new(alloc, made)?)),
+        None => Ok(None),
+    }
+}
+
+#[cycle(resolve)]
+fn extremum_over(
+    alloc: Global,
+    scope: Scope<'_>,
+    extremum: Extremum,
+    table: &Name,
+    first: &Expression,
+) -> Result<Option<Expr>, AllocError>
+    ensures made { IfOk result (λ found. option_map plain_of found
+        ≡ table_form (extremum_of extremum) (named_in (plain_scope scope.entry) table.now.bytes)
+        (expression_over (plain_scope scope.entry) (plain_expression first.now))) }
+    ensures numbers { IfOk result (λ found.
+        IfSome found (λ made. HasFittingNumbers (plain_of made))) }
+{
+    let Some(table) = named_in(scope, table.bytes.as_slice()) else {
+        return Ok(None);
+    };
+    match boxed_over(alloc, scope, first)? {
+        Some(first) => Ok(Some(extremum_with(extremum, table, first))),
+        None => Ok(None),
+    }
+}
+
+#[cycle(resolve)]
+fn entry_over(
+    alloc: Global,
+    scope: Scope<'_>,
+    table: &Name,
+    key: &Text,
+    absent: &Expression,
+) -> Result<Option<Expr>, AllocError>
+    ensures made { IfOk result (λ found. option_map plain_of found
+        ≡ table_form (λ name other. entry name key.now.bytes other)
+        (named_in (plain_scope scope.entry) table.now.bytes)
+        (expression_over (plain_scope scope.entry) (plain_expression absent.now))) }
+    ensures numbers { IfOk result (λ found.
+        IfSome found (λ made. HasFittingNumbers (plain_of made))) }
+{
+    let Some(table) = named_in(scope, table.bytes.as_slice()) else {
+        return Ok(None);
+    };
+    let Some(absent) = boxed_over(alloc, scope, absent)? else {
+        return Ok(None);
+    };
+    let key = key.bytes.try_copy(alloc)?;
+    Ok(Some(Expr::Get(table, key, absent)))
+}
+
+fn named_in(scope: Scope<'_>, name: &[u8]) -> Option<Var>
+    ensures { result ≡ named_in (plain_scope scope.entry) name.now }
+{
+    match scope {
+        Scope::Item(schema) => match column_named(schema, name) {
+            Some(column) => Some(Var::Field(column)),
+            None => None,
+        },
+        Scope::One => {
+            if name == b"x".as_slice() {
+                Some(Var::Left)
+            } else {
+                None
+            }
+        }
+        Scope::Two => {
+            if name == b"x".as_slice() {
+                Some(Var::Left)
+            } else if name == b"y".as_slice() {
+                Some(Var::Right)
+            } else {
+                None
+            }
+        }
+    }
+}
+
+fn summary_of(summary: Summary, table: Var) -> Expr
+    ensures made { plain_of result ≡ summary_of summary table }
+    ensures numbers { HasFittingNumbers (plain_of result) }
+{
+    match summary {
+        Summary::Sum => Expr::Sum(table),
+        Summary::Count => Expr::Count(table),
+    }
+}
+
+fn extremum_with(extremum: Extremum, table: Var, first: Box<Expr>) -> Expr
+    ensures made { plain_of result ≡ extremum_of extremum table (plain_of first.value) }
+    ensures numbers { HasFittingNumbers (plain_of first.value) → HasFittingNumbers (plain_of result) }
+{
+    match extremum {
+        Extremum::Max => Expr::Most(table, first),
+        Extremum::Min => Expr::Least(table, first),
+    }
+}

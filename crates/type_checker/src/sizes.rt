@@ -1,0 +1,69 @@
+//! The positions of the rates of a query's nodes.
+ghost use Rattle.std.specs.Prelude.{◌≡◌, ◌≤◌, ◌<◌, ◌+◌, List, None, Some, IfErr, IfOk, OnOk};
+ghost use Rattle.item_schema.specs.declared.column.Column.{Column};
+ghost use Rattle.language_base.specs.Limits.{max_positions};
+ghost use Rattle.query_model.specs.Queries.{plain_of};
+ghost use Rattle.query_model.specs.Rates.{rate_of};
+ghost use Rattle.query_model.specs.Rules.{Standing};
+ghost use Rattle.query_model.specs.Shapes.{HasPlainShapes};
+ghost use Rattle.query_model.specs.Sizes.{HasFewPositions};
+ghost use Rattle.rate_expr.specs.Rates.{size_of};
+ghost use Rattle.type_checker.specs.Findings.{places_in};
+ghost use Rattle.type_checker.specs.Nodes.{first_where, nodes_in};
+ghost use Rattle.type_checker.specs.Sizes.{has_many_positions};
+
+use language_base::Span;
+use query_model::{Query, Shape};
+use rate_expr::MAX_POSITIONS;
+
+/// The positions of the query's rate, or the place of the first node whose rate has too many.
+pub fn positions_of(query: &Query) -> Result<u32, Span>
+    requires { HasPlainShapes (plain_of query.now.shape) }
+    ensures count { IfOk result (λ count.
+        count ≡ size_of (rate_of (plain_of query.now.shape))) }
+    ensures few { OnOk result (HasFewPositions (plain_of query.now.shape)
+        × (size_of (rate_of (plain_of query.now.shape)) ≤ max_positions)) }
+    ensures none { OnOk result ((columns : List Column) (standing : Standing)
+        → first_where has_many_positions (nodes_in columns standing (plain_of query.now.shape))
+        (places_in query.now) ≡ None) }
+    ensures first { IfErr result (λ span. (columns : List Column) (standing : Standing)
+        → first_where has_many_positions (nodes_in columns standing (plain_of query.now.shape))
+        (places_in query.now) ≡ Some span) }
+{
+    match &query.shape {
+        Shape::Atom(..) => Ok(1),
+        Shape::Eps(_) => Ok(0),
+        Shape::Or(first, second) => {
+            let count = positions_of(first)?;
+            few_together(count, positions_of(second)?, query.span)
+        }
+        Shape::Split(first, second, _) => {
+            let count = positions_of(first)?;
+            few_together(count, positions_of(second)?, query.span)
+        }
+        Shape::Iter(inner, ..) => positions_of(inner),
+        Shape::Combine(first, second, _) => {
+            let count = positions_of(first)?;
+            positions_of(second)?;
+            Ok(count)
+        }
+        Shape::Apply(inner, _) => positions_of(inner),
+        // No query of plain shapes has these.
+        Shape::Compose(..) | Shape::Collect(..) => Ok(0),
+    }
+}
+
+// The positions of two operands, or the place of their node where they are too many.
+fn few_together(first: u32, second: u32, span: Span) -> Result<u32, Span>
+    requires first { first ≤ max_positions }
+    requires second { second ≤ max_positions }
+    ensures count { IfOk result (λ count. count ≡ first + second) }
+    ensures few { OnOk result (first + second ≤ max_positions) }
+    ensures many { IfErr result (λ place. (place ≡ span) × (max_positions < first + second)) }
+{
+    let count = first + second;
+    if count > MAX_POSITIONS {
+        return Err(span);
+    }
+    Ok(count)
+}

@@ -1,0 +1,98 @@
+//! The rule of words that a node breaks, told by the automata of its operands.
+ghost use Rattle.std.specs.Prelude.{◌≡◌, ℤ, IfOk};
+ghost use Rattle.std.specs.List.{Contains};
+ghost use Rattle.predicate_cells.specs.Plain.{plain_of};
+ghost use Rattle.query_model.specs.Queries.{Qre, atom, choice, combine, iter, split};
+ghost use Rattle.query_model.specs.Rules.{Standing};
+ghost use Rattle.value_ops.specs.Expressions.{Expression};
+ghost use Rattle.type_checker.specs.Findings.{IsAutomatonOf};
+ghost use Rattle.type_checker.specs.WordRules.{BreaksAt};
+
+use ambiguity_check::{disjoint, one_factoring, one_split};
+use language_base::Rule;
+use predicate_cells::{Cells, Pred};
+use rate_equal::{EqualStop, same};
+use std::alloc::{AllocError, Global};
+use symbolic_nfa::Nfa;
+
+/// The rule that one item breaks, where no item meets its predicate.
+pub(crate) fn empty_rule(cells: &Cells, pred: &Pred) -> Option<Rule>
+    requires { Contains cells.now.preds (plain_of pred.now) }
+    ensures { (standing : Standing) (value : Expression)
+        → BreaksAt cells.now.layout.columns standing (atom (plain_of pred.now) value) result }
+{
+    if cells.mask(pred).is_empty() {
+        Some(Rule::Empty)
+    } else {
+        None
+    }
+}
+
+/// The rule that a choice breaks, where a word is in the rates of both operands.
+pub(crate) fn choice_rule(
+    alloc: Global,
+    first: &Nfa,
+    second: &Nfa,
+) -> Result<Option<Rule>, AllocError>
+    requires { first.now.cells ≡ second.now.cells }
+    ensures { IfOk result (λ broken. (standing : Standing) (f g : Qre)
+        → IsAutomatonOf f first.now → IsAutomatonOf g second.now
+        → BreaksAt first.now.cells.layout.columns standing (choice f g) broken) }
+{
+    if disjoint(alloc, first, second)? {
+        Ok(None)
+    } else {
+        Ok(Some(Rule::Choice))
+    }
+}
+
+/// The rule that a split breaks, where a word splits in two ways.
+pub(crate) fn split_rule(
+    alloc: Global,
+    first: &Nfa,
+    second: &Nfa,
+) -> Result<Option<Rule>, AllocError>
+    requires { first.now.cells ≡ second.now.cells }
+    ensures { IfOk result (λ broken. (standing : Standing) (f g : Qre) (value : Expression)
+        → IsAutomatonOf f first.now → IsAutomatonOf g second.now
+        → BreaksAt first.now.cells.layout.columns standing (split f g value) broken) }
+{
+    if one_split(alloc, first, second)? {
+        Ok(None)
+    } else {
+        Ok(Some(Rule::Split))
+    }
+}
+
+/// The rule that an iteration breaks, where a word factors in two ways.
+pub(crate) fn iter_rule(alloc: Global, inner: &Nfa) -> Result<Option<Rule>, AllocError>
+    ensures { IfOk result (λ broken. (standing : Standing) (f : Qre) (number : ℤ)
+        (step : Expression) → IsAutomatonOf f inner.now
+        → BreaksAt inner.now.cells.layout.columns standing (iter f number step) broken) }
+{
+    if one_factoring(alloc, inner)? {
+        Ok(None)
+    } else {
+        Ok(Some(Rule::Iter))
+    }
+}
+
+/// The rule that a combination breaks, where the rates of its operands differ or too many pairs of
+/// states would have to be compared.
+pub(crate) fn rates_rule(
+    alloc: Global,
+    first: &Nfa,
+    second: &Nfa,
+) -> Result<Option<Rule>, AllocError>
+    requires { first.now.cells ≡ second.now.cells }
+    ensures { IfOk result (λ broken. (standing : Standing) (f g : Qre) (value : Expression)
+        → IsAutomatonOf f first.now → IsAutomatonOf g second.now
+        → BreaksAt first.now.cells.layout.columns standing (combine f g value) broken) }
+{
+    match same(alloc, first, second) {
+        Ok(true) => Ok(None),
+        Ok(false) => Ok(Some(Rule::Rates)),
+        Err(EqualStop::Reach) => Ok(Some(Rule::Reach)),
+        Err(EqualStop::Memory) => Err(AllocError),
+    }
+}
