@@ -7,13 +7,11 @@ use Rattle.language_base.specs.declared.rule.Rule.TheVariants as rule
 use Rattle.query_forms.specs.Terms.{Terms}
 use Rattle.query_parser.specs.Reading.{IsFileOf, long, refusal}
 use Rattle.query_parser.proofs.OneReading.{one_file, file_or_refused, one_refusal}
-use Rattle.query_parser.proofs.Existence.{read_or_refused}
 use Rattle.query_syntax.specs.Files.{program_terms}
 use Rattle.query_syntax.specs.Programs.{Program}
 use Rattle.query_syntax.proofs.OneProgram.{one_program}
-use Rattle.query_syntax.proofs.SomeProgram.{some_program}
 use Rattle.type_checker.specs.Judged.{IsJudged, Verdict, refused}
-use Rattle.type_checker.proofs.Verdicts.{one_verdict, some_verdict}
+use Rattle.type_checker.proofs.Verdicts.{one_verdict}
 use Rattle.sqre_run.specs.Compiled.{Compiles, judged, unread}
 
 -- a text is compiled to one verdict
@@ -24,17 +22,6 @@ one_query text _ _ (judged p v file is) (judged p' v' file' is') =
 one_query text _ _ (judged p v file is) (unread why refuses) = absurd (file_or_refused text (program_terms p) why file refuses)
 one_query text _ _ (unread why refuses) (judged p v file is) = absurd (file_or_refused text (program_terms p) why file refuses)
 one_query text _ _ (unread why refuses) (unread why' refuses') = ap refused (one_refusal text why why' refuses refuses')
-
--- a text is compiled to something
-pub some_query : (text : List ℕ) → (verdict : Verdict) × Compiles text verdict
-some_query text =
-    elim (read_or_refused text) [
-      | inl (terms, is) ↦
-          let (program, same) = some_program (length text) terms is.has.fit in
-          let (verdict, is_judged) = some_verdict program in
-          (verdict, judged program verdict (subst (IsFileOf text) same is) is_judged)
-      | inr (why, is) ↦ (refused why, unread why is)
-    ]
 
 -- one number is at most the other, or above it
 one_more : (m n : ℕ) → (m ≤ n) ⊎ (n < m) → (suc m ≤ suc n) ⊎ (suc n < suc m)

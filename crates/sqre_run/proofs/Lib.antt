@@ -1,10 +1,15 @@
+pub mod ByteLines
 pub mod Checks
 pub mod Compilations
+pub mod Nodes
+pub mod OneAnswer
+pub mod OneOutput
 pub mod Outcomes
 pub mod QueryReads
-pub mod Replies
+pub mod Answering
+pub mod Sessions
 pub mod Showing
+pub mod SomeMeaning
 pub mod Takes
-pub mod Tallying
 pub mod Turns
 pub mod WholeLines

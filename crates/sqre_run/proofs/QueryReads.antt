@@ -6,7 +6,7 @@ use Rattle.language_base.specs.Limits.{max_text}
 use Rattle.language_base.specs.declared.refusal.Refusal.{Refusal}
 use Rattle.sqre_run.specs.Call.{Refuses}
 use Rattle.sqre_run.specs.Outside.{Outside, Ended}
-use Rattle.type_checker.specs.Plan.{Plan}
+use Rattle.query_model.specs.Monitors.{Monitor}
 use Rattle.sqre_run.specs.QueryRead.{max_read, ReadsText, ReadsQuery}
 use Rattle.sqre_run.specs.declared.status.Status.{Status}
 use Rattle.sqre_run.specs.declared.status.Status.TheVariants.{Done, Refused, Usage, QueryFault, ItemFault, SinkFault, Memory, Limit}
@@ -19,16 +19,16 @@ module _ (left left' : Option (List ℕ)) (ends ends' : ℕ) where
 
   module _ (reads : ReadsText left left' ends ends') where
     -- a run comes behind the text
-    pub reads_run : (plan : Plan) (status : Status) (old new : Outside) → Ended plan status old new
+    pub reads_run : (monitor : Monitor) (status : Status) (old new : Outside) → Ended monitor status old new
         → ReadsQuery left left' ends ends' status
-    reads_run plan Done old new ended = reads
-    reads_run plan Refused old new ended = reads
-    reads_run plan Usage old new ended = absurd ended
-    reads_run plan QueryFault old new ended = absurd ended
-    reads_run plan ItemFault old new ended = reads
-    reads_run plan SinkFault old new ended = reads
-    reads_run plan Memory old new ended = inr reads
-    reads_run plan Limit old new ended = reads
+    reads_run monitor Done old new ended = reads
+    reads_run monitor Refused old new ended = reads
+    reads_run monitor Usage old new ended = absurd ended
+    reads_run monitor QueryFault old new ended = absurd ended
+    reads_run monitor ItemFault old new ended = reads
+    reads_run monitor SinkFault old new ended = reads
+    reads_run monitor Memory old new ended = inr reads
+    reads_run monitor Limit old new ended = reads
 
     -- and so does a refusal
     pub reads_refusal : (refusal : Refusal) (status : Status) (old new : Option (List ℕ))

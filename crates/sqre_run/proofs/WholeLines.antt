@@ -1,9 +1,8 @@
--- The lines that an LF ends come plan among all lines, and so do the answers to them.
+-- The lines that an LF ends come first among all lines, and so do the answers to them.
 use Rattle.std.proofs.Common.{◌≡◌, ℕ, Bool, true, false, cond, List, [], ◌∷◌, ◌++◌, refl, sym, ap, ◌∙◌, append-nil, ◌==◌}
 use Rattle.io_edge.specs.Lines.{Shown, ended_by_lf, last_line, lines_from}
-use Rattle.type_checker.specs.Judged.{Verdict, sum, refused}
-use Rattle.sqre_run.specs.Output.{answers, answers_after, output, output_lines, whole_output}
-use Rattle.sqre_run.proofs.Replies.{answers_after-append}
+use Rattle.sqre_run.specs.Output.{Spoken, answering, answers, answers_after, output, output_lines, refusing, whole_output}
+use Rattle.sqre_run.proofs.Answering.{answers_after-append}
 
 -- the one list is the front of the other
 abbrev IsFront : List Shown → List Shown → Type 0
@@ -16,7 +15,7 @@ IsFront-next : (is_lf : Bool) (line : Shown) (whole all whole' all' : List Shown
 IsFront-next true line whole all whole' all' (more, is) goes_on = (more, ap (λ l. line ∷ l) is)
 IsFront-next false line whole all whole' all' ended goes_on = goes_on
 
--- the lines that an LF ends come plan
+-- the lines that an LF ends come first
 lines_from-front : (start bytes : List ℕ)
     → IsFront (lines_from start bytes false) (lines_from start bytes true)
 lines_from-front start [] = (last_line start true, refl)
@@ -25,13 +24,13 @@ lines_from-front start (x ∷ bytes) =
     (lines_from-front [] bytes) (lines_from-front (start ++ x ∷ []) bytes)
 
 -- what is written for them is the front of what is written
-output_lines-front : (query : Verdict) (whole all : List Shown) → IsFront whole all
+output_lines-front : (query : Spoken) (whole all : List Shown) → IsFront whole all
     → (rest : List ℕ) × (output_lines query all ≡ output_lines query whole ++ rest)
-output_lines-front (sum plan) whole all (more, is) =
-    (answers_after plan whole more, ap (answers plan) is ∙ answers_after-append plan [] whole more)
-output_lines-front (refused refusal) whole all front = ([], sym (append-nil _))
+output_lines-front (answering meaning) whole all (more, is) =
+    (answers_after meaning whole more, ap (answers meaning) is ∙ answers_after-append meaning [] whole more)
+output_lines-front (refusing refusal) whole all front = ([], sym (append-nil _))
 
 -- the bytes for the lines that an LF ends are the front of all
-pub output-front : (query : Verdict) (bytes : List ℕ)
+pub output-front : (query : Spoken) (bytes : List ℕ)
     → (rest : List ℕ) × (output query bytes ≡ whole_output query bytes ++ rest)
 output-front query bytes = output_lines-front query _ _ (lines_from-front [] bytes)

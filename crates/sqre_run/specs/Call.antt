@@ -7,10 +7,11 @@ use Rattle.io_edge.specs.Written.{AppendsSome}
 use Rattle.language_base.specs.declared.refusal.Refusal.{Refusal}
 use Rattle.report_writer.specs.Texts.{refusal_text}
 use Rattle.sqre_run.specs.Compiled.{Compiles}
-use Rattle.type_checker.specs.Judged.{Verdict, sum, refused}
-use Rattle.sqre_run.specs.Output.{output, whole_output}
+use Rattle.type_checker.specs.Judged.{Verdict, accepted, refused}
+use Rattle.query_model.specs.Monitors.{Monitor}
+use Rattle.sqre_run.specs.Meanings.{IsMeaning, Meaning}
+use Rattle.sqre_run.specs.Output.{Spoken, Tells, answering, output, refusing, whole_output}
 use Rattle.sqre_run.specs.Outside.{Outside, Wrote, WroteLines}
-use Rattle.type_checker.specs.Plan.{Plan}
 use Rattle.sqre_run.specs.declared.status.Status.{Status}
 use Rattle.sqre_run.specs.declared.status.Status.TheVariants.{Done, Refused, Usage, QueryFault, ItemFault, SinkFault, Memory, Limit}
 
@@ -38,33 +39,35 @@ Refuses refusal SinkFault old new = AppendsSome old new (refusal_text refusal)
 Refuses refusal Memory old new = new ≡ old
 Refuses refusal _ old new = ⊥
 
--- the text is a sum of this plan, and it went on so
-abbrev pub Runs : List ℕ → (Plan → Type 0) → Type 0
-Runs text goes_on = (plan : Plan) × Compiles text (sum plan) × goes_on plan
+-- the text is a query, of this monitor, and it went on so
+abbrev pub Runs : List ℕ → (Monitor → Type 0) → Type 0
+Runs text goes_on = (monitor : Monitor) × Compiles text (accepted monitor) × goes_on monitor
 
 -- What was read of the items and written for a query text, by the status.
 abbrev pub Outcome : List ℕ → Status → Outside → Outside → Type 0
-Outcome text Done old new = Runs text (λ plan. Rose old.ends new.ends
-    × IfSome old.left (λ bytes. Appends old.taken new.taken (output (sum plan) bytes)))
+Outcome text Done old new = Runs text (λ monitor. Rose old.ends new.ends
+    × ((meaning : Meaning) → IsMeaning monitor meaning → IfSome old.left (λ bytes.
+    Appends old.taken new.taken (output (answering meaning) bytes))))
 Outcome text Refused old new = (refusal : Refusal) × Compiles text (refused refusal)
-    × (new.left ≡ old.left) × Appends old.taken new.taken (output (refused refusal) [])
+    × (new.left ≡ old.left) × Appends old.taken new.taken (output (refusing refusal) [])
 Outcome text Usage old new = new ≡ old
 Outcome text QueryFault old new = new ≡ old
-Outcome text ItemFault old new = Runs text (λ plan.
-    (got : List ℕ) × Wrote old new got (whole_output (sum plan) got))
+Outcome text ItemFault old new = Runs text (λ monitor.
+    (got : List ℕ) × Wrote monitor old new got (λ meaning. whole_output (answering meaning) got))
 Outcome text SinkFault old new = (query : Verdict) × (got : List ℕ) × Compiles text query
-    × Consumes old.left new.left got × AppendsSome old.taken new.taken (output query got)
+    × Consumes old.left new.left got × ((spoken : Spoken) → Tells query spoken
+    → AppendsSome old.taken new.taken (output spoken got))
 Outcome text Memory old new = (new ≡ old)
-    ⊎ Runs text (λ plan. (got : List ℕ) × WroteLines plan old new got)
-Outcome text Limit old new = Runs text (λ plan.
-    (got : List ℕ) × (length got ≡ max_count) × Wrote old new got (whole_output (sum plan) got))
+    ⊎ Runs text (λ monitor. (got : List ℕ) × WroteLines monitor old new got)
+Outcome text Limit old new = Runs text (λ monitor. (got : List ℕ) × (length got ≡ max_count)
+    × Wrote monitor old new got (λ meaning. whole_output (answering meaning) got))
 
 -- How a call ends where no count of faults rose: a query at the end of its items or after 2^63-1
 -- bytes of them, and any other text with its refusal. Usage and Memory may come with both.
 abbrev pub Completes : Verdict → Status → Type 0
 Completes query Usage = Unit {0}
 Completes query Memory = Unit {0}
-Completes (sum plan) Done = Unit {0}
-Completes (sum plan) Limit = Unit {0}
+Completes (accepted monitor) Done = Unit {0}
+Completes (accepted monitor) Limit = Unit {0}
 Completes (refused refusal) Refused = Unit {0}
 Completes query _ = ⊥

@@ -1,10 +1,11 @@
 pub mod Call
 pub mod Compiled
 pub mod Handed
+pub mod Meanings
 pub mod Output
 pub mod Outside
 pub mod QueryRead
 pub mod Running
+pub mod Sessions
 pub mod Stops
-pub mod Tallies
 pub mod Words

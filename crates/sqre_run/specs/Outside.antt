@@ -5,8 +5,9 @@ use Rattle.io_edge.specs.Counts.{Rose}
 use Rattle.io_edge.specs.Limits.{max_count}
 use Rattle.io_edge.specs.Lines.{Shown, lines}
 use Rattle.io_edge.specs.Written.{AppendsSome}
+use Rattle.query_model.specs.Monitors.{Monitor}
+use Rattle.sqre_run.specs.Meanings.{IsMeaning, Meaning}
 use Rattle.sqre_run.specs.Output.{answers}
-use Rattle.type_checker.specs.Plan.{Plan}
 use Rattle.sqre_run.specs.declared.status.Status.{Status}
 use Rattle.sqre_run.specs.declared.status.Status.TheVariants.{Done, Refused, Usage, QueryFault, ItemFault, SinkFault, Memory, Limit}
 
@@ -23,29 +24,35 @@ abbrev pub outside : {S W : Type 0} → (S → Option (List ℕ)) → (S → ℕ
 outside left ends taken items out =
     record { left = left items; ends = ends items; taken = taken out }
 
--- the bytes `got` were read and exactly this was written
-pub record Wrote (old new : Outside) (got written : List ℕ) : Type 0 where
+-- The bytes `got` were read and exactly this was written, whatever function gives the values of the
+-- monitor's query.
+pub record Wrote (monitor : Monitor) (old new : Outside) (got : List ℕ) (written : Meaning → List ℕ)
+    : Type 0 where
   pub read : Consumes old.left new.left got
-  pub wrote : Appends old.taken new.taken written
+  pub wrote : (meaning : Meaning) → IsMeaning monitor meaning
+      → Appends old.taken new.taken (written meaning)
 
 -- for the bytes read, the answers to whole lines among them were written, and no part of a line's
-pub record WroteLines (plan : Plan) (old new : Outside) (got : List ℕ) : Type 0 where
+pub record WroteLines (monitor : Monitor) (old new : Outside) (got : List ℕ) : Type 0 where
   pub some : List Shown
   pub others : List Shown
   pub whole : lines got false ≡ some ++ others
-  pub wrote : Wrote old new got (answers plan some)
+  pub wrote : Wrote monitor old new got (λ meaning. answers meaning some)
 
--- How a run of a sum ended, by its status. A run knows no query text, and a call's `Outcome` says the
+-- How a run of a query ended, by its status. A run knows no query text, and a call's `Outcome` says the
 -- same by that text. Usage, a fault of the query and a refusal come before any run.
-abbrev pub Ended : Plan → Status → Outside → Outside → Type 0
-Ended plan Done old new = Rose old.ends new.ends
-    × IfSome old.left (λ bytes. Appends old.taken new.taken (answers plan (lines bytes true)))
-Ended plan ItemFault old new = (got : List ℕ) × Wrote old new got (answers plan (lines got false))
-Ended plan SinkFault old new = (got : List ℕ) × Consumes old.left new.left got
-    × AppendsSome old.taken new.taken (answers plan (lines got true))
-Ended plan Memory old new = (got : List ℕ) × WroteLines plan old new got
-Ended plan Limit old new = (got : List ℕ) × (length got ≡ max_count)
-    × Wrote old new got (answers plan (lines got false))
-Ended plan Usage old new = ⊥
-Ended plan QueryFault old new = ⊥
-Ended plan Refused old new = ⊥
+abbrev pub Ended : Monitor → Status → Outside → Outside → Type 0
+Ended monitor Done old new = Rose old.ends new.ends
+    × ((meaning : Meaning) → IsMeaning monitor meaning → IfSome old.left (λ bytes.
+    Appends old.taken new.taken (answers meaning (lines bytes true))))
+Ended monitor ItemFault old new = (got : List ℕ)
+    × Wrote monitor old new got (λ meaning. answers meaning (lines got false))
+Ended monitor SinkFault old new = (got : List ℕ) × Consumes old.left new.left got
+    × ((meaning : Meaning) → IsMeaning monitor meaning
+    → AppendsSome old.taken new.taken (answers meaning (lines got true)))
+Ended monitor Memory old new = (got : List ℕ) × WroteLines monitor old new got
+Ended monitor Limit old new = (got : List ℕ) × (length got ≡ max_count)
+    × Wrote monitor old new got (λ meaning. answers meaning (lines got false))
+Ended monitor Usage old new = ⊥
+Ended monitor QueryFault old new = ⊥
+Ended monitor Refused old new = ⊥

@@ -4,10 +4,13 @@ use Rattle.std.specs.Io.KnownBytes.{IsAtEnd}
 use Rattle.io_edge.specs.Counts.{Rose}
 use Rattle.io_edge.specs.Lines.{Shown, lines}
 use Rattle.io_edge.specs.Reading.{Reading, lines_after, count_of}
+use Rattle.rate_expr.specs.Words.{Word}
+use Rattle.query_model.specs.Checked.{OnStream}
+use Rattle.query_model.specs.Monitors.{monitor_of}
 use Rattle.sqre_run.specs.Output.{answers}
 use Rattle.sqre_run.specs.Outside.{Outside, Wrote}
-use Rattle.type_checker.specs.Plan.{Plan}
-use Rattle.sqre_run.specs.Tallies.{Progress, IsBehind}
+use Rattle.sqre_run.specs.Sessions.{IsBehind}
+use Rattle.sqre_run.specs.declared.session.Session.{Session}
 
 -- of the bytes taken these lines were shown: the lines of all are these and then those to come
 pub record Showed (got : List ℕ) (shown : List Shown) (now : Reading) : Type 0 where
@@ -16,14 +19,14 @@ pub record Showed (got : List ℕ) (shown : List Shown) (now : Reading) : Type 0
   pub at_end : now.met ≡ true → lines got true ≡ shown
   pub count : count_of now ≡ length got
 
--- From old to now a run took bytes and wrote the answers to the lines that they showed. What it keeps
--- is what is kept of the query behind these lines.
-pub record Running (plan : Plan) (old now : Outside) (reading : Reading) (kept : Progress)
-    : Type 0 where
+-- From old to now a run took bytes and wrote the answers to the lines that they showed, whatever function
+-- gives the values of the query. The session is behind these lines.
+pub record Running {F : Type 0} (follows : F → Word → Type 0) (on : OnStream) (old now : Outside)
+    (reading : Reading) (session : Session F) : Type 0 where
   pub got : List ℕ
   pub shown : List Shown
   pub showed : Showed got shown reading
-  pub wrote : Wrote old now got (answers plan shown)
-  pub behind : IsBehind plan shown kept
+  pub wrote : Wrote (monitor_of on) old now got (λ meaning. answers meaning shown)
+  pub behind : IsBehind follows on shown session
   pub later : old.ends ≤ now.ends
   pub at_end : reading.met ≡ true → Rose old.ends now.ends × IsAtEnd now.left

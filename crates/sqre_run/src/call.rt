@@ -4,7 +4,10 @@ ghost use Rattle.io_edge.specs.Counts.{Rose, FailsBy};
 ghost use Rattle.sqre_run.specs.Compiled.{Compiles};
 ghost use Rattle.type_checker.specs.Judged.{Verdict};
 ghost use Rattle.sqre_run.specs.Words.{is_run};
-ghost use Rattle.sqre_run.specs.Outside.{outside};
+ghost use Rattle.query_model.specs.Monitors.{monitor_of};
+ghost use Rattle.query_model.specs.Queries.{plain_of};
+ghost use Rattle.query_model.specs.Shapes.{HasPlainShapes};
+ghost use Rattle.sqre_run.specs.Outside.{Ended, outside};
 ghost use Rattle.sqre_run.specs.QueryRead.{ReadsQuery};
 ghost use Rattle.sqre_run.specs.Call.{Completes, FirstFault, Outcome, Refuses, Untouched};
 
@@ -14,8 +17,10 @@ use crate::run::{hand_over, run};
 use crate::words::is_run;
 use io_edge::{Sink, Source};
 use language_base::Refusal;
+use query_model::Checked;
 use report_writer::refusal_text;
-use std::alloc::Global;
+use slow_eval::Slow;
+use std::alloc::{AllocError, Global};
 
 /// Does what the words after the program's name ask for. `run QUERY ITEMS` compiles the query and
 /// answers every line of the items. What the words QUERY and ITEMS name is for the caller to open.
@@ -48,10 +53,31 @@ pub fn sqre<Q: Source, S: Source, W: Sink>(
         return Status::Usage;
     }
     match compile(alloc, query) {
-        Ok(sum) => run(alloc, sum, items, out),
+        Ok(checked) => run_slow(alloc, &checked, items, out),
         Err(QueryStop::Failed) => Status::QueryFault,
         Err(QueryStop::Refused(refusal)) => refuse(alloc, refusal, out),
         Err(QueryStop::Memory) => Status::Memory,
+    }
+}
+
+// Runs the query with the engine that keeps the whole word.
+fn run_slow<S: Source, W: Sink>(
+    alloc: Global,
+    checked: &Checked,
+    items: &mut S,
+    out: &mut W,
+) -> Status
+    requires { HasPlainShapes (plain_of checked.now.main.shape) }
+    ensures ended { let at = outside S.left S.ends W.taken in
+        Ended (monitor_of checked.now) result (at items.old out.old) (at items.new out.new) }
+    ensures item_faults { FailsBy (S.faults items.old) (S.faults items.new)
+        (result ≡ Status.ItemFault) }
+    ensures sink_faults { FailsBy (W.faults out.old) (W.faults out.new)
+        (result ≡ Status.SinkFault) }
+{
+    match Slow::new(alloc, checked) {
+        Ok(slow) => run(alloc, checked, slow, items, out),
+        Err(AllocError) => Status::Memory,
     }
 }
 

@@ -2,17 +2,30 @@
 ghost use Rattle.std.specs.Prelude.{◌≡◌, ℕ, List, ◌++◌};
 ghost use Rattle.sqre_run.specs.Compiled.{Compiles};
 ghost use Rattle.type_checker.specs.Judged.{Verdict};
-ghost use Rattle.sqre_run.specs.Output.{output, whole_output};
+ghost use Rattle.value_ops.specs.Texts.{IsText};
+ghost use Rattle.query_model.specs.Monitors.{Monitor};
+ghost use Rattle.sqre_run.specs.Meanings.{IsMeaning, KeepsRules, Meaning};
+ghost use Rattle.sqre_run.specs.Output.{Spoken, answering, output, whole_output};
 
 /// What is written for the lines alone that an LF ends is the front of what is written.
 pub fn whole_lines_come_first()
-    ensures { (query : Verdict) (bytes : List ℕ) → (rest : List ℕ)
+    ensures { (query : Spoken) (bytes : List ℕ) → (rest : List ℕ)
         × (output query bytes ≡ whole_output query bytes ++ rest) }
 {}
 
 /// A query text is compiled to one query, or has one refusal.
 pub fn one_query_per_text()
-    ensures some { (text : List ℕ) → (query : Verdict) × Compiles text query }
     ensures only { (text : List ℕ) (one other : Verdict) → Compiles text one → Compiles text other
         → other ≡ one }
+{}
+
+/// For each query that keeps the rules some function gives its values, and whichever does, the same
+/// is written for all lists of bytes.
+pub fn queries_have_meanings()
+    ensures some { (monitor : Monitor) → KeepsRules monitor
+        → (meaning : Meaning) × IsMeaning monitor meaning }
+    ensures same { (monitor : Monitor) (one other : Meaning) (bytes : List ℕ) → KeepsRules monitor
+        → IsMeaning monitor one → IsMeaning monitor other → IsText bytes
+        → (output (answering one) bytes ≡ output (answering other) bytes)
+        × (whole_output (answering one) bytes ≡ whole_output (answering other) bytes) }
 {}

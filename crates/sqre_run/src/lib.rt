@@ -3,16 +3,18 @@
 
 mod call;
 mod laws;
+mod line_texts;
 mod query;
 mod room;
 mod run;
+mod session;
 mod status;
-mod tally;
 #[cfg(test)]
 mod tests;
 mod words;
 
 pub use call::sqre;
-pub use laws::{one_query_per_text, whole_lines_come_first};
+pub use laws::{one_query_per_text, queries_have_meanings, whole_lines_come_first};
 pub use room::run_into_room;
+pub use session::{Reply, Session};
 pub use status::Status;

@@ -4,15 +4,18 @@ ghost use Rattle.io_edge.specs.Counts.{FailsBy, Rose};
 ghost use Rattle.sqre_run.specs.Compiled.{Compiles};
 ghost use Rattle.sqre_run.specs.QueryRead.{ReadsFor};
 ghost use Rattle.sqre_run.specs.Stops.{IsStopAt, IsStopOf};
-ghost use Rattle.type_checker.specs.Judged.{sum};
-ghost use Rattle.type_checker.specs.Plan.{plan_of};
+ghost use Rattle.query_model.specs.Monitors.{monitor_of};
+ghost use Rattle.query_model.specs.Queries.{plain_of};
+ghost use Rattle.query_model.specs.Shapes.{HasPlainShapes};
+ghost use Rattle.type_checker.specs.Judged.{accepted};
 
 use io_edge::{Source, TakeStop, read_to_limit};
 use language_base::Refusal;
+use query_model::Checked;
 use query_parser::ReadStop;
 use query_syntax::read_syntax;
 use std::alloc::Global;
-use type_checker::{CheckStop, Sum, check};
+use type_checker::{CheckStop, check};
 
 /// The most bytes that are read of a query: one more than a query may have.
 const MAX_READ: usize = 65_537;
@@ -26,9 +29,10 @@ pub enum QueryStop {
 }
 
 /// Reads the query to its first end, or until it is longer than a query may be, and compiles it.
-pub fn compile<Q: Source>(alloc: Global, query: &mut Q) -> Result<Sum, QueryStop>
+pub fn compile<Q: Source>(alloc: Global, query: &mut Q) -> Result<Checked, QueryStop>
     ensures accepted { IfOk result (λ compiled.
-        IfSome (Q.left query.old) (λ text. Compiles text (sum (plan_of compiled)))) }
+        IfSome (Q.left query.old) (λ text. Compiles text (accepted (monitor_of compiled)))) }
+    ensures plain { IfOk result (λ compiled. HasPlainShapes (plain_of compiled.main.shape)) }
     ensures refused { IfErr result (IsStopOf (Q.left query.old)) }
     ensures end { OnOk result (Rose (Q.ends query.old) (Q.ends query.new)) }
     ensures read { ReadsFor (Q.left query.old) (Q.left query.new)
@@ -42,15 +46,17 @@ pub fn compile<Q: Source>(alloc: Global, query: &mut Q) -> Result<Sum, QueryStop
         Err(TakeStop::Memory) => return Err(QueryStop::Memory),
     };
     match compile_text(alloc, text.as_slice()) {
-        Ok(sum) => Ok(sum),
+        Ok(checked) => Ok(checked),
         Err(CheckStop::Refused(refusal)) => Err(QueryStop::Refused(refusal)),
         Err(CheckStop::Memory) => Err(QueryStop::Memory),
     }
 }
 
 // Compiles a text.
-fn compile_text(alloc: Global, text: &[u8]) -> Result<Sum, CheckStop>
-    ensures accepted { IfOk result (λ compiled. Compiles text.now (sum (plan_of compiled))) }
+fn compile_text(alloc: Global, text: &[u8]) -> Result<Checked, CheckStop>
+    ensures accepted { IfOk result (λ compiled.
+        Compiles text.now (accepted (monitor_of compiled))) }
+    ensures plain { IfOk result (λ compiled. HasPlainShapes (plain_of compiled.main.shape)) }
     ensures refused { IfErr result (IsStopAt text.now) }
 {
     let program = match read_syntax(alloc, text) {

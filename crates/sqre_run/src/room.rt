@@ -2,8 +2,8 @@
 ghost use Rattle.std.specs.Prelude.{◌≡◌, ◌≤◌, ℕ, List, [], Some, length, IfOk, IfSome};
 ghost use Rattle.std.specs.Io.KnownBytes.{Consumes};
 ghost use Rattle.sqre_run.specs.Call.{Runs};
-ghost use Rattle.type_checker.specs.Judged.{sum};
-ghost use Rattle.sqre_run.specs.Output.{whole_output};
+ghost use Rattle.sqre_run.specs.Meanings.{IsMeaning, Meaning};
+ghost use Rattle.sqre_run.specs.Output.{answering, whole_output};
 
 use crate::{Status, sqre};
 use io_edge::{Failed, MemorySink, Sink, Source};
@@ -45,9 +45,10 @@ pub fn run_into_room<const ROOM: usize, Q: Source, S: Source>(
     query: &mut Q,
     items: &mut S,
 ) -> Status
-    ensures { result ≡ Status.ItemFault → IfSome (Q.left query.old) (λ text. Runs text (λ plan.
+    ensures { result ≡ Status.ItemFault → IfSome (Q.left query.old) (λ text. Runs text (λ monitor.
         (got : List ℕ) × Consumes (S.left items.old) (S.left items.new) got
-        × (length (whole_output (sum plan) got) ≤ ROOM))) }
+        × ((meaning : Meaning) → IsMeaning monitor meaning
+        → length (whole_output (answering meaning) got) ≤ ROOM))) }
 {
     match RoomSink::<ROOM>::new(alloc) {
         Ok(mut out) => sqre(alloc, words, query, items, &mut out),

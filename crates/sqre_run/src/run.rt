@@ -1,23 +1,36 @@
 //! The loop over the lines of the items.
-ghost use Rattle.std.specs.Prelude.{◌≡◌, ◌<◌, ◌≤◌, IfNone, IfSome};
+ghost use Rattle.std.specs.Prelude.{◌≡◌, ◌<◌, ◌≤◌, [], IfNone, IfSome};
 ghost use Rattle.io_edge.specs.Counts.{FailsBy};
 ghost use Rattle.io_edge.specs.Limits.{max_count};
+ghost use Rattle.query_model.specs.Checked.{OnStream};
+ghost use Rattle.query_model.specs.Monitors.{monitor_of};
+ghost use Rattle.query_model.specs.Queries.{plain_of};
 ghost use Rattle.sqre_run.specs.Outside.{Outside, outside, Ended};
-ghost use Rattle.type_checker.specs.Plan.{Plan, plan_of};
 ghost use Rattle.sqre_run.specs.Running.{Running};
+ghost use Rattle.sqre_run.specs.Sessions.{IsReady};
 ghost use Rattle.sqre_run.specs.Handed.{HandedOver};
 
 use crate::Status;
-use crate::tally::Tally;
+use crate::line_texts::{line_text, long_text};
+use crate::session::Session;
 use io_edge::{Line, LineStop, Lines, Sink, Source, write_all};
 use language_base::Bytes;
+use query_model::{Checked, Follower};
 use std::alloc::{AllocError, Global};
-use type_checker::Sum;
 
-/// Answers every line of the items.
-pub fn run<S: Source, W: Sink>(alloc: Global, sum: Sum, items: &mut S, out: &mut W) -> Status
+/// Answers every line of the items, from the empty word on.
+pub fn run<F: Follower + Drop, S: Source, W: Sink>(
+    alloc: Global,
+    checked: &Checked,
+    follower: F,
+    items: &mut S,
+    out: &mut W,
+) -> Status
+    requires word { F.follows follower [] }
+    requires query { F.query follower ≡ plain_of checked.now.main.shape }
+    requires columns { F.columns follower ≡ checked.now.layout.columns }
     ensures ended { let at = outside S.left S.ends W.taken in
-        Ended (plan_of sum) result (at items.old out.old) (at items.new out.new) }
+        Ended (monitor_of checked.now) result (at items.old out.old) (at items.new out.new) }
     ensures item_faults { FailsBy (S.faults items.old) (S.faults items.new)
         (result ≡ Status.ItemFault) }
     ensures sink_faults { FailsBy (W.faults out.old) (W.faults out.new)
@@ -27,30 +40,34 @@ pub fn run<S: Source, W: Sink>(alloc: Global, sum: Sum, items: &mut S, out: &mut
         Ok(lines) => lines,
         Err(AllocError) => return Status::Memory,
     };
-    let mut tally = Tally::new(sum);
+    let mut session = Session::begin(checked, follower);
     'lines: loop {
-        if let Some(status) = turn(alloc, &mut lines, &mut tally, items, out) {
+        if let Some(status) = turn(alloc, &mut lines, &mut session, items, out) {
             return status;
         }
     }
 }
 
 // Answers one line: whatever run has come to here goes on, or ends.
-fn turn<S: Source, W: Sink>(
+fn turn<F: Follower, S: Source, W: Sink>(
     alloc: Global,
     lines: &mut Lines,
-    tally: &mut Tally,
+    session: &mut Session<'_, F>,
     items: &mut S,
     out: &mut W,
 ) -> Option<Status>
+    requires ready { IsReady F.query F.columns F.lost F.sound session.old }
+    requires count { F.position session.old.follower ≤ lines.old.answered }
     ensures goes_on { let at = outside S.left S.ends W.taken in
-        IfNone result ((plan : Plan) (before : Outside)
-        → Running plan before (at items.old out.old) lines.old tally.old
-        → Running plan before (at items.new out.new) lines.new tally.new) }
+        IfNone result ((on : OnStream) (before : Outside)
+        → Running F.follows on before (at items.old out.old) lines.old session.old
+        → Running F.follows on before (at items.new out.new) lines.new session.new) }
     ensures stops { let at = outside S.left S.ends W.taken in
-        IfSome result (λ status. (plan : Plan) (before : Outside)
-        → Running plan before (at items.old out.old) lines.old tally.old
-        → Ended plan status before (at items.new out.new)) }
+        IfSome result (λ status. (on : OnStream) (before : Outside)
+        → Running F.follows on before (at items.old out.old) lines.old session.old
+        → Ended (monitor_of on) status before (at items.new out.new)) }
+    ensures ready { IfNone result (IsReady F.query F.columns F.lost F.sound session.new
+        × (F.position session.new.follower ≤ lines.new.answered)) }
     ensures progress { IfNone result ((lines.old.answered < lines.new.answered)
         × (lines.new.answered ≤ max_count)) }
     ensures item_faults { FailsBy (S.faults items.old) (S.faults items.new)
@@ -59,8 +76,8 @@ fn turn<S: Source, W: Sink>(
         (result ≡ Some Status.SinkFault) }
 {
     match lines.next(items) {
-        Ok(Line::Whole(line)) => hand_over(tally.line(alloc, line), out),
-        Ok(Line::Long) => hand_over(tally.long_line(alloc), out),
+        Ok(Line::Whole(line)) => hand_over(line_text(alloc, session, line), out),
+        Ok(Line::Long) => hand_over(long_text(alloc, session), out),
         Ok(Line::End) => Some(Status::Done),
         Err(LineStop::Failed) => Some(Status::ItemFault),
         Err(LineStop::Limit) => Some(Status::Limit),

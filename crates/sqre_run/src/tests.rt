@@ -1,6 +1,7 @@
 // What no clause says: that runs come to their end, and the very bytes that they write.
 mod items;
 mod refusals;
+mod sessions;
 
 use crate::{Status, run_into_room, sqre};
 use io_edge::{MemorySink, MemorySource, SteadySink, SteadySource};

@@ -1,6 +1,7 @@
 // Lines of all kinds, the items that they are, and the answers.
 use super::{outcome, run_of, sum_over};
 use crate::Status;
+use std::alloc::{AllocError, Global};
 use std::test::Fail;
 
 const PRICES: &[u8] = b"stream(header, col(sym, text), col(price, fixed(2)))
@@ -93,6 +94,55 @@ fn an_item_that_does_not_meet_the_predicate_ends_the_values(rt: HostRuntime) -> 
         let (status, bytes) = outcome(rt.alloc(), run_of(query, items))?;
         assert_eq!(rt; status, Status::Done, "at {items:?}");
         assert_eq!(rt; bytes.as_slice(), written, "at {items:?}");
+    }
+    Ok(())
+}
+
+// A stream of whole numbers, and what stands in `main`.
+fn query_of(alloc: Global, main: &[u8]) -> Result<Vec<u8>, AllocError> {
+    let mut query = Vec::from_slice(alloc, b"stream(plain, col(a, int))\nmain(")?;
+    query.extend_from_slice(main)?;
+    query.extend_from_slice(b")\n")?;
+    Ok(query)
+}
+
+#[test]
+fn queries_of_all_shapes_have_their_values(rt: HostRuntime) -> Result<(), Fail> {
+    let table: [(&[u8], &[u8], &[u8]); 8] = [
+        (b"eps(7)", b"5\n", b"undefined\n"),
+        (b"atom(lt(a, 9), mul(a, 2))", b"5\n6\n", b"10\nundefined\n"),
+        (b"or(eps(7), atom(any, a))", b"5\n6\n", b"5\nundefined\n"),
+        (
+            b"split(atom(any, a), iter(atom(any, a), 0, add(x, y)), sub(x, y))",
+            b"10\n3\nx\n4\n",
+            b"10\n7\nskipped number 1\n3\n",
+        ),
+        (
+            b"iter(split(atom(lt(a, 0), a), atom(gt(a, 0), a), add(x, y)), 1, mul(x, y))",
+            b"-1\n4\n-2\n7\n",
+            b"undefined\n3\nundefined\n15\n",
+        ),
+        (
+            b"combine(iter(atom(any, a), 0, add(x, y)), iter(atom(any, 1), 0, add(x, y)), div(x, y))",
+            b"4\n6\n",
+            b"4\n5\n",
+        ),
+        (
+            b"apply(iter(atom(any, a), 0, add(x, y)), div(100, x))",
+            b"5\n-5\n20\n",
+            b"20\ndivzero\n5\n",
+        ),
+        (
+            b"apply(iter(atom(any, a), 0, add(x, y)), mul(x, x))",
+            b"3\n4000000000\n",
+            b"9\noverflow\n",
+        ),
+    ];
+    for (main, items, written) in table {
+        let query = query_of(rt.alloc(), main)?;
+        let (status, bytes) = outcome(rt.alloc(), run_of(&query, items))?;
+        assert_eq!(rt; status, Status::Done, "at {main:?}");
+        assert_eq!(rt; bytes.as_slice(), written, "at {main:?}");
     }
     Ok(())
 }

@@ -24,19 +24,19 @@ fn a_departure_is_told_before_names_and_types(rt: HostRuntime) -> Result<(), Fai
     let table: [(&[u8], &[u8]); 5] = [
         (
             b"stream(header, col(a, int), col(a, text))\nmain(eps(0))",
-            b"refused form 47..53\n",
+            b"refused name 32..33\n",
         ),
         (
             b"stream(plain, col(a, int))\nlet(q, eps(0))\nmain(q)",
             b"refused form 27..41\n",
         ),
         (
-            b"stream(plain, col(a, int))\nmain(iter(atom(any, 1), 0, add(x, y)))",
-            b"refused form 47..48\n",
+            b"stream(plain, col(a, int), col(a, text))\nmain(compose(atom(any, b), eps(0)))",
+            b"refused form 46..75\n",
         ),
         (
-            b"stream(plain, col(a, int))\nmain(iter(atom(any, b), 0, add(y, x)))",
-            b"refused form 58..59\n",
+            b"stream(plain, col(a, int))\nmain(iter(atom(any, b), 0, tget(y, \"k\", 0)))",
+            b"refused form 54..69\n",
         ),
         (
             b"stream(plain, col(a, int))\nmain(atom(any, 9223372036854775808))\n",

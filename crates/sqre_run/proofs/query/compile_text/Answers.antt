@@ -1,7 +1,7 @@
 use Rattle.query_syntax.specs.Plain.{plain_program}
 use Rattle.query_syntax.proofs.WithinLimits.{stream_within}
 use Rattle.sqre_run.specs.Compiled.{unread}
-use Rattle.sqre_run.proofs.Checks.{sum_of_text, stop_of_text}
+use Rattle.sqre_run.proofs.Checks.{query_of_text, stop_of_text}
 use Rattle.sqre_run.proofs.query.compile_text.Goals as goal
 
 pub returns-in-Err-Refused-clause-refused : goal.returns-in-Err-Refused-clause-refused
@@ -13,7 +13,7 @@ check-requires c = stream_within _ (plain_program c.in-Ok.program) c.in-Ok.ensur
 
 pub returns-clause-accepted : goal.returns-clause-accepted
 returns-clause-accepted c =
-    sum_of_text c.args.text.now (plain_program c.in-Ok.program) c.in-Ok.ensures.read c.check.result c.check.ensures.accepted
+    query_of_text c.args.text.now (plain_program c.in-Ok.program) c.in-Ok.ensures.read c.check.result c.check.ensures.accepted
 
 pub returns-clause-refused : goal.returns-clause-refused
 returns-clause-refused c =

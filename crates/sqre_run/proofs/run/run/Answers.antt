@@ -1,6 +1,6 @@
-use Rattle.std.proofs.Common.{[], refl}
+use Rattle.std.proofs.Common.{[], refl, ap, sym, subst, arith}
 use Rattle.std.proofs.KnownBytes.{Consumes-nil, Appends-nil}
-use Rattle.sqre_run.proofs.Tallying.{behind_none}
+use Rattle.sqre_run.proofs.Sessions.{behind_none, ready_begins}
 use Rattle.sqre_run.proofs.Turns.{Running-begins}
 use Rattle.sqre_run.proofs.run.run.Goals as goal
 
@@ -12,13 +12,23 @@ returns-in-Err-clause-ended g c = (
     some = [];
     others = [];
     whole = refl;
-    wrote = record { read = Consumes-nil _; wrote = Appends-nil _ };
+    wrote = record { read = Consumes-nil _; wrote = λ meaning means. Appends-nil _ };
   },
 )
 
 pub lines-init : goal.lines-init
-lines-init g c = record {
-  running = Running-begins _ _ _ _ c.in-Ok.ensures (behind_none _ _ c.new-tally.ensures);
-  items_calm = refl;
-  sink_calm = refl;
-}
+lines-init g c =
+    let f = g.F.Follower in
+    let laws = g.met.F.Follower in
+    let begins = c.begin-session.ensures in
+    let same = ap (λ s. s.checked.now) begins in
+    let kept = ap (λ s. s.follower) begins in
+    record {
+      running = Running-begins f.follows _ _ _ _ c.in-Ok.ensures
+          (behind_none f.follows f.query _ _ same (ap (λ s. s.begun) begins) (subst (λ x. f.follows x []) (sym kept) c.requires.word));
+      ready = ready_begins f.query f.columns f.lost f.sound _ _ _ same kept c.requires.query c.requires.columns
+          (laws.lost_follows _ [] c.requires.word) (laws.follows_sound _ [] c.requires.word);
+      count = omega (arith, ap f.position kept, laws.at_end _ [] c.requires.word);
+      items_calm = refl;
+      sink_calm = refl;
+    }

@@ -7,32 +7,32 @@ pub returns-in-Ok-Whole-clause-goes_on : goal.returns-in-Ok-Whole-clause-goes_on
 returns-in-Ok-Whole-clause-goes_on g c =
     let is = c.in-Ok-Whole.is ∙ ap Ok c.in-Ok-Whole.field-0-is in
     let takes = TakesLine-whole c.next.follows.holds-at-none _ is in
-    Handed-goes_on _ _ _ _ _ _ _ _ _ takes c.line.ensures c.hand_over.ensures.handed
+    Handed-goes_on _ _ _ _ _ _ _ _ _ _ takes c.line_text.ensures.replies c.hand_over.ensures.handed
 
 pub returns-in-Ok-Whole-clause-stops : goal.returns-in-Ok-Whole-clause-stops
 returns-in-Ok-Whole-clause-stops g c =
     let is = c.in-Ok-Whole.is ∙ ap Ok c.in-Ok-Whole.field-0-is in
     let takes = TakesLine-whole c.next.follows.holds-at-none _ is in
-    Handed-stops _ _ _ _ _ _ _ _ _ takes c.line.ensures c.hand_over.ensures.handed
+    Handed-stops _ _ _ _ _ _ _ _ _ _ takes c.line_text.ensures.replies c.hand_over.ensures.handed
 
 pub returns-in-Ok-Long-clause-goes_on : goal.returns-in-Ok-Long-clause-goes_on
 returns-in-Ok-Long-clause-goes_on g c =
     let is = c.in-Ok-Long.is ∙ ap Ok c.in-Ok-Long.field-0-is in
     let takes = TakesLine-long c.next.follows.holds-at-none is in
-    Handed-goes_on _ _ _ _ _ _ _ _ _ takes c.long_line.ensures c.hand_over-in-Ok-Long.ensures.handed
+    Handed-goes_on _ _ _ _ _ _ _ _ _ _ takes c.long_text.ensures.replies c.hand_over-in-Ok-Long.ensures.handed
 
 pub returns-in-Ok-Long-clause-stops : goal.returns-in-Ok-Long-clause-stops
 returns-in-Ok-Long-clause-stops g c =
     let is = c.in-Ok-Long.is ∙ ap Ok c.in-Ok-Long.field-0-is in
     let takes = TakesLine-long c.next.follows.holds-at-none is in
-    Handed-stops _ _ _ _ _ _ _ _ _ takes c.long_line.ensures c.hand_over-in-Ok-Long.ensures.handed
+    Handed-stops _ _ _ _ _ _ _ _ _ _ takes c.long_text.ensures.replies c.hand_over-in-Ok-Long.ensures.handed
 
 pub returns-in-Err-Failed-clause-stops : goal.returns-in-Err-Failed-clause-stops
 returns-in-Err-Failed-clause-stops g c first before run =
     let is = c.in-Err-Failed.is ∙ ap Err c.in-Err-Failed.field-0-is in
-    Ended-failed first before _ _ _ _ _ c.next.follows.holds-at-none refl run is
+    Ended-failed _ first before _ _ _ _ _ c.next.follows.holds-at-none refl run is
 
 pub returns-in-Err-Limit-clause-stops : goal.returns-in-Err-Limit-clause-stops
 returns-in-Err-Limit-clause-stops g c first before run =
     let is = c.in-Err-Limit.is ∙ ap Err c.in-Err-Limit.field-0-is in
-    Ended-at_limit first before _ _ _ _ _ c.next.follows.holds-at-none refl run is
+    Ended-at_limit _ first before _ _ _ _ _ c.next.follows.holds-at-none refl run is

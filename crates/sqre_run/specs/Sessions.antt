@@ -1,0 +1,76 @@
+-- Statement. What a session keeps of the lines so far, and what it does with one more.
+use Rattle.std.specs.Prelude.{◌≡◌, ℕ, Bool, ◌&&◌, not, true, false, List, [], ◌∷◌, ◌++◌, Option, Some, None, Result, Ok, Err, if◌then◌else◌}
+use Rattle.io_edge.specs.Lines.{Shown}
+use Rattle.value_ops.specs.declared.field.Field.{Field}
+use Rattle.value_ops.specs.declared.value.Value.{Value}
+use Rattle.item_schema.specs.Items.{IsItemOf}
+use Rattle.item_schema.specs.declared.column.Column.{Column}
+use Rattle.item_schema.specs.declared.stop.Skip.{Skip}
+use Rattle.rate_expr.specs.Words.{Word, IsWordOf}
+use Rattle.report_writer.specs.Texts.{answer_text, skip_text}
+use Rattle.query_model.specs.Checked.{OnStream}
+use Rattle.query_model.specs.Following.{Carries}
+use Rattle.query_model.specs.Monitors.{monitor_of}
+use Rattle.query_model.specs.Queries.{Qre, plain_of}
+use Rattle.sqre_run.specs.Meanings.{IsMeaning, Meaning}
+use Rattle.sqre_run.specs.Output.{answer, items_of, read_of}
+use Rattle.sqre_run.specs.declared.session.Reply.{Reply}
+use Rattle.sqre_run.specs.declared.session.Reply.TheVariants.{Answered, Silent, Skipped}
+use Rattle.sqre_run.specs.declared.session.Session.{Session}
+
+-- some line has come
+abbrev pub is_begun : List Shown → Bool
+is_begun [] = false
+is_begun (line ∷ lines) = true
+
+-- the next line is the header
+abbrev pub awaits_header : {F : Type 0} → Session F → Bool
+awaits_header session = session.checked.now.layout.has_header && not session.begun
+
+-- what the session reads of a line; the header gives nothing
+abbrev pub read_by : {F : Type 0} → Session F → Shown → Option (Result (List Field) Skip)
+read_by session line =
+    if awaits_header session then None else read_of session.checked.now.layout.columns line
+
+-- the reply says what was read: nothing, the cause of the skip, or an item
+abbrev pub IsReplyTo : Option (Result (List Field) Skip) → Reply → Type 0
+IsReplyTo None Silent = Unit {0}
+IsReplyTo (Some (Err why)) (Skipped skip) = skip ≡ why
+IsReplyTo (Some (Ok item)) Answered = Unit {0}
+IsReplyTo _ _ = ⊥
+
+-- an item of the columns stands behind whatever word was followed, and nothing else changes anything
+abbrev pub FollowsOn : {F : Type 0} → (F → Word → Type 0) → List Column
+    → Option (Result (List Field) Skip) → F → F → Type 0
+FollowsOn follows columns (Some (Ok item)) old new = IsItemOf columns item × Carries follows old item new
+FollowsOn follows columns _ old new = new ≡ old
+
+-- the follower is one of the session's query, and not lost
+pub record IsReady {F : Type 0} (query : F → Qre) (columns : F → List Column) (lost : F → Bool)
+    (sound : F → Type 0) (session : Session F) : Type 0 where
+  pub query_is : query session.follower ≡ plain_of session.checked.now.main.shape
+  pub columns_are : columns session.follower ≡ session.checked.now.layout.columns
+  pub found : lost session.follower ≡ false
+  pub is_sound : sound session.follower
+
+-- the session is one of this query, and has come behind these lines: it follows their items
+pub record IsBehind {F : Type 0} (follows : F → Word → Type 0) (on : OnStream) (lines : List Shown)
+    (session : Session F) : Type 0 where
+  pub same : session.checked.now ≡ on
+  pub is_word : IsWordOf on.layout.columns (items_of on.layout lines)
+  pub follows_items : follows session.follower (items_of on.layout lines)
+  pub begun_is : session.begun ≡ is_begun lines
+
+-- behind whatever lines the old one is, this is written for the line, whatever function gives the values of
+-- the query, and the new one is behind all
+abbrev pub RepliesTo : {F : Type 0} → (F → Word → Type 0) → Shown → List ℕ → Session F → Session F
+    → Type 0
+RepliesTo follows line written old new = (on : OnStream) (before : List Shown)
+    → IsBehind follows on before old → ((meaning : Meaning) → IsMeaning (monitor_of on) meaning
+    → written ≡ answer meaning before line) × IsBehind follows on (before ++ line ∷ []) new
+
+-- the text of a reply, where the value after it is this
+abbrev pub text_of : Reply → Option Value → List ℕ
+text_of Silent value = []
+text_of (Skipped skip) value = skip_text skip
+text_of Answered value = answer_text value
