@@ -1,0 +1,38 @@
+//! The bounds of a query, found by one pass over it.
+ghost use Rattle.std.specs.Prelude.{◌≡◌, ◌-◌, ◌^◌, min};
+ghost use Rattle.query_model.specs.Bounds.{inner_of, places_of, slots_of};
+ghost use Rattle.query_model.specs.Queries.{plain_of};
+
+use crate::demand::Demand;
+use query_model::{Query, Shape};
+
+/// The starts of the query that may live at one time, and 2^32 - 1 where there are more.
+pub fn places(query: &Query) -> u32
+    ensures { result ≡ min (places_of (plain_of query.now.shape)) (2 ^ 32 - 1) }
+{
+    demand_of(query).places
+}
+
+/// What an evaluator that follows a word of the query keeps, and 2^32 - 1 where that is more.
+pub fn slots(query: &Query) -> u32
+    ensures { result ≡ min (slots_of (plain_of query.now.shape)) (2 ^ 32 - 1) }
+{
+    demand_of(query).slots()
+}
+
+fn demand_of(query: &Query) -> Demand
+    ensures places { result.places ≡ min (places_of (plain_of query.now.shape)) (2 ^ 32 - 1) }
+    ensures inner { result.inner ≡ min (inner_of (plain_of query.now.shape)) (2 ^ 32 - 1) }
+{
+    match &query.shape {
+        Shape::Atom(..) => Demand::ITEM,
+        Shape::Eps(_) => Demand::NOTHING,
+        Shape::Or(first, second) => demand_of(first).beside(demand_of(second)),
+        Shape::Split(first, second, _) => demand_of(first).then(demand_of(second)),
+        Shape::Iter(inner, ..) => demand_of(inner).repeated(),
+        Shape::Combine(first, second, _) => demand_of(first).beside(demand_of(second)),
+        Shape::Apply(inner, _) => demand_of(inner),
+        Shape::Compose(first, second) => demand_of(first).read_by(demand_of(second)),
+        Shape::Collect(_, _, rate, inner) => demand_of(inner).along(rate.positions()),
+    }
+}

@@ -1,0 +1,9 @@
+//! How much an evaluator of a query keeps, known before the first item.
+#![tactic(auto)]
+
+mod bounds;
+mod demand;
+#[cfg(test)]
+mod tests;
+
+pub use bounds::{places, slots};
