@@ -1,0 +1,4 @@
+pub mod Distinct
+pub mod Found
+pub mod Kept
+pub mod Places
