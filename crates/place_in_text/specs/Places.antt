@@ -1,0 +1,25 @@
+-- Statement. Where a place of a text stands: in which line, and behind how many bytes of it. A place behind the text
+-- stands at its end.
+use Rattle.std.specs.Prelude.{ℕ, ◌+◌, Bool, ◌==◌, List, length, take, drop}
+use Rattle.std.specs.Io.BufRead.{strip_last}
+use Rattle.std.specs.List.{after_last, before_first, count_by}
+
+-- the byte ends a line
+abbrev pub is_lf : ℕ → Bool
+is_lf byte = byte == 10
+
+-- what stands of the place's line before the place
+abbrev pub before_place : List ℕ → ℕ → List ℕ
+before_place text place = after_last is_lf (take place text)
+
+-- what stands of it from the place on, without a CR at its end; at the LF itself, that CR stands before the place
+abbrev pub from_place : List ℕ → ℕ → List ℕ
+from_place text place = strip_last 13 (before_first is_lf (drop place text))
+
+-- the line, counted from 1
+abbrev pub line_of : List ℕ → ℕ → ℕ
+line_of text place = count_by is_lf (take place text) + 1
+
+-- the byte of the line, counted from 1
+abbrev pub column_of : List ℕ → ℕ → ℕ
+column_of text place = length (before_place text place) + 1

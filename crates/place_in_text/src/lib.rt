@@ -1,0 +1,17 @@
+//! A place of a text as a person finds it: its line and column, and the line with the place marked under it.
+#![tactic(auto)]
+
+mod laws;
+mod line;
+mod marked_line;
+mod part;
+mod position;
+mod shown;
+#[cfg(test)]
+mod tests;
+mod window;
+
+pub use laws::windows_hold_their_places;
+pub use marked_line::push_marked_line;
+pub use part::bytes_between;
+pub use position::{Position, locate};
