@@ -12,12 +12,12 @@ use Rattle.rate_expr.proofs.Meetings.{length-preds_of}
 use Rattle.rate_expr.proofs.SetsOf.{sets_of}
 
 -- a mask with another stays below the same bound
-with_if_below : (k mask : ℕ) (test : Bool) (other : ℕ) → mask < 2 ^ k → other < 2 ^ k → with_if mask test other < 2 ^ k
+pub with_if_below : (k mask : ℕ) (test : Bool) (other : ℕ) → mask < 2 ^ k → other < 2 ^ k → with_if mask test other < 2 ^ k
 with_if_below k mask true other below also = or_lt k mask other below also
 with_if_below k mask false other below also = below
 
 -- a bound may be raised
-raised : (mask j k : ℕ) → j ≤ k → mask < 2 ^ j → mask < 2 ^ k
+pub raised : (mask j k : ℕ) → j ≤ k → mask < 2 ^ j → mask < 2 ^ k
 raised mask j k le below = let higher : 2 ^ j ≤ 2 ^ k = pow_mono le in omega arith
 
 -- words of the rate begin and end at its positions
@@ -39,7 +39,7 @@ part_below (choice first second) base k le =
 part_below (star inner) base k le = part_below inner base k le
 
 -- linked ones too
-linked_below : (from to at k : ℕ) (masks : List ℕ) → to < 2 ^ k → AllByRecursion (λ mask. mask < 2 ^ k) masks → AllByRecursion (λ mask. mask < 2 ^ k) (all_linked from to at masks)
+pub linked_below : (from to at k : ℕ) (masks : List ℕ) → to < 2 ^ k → AllByRecursion (λ mask. mask < 2 ^ k) masks → AllByRecursion (λ mask. mask < 2 ^ k) (all_linked from to at masks)
 linked_below from to at k [] below all = tt
 linked_below from to at k (mask ∷ masks) below (first, all) =
     (with_if_below k mask (bit_at from at == 1) to first below, linked_below from to (at + 1) k masks below all)

@@ -1,7 +1,7 @@
 -- Lists of predicates of which equal ones are kept once.
-use Rattle.std.proofs.Common.{◌≡◌, ◌⊎◌, inl, inr, ℕ, zero, suc, ◌<◌, List, [], ◌∷◌, ◌++◌, Some, length, map, get_or, slice_get, refl, sym, ap, ◌∙◌, subst, arith}
+use Rattle.std.proofs.Common.{◌≡◌, ◌⊎◌, inl, inr, ℕ, zero, suc, ◌+◌, ◌<◌, List, [], ◌∷◌, ◌++◌, Some, length, map, take, get_or, slice_get, append_assoc, refl, sym, ap, ◌∙◌, subst, arith}
 use Rattle.std.proofs.Math.ListN.{get_or-append}
-use Rattle.std.proofs.lemmas.List.{map-append, length_push, get_or_push}
+use Rattle.std.proofs.lemmas.List.{map-append, length_push, get_or_push, take_more}
 use Rattle.std.proofs.lemmas.Option.{get_or_from_slice_get, slice_get-get_or, slice_get-map, slice_get_within}
 use Rattle.std.specs.List.{Contains}
 use Rattle.std.specs.Option.{option_map}
@@ -166,3 +166,17 @@ new_listed old distinct kept places more place pred is are keeps at added =
     (added ∙ ap (λ (n : ℕ). places ++ n ∷ []) at)
     ∙ listed_new (shared_of distinct places) pred (subst AreShared (sym is) are)
     ∙ ap (λ (s : Shared). listed s ++ pred ∷ []) is
+
+-- the list with one more of the others behind it
+pub listed_more : (before so_far list others : List Predicate) (position : ℕ) (pred : Predicate)
+    → so_far ≡ before ++ take position others → slice_get others position ≡ Some pred
+    → list ≡ so_far ++ pred ∷ [] → list ≡ before ++ take (position + 1) others
+listed_more before so_far list others position pred is at added =
+    let within = slice_get_within others position pred at in
+    let read = get_or_from_slice_get others position pred any at in
+    let more = take_more others position any within
+    ∙ ap (λ (x : Predicate). take position others ++ x ∷ []) read in
+    added
+    ∙ ap (λ (xs : List Predicate). xs ++ pred ∷ []) is
+    ∙ append_assoc before (take position others) (pred ∷ [])
+    ∙ ap (λ (xs : List Predicate). before ++ xs) (sym more)

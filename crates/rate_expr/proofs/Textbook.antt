@@ -15,7 +15,7 @@ abbrev pub IsNumberOf : (A : Type 0) → (A → ℕ) → (A → Type 0) → ℕ 
 IsNumberOf A number P n = (p : A) × (number p ≡ n) × P p
 
 -- either of two tests holds where either of two facts does
-test_either : (x y : Bool) (X Y : Type 0) → (x ≡ true) ↔ X → (y ≡ true) ↔ Y → ((x || y) ≡ true) ↔ (X ⊎ Y)
+pub test_either : (x y : Bool) (X Y : Type 0) → (x ≡ true) ↔ X → (y ≡ true) ↔ Y → ((x || y) ≡ true) ↔ (X ⊎ Y)
 test_either x y X Y left right = (λ is. to (either x y is), from)
   where
     to : (x ≡ true) ⊎ (y ≡ true) → X ⊎ Y
@@ -27,7 +27,7 @@ test_either x y X Y left right = (λ is. to (either x y is), from)
     from (inr holds) = or_second x y (right.1 holds)
 
 -- both where both do
-test_both : (x y : Bool) (X Y : Type 0) → (x ≡ true) ↔ X → (y ≡ true) ↔ Y → ((x && y) ≡ true) ↔ (X × Y)
+pub test_both : (x y : Bool) (X Y : Type 0) → (x ≡ true) ↔ X → (y ≡ true) ↔ Y → ((x && y) ≡ true) ↔ (X × Y)
 test_both x y X Y left right = (
   λ is. let each = both x y is in (left.0 each.0, right.0 each.1),
   λ each. and_both x y (left.1 each.0) (right.1 each.1),

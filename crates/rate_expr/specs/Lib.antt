@@ -1,5 +1,6 @@
 pub mod Behind
 pub mod FirstLastFollow
+pub mod Joined
 pub mod Language
 pub mod Parts
 pub mod Paths

@@ -2,6 +2,7 @@
 #![tactic(auto)]
 
 mod build;
+mod joined;
 mod laws;
 mod links;
 pub mod masks;

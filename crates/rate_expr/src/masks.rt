@@ -1,5 +1,6 @@
 //! Sets of positions as masks, in which position p has the bit 2^p.
 ghost use Rattle.std.specs.Prelude.{◌≡◌, ◌↔◌, ◌≤◌, ◌<◌, ◌^◌, ℕ, IsTrue, MatchBool};
+ghost use Rattle.rate_expr.specs.Joined.{moved};
 ghost use Rattle.rate_expr.specs.Sets.{Has, IsLowest};
 
 /// Whether the position is in the mask.
@@ -50,4 +51,11 @@ pub fn without_lowest(mask: u128) -> u128
     ensures smaller { result < mask }
 {
     mask & (mask - 1)
+}
+
+/// The positions so many higher; those past 127 are left out.
+pub(crate) fn moved(mask: u128, count: u32) -> u128
+    ensures { result ≡ moved count mask }
+{
+    if count < 128 { mask << count } else { 0 }
 }

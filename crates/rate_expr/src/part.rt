@@ -1,8 +1,9 @@
 //! Where words of a part of a rate begin and end.
 ghost use Rattle.std.specs.Prelude.{◌≡◌, ◌<◌};
+ghost use Rattle.rate_expr.specs.Joined.{part_moved};
 ghost use Rattle.rate_expr.specs.Parts.{of_empty, of_one, of_sequence, of_choice, of_star};
 
-use crate::masks::only;
+use crate::masks::{moved, only};
 
 /// Whether the empty word is one, and the masks of the positions.
 #[derive(Clone, Copy)]
@@ -75,6 +76,17 @@ impl Part {
             nullable: true,
             first: self.first,
             last: self.last,
+        }
+    }
+
+    /// The same, with each position so many higher.
+    pub(crate) fn moved(self, count: u32) -> Part
+        ensures { result ≡ part_moved count self }
+    {
+        Part {
+            nullable: self.nullable,
+            first: moved(self.first, count),
+            last: moved(self.last, count),
         }
     }
 }

@@ -1,15 +1,18 @@
 //! The positions of a rate: its one-item parts, from left to right, and how words go through them.
-ghost use Rattle.std.specs.Prelude.{◌≡◌, ◌<◌, ◌≤◌, Some, IfOk, length, slice_get};
+ghost use Rattle.std.specs.Prelude.{◌≡◌, ◌+◌, ◌<◌, ◌≤◌, ◌^◌, Some, IfOk, length, slice_get};
 ghost use Rattle.language_base.specs.Limits.{max_positions};
 ghost use Rattle.predicate_cells.specs.Plain.{plain_of};
 ghost use Rattle.rate_expr.specs.FirstLastFollow.{AreSetsOf};
+ghost use Rattle.rate_expr.specs.Joined.{beside, ends_of, with_ends, with_links};
 ghost use Rattle.rate_expr.specs.Paths.{AreOf};
 ghost use Rattle.rate_expr.specs.Plain as rates;
-ghost use Rattle.rate_expr.specs.Rates.{size_of};
+ghost use Rattle.rate_expr.specs.Rates.{empty, one, size_of};
 ghost use Rattle.rate_expr.specs.Sets.{AreSets};
 ghost use Rattle.rate_expr.specs.Shared.{listed, AreShared};
 
 use crate::build::add;
+use crate::links::{append, link};
+use crate::part::Part;
 use crate::rate::Rate;
 use crate::shared_preds::SharedPreds;
 use predicate_cells::Pred;
@@ -73,14 +76,106 @@ impl Positions {
         })
     }
 
+    /// The empty word. It takes no memory.
+    pub fn empty(alloc: Global) -> Positions
+        ensures { AreSetsOf result empty }
+    {
+        Positions {
+            nullable: true,
+            first: 0,
+            last: 0,
+            follow: Vec::new(alloc),
+            preds: SharedPreds::new(alloc),
+        }
+    }
+
+    /// One item that meets the predicate.
+    pub fn one(alloc: Global, pred: &Pred) -> Result<Positions, AllocError>
+        ensures { IfOk result (λ sets. AreSetsOf sets (one (plain_of pred.now))) }
+    {
+        let mut follow = Vec::new(alloc);
+        let mut preds = SharedPreds::new(alloc);
+        follow.push(0)?;
+        preds.add(pred)?;
+        Ok(Positions {
+            nullable: false,
+            first: 1,
+            last: 1,
+            follow,
+            preds,
+        })
+    }
+
+    /// Where words begin and end.
+    pub(crate) fn ends(&self) -> Part
+        ensures ends { result ≡ ends_of self.now }
+        ensures sets { AreSets self.now }
+    {
+        Part {
+            nullable: self.nullable,
+            first: self.first,
+            last: self.last,
+        }
+    }
+
+    /// The same positions, where words begin and end as those of a part.
+    pub(crate) fn with_ends(self, part: Part) -> Positions
+        requires first { part.first < 2 ^ length self.preds }
+        requires last { part.last < 2 ^ length self.preds }
+        ensures { result ≡ with_ends self part }
+    {
+        Positions {
+            nullable: part.nullable,
+            first: part.first,
+            last: part.last,
+            follow: self.follow,
+            preds: self.preds,
+        }
+    }
+
+    /// The same positions, where words go on at those of `to` behind each of `from` too.
+    pub(crate) fn with_links(self, from: u128, to: u128) -> Positions
+        requires { to < 2 ^ length self.preds }
+        ensures { result ≡ with_links self from to }
+    {
+        let mut follow = self.follow;
+        link(&mut follow, from, to);
+        Positions {
+            nullable: self.nullable,
+            first: self.first,
+            last: self.last,
+            follow,
+            preds: self.preds,
+        }
+    }
+
+    /// Puts the positions of another rate behind these, where no words go over to them yet.
+    pub(crate) fn beside(self, other: Positions) -> Result<Positions, AllocError>
+        requires { length self.preds + length other.preds ≤ max_positions }
+        ensures { IfOk result (λ sets. sets ≡ beside self other) }
+    {
+        let count = self.count();
+        let mut follow = self.follow;
+        let mut preds = self.preds;
+        append(&mut follow, &other.follow, count)?;
+        preds.append(&other.preds)?;
+        Ok(Positions {
+            nullable: self.nullable,
+            first: self.first,
+            last: self.last,
+            follow,
+            preds,
+        })
+    }
+
     /// An equal automaton.
     pub fn try_copy(&self, alloc: Global) -> Result<Positions, AllocError>
         ensures { IfOk result (λ copy. copy ≡ self.now) }
     {
         Ok(Positions {
-            nullable: self.nullable,
-            first: self.first,
-            last: self.last,
+            nullable: self.nullable(),
+            first: self.first(),
+            last: self.last(),
             follow: Vec::from_slice(alloc, &self.follow)?,
             preds: self.preds.try_copy(alloc)?,
         })

@@ -60,6 +60,19 @@ impl SharedPreds {
         }
     }
 
+    /// Those of other positions behind these.
+    pub(crate) fn append(&mut self, others: &SharedPreds) -> Result<(), AllocError>
+        requires shared { AreShared self.old }
+        requires others { AreShared others.now }
+        ensures shared { OnOk result (AreShared self.new) }
+        ensures listed { OnOk result (listed self.new ≡ listed self.old ++ listed others.now) }
+    {
+        for position in 0..others.count() {
+            self.add(others.get(position))?;
+        }
+        Ok(())
+    }
+
     /// An equal list.
     pub(crate) fn try_copy(&self, alloc: Global) -> Result<SharedPreds, AllocError>
         ensures { IfOk result (λ copy. copy ≡ self.now) }

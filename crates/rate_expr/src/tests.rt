@@ -1,5 +1,5 @@
 // The masks were found by hand. A rate is written behind its parts: `e` is the empty word, `a` an
-// item, `ab;` a sequence, `ab|` a choice and `a*` a star; every letter but `e` is any item.
+// item, `ab;` a sequence, `ab|` a choice and `a*` a star; every letter but `e` is a test of its own.
 use crate::masks::{end_of, has, lowest, only, overlap, without_lowest};
 use crate::{
     MAX_POSITIONS, Positions, Rate, State, each_word_is_in_or_not, one_automaton_of_a_rate,
@@ -30,12 +30,16 @@ fn joined(alloc: Global, byte: u8, rates: &mut Vec<Rate>) -> Result<Rate, AllocE
     }
 }
 
+fn letter(byte: u8) -> Pred {
+    Pred::Eq(0, i64::from(byte))
+}
+
 fn rate(alloc: Global, text: &str) -> Result<Rate, AllocError> {
     let mut rates = Vec::new(alloc);
     for byte in text.as_bytes() {
         let next = match *byte {
             b'e' => Rate::Empty,
-            b'a'..=b'd' => Rate::One(Pred::Any),
+            b'a'..=b'd' => Rate::One(letter(*byte)),
             byte => joined(alloc, byte, &mut rates)?,
         };
         rates.push(next)?;
@@ -99,6 +103,106 @@ fn parts_begin_end_and_go_on(rt: HostRuntime) -> Result<(), Fail> {
     ] {
         let rate = rate(alloc, text)?;
         assert!(rt; sets_are(alloc, &rate, nullable, ends, follow)?, "{text}");
+    }
+    Ok(())
+}
+
+// A choice or a sequence of the two rates, and the first alone where both have too many positions.
+fn both(byte: u8, first: Positions, second: Positions) -> Result<Positions, AllocError> {
+    if first.count() + second.count() > MAX_POSITIONS {
+        Ok(first)
+    } else if byte == b'|' {
+        first.or(second)
+    } else {
+        first.then(second)
+    }
+}
+
+fn last_made(alloc: Global, made: &mut Vec<Positions>) -> Positions {
+    made.pop().unwrap_or(Positions::empty(alloc))
+}
+
+// The positions of the rate that is written so, made from those of its parts.
+fn made_of_parts(alloc: Global, text: &str) -> Result<Positions, AllocError> {
+    let mut made: Vec<Positions> = Vec::new(alloc);
+    for byte in text.as_bytes() {
+        let next = match *byte {
+            b'e' => Positions::empty(alloc),
+            b'*' => last_made(alloc, &mut made).star(),
+            b';' | b'|' => {
+                let second = last_made(alloc, &mut made);
+                both(*byte, last_made(alloc, &mut made), second)?
+            }
+            byte => Positions::one(alloc, &letter(byte))?,
+        };
+        made.push(next)?;
+    }
+    Ok(last_made(alloc, &mut made))
+}
+
+// Whether both have the same sets, and keep the same predicates at the same places.
+fn are_same(one: &Positions, other: &Positions) -> bool {
+    let ends = (one.nullable(), one.first(), one.last());
+    if ends != (other.nullable(), other.first(), other.last()) || one.count() != other.count() {
+        return false;
+    }
+    for position in 0..one.count() {
+        if one.follow(position) != other.follow(position) {
+            return false;
+        }
+    }
+    let (kept, others) = (one.preds(), other.preds());
+    for place in 0..kept.distinct().len() {
+        if others.distinct().place_of(kept.distinct().get(place)) != Some(place)
+            || kept.positions_of(place) != others.positions_of(place)
+        {
+            return false;
+        }
+    }
+    kept.distinct().len() == others.distinct().len()
+}
+
+#[test]
+fn positions_of_parts_make_those_of_the_rate(rt: HostRuntime) -> Result<(), Fail> {
+    let alloc = rt.alloc();
+    for text in [
+        "e",
+        "a",
+        "ab;",
+        "ab|",
+        "ab;*",
+        "a*b;",
+        "ea|eb|;",
+        "ab*ec|;;",
+        "abc*;|*",
+        "a****",
+        "ab;ab;|",
+        "ab|*ba;;",
+        "ab;c;*cb|a*;;",
+        "eaa;;*",
+    ] {
+        let rate = rate(alloc, text)?;
+        assert!(rt; rate.positions() <= MAX_POSITIONS);
+        let made = made_of_parts(alloc, text)?;
+        assert!(rt; are_same(&Positions::of(alloc, &rate)?, &made), "{text}");
+    }
+    Ok(())
+}
+
+#[test]
+fn two_rates_may_have_128_positions(rt: HostRuntime) -> Result<(), Fail> {
+    let alloc = rt.alloc();
+    for (first, second) in [(0, 128), (64, 64), (128, 0), (127, 1)] {
+        let (before, behind) = (items(alloc, first)?, items(alloc, second)?);
+        assert!(rt; before.positions() <= MAX_POSITIONS && behind.positions() <= MAX_POSITIONS);
+        let (one, other) = (
+            Positions::of(alloc, &before)?,
+            Positions::of(alloc, &behind)?,
+        );
+        assert!(rt; one.count() + other.count() == MAX_POSITIONS);
+        let rate = items(alloc, 128)?;
+        assert!(rt; rate.positions() <= MAX_POSITIONS);
+        assert!(rt; are_same(&one.then(other)?, &Positions::of(alloc, &rate)?));
     }
     Ok(())
 }

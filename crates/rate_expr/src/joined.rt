@@ -1,0 +1,42 @@
+//! The positions of a rate, made from those of its parts.
+ghost use Rattle.std.specs.Prelude.{◌+◌, ◌≤◌, IfOk, length};
+ghost use Rattle.language_base.specs.Limits.{max_positions};
+ghost use Rattle.rate_expr.specs.FirstLastFollow.{AreSetsOf};
+ghost use Rattle.rate_expr.specs.Rates.{Expression, choice, sequence, star};
+
+use crate::positions::Positions;
+use std::alloc::AllocError;
+
+impl Positions {
+    /// A word of either. The positions of these stay where they are, and the others' come behind.
+    pub fn or(self, other: Positions) -> Result<Positions, AllocError>
+        requires { length self.preds + length other.preds ≤ max_positions }
+        ensures { (r s : Expression) → AreSetsOf self r → AreSetsOf other s
+            → IfOk result (λ sets. AreSetsOf sets (choice r s)) }
+    {
+        let one = self.ends();
+        let another = other.ends().moved(self.count());
+        Ok(self.beside(other)?.with_ends(one.or(another)))
+    }
+
+    /// A word of these, and then one of the others, whose positions come behind.
+    pub fn then(self, other: Positions) -> Result<Positions, AllocError>
+        requires { length self.preds + length other.preds ≤ max_positions }
+        ensures { (r s : Expression) → AreSetsOf self r → AreSetsOf other s
+            → IfOk result (λ sets. AreSetsOf sets (sequence r s)) }
+    {
+        let before = self.ends();
+        let behind = other.ends().moved(self.count());
+        let linked = self.beside(other)?.with_links(before.last, behind.first);
+        Ok(linked.with_ends(before.then(behind)))
+    }
+
+    /// Words one after the other, none included.
+    pub fn star(self) -> Positions
+        ensures { (r : Expression) → AreSetsOf self r → AreSetsOf result (star r) }
+    {
+        let ends = self.ends();
+        self.with_links(ends.last, ends.first)
+            .with_ends(ends.star())
+    }
+}
