@@ -3,11 +3,11 @@ use Rattle.std.proofs.Common.{◌≡◌, ◌⊎◌, inl, inr, ℕ, zero, suc, �
 use Rattle.std.proofs.lemmas.Option.{slice_get-get_or, slice_get_within}
 use Rattle.value_ops.specs.declared.field.Field.{Field}
 use Rattle.item_schema.specs.Items.{IsItemOf}
-use Rattle.predicate_cells.specs.Cells.{cell_count, cell_of}
+use Rattle.predicate_cells.specs.Cells.{Partition, cell_count, cell_of}
 use Rattle.predicate_cells.proofs.CellsBelow.{cell_below}
 use Rattle.predicate_cells.proofs.CellsFilled.{cells_have_items}
 use Rattle.rate_expr.specs.Paths.{LeadsOn, Meets}
-use Rattle.rate_expr.specs.Sets.{AreSets, Has}
+use Rattle.rate_expr.specs.Sets.{Sets, AreSets, Has}
 use Rattle.rate_expr.specs.Words.{Word, IsWordOf}
 use Rattle.symbolic_nfa.specs.Automata.{Automaton, AreDecided, AreMet}
 use Rattle.symbolic_nfa.specs.Ends.{ComesBefore, EndsThrough, LeadsThrough}
@@ -185,3 +185,20 @@ tables-made nfa met useful growing begins sets decided are ending within before 
       begins_is = let words = first-begins nfa useful exact in
           (λ test. words.0 (meeting.0 test), λ some. meeting.1 (words.1 some));
     }
+
+-- and those over the same sets and cells
+pub tables-shared :
+    (mine sets : Sets) (kept read cells : Partition) (met : List ℕ) (useful growing : ℕ) (begins : Bool)
+    → mine ≡ sets → kept ≡ cells → read ≡ cells → AreSets sets → AreDecided sets cells
+    → AreMet sets read met
+    → ((position : ℕ) → Has useful position ↔ EndsThrough sets (fold bit_or 0 met) position)
+    → growing < 2 ^ length sets.preds
+    → ((position : ℕ) → Has growing position ↔ ComesBefore sets useful position)
+    → IsTrue begins ↔ AreMeeting sets.first useful
+    → AreTables (record { sets = mine; cells = kept }) met growing begins
+tables-shared mine sets kept read cells met useful growing begins
+    is_mine is_kept is_read are decided are_met ending within before meeting =
+    subst (λ (s : Sets). AreTables (record { sets = s; cells = kept }) met growing begins) (sym is_mine)
+    (subst (λ (k : Partition). AreTables (record { sets = sets; cells = k }) met growing begins) (sym is_kept)
+    (tables-made (record { sets = sets; cells = cells }) met useful growing begins are decided
+    (subst (λ (k : Partition). AreMet sets k met) is_read are_met) ending within before meeting))

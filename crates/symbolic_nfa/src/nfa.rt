@@ -16,12 +16,13 @@ use rate_expr::masks::{end_of, overlap};
 use rate_expr::{Positions, State};
 use std::alloc::{AllocError, Global};
 use std::marker::Model;
+use std::rc::Rc;
 
 /// A position automaton whose letters are cells, seen as the positions' sets and the cells.
 #[derive(Drop)]
 pub struct Nfa {
     positions: Positions,
-    cells: Cells,
+    cells: Rc<Cells>,
     // For each cell, the positions that its items meet.
     met: Vec<u128>,
     // The positions behind which a word may go on to an end.
@@ -40,26 +41,29 @@ impl Model for Nfa {
 
     ghost coded = { Prim.hlevel (codes, coded_predicate) };
 
-    ghost view = { λ n. record { sets = n.positions; cells = n.cells } };
+    ghost view = { λ n. record { sets = n.positions; cells = n.cells.value } };
 
     ghost invariant = { λ n.
-        AreTables (record { sets = n.positions; cells = n.cells }) n.met.items n.growing n.begins };
+        AreTables (record { sets = n.positions; cells = n.cells.value })
+        n.met.items n.growing n.begins };
 }
 
 impl Nfa {
-    /// The automaton of these positions over these cells.
-    pub fn new(alloc: Global, positions: &Positions, cells: &Cells) -> Result<Nfa, AllocError>
-        requires { AreDecided positions.now cells.now }
-        ensures { IfOk result (λ nfa. nfa ≡ record { sets = positions.now; cells = cells.now }) }
+    /// The automaton of these positions over these cells, which it shares.
+    pub fn new(alloc: Global, positions: Positions, cells: &Rc<Cells>) -> Result<Nfa, AllocError>
+        requires { AreDecided positions cells.now.value }
+        ensures { IfOk result (λ nfa. nfa ≡ record { sets = positions; cells = cells.now.value }) }
     {
-        let met = met_by_cells(alloc, positions, cells)?;
-        let useful = ending_through(positions, union_of(&met));
+        let met = met_by_cells(alloc, &positions, cells.as_ref())?;
+        let useful = ending_through(&positions, union_of(&met));
+        let growing = before(&positions, useful);
+        let begins = overlap(positions.first(), useful);
         Ok(Nfa {
-            positions: positions.try_copy(alloc)?,
-            cells: cells.try_copy(alloc)?,
+            positions,
+            cells: cells.clone()?,
             met,
-            growing: before(positions, useful),
-            begins: overlap(positions.first(), useful),
+            growing,
+            begins,
         })
     }
 
@@ -82,7 +86,7 @@ impl Nfa {
     {
         Ok(Nfa {
             positions: self.positions.try_copy(alloc)?,
-            cells: self.cells.try_copy(alloc)?,
+            cells: self.cells.clone()?,
             met: Vec::from_slice(alloc, &self.met)?,
             growing: self.growing,
             begins: self.begins,
@@ -105,11 +109,18 @@ impl Nfa {
         &self.positions
     }
 
+    /// The positions of the rate, given back.
+    pub fn into_positions(self) -> Positions
+        ensures { result ≡ self.sets }
+    {
+        self.positions
+    }
+
     /// The cells that it reads.
     pub fn cells(&self) -> &Cells
         ensures { result.now ≡ self.now.cells }
     {
-        &self.cells
+        self.cells.as_ref()
     }
 
     /// The positions whose predicates the items of a cell meet.

@@ -10,6 +10,7 @@ use predicate_cells::{CellStop, Cells, Pred, Preds};
 use rate_expr::{MAX_POSITIONS, Positions, Rate};
 use std::alloc::{AllocError, Global};
 use std::process::Abort;
+use std::rc::Rc;
 use std::test::Fail;
 use value_ops::{Bytes, Field};
 
@@ -42,12 +43,16 @@ fn numbers(rt: &impl Abort, alloc: Global) -> Result<Schema, AllocError> {
     Ok(Schema::new(false, columns))
 }
 
+fn shared(alloc: Global, cells: Cells) -> Result<Rc<Cells>, AllocError> {
+    Ok(Rc::new(alloc, cells)?)
+}
+
 // The cells of such a stream under these predicates.
-fn cells_of(rt: &impl Abort, alloc: Global, text: &str) -> Result<Cells, CellStop> {
+fn cells_of(rt: &impl Abort, alloc: Global, text: &str) -> Result<Rc<Cells>, CellStop> {
     let schema = numbers(rt, alloc)?;
     let preds = preds_of(alloc, text)?;
     assert!(rt; preds.fit(&schema));
-    Cells::new(alloc, &schema, &preds)
+    Ok(shared(alloc, Cells::new(alloc, &schema, &preds)?)?)
 }
 
 fn last(rates: &mut Vec<Rate>) -> Rate {
@@ -90,10 +95,15 @@ fn positions_of(rt: &impl Abort, alloc: Global, text: &str) -> Result<Positions,
     Positions::of(alloc, &rate)
 }
 
-fn nfa_of(rt: &impl Abort, alloc: Global, text: &str, cells: &Cells) -> Result<Nfa, AllocError> {
+fn nfa_of(
+    rt: &impl Abort,
+    alloc: Global,
+    text: &str,
+    cells: &Rc<Cells>,
+) -> Result<Nfa, AllocError> {
     let positions = positions_of(rt, alloc, text)?;
-    assert!(rt; Nfa::can_read(&positions, cells));
-    Nfa::new(alloc, &positions, cells)
+    assert!(rt; Nfa::can_read(&positions, cells.as_ref()));
+    Nfa::new(alloc, positions, cells)
 }
 
 // The cell of the item that a digit stands for.
@@ -139,7 +149,7 @@ fn answers(rt: &impl Abort, alloc: Global, nfa: &Nfa, word: &str) -> Result<Vec<
 fn are_answers(
     rt: &impl Abort,
     alloc: Global,
-    cells: &Cells,
+    cells: &Rc<Cells>,
     (rate, word, want): (&str, &str, &str),
 ) -> Result<bool, AllocError> {
     let nfa = nfa_of(rt, alloc, rate, cells)?;
@@ -250,7 +260,8 @@ fn ways_on_are_found_once_for_all_items(rt: HostRuntime) -> Result<(), Fail> {
 
 fn can_read(rt: &impl Abort, alloc: Global, rate: &str, cells: &str) -> Result<bool, CellStop> {
     let positions = positions_of(rt, alloc, rate)?;
-    Ok(Nfa::can_read(&positions, &cells_of(rt, alloc, cells)?))
+    let cells = cells_of(rt, alloc, cells)?;
+    Ok(Nfa::can_read(&positions, cells.as_ref()))
 }
 
 #[test]
@@ -273,7 +284,7 @@ fn met_by(rt: &impl Abort, alloc: Global, nfa: &Nfa, digit: u8) -> Result<u128, 
     Ok(nfa.met_by(cell))
 }
 
-fn assert_copy(rt: &impl Abort, alloc: Global, cells: &Cells) -> Result<(), AllocError> {
+fn assert_copy(rt: &impl Abort, alloc: Global, cells: &Rc<Cells>) -> Result<(), AllocError> {
     let copy = nfa_of(rt, alloc, "x*1;", cells)?.try_copy(alloc)?;
     let met = (
         met_by(rt, alloc, &copy, b'1')?,
@@ -287,6 +298,25 @@ fn assert_copy(rt: &impl Abort, alloc: Global, cells: &Cells) -> Result<(), Allo
 fn a_copy_has_the_same_positions_and_cells(rt: HostRuntime) -> Result<(), Fail> {
     let cells = cells_of(&rt, rt.alloc(), "1x")?;
     Ok(assert_copy(&rt, rt.alloc(), &cells)?)
+}
+
+// Its positions serve for another automaton over the same cells.
+fn assert_positions_back(
+    rt: &impl Abort,
+    alloc: Global,
+    cells: &Rc<Cells>,
+) -> Result<(), AllocError> {
+    let positions = nfa_of(rt, alloc, "x*1;", cells)?.into_positions();
+    assert!(rt; (positions.first(), positions.last()) == (0b_11, 0b_10));
+    assert!(rt; Nfa::can_read(&positions, cells.as_ref()));
+    assert!(rt; has_two_positions(&Nfa::new(alloc, positions, cells)?));
+    Ok(())
+}
+
+#[test]
+fn an_automaton_gives_its_positions_back(rt: HostRuntime) -> Result<(), Fail> {
+    let cells = cells_of(&rt, rt.alloc(), "1x")?;
+    Ok(assert_positions_back(&rt, rt.alloc(), &cells)?)
 }
 
 #[test]
