@@ -11,7 +11,7 @@ use Rattle.rate_expr.proofs.Moved.{IsMoved, is_moved}
 use Rattle.rate_expr.proofs.Renumbered.{IsFrom, first_from, last_from}
 use Rattle.rate_expr.proofs.Textbook.{test_either, test_both}
 
--- the part says where words of the rate begin and end, whose positions are numbered from a number on
+-- the part says where words of the rate begin and end, with its positions numbered from a number on
 pub record AreEnds (base : ℕ) (part : Part) (rate : Expression) : Type 0 where
   pub nullable : (part.nullable ≡ true) ↔ IsNullable rate
   pub first : (n : ℕ) → Has part.first n ↔ IsFirst rate base n

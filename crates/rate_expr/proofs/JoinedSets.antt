@@ -32,7 +32,8 @@ all_raised (mask ∷ masks) j k le (below, all) = (raised mask j k le below, all
 
 -- two lists, one behind the other
 all_append : (k : ℕ) (masks others : List ℕ) → AllByRecursion (λ mask. mask < 2 ^ k) masks
-    → AllByRecursion (λ mask. mask < 2 ^ k) others → AllByRecursion (λ mask. mask < 2 ^ k) (masks ++ others)
+    → AllByRecursion (λ mask. mask < 2 ^ k) others
+    → AllByRecursion (λ mask. mask < 2 ^ k) (masks ++ others)
 all_append k [] others all also = also
 all_append k (mask ∷ masks) others (below, all) also = (below, all_append k masks others all also)
 
@@ -145,7 +146,8 @@ behind_are a b r s both of_r of_s =
 
 -- what goes on in both
 goes_are : (a b : Sets) (r s : Expression) → AreFew a b → AreSetsOf a r → AreSetsOf b s
-    → (i n : ℕ) → Goes (beside a b).follow i n ↔ (IsFollowedBy r 0 i n ⊎ IsFollowedBy s (0 + size_of r) i n)
+    → (i n : ℕ) → Goes (beside a b).follow i n
+    ↔ (IsFollowedBy r 0 i n ⊎ IsFollowedBy s (0 + size_of r) i n)
 goes_are a b r s both of_r of_s i n =
     let count = count_is a r of_r in
     steps_beside (length a.preds) (length b.preds) a.follow b.follow r s both.first.each

@@ -72,7 +72,8 @@ AreSteps base masks rate = (i n : ℕ) → Goes masks i n ↔ IsFollowedBy rate 
 pub steps_beside : (count long : ℕ) (xs ys : List ℕ) (r s : Expression) → length xs ≡ count
     → size_of r ≡ count → count + long ≤ 128 → AllByRecursion (λ mask. mask < 2 ^ long) ys
     → AreSteps 0 xs r → AreSteps 0 ys s → (i n : ℕ)
-    → Goes (xs ++ map (moved count) ys) i n ↔ (IsFollowedBy r 0 i n ⊎ IsFollowedBy s (0 + size_of r) i n)
+    → Goes (xs ++ map (moved count) ys) i n
+    ↔ (IsFollowedBy r 0 i n ⊎ IsFollowedBy s (0 + size_of r) i n)
 steps_beside count long xs ys r s is_long is_size few all of_r of_s i n =
     (λ goes. there (goes_in_one xs (map (moved count) ys) i n goes), back)
   where
