@@ -188,7 +188,8 @@ tables-made nfa met useful growing begins sets decided are ending within before 
 
 -- and those over the same sets and cells
 pub tables-shared :
-    (mine sets : Sets) (kept read cells : Partition) (met : List ℕ) (useful growing : ℕ) (begins : Bool)
+    (mine sets : Sets) (kept read cells : Partition) (met : List ℕ) (useful growing : ℕ)
+    (begins : Bool)
     → mine ≡ sets → kept ≡ cells → read ≡ cells → AreSets sets → AreDecided sets cells
     → AreMet sets read met
     → ((position : ℕ) → Has useful position ↔ EndsThrough sets (fold bit_or 0 met) position)
