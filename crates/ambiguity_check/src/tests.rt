@@ -11,6 +11,7 @@ use item_schema::{Column, Kind, Schema};
 use predicate_cells::{Cells, Pred, Preds};
 use rate_expr::{MAX_POSITIONS, Positions, Rate};
 use std::alloc::Global;
+use std::rc::Rc;
 use symbolic_nfa::Nfa;
 use value_ops::Bytes;
 
@@ -34,7 +35,7 @@ fn test_of(byte: u8) -> Option<Pred> {
 }
 
 // The cells of items of one number, made with all these tests; none where memory is wanting.
-fn cells(alloc: Global) -> Option<Cells> {
+fn cells(alloc: Global) -> Option<Rc<Cells>> {
     let mut columns = Vec::new(alloc);
     let name = Bytes::from_slice(alloc, b"a").ok()?;
     let kind = Kind::Int;
@@ -45,7 +46,8 @@ fn cells(alloc: Global) -> Option<Cells> {
         preds.add(&test_of(*byte)?).ok()?;
     }
     if preds.fit(&schema) {
-        Cells::new(alloc, &schema, &preds).ok()
+        let cells = Cells::new(alloc, &schema, &preds).ok()?;
+        Rc::new(alloc, cells).ok()
     } else {
         None
     }
@@ -94,15 +96,15 @@ fn star(alloc: Global, rate: Rate) -> Option<Rate> {
 }
 
 // None where memory is wanting, or the rate cannot be read in these cells.
-fn nfa_of(alloc: Global, rate: &Rate, cells: &Cells) -> Option<Nfa>
-    ensures { IfSome result (λ nfa. nfa.cells ≡ cells.now) }
+fn nfa_of(alloc: Global, rate: &Rate, cells: &Rc<Cells>) -> Option<Nfa>
+    ensures { IfSome result (λ nfa. nfa.cells ≡ cells.now.value) }
 {
     if rate.positions() > MAX_POSITIONS {
         return None;
     }
     let positions = Positions::of(alloc, rate).ok()?;
-    if Nfa::can_read(&positions, cells) {
-        Nfa::new(alloc, &positions, cells).ok()
+    if Nfa::can_read(&positions, cells.as_ref()) {
+        Nfa::new(alloc, positions, cells).ok()
     } else {
         None
     }
@@ -120,7 +122,13 @@ fn judge(alloc: Global, asked: Asked, first: &Nfa, second: &Nfa) -> Option<bool>
 }
 
 // The answer of a call; none where it could not be asked or memory is wanting.
-fn answer(alloc: Global, asked: Asked, cells: &Cells, first: &Rate, second: &Rate) -> Option<bool> {
+fn answer(
+    alloc: Global,
+    asked: Asked,
+    cells: &Rc<Cells>,
+    first: &Rate,
+    second: &Rate,
+) -> Option<bool> {
     let first = nfa_of(alloc, first, cells)?;
     let second = nfa_of(alloc, second, cells)?;
     judge(alloc, asked, &first, &second)

@@ -7,6 +7,7 @@ use predicate_cells::{CellStop, Cells, Pred, Preds};
 use rate_expr::{MAX_POSITIONS, Positions, Rate};
 use std::alloc::{AllocError, Global};
 use std::process::Abort;
+use std::rc::Rc;
 use std::test::Fail;
 use symbolic_nfa::Nfa;
 use value_ops::Bytes;
@@ -23,23 +24,27 @@ fn numbers(rt: &impl Abort, alloc: Global) -> Result<Schema, AllocError> {
     Ok(Schema::new(false, columns))
 }
 
+fn shared(alloc: Global, cells: Cells) -> Result<Rc<Cells>, AllocError> {
+    Ok(Rc::new(alloc, cells)?)
+}
+
 // The cells of such a stream, told apart by whether the number is 1.
-fn cells(rt: &impl Abort, alloc: Global) -> Result<Cells, CellStop> {
+fn cells(rt: &impl Abort, alloc: Global) -> Result<Rc<Cells>, CellStop> {
     let schema = numbers(rt, alloc)?;
     let mut preds = Preds::new(alloc);
     preds.add(&Pred::Any)?;
     preds.add(&Pred::Eq(0, 1))?;
     assert!(rt; preds.fit(&schema));
-    Cells::new(alloc, &schema, &preds)
+    Ok(shared(alloc, Cells::new(alloc, &schema, &preds)?)?)
 }
 
-fn nfa_of(rt: &impl Abort, alloc: Global, cells: &Cells, rate: &Rate) -> Result<Nfa, AllocError>
-    ensures { IfOk result (λ nfa. nfa.cells ≡ cells.now) }
+fn nfa_of(rt: &impl Abort, alloc: Global, cells: &Rc<Cells>, rate: &Rate) -> Result<Nfa, AllocError>
+    ensures { IfOk result (λ nfa. nfa.cells ≡ cells.now.value) }
 {
     assert!(rt; rate.positions() <= MAX_POSITIONS);
     let positions = Positions::of(alloc, rate)?;
-    assert!(rt; Nfa::can_read(&positions, cells));
-    Nfa::new(alloc, &positions, cells)
+    assert!(rt; Nfa::can_read(&positions, cells.as_ref()));
+    Nfa::new(alloc, positions, cells)
 }
 
 fn one(pred: Pred) -> Rate {

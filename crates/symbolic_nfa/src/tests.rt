@@ -243,7 +243,7 @@ fn step_along(
 }
 
 // Words go on in both positions, and behind the last they do not.
-fn assert_ways(rt: &impl Abort, alloc: Global, cells: &Cells) -> Result<(), AllocError> {
+fn assert_ways(rt: &impl Abort, alloc: Global, cells: &Rc<Cells>) -> Result<(), AllocError> {
     let nfa = nfa_of(rt, alloc, "x*1;", cells)?;
     let ways = ways_on(rt, &nfa, State::Initial);
     assert!(rt; ways == 0b_11 && ways_on(rt, &nfa, State::At(0b_10)) == 0);

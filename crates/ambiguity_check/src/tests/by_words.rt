@@ -3,6 +3,7 @@ use super::{Asked, answer, cells, rate_of};
 use predicate_cells::{Cells, Pred};
 use rate_expr::Rate;
 use std::alloc::Global;
+use std::rc::Rc;
 
 // Words of each have at most two items, or what may follow a beginning of them is one of at most
 // two sets. A shortest word with two readings comes to no pair of such sets twice between the same
@@ -208,13 +209,13 @@ fn all_words(alloc: Global) -> Option<Vec<Vec<i64>>> {
 }
 
 // Whether the call finds two readings where some of the words has them.
-fn agrees(alloc: Global, asked: Asked, cells: &Cells, first: &Sample, second: &Sample) -> bool {
+fn agrees(alloc: Global, asked: Asked, cells: &Rc<Cells>, first: &Sample, second: &Sample) -> bool {
     let two = has_two_readings(asked, first, second);
     answer(alloc, asked, cells, &first.rate, &second.rate) == Some(!two)
 }
 
 // Whether the calls agree on this rate, and on it with each of them.
-fn all_agree(alloc: Global, cells: &Cells, first: &Sample, samples: &[Sample]) -> bool {
+fn all_agree(alloc: Global, cells: &Rc<Cells>, first: &Sample, samples: &[Sample]) -> bool {
     for second in samples {
         if !agrees(alloc, Asked::Disjoint, cells, first, second) {
             return false;
