@@ -7,9 +7,10 @@ use language_base::Bytes;
 use predicate_cells::{Cells, Preds};
 use rate_expr::Rate;
 use std::alloc::{AllocError, Global};
+use std::rc::Rc;
 
-/// The cells of items of one number under all tests of the table.
-pub(crate) fn cells_of(alloc: Global, rows: &[Row]) -> Result<Cells, Stop> {
+/// The cells of items of one number under all tests of the table, for automata to share.
+pub(crate) fn cells_of(alloc: Global, rows: &[Row]) -> Result<Rc<Cells>, Stop> {
     let mut columns = Vec::new(alloc);
     columns.push(Column {
         name: Bytes::from_slice(alloc, b"number")?,
@@ -23,7 +24,7 @@ pub(crate) fn cells_of(alloc: Global, rows: &[Row]) -> Result<Cells, Stop> {
     if !tests.fit(&schema) {
         return Err(Stop::Test);
     }
-    Ok(Cells::new(alloc, &schema, &tests)?)
+    Ok(Rc::new(alloc, Cells::new(alloc, &schema, &tests)?)?)
 }
 
 /// Adds the tests of the rate that are not there yet.

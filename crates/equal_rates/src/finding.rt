@@ -6,6 +6,7 @@ use crate::opinion::{Opinion, opinions_of};
 use crate::stop::Stop;
 use predicate_cells::Cells;
 use std::alloc::Global;
+use std::rc::Rc;
 
 #[derive(Drop)]
 pub(crate) struct Finding {
@@ -21,7 +22,7 @@ pub(crate) struct Finding {
 impl Finding {
     pub(crate) fn of(
         alloc: Global,
-        cells: &Cells,
+        cells: &Rc<Cells>,
         at: usize,
         entry: &Entry,
         entries: &[Entry],

@@ -5,6 +5,7 @@ use crate::entry::Entry;
 use crate::stop::Stop;
 use predicate_cells::Cells;
 use std::alloc::Global;
+use std::rc::Rc;
 
 /// Whether two rates have the same words, by each that says so.
 #[derive(Clone, Copy)]
@@ -23,7 +24,7 @@ impl Opinion {
 /// What is said of the rate and each of the others, itself included.
 pub(crate) fn opinions_of(
     alloc: Global,
-    cells: &Cells,
+    cells: &Rc<Cells>,
     first: &Entry,
     others: &[Entry],
 ) -> Result<Vec<Opinion>, Stop> {

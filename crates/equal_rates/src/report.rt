@@ -13,7 +13,7 @@ const HEAD: &str = "rate                same  by words   all_but_empty  by words
 pub(crate) fn report(alloc: Global, table: &str) -> Result<String, Stop> {
     let rows = rows_of(alloc, table)?;
     let cells = cells_of(alloc, &rows)?;
-    let entries = entries_of(alloc, &cells, rows)?;
+    let entries = entries_of(alloc, cells.as_ref(), rows)?;
     let mut text = String::from_str(alloc, HEAD)?;
     let mut agreed = Agreed { pairs: 0, rates: 0 };
     for (at, entry) in entries.iter().enumerate() {

@@ -4,6 +4,7 @@ use item_schema::{Column, Kind, Schema, are_columns};
 use predicate_cells::{CellStop, Cells, Pred, Preds};
 use rate_expr::{MAX_POSITIONS, Positions, Rate};
 use std::alloc::{AllocError, Global};
+use std::rc::Rc;
 use symbolic_nfa::Nfa;
 use value_ops::Bytes;
 
@@ -21,7 +22,8 @@ pub(crate) fn crowd(alloc: Global, size: u32, tests: u32) -> Result<Option<Nfa>,
     if !Nfa::can_read(&positions, &cells) {
         return Ok(None);
     }
-    Ok(Some(Nfa::new(alloc, &positions, &cells)?))
+    let cells = Rc::new(alloc, cells)?;
+    Ok(Some(Nfa::new(alloc, positions, &cells)?))
 }
 
 // Any of the tests again and again, and any item at the end.
