@@ -1,5 +1,5 @@
--- What may be asked of a query may be asked of its operands, and its rate has an automaton.
-use Rattle.std.proofs.Common.{◌≡◌, ◌≤◌, List, [], ◌∷◌, ◌++◌, refl, sym, subst, arith}
+-- What may be asked of a query may be asked of its operands, and their rates have automata.
+use Rattle.std.proofs.Common.{◌≡◌, ◌≤◌, ◌+◌, ℤ, List, [], ◌∷◌, ◌++◌, length, refl, sym, subst, ap, ◌∙◌, arith}
 use Rattle.std.proofs.lemmas.List.Elements.{Contains-append_left, Contains-append_right}
 use Rattle.std.specs.List.{AllByRecursion, Contains}
 use Rattle.language_base.specs.Limits.{max_positions}
@@ -8,6 +8,7 @@ use Rattle.predicate_cells.specs.Predicates.{Predicate}
 use Rattle.rate_expr.specs.FirstLastFollow.{AreSetsOf}
 use Rattle.rate_expr.specs.Rates.{preds_of, size_of}
 use Rattle.rate_expr.specs.Sets.{Sets}
+use Rattle.rate_expr.proofs.Meetings.{length-preds_of}
 use Rattle.symbolic_nfa.specs.Automata.{AreDecided}
 use Rattle.value_ops.specs.Expressions.{Expression}
 use Rattle.query_model.specs.Queries as q
@@ -17,7 +18,8 @@ use Rattle.query_model.specs.Shapes.{HasPlainShapes}
 use Rattle.query_model.specs.Sizes.{HasFewPositions, predicates_of}
 use Rattle.query_model.specs.declared.query.Query.{Query}
 use Rattle.query_model.specs.declared.query.Shape.{Shape}
-use Rattle.type_checker.specs.Findings.{CanBeAsked}
+use Rattle.type_checker.specs.Findings.{AreOperands, CanBeAsked}
+use Rattle.type_checker.specs.declared.roots.Operands.{Operands}
 
 -- each of the predicates is one of the cells
 abbrev AreAmong : Partition → List Predicate → Type 0
@@ -60,6 +62,10 @@ module _ (cells : Partition) where
       → CanBeAsked cells f × CanBeAsked cells g
   asked_combine f g value can = both_asked f g can.plain can.few.0 can.few.1 can.members
 
+  pub asked_iter : (f : Qre) (number : ℤ) (step : Expression) → CanBeAsked cells (q.iter f number step)
+      → CanBeAsked cells f
+  asked_iter f number step can = record { plain = can.plain; few = can.few; members = can.members }
+
   -- of the same shape, and of the same query
   pub asked_as : (shape other : Shape) → shape ≡ other → CanBeAsked cells (plain_of shape)
       → CanBeAsked cells (plain_of other)
@@ -97,14 +103,13 @@ module _ (cells : Partition) where
   positions_decided query sets can are =
       subst (AllAmong cells) (sym are.preds) (rate_among query can.plain can.members)
 
--- the rate of the query has few positions
-pub few_positions : (query : Qre) → HasFewPositions query → size_of (rate_of query) ≤ max_positions
-few_positions (q.atom pred value) few = omega arith
-few_positions (q.eps number) few = omega arith
-few_positions (q.choice f g) (first, second, both) = both
-few_positions (q.split f g value) (first, second, both) = both
-few_positions (q.iter f number value) few = few_positions f few
-few_positions (q.combine f g value) (first, second) = few_positions f first
-few_positions (q.apply f value) few = few_positions f few
-few_positions (q.compose f g) (first, second) = few_positions f first
-few_positions (q.collect column sync rate f) (first, both) = both
+-- the rates of both operands have few positions together
+pub few_together : (cells : Partition) (f g : Qre) (operands : Operands) → AreOperands cells f g operands
+    → size_of (rate_of f) + size_of (rate_of g) ≤ max_positions
+    → length operands.left.sets.preds + length operands.right.sets.preds ≤ max_positions
+few_together cells f g operands are few =
+    let one : length operands.left.sets.preds ≡ size_of (rate_of f) =
+    ap length are.left.sets.preds ∙ length-preds_of (rate_of f) in
+    let other : length operands.right.sets.preds ≡ size_of (rate_of g) =
+    ap length are.right.sets.preds ∙ length-preds_of (rate_of g) in
+    omega arith

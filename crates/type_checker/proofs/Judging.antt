@@ -1,9 +1,10 @@
 -- From what the passes before the rules of words made of a program to how it is judged.
-use Rattle.std.proofs.Common.{◌≡◌, List, length, Option, None, Some, Result, Ok, Err, refl, sym, ap, subst, ◌∙◌}
+use Rattle.std.proofs.Common.{◌≡◌, List, length, Option, None, Some, sym, ap, subst, ◌∙◌}
 use Rattle.item_schema.specs.Layout.{Layout}
 use Rattle.item_schema.specs.declared.column.Column.{Column}
 use Rattle.language_base.specs.declared.refusal.Refusal.{Refusal}
 use Rattle.language_base.specs.declared.span.Span.{Span}
+use Rattle.predicate_cells.specs.Cells.{Partition}
 use Rattle.query_model.specs.Checked.{IsChecked}
 use Rattle.query_model.specs.Queries.{Qre, plain_of}
 use Rattle.query_model.specs.Rules.{IsClear, Standing, free}
@@ -45,12 +46,27 @@ module _ (program : Program) (made : Measured) (is : IsMeasured program made) wh
       (is_first free))
 
   -- a rule of words is broken
-  pub broken_stop : (stop : CheckStop)
+  broken_stop : (stop : CheckStop)
       → ((standing : Standing)
       → IsBrokenBy (nodes_in made.cells.layout.columns standing query) (places_in made.query) stop)
       → IsStopOf program stop
   broken_stop (Refused why) broken = ambiguous query why is.measured (answers (Some why) broken)
   broken_stop Memory broken = tt
+
+  -- the same over cells that are shared
+  module _ (cells : Partition) (same : cells ≡ made.cells) where
+    pub broken_on : (stop : CheckStop)
+        → ((standing : Standing)
+        → IsBrokenBy (nodes_in cells.layout.columns standing query) (places_in made.query) stop)
+        → IsStopOf program stop
+    broken_on stop broken =
+        broken_stop stop (λ standing. subst (λ (c : Partition).
+        IsBrokenBy (nodes_in c.layout.columns standing query) (places_in made.query) stop) same (broken standing))
+
+    pub kept_on : ((standing : Standing)
+        → FirstBroken (nodes_in cells.layout.columns standing query) (places_in made.query) None) → Answers None
+    kept_on kept standing = subst (λ (c : Partition).
+        FirstBroken (nodes_in c.layout.columns standing query) (places_in made.query) None) same (kept standing)
 
   -- none is
   module _ (kept : Answers None) where

@@ -9,6 +9,8 @@ pub mod ManyPositions
 pub mod Measuring
 pub mod OfOperands
 mod Operands
+pub mod OverOne
+pub mod OverTwo
 pub mod Placed
 pub mod Repeats
 pub mod Ruled

@@ -1,63 +1,55 @@
--- The first rule that is broken at the root of a query in memory, from what the automata of its operands tell.
-use Rattle.std.proofs.Common.{◌≡◌, ℤ, Option, Result, Ok, Err, IfOk, subst}
+-- What is told of the root of a query, from what the automata of its operands tell.
+use Rattle.std.proofs.Common.{◌≡◌, List, Option, None, Some, refl, sym, subst}
+use Rattle.item_schema.specs.declared.column.Column.{Column}
 use Rattle.language_base.specs.declared.rule.Rule.{Rule}
+use Rattle.language_base.specs.declared.span.Span.{Span}
 use Rattle.predicate_cells.specs.Cells.{Partition}
-use Rattle.symbolic_nfa.specs.Automata.{Automaton}
-use Rattle.value_ops.specs.Expressions.{Expression}
-use Rattle.query_model.specs.Queries.{Qre, choice, split, iter, combine, plain_of}
+use Rattle.query_model.specs.Queries.{Qre}
+use Rattle.query_model.specs.Rates.{rate_of}
 use Rattle.query_model.specs.Rules.{Standing}
-use Rattle.query_model.specs.declared.query.Query.{Query}
-use Rattle.type_checker.specs.Findings.{IsAutomatonOf}
+use Rattle.rate_expr.specs.FirstLastFollow.{AreSetsOf}
+use Rattle.rate_expr.specs.Sets.{Sets}
+use Rattle.rate_expr.proofs.SetsOf.{sets_spell}
+use Rattle.symbolic_nfa.specs.Automata.{Automaton}
+use Rattle.type_checker.specs.Findings.{AreOperands, IsAutomatonOf, IsBrokenAt, IsKept}
+use Rattle.type_checker.specs.Steps.{refusal}
 use Rattle.type_checker.specs.WordRules.{BreaksAt}
+use Rattle.type_checker.specs.declared.roots.Operands.{Operands}
+use Rattle.type_checker.specs.declared.stop.CheckStop.{CheckStop}
+use Rattle.type_checker.specs.declared.stop.CheckStop.TheVariants.{Refused}
 
--- what is told of the root of a query, whatever it stands in
-abbrev pub IsRuled : {E : Type 0} → Partition → Qre → Result (Option Rule) E → Type 0
-IsRuled cells query result =
-    IfOk result (λ broken. (standing : Standing) → BreaksAt cells.layout.columns standing query broken)
+module _ (columns : List Column) (query : Qre) (broken : Option Rule)
+    (breaks : (standing : Standing) → BreaksAt columns standing query broken) where
+  -- no rule is broken
+  pub kept_by : (sets : Sets) → broken ≡ None → AreSetsOf sets (rate_of query) → IsKept columns query sets
+  kept_by sets none are =
+      record { rule = λ standing. subst (BreaksAt columns standing query) none (breaks standing); sets = are }
 
--- the automaton is one of an equal query too
-pub automaton_as : (query other : Query) (nfa : Automaton) → query ≡ other → IsAutomatonOf (plain_of query.shape) nfa
-    → IsAutomatonOf (plain_of other.shape) nfa
-automaton_as query other nfa is of_query = subst (λ (o : Query). IsAutomatonOf (plain_of o.shape) nfa) is of_query
+  -- a rule is broken, and refused
+  pub broken_by : (span : Span) (stop : CheckStop)
+      → ((rule : Rule) × (broken ≡ Some rule) × (stop ≡ Refused (refusal rule span)))
+      → IsBrokenAt columns query span stop
+  broken_by span stop (rule, is, stops) =
+      subst (IsBrokenAt columns query span) (sym stops)
+      (rule, refl, λ standing. subst (BreaksAt columns standing query) is (breaks standing))
 
--- the root breaks the rule on columns that are the same
-moved : (standing : Standing) (query : Qre) (broken : Option Rule) (cells others : Partition) → cells ≡ others
-    → BreaksAt cells.layout.columns standing query broken → BreaksAt others.layout.columns standing query broken
-moved standing query broken cells others same breaks =
-    subst (λ (c : Partition). BreaksAt c.layout.columns standing query broken) same breaks
+-- what is told on some cells is told on the same
+pub on_same : (cells other : Partition) (query : Qre) (broken : Option Rule) → cells ≡ other
+    → ((standing : Standing) → BreaksAt cells.layout.columns standing query broken)
+    → (standing : Standing) → BreaksAt other.layout.columns standing query broken
+on_same cells other query broken same breaks standing =
+    subst (λ (c : Partition). BreaksAt c.layout.columns standing query broken) same (breaks standing)
 
-module _ {E : Type 0} (cells : Partition) (f g : Qre) (first second : Automaton) (same : first.cells ≡ cells)
-    (left : IsAutomatonOf f first) (right : IsAutomatonOf g second) where
-  pub choice_ruled : (result : Result (Option Rule) E)
-      → IfOk result (λ broken. (standing : Standing) (f g : Qre) → IsAutomatonOf f first → IsAutomatonOf g second
-      → BreaksAt first.cells.layout.columns standing (choice f g) broken)
-      → IsRuled cells (choice f g) result
-  choice_ruled (Ok broken) told = λ standing.
-      moved standing (choice f g) broken first.cells cells same (told standing f g left right)
-  choice_ruled (Err e) told = tt
+-- what is told on the cells of the first automaton is told on those of both
+pub on_cells : (cells : Partition) (f g : Qre) (operands : Operands) (query : Qre) (broken : Option Rule)
+    → AreOperands cells f g operands
+    → ((standing : Standing) → BreaksAt operands.left.cells.layout.columns standing query broken)
+    → (standing : Standing) → BreaksAt cells.layout.columns standing query broken
+on_cells cells f g operands query broken are breaks =
+    on_same operands.left.cells cells query broken are.left_cells breaks
 
-  pub split_ruled : (value : Expression) (result : Result (Option Rule) E)
-      → IfOk result (λ broken. (standing : Standing) (f g : Qre) (value : Expression) → IsAutomatonOf f first
-      → IsAutomatonOf g second → BreaksAt first.cells.layout.columns standing (split f g value) broken)
-      → IsRuled cells (split f g value) result
-  split_ruled value (Ok broken) told = λ standing.
-      moved standing (split f g value) broken first.cells cells same (told standing f g value left right)
-  split_ruled value (Err e) told = tt
-
-  pub combine_ruled : (value : Expression) (result : Result (Option Rule) E)
-      → IfOk result (λ broken. (standing : Standing) (f g : Qre) (value : Expression) → IsAutomatonOf f first
-      → IsAutomatonOf g second → BreaksAt first.cells.layout.columns standing (combine f g value) broken)
-      → IsRuled cells (combine f g value) result
-  combine_ruled value (Ok broken) told = λ standing.
-      moved standing (combine f g value) broken first.cells cells same (told standing f g value left right)
-  combine_ruled value (Err e) told = tt
-
-module _ {E : Type 0} (cells : Partition) (f : Qre) (inner : Automaton) (same : inner.cells ≡ cells)
-    (of_inner : IsAutomatonOf f inner) where
-  pub iter_ruled : (number : ℤ) (step : Expression) (result : Result (Option Rule) E)
-      → IfOk result (λ broken. (standing : Standing) (f : Qre) (number : ℤ) (step : Expression)
-      → IsAutomatonOf f inner → BreaksAt inner.cells.layout.columns standing (iter f number step) broken)
-      → IsRuled cells (iter f number step) result
-  iter_ruled number step (Ok broken) told = λ standing.
-      moved standing (iter f number step) broken inner.cells cells same (told standing f number step of_inner)
-  iter_ruled number step (Err e) told = tt
+-- the automaton of the sets of a query's rate
+pub automaton_of : (cells : Partition) (query : Qre) (sets : Sets) (nfa : Automaton)
+    → nfa ≡ record { sets = sets; cells = cells } → AreSetsOf sets (rate_of query) → IsAutomatonOf query nfa
+automaton_of cells query sets nfa is are =
+    subst (IsAutomatonOf query) (sym is) (record { sets = are; spells = sets_spell sets (rate_of query) are })

@@ -1,6 +1,6 @@
 -- The first broken rule of words in a query, from those of its operands and that of its root.
 use Rattle.std.proofs.Common.{◌≡◌, inl, inr, List, [], ◌∷◌, ◌++◌, length, length-append, Option, Some, None}
-use Rattle.std.proofs.Common.{Result, Ok, Err, OnOk, IfErr, refl, subst, ap, arith}
+use Rattle.std.proofs.Common.{Result, Ok, Err, OnOk, IfErr, IfOk, refl, sym, subst, ap, arith}
 use Rattle.item_schema.specs.declared.column.Column.{Column}
 use Rattle.language_base.specs.declared.refusal.Refusal.{Refusal}
 use Rattle.language_base.specs.declared.rule.Rule.{Rule}
@@ -9,7 +9,9 @@ use Rattle.query_model.specs.Queries as q
 use Rattle.query_model.specs.Queries.{Qre, plain_of, spans_of}
 use Rattle.query_model.specs.Rules.{Standing, bound}
 use Rattle.query_model.specs.declared.query.Query.{Query}
-use Rattle.type_checker.specs.Findings.{IsBrokenBy, operand_nodes, places_in}
+use Rattle.query_model.specs.declared.query.Shape.{Shape}
+use Rattle.rate_expr.specs.Sets.{Sets}
+use Rattle.type_checker.specs.Findings.{IsBrokenAt, IsBrokenBy, IsKept, operand_nodes, places_in}
 use Rattle.type_checker.specs.Nodes.{Node, nodes_in}
 use Rattle.type_checker.specs.Steps.{refusal}
 use Rattle.type_checker.specs.WordRules.{BreaksAt, FirstBroken}
@@ -35,26 +37,19 @@ stops_behind nodes others spans places Memory same kept broken = tt
 abbrev nodes_at : List Column → Standing → Query → List Node
 nodes_at columns standing query = nodes_in columns standing (plain_of query.shape)
 
-module _ {T : Type 0} (columns : List Column) (first second : Query)
+module _ (columns : List Column) (first second : Query)
     (kept : FirstBroken (nodes_at columns bound first) (places_in first) None) where
   -- neither operand has a node that breaks a rule
-  pub both_kept : (result : Result T CheckStop)
-      → OnOk result ((standing : Standing) → FirstBroken (nodes_at columns standing second) (places_in second) None)
-      → OnOk result (FirstBroken (nodes_at columns bound first ++ nodes_at columns bound second)
-      (places_in first ++ places_in second) None)
-  both_kept (Ok x) others =
-      broken_behind _ _ _ _ None (nodes_have_places columns bound first) kept (others bound)
-  both_kept (Err e) others = tt
+  pub both_kept : FirstBroken (nodes_at columns bound second) (places_in second) None
+      → FirstBroken (nodes_at columns bound first ++ nodes_at columns bound second)
+      (places_in first ++ places_in second) None
+  both_kept others = broken_behind _ _ _ _ None (nodes_have_places columns bound first) kept others
 
   -- the second has one
-  pub second_stopped : (result : Result T CheckStop)
-      → IfErr result (λ stop. (standing : Standing)
-      → IsBrokenBy (nodes_at columns standing second) (places_in second) stop)
-      → IfErr result (IsBrokenBy (nodes_at columns bound first ++ nodes_at columns bound second)
-      (places_in first ++ places_in second))
-  second_stopped (Ok x) broken = tt
-  second_stopped (Err stop) broken =
-      stops_behind _ _ _ _ stop (nodes_have_places columns bound first) kept (broken bound)
+  pub second_stopped : (stop : CheckStop) → IsBrokenBy (nodes_at columns bound second) (places_in second) stop
+      → IsBrokenBy (nodes_at columns bound first ++ nodes_at columns bound second)
+      (places_in first ++ places_in second) stop
+  second_stopped stop broken = stops_behind _ _ _ _ stop (nodes_have_places columns bound first) kept broken
 
 -- the root of a query
 abbrev root : List Column → Standing → Qre → Node
@@ -112,3 +107,32 @@ module _ (columns : List Column) (standing : Standing) (query : Query) where
   stopped_in stop broken = subst (λ nodes. IsBrokenBy nodes (places_in query) stop)
       (root_last columns standing (plain_of query.shape))
       (stops_before _ _ _ (query.span ∷ []) stop broken)
+
+-- no node of the operands of a query breaks a rule, and its root is asked
+module _ (columns : List Column) (query : Query)
+    (none : (standing : Standing)
+    → FirstBroken (operand_nodes columns standing (plain_of query.shape)) (spans_of query.shape) None) where
+  pub root_kept : (result : Result Sets CheckStop) → IfOk result (IsKept columns (plain_of query.shape))
+      → OnOk result ((standing : Standing)
+      → FirstBroken (nodes_at columns standing query) (places_in query) None)
+  root_kept (Ok sets) kept = λ standing. kept_at columns standing query (none standing) (kept.rule standing)
+  root_kept (Err stop) kept = tt
+
+  pub root_refused : (result : Result Sets CheckStop)
+      → IfErr result (IsBrokenAt columns (plain_of query.shape) query.span)
+      → IfErr result (λ stop. (standing : Standing)
+      → IsBrokenBy (nodes_at columns standing query) (places_in query) stop)
+  root_refused (Ok sets) broken = tt
+  root_refused (Err (Refused why)) (rule, is, breaks) = λ standing.
+      subst (λ (w : Refusal). FirstBroken (nodes_at columns standing query) (places_in query) (Some w)) (sym is)
+      (refused_at columns standing query rule (none standing) (breaks standing))
+  root_refused (Err Memory) broken = λ standing. tt
+
+-- a query without operands
+pub none_without : (query : Query) (shape : Shape) (columns : List Column) → query.shape ≡ shape
+    → ((standing : Standing) → FirstBroken (operand_nodes columns standing (plain_of shape)) (spans_of shape) None)
+    → (standing : Standing)
+    → FirstBroken (operand_nodes columns standing (plain_of query.shape)) (spans_of query.shape) None
+none_without query shape columns is none standing =
+    subst (λ (s : Shape). FirstBroken (operand_nodes columns standing (plain_of s)) (spans_of s) None) (sym is)
+    (none standing)

@@ -1,7 +1,8 @@
 -- For the prover. What a pass over a query finds, as its caller needs it.
-use Rattle.std.specs.Prelude.{◌≡◌, ◌↔◌, Result, Err, List, ◌∷◌, [], ◌++◌, Some, true, Ok, FitsSigned}
+use Rattle.std.specs.Prelude.{◌≡◌, ◌↔◌, Result, Err, List, ◌∷◌, [], ◌++◌, None, Some, true, Ok, FitsSigned}
 use Rattle.std.specs.List.{Contains}
 use Rattle.language_base.specs.declared.refusal.Refusal.{Refusal}
+use Rattle.language_base.specs.declared.rule.Rule.{Rule}
 use Rattle.language_base.specs.declared.span.Span.{Span}
 use Rattle.predicate_cells.specs.Predicates.{Predicate}
 use Rattle.query_model.specs.Queries.{spans_of, Qre, atom, eps, choice, split, iter, combine, apply, compose, collect, plain_of}
@@ -9,6 +10,7 @@ use Rattle.item_schema.specs.declared.column.Column.{Column}
 use Rattle.predicate_cells.specs.Cells.{Partition}
 use Rattle.rate_expr.specs.FirstLastFollow.{AreSetsOf}
 use Rattle.rate_expr.specs.Paths.{AreOf}
+use Rattle.rate_expr.specs.Sets.{Sets}
 use Rattle.symbolic_nfa.specs.Automata.{Automaton}
 use Rattle.query_model.specs.QueryTypes.{derived_columns, type_of, of_columns, of_one, of_two}
 use Rattle.query_model.specs.Rates.{rate_of}
@@ -17,10 +19,12 @@ use Rattle.query_model.specs.Shapes.{HasPlainShapes}
 use Rattle.query_model.specs.Sizes.{HasFewPositions, predicates_of}
 use Rattle.query_model.specs.declared.query.Query.{Query}
 use Rattle.type_checker.specs.Nodes.{Node, nodes_in}
-use Rattle.type_checker.specs.WordRules.{FirstBroken}
+use Rattle.type_checker.specs.Steps.{refusal}
+use Rattle.type_checker.specs.WordRules.{BreaksAt, FirstBroken}
 use Rattle.std.specs.Int.{w64}
 use Rattle.predicate_cells.specs.Fits.{fits}
 use Rattle.type_checker.specs.declared.naming.Typed.{Typed}
+use Rattle.type_checker.specs.declared.roots.Operands.{Operands}
 use Rattle.type_checker.specs.declared.stop.CheckStop.{CheckStop}
 use Rattle.type_checker.specs.declared.stop.CheckStop.TheVariants.{Refused, Memory}
 use Rattle.value_ops.specs.Typing.{HasType}
@@ -39,9 +43,6 @@ places_in query = spans_of query.shape ++ query.span ∷ []
 abbrev pub HaveSameMembers : List Predicate → List Predicate → Type 0
 HaveSameMembers one other = (pred : Predicate) → Contains one pred ↔ Contains other pred
 
--- the query has only the shapes that are built, each of its rates has few positions, and the cells were
--- made with each of its predicates
-
 -- the query has only the shapes that are built, each of its rates has few positions, and the cells
 -- were made with each of its predicates
 pub record CanBeAsked (cells : Partition) (query : Qre) : Type 0 where
@@ -53,6 +54,24 @@ pub record CanBeAsked (cells : Partition) (query : Qre) : Type 0 where
 pub record IsAutomatonOf (query : Qre) (nfa : Automaton) : Type 0 where
   pub sets : AreSetsOf nfa.sets (rate_of query)
   pub spells : AreOf nfa.sets (rate_of query)
+
+-- the automata are those of the rates of two queries, over these cells
+pub record AreOperands (cells : Partition) (f g : Qre) (operands : Operands) : Type 0 where
+  pub left : IsAutomatonOf f operands.left
+  pub right : IsAutomatonOf g operands.right
+  pub left_cells : operands.left.cells ≡ cells
+  pub right_cells : operands.right.cells ≡ cells
+
+-- no rule of words is broken at the root of a query, and the sets are those of its rate
+pub record IsKept (columns : List Column) (query : Qre) (made : Sets) : Type 0 where
+  pub rule : (standing : Standing) → BreaksAt columns standing query None
+  pub sets : AreSetsOf made (rate_of query)
+
+-- the refusal is that of the rule of words that the root of a query breaks, or memory was wanting
+abbrev pub IsBrokenAt : List Column → Qre → Span → CheckStop → Type 0
+IsBrokenAt columns query span (Refused why) = (rule : Rule) × (why ≡ refusal rule span)
+    × ((standing : Standing) → BreaksAt columns standing query (Some rule))
+IsBrokenAt columns query span Memory = Unit {0}
 
 -- the nodes of the operands of a query
 abbrev pub operand_nodes : List Column → Standing → Qre → List Node

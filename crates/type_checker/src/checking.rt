@@ -1,5 +1,5 @@
 //! The top call.
-ghost use Rattle.std.specs.Prelude.{IfErr, IfOk};
+ghost use Rattle.std.specs.Prelude.{◌≡◌, IfErr, IfOk};
 ghost use Rattle.query_model.specs.Monitors.{monitor_of};
 ghost use Rattle.query_model.specs.Queries.{plain_of};
 ghost use Rattle.query_model.specs.Shapes.{HasPlainShapes};
@@ -11,9 +11,11 @@ ghost use Rattle.type_checker.specs.Stops.{IsStopOf};
 use crate::CheckStop;
 use crate::measured::measure;
 use crate::words::keep_words;
+use predicate_cells::Cells;
 use query_model::Checked;
 use query_syntax::Program;
-use std::alloc::Global;
+use std::alloc::{AllocError, Global};
+use std::rc::Rc;
 
 /// The query of a program, or the first rule that the program breaks.
 pub fn check(alloc: Global, program: &Program) -> Result<Checked, CheckStop>
@@ -24,6 +26,13 @@ pub fn check(alloc: Global, program: &Program) -> Result<Checked, CheckStop>
     ensures refused { IfErr result (IsStopOf (plain_program program.now)) }
 {
     let found = measure(alloc, program)?;
-    keep_words(alloc, &found.cells, &found.query)?;
+    let cells = shared(alloc, found.cells)?;
+    keep_words(alloc, &cells, &found.query)?;
     Ok(Checked::new(found.schema, found.query))
+}
+
+fn shared(alloc: Global, cells: Cells) -> Result<Rc<Cells>, AllocError>
+    ensures { IfOk result (λ shared. shared.value ≡ cells) }
+{
+    Ok(Rc::new(alloc, cells)?)
 }

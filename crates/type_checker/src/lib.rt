@@ -10,6 +10,7 @@ mod measured;
 mod naming;
 mod nodes;
 mod predicate;
+mod roots;
 mod shapes;
 mod sizes;
 mod stop;

@@ -1,73 +1,341 @@
-use Rattle.std.proofs.Common.{rules, subst, sym}
+use Rattle.std.proofs.Common.{None, ap, refl, rules, subst, sym}
 use Rattle.std.proofs.lemmas.Result.{err_from_is_err_and}
+use Rattle.query_model.specs.Queries as q
 use Rattle.query_model.specs.Queries.{plain_of}
 use Rattle.query_model.specs.Rules.{bound}
 use Rattle.query_model.specs.declared.query.Shape.TheViews.{the_lemmas}
-use Rattle.type_checker.specs.Findings.{IsBrokenBy, places_in}
-use Rattle.type_checker.specs.Nodes.{nodes_in}
+use Rattle.value_ops.specs.Expressions as values
+use Rattle.rate_expr.specs.FirstLastFollow.{AreSetsOf}
+use Rattle.query_model.specs.Rates.{rate_of}
+use Rattle.symbolic_nfa.specs.Automata.{Automaton}
+use Rattle.type_checker.specs.Findings.{IsBrokenAt, IsKept}
 use Rattle.type_checker.specs.WordRules.{BreaksAt}
-use Rattle.type_checker.proofs.Asked.{asked_as, asked_choice, asked_combine, asked_of, asked_split}
-use Rattle.type_checker.proofs.Walked.{both_kept, kept_at, refused_at, second_stopped, stopped_in, stops_before}
+use Rattle.type_checker.proofs.Asked.{asked_as, asked_choice, asked_combine, asked_iter, asked_of, asked_split}
+use Rattle.type_checker.proofs.Asked.{positions_decided}
+use Rattle.type_checker.proofs.OverOne.{apply_kept, apply_refused, apply_sets, iter_kept, iter_refused, iter_sets}
+use Rattle.type_checker.proofs.OverOne.{one_stopped, over_one}
+use Rattle.type_checker.proofs.OverTwo.{broken_with, kept_with, over_two, two_few, two_kept}
+use Rattle.type_checker.proofs.OverTwo.{two_refused, two_sets, two_stopped}
+use Rattle.type_checker.proofs.Ruled.{automaton_of}
+use Rattle.type_checker.proofs.Told.{told_err, told_ok}
+use Rattle.type_checker.proofs.Walked.{both_kept, kept_at, none_without, root_kept, root_refused}
+use Rattle.type_checker.proofs.Walked.{second_stopped, stops_before}
 use Rattle.type_checker.proofs.words.+words.Goals as goal
 
-pub keep_both-returns-in_err-keep_words-clause-refused :
-    goal.keep_both-returns-in_err-keep_words-clause-refused
-keep_both-returns-in_err-keep_words-clause-refused t c =
+-- both operands
+pub keep_both-new-requires : goal.keep_both-new-requires
+keep_both-new-requires t c =
+    positions_decided c.args.cells.now.value (plain_of c.args.first.now.shape) _ c.requires.first
+    c.in_ok-left.ensures.positions
+
+pub keep_both-new-requires-2 : goal.keep_both-new-requires-2
+keep_both-new-requires-2 t c =
+    positions_decided c.args.cells.now.value (plain_of c.args.second.now.shape) _ c.requires.second
+    c.in_ok-right.ensures.positions
+
+pub keep_both-returns-in_err-left-clause-refused : goal.keep_both-returns-in_err-left-clause-refused
+keep_both-returns-in_err-left-clause-refused t c =
     let err = err_from_is_err_and c.from_residual.result c.from_residual.ensures.1 in
-    rw (err.1, err.2) (stops_before _ _ _ _ _ (c.in_err-keep_words.ensures.refused bound))
+    rw (err.1, err.2) (stops_before _ _ _ _ _ (c.in_err-left.ensures.refused bound))
+
+pub keep_both-returns-in_err-right-clause-refused : goal.keep_both-returns-in_err-right-clause-refused
+keep_both-returns-in_err-right-clause-refused t c =
+    let err = err_from_is_err_and c.from_residual-in_err-right.result c.from_residual-in_err-right.ensures.1 in
+    rw (err.1, err.2)
+    (second_stopped c.args.cells.now.value.layout.columns c.args.first.now c.args.second.now
+    (c.in_ok-left.ensures.kept bound) _ (c.in_err-right.ensures.refused bound))
 
 pub keep_both-returns-clause-kept : goal.keep_both-returns-clause-kept
 keep_both-returns-clause-kept t c =
-    both_kept c.args.cells.now.layout.columns c.args.first.now c.args.second.now
-    (c.in_ok-keep_words.ensures.kept bound) _ c.keep_words-2.ensures.kept
+    both_kept c.args.cells.now.value.layout.columns c.args.first.now c.args.second.now
+    (c.in_ok-left.ensures.kept bound) (c.in_ok-right.ensures.kept bound)
 
-pub keep_both-returns-clause-refused : goal.keep_both-returns-clause-refused
-keep_both-returns-clause-refused t c =
-    second_stopped c.args.cells.now.layout.columns c.args.first.now c.args.second.now
-    (c.in_ok-keep_words.ensures.kept bound) _ c.keep_words-2.ensures.refused
+pub keep_both-returns-clause-automata : goal.keep_both-returns-clause-automata
+keep_both-returns-clause-automata t c = record {
+  left = automaton_of c.args.cells.now.value (plain_of c.args.first.now.shape) _ _ c.in_ok-new.ensures
+      c.in_ok-left.ensures.positions;
+  right = automaton_of c.args.cells.now.value (plain_of c.args.second.now.shape) _ _ c.in_ok-new-2.ensures
+      c.in_ok-right.ensures.positions;
+  left_cells = ap (λ (nfa : Automaton). nfa.cells) c.in_ok-new.ensures;
+  right_cells = ap (λ (nfa : Automaton). nfa.cells) c.in_ok-new-2.ensures;
+}
 
-pub keep_operands-keep_both-requires : goal.keep_operands-keep_both-requires
-keep_operands-keep_both-requires t c =
-    let cells = c.args.cells.now in
+-- a query of one item, and one of none
+pub keep_words-returns-in-Atom-clause-kept : goal.keep_words-returns-in-Atom-clause-kept
+keep_words-returns-in-Atom-clause-kept t c =
+    let columns = c.args.cells.now.value.layout.columns in
+    root_kept columns c.args.query.now (none_without c.args.query.now _ columns c.in-Atom.is (λ standing. refl)) _
+    (told_ok _ _ (IsKept columns (plain_of c.args.query.now.shape)) c.one_item.ensures.kept (λ sets given.
+    subst (λ shape. IsKept columns (plain_of shape) sets) (sym c.in-Atom.is)
+    (given (values.plain_of c.in-Atom.field-1))))
+
+pub keep_words-returns-in-Atom-clause-positions : goal.keep_words-returns-in-Atom-clause-positions
+keep_words-returns-in-Atom-clause-positions t c =
+    told_ok _ _ (λ sets. AreSetsOf sets (rate_of (plain_of c.args.query.now.shape))) c.one_item.ensures.kept
+    (λ sets given. subst (λ shape. AreSetsOf sets (rate_of (plain_of shape))) (sym c.in-Atom.is)
+    (given (values.plain_of c.in-Atom.field-1)).sets)
+
+pub keep_words-returns-in-Atom-clause-refused : goal.keep_words-returns-in-Atom-clause-refused
+keep_words-returns-in-Atom-clause-refused t c =
+    let columns = c.args.cells.now.value.layout.columns in
+    root_refused columns c.args.query.now (none_without c.args.query.now _ columns c.in-Atom.is (λ standing. refl)) _
+    (told_err _ _ (IsBrokenAt columns (plain_of c.args.query.now.shape) c.args.query.now.span)
+    c.one_item.ensures.refused (λ stop given.
+    subst (λ shape. IsBrokenAt columns (plain_of shape) c.args.query.now.span stop) (sym c.in-Atom.is)
+    (given (values.plain_of c.in-Atom.field-1))))
+
+pub keep_words-returns-in-Eps-clause-kept : goal.keep_words-returns-in-Eps-clause-kept
+keep_words-returns-in-Eps-clause-kept t c = λ standing.
+    let columns = c.args.cells.now.value.layout.columns in
+    kept_at columns standing c.args.query.now
+    (none_without c.args.query.now _ columns c.in-Eps.is (λ standing. refl) standing)
+    (subst (λ shape. BreaksAt columns standing (plain_of shape) None) (sym c.in-Eps.is) tt)
+
+pub keep_words-returns-in-Eps-clause-positions : goal.keep_words-returns-in-Eps-clause-positions
+keep_words-returns-in-Eps-clause-positions t c =
+    subst (λ shape. AreSetsOf c.empty.result (rate_of (plain_of shape))) (sym c.in-Eps.is) c.empty.ensures
+
+-- choice
+pub keep_words-keep_both-requires : goal.keep_words-keep_both-requires
+keep_words-keep_both-requires t c =
+    let cells = c.args.cells.now.value in
     let can = asked_choice cells _ _ (asked_as cells _ _ c.in-Or.is c.requires) in (
       search (rules, the_lemmas),
       (asked_of cells _ _ c.deref.ensures can.0, asked_of cells _ _ c.deref-in-Or.ensures can.1),
     )
 
-pub keep_operands-keep_both-requires-in-Split : goal.keep_operands-keep_both-requires-in-Split
-keep_operands-keep_both-requires-in-Split t c =
-    let cells = c.args.cells.now in
+pub keep_words-returns-in_err-operands-in-Or-clause-refused :
+    goal.keep_words-returns-in_err-operands-in-Or-clause-refused
+keep_words-returns-in_err-operands-in-Or-clause-refused t c =
+    let err = err_from_is_err_and c.from_residual.result c.from_residual.ensures.1 in
+    let is = over_two q.choice c.args.query.now _ _ _ _ _
+    c.in-Or.is c.deref.ensures c.deref-in-Or.ensures refl
+    (λ columns standing. refl) refl in
+    rw (err.1, err.2) (two_stopped _ _ _ _ is c.args.cells.now.value _ c.in_err-operands-in-Or.ensures.refused)
+
+pub keep_words-returns-in_ok-operands-in-Or-clause-kept :
+    goal.keep_words-returns-in_ok-operands-in-Or-clause-kept
+keep_words-returns-in_ok-operands-in-Or-clause-kept t c =
+    let is = over_two q.choice c.args.query.now _ _ _ _ _
+    c.in-Or.is c.deref.ensures c.deref-in-Or.ensures refl
+    (λ columns standing. refl) refl in
+    two_kept _ _ _ _ is c.args.cells.now.value
+    c.in_ok-operands-in-Or.ensures.kept _
+    c.in_ok-operands-in-Or.ensures.automata _
+    c.choice.ensures.kept
+
+pub keep_words-returns-in_ok-operands-in-Or-clause-positions :
+    goal.keep_words-returns-in_ok-operands-in-Or-clause-positions
+keep_words-returns-in_ok-operands-in-Or-clause-positions t c =
+    let is = over_two q.choice c.args.query.now _ _ _ _ _
+    c.in-Or.is c.deref.ensures c.deref-in-Or.ensures refl
+    (λ columns standing. refl) refl in
+    two_sets _ _ _ _ is c.args.cells.now.value
+    c.in_ok-operands-in-Or.ensures.kept _
+    c.in_ok-operands-in-Or.ensures.automata _
+    c.choice.ensures.kept
+
+pub keep_words-returns-in_ok-operands-in-Or-clause-refused :
+    goal.keep_words-returns-in_ok-operands-in-Or-clause-refused
+keep_words-returns-in_ok-operands-in-Or-clause-refused t c =
+    let is = over_two q.choice c.args.query.now _ _ _ _ _
+    c.in-Or.is c.deref.ensures c.deref-in-Or.ensures refl
+    (λ columns standing. refl) refl in
+    two_refused _ _ _ _ is c.args.cells.now.value
+    c.in_ok-operands-in-Or.ensures.kept _
+    c.in_ok-operands-in-Or.ensures.automata _
+    c.choice.ensures.refused
+
+-- split
+pub keep_words-keep_both-requires-in-Split : goal.keep_words-keep_both-requires-in-Split
+keep_words-keep_both-requires-in-Split t c =
+    let cells = c.args.cells.now.value in
     let can = asked_split cells _ _ _ (asked_as cells _ _ c.in-Split.is c.requires) in (
       search (rules, the_lemmas),
       (asked_of cells _ _ c.deref-in-Split.ensures can.0, asked_of cells _ _ c.deref-in-Split-2.ensures can.1),
     )
 
-pub keep_operands-keep_both-requires-in-Combine : goal.keep_operands-keep_both-requires-in-Combine
-keep_operands-keep_both-requires-in-Combine t c =
-    let cells = c.args.cells.now in
+pub keep_words-returns-in_err-operands-in-Split-clause-refused :
+    goal.keep_words-returns-in_err-operands-in-Split-clause-refused
+keep_words-returns-in_err-operands-in-Split-clause-refused t c =
+    let err = err_from_is_err_and c.from_residual-in_err-operands-in-Split.result
+    c.from_residual-in_err-operands-in-Split.ensures.1 in
+    let is = over_two (λ f g. q.split f g (values.plain_of c.in-Split.field-2)) c.args.query.now _ _ _ _ _
+    c.in-Split.is c.deref-in-Split.ensures c.deref-in-Split-2.ensures refl
+    (λ columns standing. refl) refl in
+    rw (err.1, err.2) (two_stopped _ _ _ _ is c.args.cells.now.value _ c.in_err-operands-in-Split.ensures.refused)
+
+pub keep_words-returns-in_ok-operands-in-Split-clause-kept :
+    goal.keep_words-returns-in_ok-operands-in-Split-clause-kept
+keep_words-returns-in_ok-operands-in-Split-clause-kept t c =
+    let is = over_two (λ f g. q.split f g (values.plain_of c.in-Split.field-2)) c.args.query.now _ _ _ _ _
+    c.in-Split.is c.deref-in-Split.ensures c.deref-in-Split-2.ensures refl
+    (λ columns standing. refl) refl in
+    two_kept _ _ _ _ is c.args.cells.now.value
+    c.in_ok-operands-in-Split.ensures.kept _
+    c.in_ok-operands-in-Split.ensures.automata _
+    (kept_with q.split _ (values.plain_of c.in-Split.field-2) _ c.split.ensures.kept)
+
+pub keep_words-returns-in_ok-operands-in-Split-clause-positions :
+    goal.keep_words-returns-in_ok-operands-in-Split-clause-positions
+keep_words-returns-in_ok-operands-in-Split-clause-positions t c =
+    let is = over_two (λ f g. q.split f g (values.plain_of c.in-Split.field-2)) c.args.query.now _ _ _ _ _
+    c.in-Split.is c.deref-in-Split.ensures c.deref-in-Split-2.ensures refl
+    (λ columns standing. refl) refl in
+    two_sets _ _ _ _ is c.args.cells.now.value
+    c.in_ok-operands-in-Split.ensures.kept _
+    c.in_ok-operands-in-Split.ensures.automata _
+    (kept_with q.split _ (values.plain_of c.in-Split.field-2) _ c.split.ensures.kept)
+
+pub keep_words-returns-in_ok-operands-in-Split-clause-refused :
+    goal.keep_words-returns-in_ok-operands-in-Split-clause-refused
+keep_words-returns-in_ok-operands-in-Split-clause-refused t c =
+    let is = over_two (λ f g. q.split f g (values.plain_of c.in-Split.field-2)) c.args.query.now _ _ _ _ _
+    c.in-Split.is c.deref-in-Split.ensures c.deref-in-Split-2.ensures refl
+    (λ columns standing. refl) refl in
+    two_refused _ _ _ _ is c.args.cells.now.value
+    c.in_ok-operands-in-Split.ensures.kept _
+    c.in_ok-operands-in-Split.ensures.automata _
+    (broken_with q.split _ (values.plain_of c.in-Split.field-2) _ _ c.split.ensures.refused)
+
+-- side_by_side
+pub keep_words-keep_both-requires-in-Combine : goal.keep_words-keep_both-requires-in-Combine
+keep_words-keep_both-requires-in-Combine t c =
+    let cells = c.args.cells.now.value in
     let can = asked_combine cells _ _ _ (asked_as cells _ _ c.in-Combine.is c.requires) in (
       search (rules, the_lemmas),
       (asked_of cells _ _ c.deref-in-Combine.ensures can.0, asked_of cells _ _ c.deref-in-Combine-2.ensures can.1),
     )
 
-pub keep_words-returns-in_err-keep_operands-clause-refused :
-    goal.keep_words-returns-in_err-keep_operands-clause-refused
-keep_words-returns-in_err-keep_operands-clause-refused t c =
-    let err = err_from_is_err_and c.from_residual.result c.from_residual.ensures.1 in
-    rw (err.1, err.2) (λ standing. stopped_in c.args.cells.now.layout.columns standing c.args.query.now _
-    (c.in_err-keep_operands.ensures.refused standing))
+pub keep_words-returns-in_err-operands-in-Combine-clause-refused :
+    goal.keep_words-returns-in_err-operands-in-Combine-clause-refused
+keep_words-returns-in_err-operands-in-Combine-clause-refused t c =
+    let err = err_from_is_err_and c.from_residual-in_err-operands-in-Combine.result
+    c.from_residual-in_err-operands-in-Combine.ensures.1 in
+    let is = over_two (λ f g. q.combine f g (values.plain_of c.in-Combine.field-2)) c.args.query.now _ _ _ _ _
+    c.in-Combine.is c.deref-in-Combine.ensures c.deref-in-Combine-2.ensures refl
+    (λ columns standing. refl) refl in
+    rw (err.1, err.2) (two_stopped _ _ _ _ is c.args.cells.now.value _ c.in_err-operands-in-Combine.ensures.refused)
 
-pub keep_words-returns-in-Some-clause-refused : goal.keep_words-returns-in-Some-clause-refused
-keep_words-returns-in-Some-clause-refused t c = λ standing.
-    let columns = c.args.cells.now.layout.columns in
-    let query = plain_of c.args.query.now.shape in
-    subst (IsBrokenBy (nodes_in columns standing query) (places_in c.args.query.now)) (sym c.refused.ensures)
-    (refused_at columns standing c.args.query.now c.in-Some.rule (c.in_ok-keep_operands.ensures.kept standing)
-    (subst (BreaksAt columns standing query) c.in-Some.is (c.in_ok-rule.ensures standing)))
+pub keep_words-returns-in_ok-operands-in-Combine-clause-kept :
+    goal.keep_words-returns-in_ok-operands-in-Combine-clause-kept
+keep_words-returns-in_ok-operands-in-Combine-clause-kept t c =
+    let is = over_two (λ f g. q.combine f g (values.plain_of c.in-Combine.field-2)) c.args.query.now _ _ _ _ _
+    c.in-Combine.is c.deref-in-Combine.ensures c.deref-in-Combine-2.ensures refl
+    (λ columns standing. refl) refl in
+    two_kept _ _ _ _ is c.args.cells.now.value
+    c.in_ok-operands-in-Combine.ensures.kept _
+    c.in_ok-operands-in-Combine.ensures.automata _
+    (kept_with q.combine _ (values.plain_of c.in-Combine.field-2) _ c.side_by_side.ensures.kept)
 
-pub keep_words-returns-in-None-clause-kept : goal.keep_words-returns-in-None-clause-kept
-keep_words-returns-in-None-clause-kept t c = λ standing.
-    let columns = c.args.cells.now.layout.columns in
-    let query = plain_of c.args.query.now.shape in
-    kept_at columns standing c.args.query.now (c.in_ok-keep_operands.ensures.kept standing)
-    (subst (BreaksAt columns standing query) c.in-None.is (c.in_ok-rule.ensures standing))
+pub keep_words-returns-in_ok-operands-in-Combine-clause-positions :
+    goal.keep_words-returns-in_ok-operands-in-Combine-clause-positions
+keep_words-returns-in_ok-operands-in-Combine-clause-positions t c =
+    let is = over_two (λ f g. q.combine f g (values.plain_of c.in-Combine.field-2)) c.args.query.now _ _ _ _ _
+    c.in-Combine.is c.deref-in-Combine.ensures c.deref-in-Combine-2.ensures refl
+    (λ columns standing. refl) refl in
+    two_sets _ _ _ _ is c.args.cells.now.value
+    c.in_ok-operands-in-Combine.ensures.kept _
+    c.in_ok-operands-in-Combine.ensures.automata _
+    (kept_with q.combine _ (values.plain_of c.in-Combine.field-2) _ c.side_by_side.ensures.kept)
+
+pub keep_words-returns-in_ok-operands-in-Combine-clause-refused :
+    goal.keep_words-returns-in_ok-operands-in-Combine-clause-refused
+keep_words-returns-in_ok-operands-in-Combine-clause-refused t c =
+    let is = over_two (λ f g. q.combine f g (values.plain_of c.in-Combine.field-2)) c.args.query.now _ _ _ _ _
+    c.in-Combine.is c.deref-in-Combine.ensures c.deref-in-Combine-2.ensures refl
+    (λ columns standing. refl) refl in
+    two_refused _ _ _ _ is c.args.cells.now.value
+    c.in_ok-operands-in-Combine.ensures.kept _
+    c.in_ok-operands-in-Combine.ensures.automata _
+    (broken_with q.combine _ (values.plain_of c.in-Combine.field-2) _ _ c.side_by_side.ensures.refused)
+
+-- an iteration
+pub keep_words-new-requires : goal.keep_words-new-requires
+keep_words-new-requires t c =
+    let cells = c.args.cells.now.value in
+    let can = asked_iter cells _ _ _ (asked_as cells _ _ c.in-Iter.is c.requires) in
+    positions_decided cells _ _ (asked_of cells _ _ c.deref-in-Iter.ensures can)
+    c.in_ok-positions-in-Iter.ensures.positions
+
+pub keep_words-returns-in_err-positions-in-Iter-clause-refused :
+    goal.keep_words-returns-in_err-positions-in-Iter-clause-refused
+keep_words-returns-in_err-positions-in-Iter-clause-refused t c =
+    let err = err_from_is_err_and c.from_residual-in_err-positions-in-Iter.result
+    c.from_residual-in_err-positions-in-Iter.ensures.1 in
+    let is = over_one (λ f. q.iter f c.in-Iter.field-1 (values.plain_of c.in-Iter.field-2)) c.args.query.now _ _ _
+    c.in-Iter.is
+    c.deref-in-Iter.ensures refl (λ columns standing. refl) refl in
+    rw (err.1, err.2)
+    (one_stopped _ _ _ is c.args.cells.now.value.layout.columns _ c.in_err-positions-in-Iter.ensures.refused)
+
+pub keep_words-returns-in_ok-operand-in-Iter-clause-kept :
+    goal.keep_words-returns-in_ok-operand-in-Iter-clause-kept
+keep_words-returns-in_ok-operand-in-Iter-clause-kept t c =
+    let is = over_one (λ f. q.iter f c.in-Iter.field-1 (values.plain_of c.in-Iter.field-2)) c.args.query.now _ _ _
+    c.in-Iter.is
+    c.deref-in-Iter.ensures refl (λ columns standing. refl) refl in
+    let of_it = automaton_of c.args.cells.now.value (plain_of c.deref-in-Iter.result.now.shape) _ _
+    c.in_ok-operand-in-Iter.ensures c.in_ok-positions-in-Iter.ensures.positions in
+    iter_kept _ _ _ _ is c.args.cells.now.value c.in_ok-positions-in-Iter.ensures.kept _
+    (ap (λ (nfa : Automaton). nfa.cells) c.in_ok-operand-in-Iter.ensures) of_it _ c.iterated.ensures.kept
+
+pub keep_words-returns-in_ok-operand-in-Iter-clause-positions :
+    goal.keep_words-returns-in_ok-operand-in-Iter-clause-positions
+keep_words-returns-in_ok-operand-in-Iter-clause-positions t c =
+    let is = over_one (λ f. q.iter f c.in-Iter.field-1 (values.plain_of c.in-Iter.field-2)) c.args.query.now _ _ _
+    c.in-Iter.is
+    c.deref-in-Iter.ensures refl (λ columns standing. refl) refl in
+    let of_it = automaton_of c.args.cells.now.value (plain_of c.deref-in-Iter.result.now.shape) _ _
+    c.in_ok-operand-in-Iter.ensures c.in_ok-positions-in-Iter.ensures.positions in
+    iter_sets _ _ _ _ is c.args.cells.now.value c.in_ok-positions-in-Iter.ensures.kept _
+    (ap (λ (nfa : Automaton). nfa.cells) c.in_ok-operand-in-Iter.ensures) of_it _ c.iterated.ensures.kept
+
+pub keep_words-returns-in_ok-operand-in-Iter-clause-refused :
+    goal.keep_words-returns-in_ok-operand-in-Iter-clause-refused
+keep_words-returns-in_ok-operand-in-Iter-clause-refused t c =
+    let is = over_one (λ f. q.iter f c.in-Iter.field-1 (values.plain_of c.in-Iter.field-2)) c.args.query.now _ _ _
+    c.in-Iter.is
+    c.deref-in-Iter.ensures refl (λ columns standing. refl) refl in
+    let of_it = automaton_of c.args.cells.now.value (plain_of c.deref-in-Iter.result.now.shape) _ _
+    c.in_ok-operand-in-Iter.ensures c.in_ok-positions-in-Iter.ensures.positions in
+    iter_refused _ _ _ _ is c.args.cells.now.value c.in_ok-positions-in-Iter.ensures.kept _
+    (ap (λ (nfa : Automaton). nfa.cells) c.in_ok-operand-in-Iter.ensures) of_it _ c.iterated.ensures.refused
+
+-- an application
+pub keep_words-returns-in-Apply-clause-kept : goal.keep_words-returns-in-Apply-clause-kept
+keep_words-returns-in-Apply-clause-kept t c =
+    let is = over_one (λ f. q.apply f (values.plain_of c.in-Apply.field-1)) c.args.query.now _ _ _
+    c.in-Apply.is
+    c.deref-in-Apply.ensures refl (λ columns standing. refl) refl in
+    apply_kept _ _ _ is c.args.cells.now.value.layout.columns _ c.keep_words-in-Apply.ensures.kept
+
+pub keep_words-returns-in-Apply-clause-positions : goal.keep_words-returns-in-Apply-clause-positions
+keep_words-returns-in-Apply-clause-positions t c =
+    let is = over_one (λ f. q.apply f (values.plain_of c.in-Apply.field-1)) c.args.query.now _ _ _
+    c.in-Apply.is
+    c.deref-in-Apply.ensures refl (λ columns standing. refl) refl in
+    apply_sets _ _ _ is c.args.cells.now.value.layout.columns _ c.keep_words-in-Apply.ensures.positions
+
+pub keep_words-returns-in-Apply-clause-refused : goal.keep_words-returns-in-Apply-clause-refused
+keep_words-returns-in-Apply-clause-refused t c =
+    let is = over_one (λ f. q.apply f (values.plain_of c.in-Apply.field-1)) c.args.query.now _ _ _
+    c.in-Apply.is
+    c.deref-in-Apply.ensures refl (λ columns standing. refl) refl in
+    apply_refused _ _ _ is c.args.cells.now.value.layout.columns _ c.keep_words-in-Apply.ensures.refused
+
+pub keep_words-choice-requires-clause-few : goal.keep_words-choice-requires-clause-few
+keep_words-choice-requires-clause-few t c =
+    let is = over_two q.choice c.args.query.now _ _ _ _ _
+    c.in-Or.is c.deref.ensures c.deref-in-Or.ensures refl
+    (λ columns standing. refl) refl in
+    two_few _ _ _ _ is c.args.cells.now.value (λ f g few. few.2) c.requires _
+    c.in_ok-operands-in-Or.ensures.automata
+
+pub keep_words-split-requires-clause-few : goal.keep_words-split-requires-clause-few
+keep_words-split-requires-clause-few t c =
+    let is = over_two (λ f g. q.split f g (values.plain_of c.in-Split.field-2)) c.args.query.now _ _ _ _ _
+    c.in-Split.is c.deref-in-Split.ensures c.deref-in-Split-2.ensures refl
+    (λ columns standing. refl) refl in
+    two_few _ _ _ _ is c.args.cells.now.value (λ f g few. few.2) c.requires _
+    c.in_ok-operands-in-Split.ensures.automata

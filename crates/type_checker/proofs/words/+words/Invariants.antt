@@ -3,10 +3,7 @@ use Rattle.query_model.specs.declared.query.Query.{size-Query}
 use Rattle.type_checker.proofs.words.+words.Given as goal
 
 abbrev pub decreases-keep_words : goal.decreases-keep_words
-decreases-keep_words l = 3 * size-Query l.query.now + 2
-
-abbrev pub decreases-keep_operands : goal.decreases-keep_operands
-decreases-keep_operands l = 3 * size-Query l.query.now + 1
+decreases-keep_words l = 2 * size-Query l.query.now
 
 abbrev pub decreases-keep_both : goal.decreases-keep_both
-decreases-keep_both l = 3 * max (size-Query l.first.now) (size-Query l.second.now) + 3
+decreases-keep_both l = 2 * max (size-Query l.first.now) (size-Query l.second.now) + 1

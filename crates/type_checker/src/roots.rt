@@ -1,0 +1,117 @@
+//! The root of a query: its rule of words, and its positions, made from those of its operands.
+ghost use Rattle.std.specs.Prelude.{◌≡◌, ◌+◌, ◌≤◌, ℤ, None, Some, IfErr, IfOk, OnOk, length};
+ghost use Rattle.std.specs.List.{Contains};
+ghost use Rattle.language_base.specs.Limits.{max_positions};
+ghost use Rattle.language_base.specs.declared.rule.Rule.{Rule};
+ghost use Rattle.predicate_cells.specs.Cells.{Partition};
+ghost use Rattle.predicate_cells.specs.Plain.{plain_of};
+ghost use Rattle.query_model.specs.Queries.{Qre, atom, choice, combine, iter, split};
+ghost use Rattle.symbolic_nfa.specs.Automata.{Automaton};
+ghost use Rattle.value_ops.specs.Expressions.{Expression};
+ghost use Rattle.type_checker.specs.Findings.{AreOperands, IsAutomatonOf, IsBrokenAt, IsKept};
+
+use crate::CheckStop;
+use crate::word_rules::{choice_rule, empty_rule, iter_rule, rates_rule, split_rule};
+use language_base::{Rule, Span};
+use predicate_cells::{Cells, Pred};
+use rate_expr::Positions;
+use std::alloc::Global;
+use std::rc::Rc;
+use symbolic_nfa::Nfa;
+
+/// The automata of the rates of two operands.
+#[derive(Drop)]
+pub(crate) struct Operands {
+    pub(crate) left: Nfa,
+    pub(crate) right: Nfa,
+}
+
+/// One item that meets the predicate.
+pub(crate) fn one_item(
+    alloc: Global,
+    cells: &Rc<Cells>,
+    pred: &Pred,
+    span: Span,
+) -> Result<Positions, CheckStop>
+    requires { Contains cells.now.value.preds (plain_of pred.now) }
+    ensures kept { IfOk result (λ sets. (value : Expression)
+        → IsKept cells.now.value.layout.columns (atom (plain_of pred.now) value) sets) }
+    ensures refused { IfErr result (λ stop. (value : Expression)
+        → IsBrokenAt cells.now.value.layout.columns (atom (plain_of pred.now) value) span stop) }
+{
+    keep(empty_rule(cells.as_ref(), pred), span)?;
+    Ok(Positions::one(alloc, pred)?)
+}
+
+/// A word of either operand.
+pub(crate) fn choice(alloc: Global, operands: Operands, span: Span) -> Result<Positions, CheckStop>
+    requires cells { operands.left.cells ≡ operands.right.cells }
+    requires few { length operands.left.sets.preds + length operands.right.sets.preds
+        ≤ max_positions }
+    ensures kept { IfOk result (λ sets. (cells : Partition) (f g : Qre)
+        → AreOperands cells f g operands → IsKept cells.layout.columns (choice f g) sets) }
+    ensures refused { IfErr result (λ stop. (cells : Partition) (f g : Qre)
+        → AreOperands cells f g operands → IsBrokenAt cells.layout.columns (choice f g) span stop) }
+{
+    keep(choice_rule(alloc, &operands.left, &operands.right)?, span)?;
+    let left = operands.left.into_positions();
+    Ok(left.or(operands.right.into_positions())?)
+}
+
+/// A word of the first operand, and then one of the second.
+pub(crate) fn split(alloc: Global, operands: Operands, span: Span) -> Result<Positions, CheckStop>
+    requires cells { operands.left.cells ≡ operands.right.cells }
+    requires few { length operands.left.sets.preds + length operands.right.sets.preds
+        ≤ max_positions }
+    ensures kept { IfOk result (λ sets. (cells : Partition) (f g : Qre) (value : Expression)
+        → AreOperands cells f g operands → IsKept cells.layout.columns (split f g value) sets) }
+    ensures refused { IfErr result (λ stop. (cells : Partition) (f g : Qre) (value : Expression)
+        → AreOperands cells f g operands
+        → IsBrokenAt cells.layout.columns (split f g value) span stop) }
+{
+    keep(split_rule(alloc, &operands.left, &operands.right)?, span)?;
+    let left = operands.left.into_positions();
+    Ok(left.then(operands.right.into_positions())?)
+}
+
+/// Words of the operand, one after the other.
+pub(crate) fn iterated(alloc: Global, operand: Nfa, span: Span) -> Result<Positions, CheckStop>
+    ensures kept { IfOk result (λ sets. (f : Qre) (number : ℤ) (step : Expression)
+        → IsAutomatonOf f operand
+        → IsKept operand.cells.layout.columns (iter f number step) sets) }
+    ensures refused { IfErr result (λ stop. (f : Qre) (number : ℤ) (step : Expression)
+        → IsAutomatonOf f operand
+        → IsBrokenAt operand.cells.layout.columns (iter f number step) span stop) }
+{
+    keep(iter_rule(alloc, &operand)?, span)?;
+    Ok(operand.into_positions().star())
+}
+
+/// A word of both operands, which have the same.
+pub(crate) fn side_by_side(
+    alloc: Global,
+    operands: Operands,
+    span: Span,
+) -> Result<Positions, CheckStop>
+    requires { operands.left.cells ≡ operands.right.cells }
+    ensures kept { IfOk result (λ sets. (cells : Partition) (f g : Qre) (value : Expression)
+        → AreOperands cells f g operands → IsKept cells.layout.columns (combine f g value) sets) }
+    ensures refused { IfErr result (λ stop. (cells : Partition) (f g : Qre) (value : Expression)
+        → AreOperands cells f g operands
+        → IsBrokenAt cells.layout.columns (combine f g value) span stop) }
+{
+    keep(rates_rule(alloc, &operands.left, &operands.right)?, span)?;
+    Ok(operands.left.into_positions())
+}
+
+// Whether no rule is broken; the rule that is broken is refused at the place.
+fn keep(broken: Option<Rule>, span: Span) -> Result<(), CheckStop>
+    ensures kept { OnOk result (broken ≡ None) }
+    ensures refused { IfErr result (λ stop. (rule : Rule) × (broken ≡ Some rule)
+        × (stop ≡ CheckStop.Refused (record { rule = rule; span = span }))) }
+{
+    match broken {
+        Some(rule) => Err(CheckStop::refused(rule, span)),
+        None => Ok(()),
+    }
+}
