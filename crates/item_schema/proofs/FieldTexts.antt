@@ -68,7 +68,7 @@ after_first-cons : (p : ℕ → Bool) (byte : ℕ) (bytes : List ℕ) → p byte
 after_first-cons p byte bytes other = grind (arith, nat_tests, common_steps)
 
 -- the texts of bytes that are cut at a comma
-abbrev cut_texts : List ℕ → List ℕ → List (List ℕ)
+abbrev pub cut_texts : List ℕ → List ℕ → List (List ℕ)
 cut_texts text bytes =
     (text ++ before_first is_comma bytes) ∷ texts_of (if list_any is_comma bytes then Some (after_first is_comma bytes) else None)
 
@@ -94,6 +94,14 @@ front_plain (byte ∷ bytes) other = rw other refl
 unquoted_texts : (bytes : List ℕ) → is_quote (get_or bytes 0 0) ≡ false
     → texts_in bytes ≡ before_first is_comma bytes ∷ texts_of (if list_any is_comma bytes then Some (after_first is_comma bytes) else None)
 unquoted_texts bytes other = front_plain bytes other ∙ plain_texts [] bytes
+
+-- so does one behind a quote that closes it
+behind_plain : (text bytes : List ℕ) → starts_with ◌==◌ bytes (34 ∷ []) ≡ false → texts_at Behind text bytes ≡ texts_at Plain text bytes
+unfolding texts_at
+behind_plain text [] other = refl
+behind_plain text (byte ∷ bytes) other =
+    let no_quote : is_quote byte ≡ false = grind (arith, nat_tests) in
+    rw no_quote refl
 
 -- a quote opens a field
 opened_texts : (bytes : List ℕ) → texts_in (34 ∷ bytes) ≡ texts_at Quoted [] bytes
@@ -130,28 +138,43 @@ pub record QuotedCut (bytes text : List ℕ) (behind : Option (List ℕ)) : Type
   pub behind_is : behind ≡ (if list_any is_quote bytes then Some (after_first is_quote bytes) else None)
 
 -- where there is none
-pub open_text : (bytes text : List ℕ) → QuotedCut bytes text None → texts_at Quoted [] bytes ≡ text ∷ []
-open_text bytes text cut = by_quote (list_any is_quote bytes) refl cut.behind_is
+pub open_text : (before bytes text : List ℕ) → QuotedCut bytes text None → texts_at Quoted before bytes ≡ (before ++ text) ∷ []
+open_text before bytes text cut = by_quote (list_any is_quote bytes) refl cut.behind_is
   where
     by_quote : (quote : Bool) → list_any is_quote bytes ≡ quote → None ≡ (if quote then Some (after_first is_quote bytes) else None)
-        → texts_at Quoted [] bytes ≡ text ∷ []
+        → texts_at Quoted before bytes ≡ (before ++ text) ∷ []
     by_quote true is none = absurd (cc)
-    by_quote false is none = rw (cut.text_is, before_first-none is_quote bytes is) (open_texts [] bytes is)
+    by_quote false is none = rw (cut.text_is, before_first-none is_quote bytes is) (open_texts before bytes is)
 
 -- where there is one
-closed : (bytes text behind : List ℕ) → QuotedCut bytes text (Some behind) → texts_at Quoted [] bytes ≡ texts_at Behind text behind
-closed bytes text behind cut = by_quote (list_any is_quote bytes) refl cut.behind_is
+closed : (before bytes text behind : List ℕ) → QuotedCut bytes text (Some behind)
+    → texts_at Quoted before bytes ≡ texts_at Behind (before ++ text) behind
+closed before bytes text behind cut = by_quote (list_any is_quote bytes) refl cut.behind_is
   where
     by_quote : (quote : Bool) → list_any is_quote bytes ≡ quote → Some behind ≡ (if quote then Some (after_first is_quote bytes) else None)
-        → texts_at Quoted [] bytes ≡ texts_at Behind text behind
+        → texts_at Quoted before bytes ≡ texts_at Behind (before ++ text) behind
     by_quote true is some =
         let same : behind ≡ after_first is_quote bytes = cc in
-        rw (cut.text_is, same) (quoted_texts [] bytes is)
+        rw (cut.text_is, same) (quoted_texts before bytes is)
     by_quote false is some = absurd (cc)
+
+-- and a second quote stands behind it, which is one of the text
+pub doubled : (before bytes text behind : List ℕ) → QuotedCut bytes text (Some behind) → starts_with ◌==◌ behind (34 ∷ []) ≡ true
+    → texts_at Quoted before bytes ≡ texts_at Quoted ((before ++ text) ++ 34 ∷ []) (drop 1 behind)
+doubled before bytes text [] cut is = absurd (cc)
+doubled before bytes text (byte ∷ behind) cut is =
+    let same : byte ≡ 34 = grind (arith, nat_tests) in
+    closed before bytes text (byte ∷ behind) cut ∙ rw same (texts_more Behind (before ++ text) 34 behind refl)
+
+-- and none does, so that the field goes on to the next comma
+pub unquoted : (before bytes text behind : List ℕ) → QuotedCut bytes text (Some behind) → starts_with ◌==◌ behind (34 ∷ []) ≡ false
+    → texts_at Quoted before bytes ≡ cut_texts (before ++ text) behind
+unquoted before bytes text behind cut other =
+    closed before bytes text behind cut ∙ behind_plain (before ++ text) behind other ∙ plain_texts (before ++ text) behind
 
 -- and nothing, or a comma, stands behind it
 pub closed_last : (bytes text behind : List ℕ) → QuotedCut bytes text (Some behind) → length behind ≡ 0 → texts_at Quoted [] bytes ≡ text ∷ []
-closed_last bytes text [] cut none = closed bytes text [] cut ∙ texts_none Behind text
+closed_last bytes text [] cut none = closed [] bytes text [] cut ∙ texts_none Behind text
 closed_last bytes text (byte ∷ behind) cut none = absurd (omega arith)
 
 pub closed_text : (bytes text behind : List ℕ) → QuotedCut bytes text (Some behind) → starts_with ◌==◌ behind (44 ∷ []) ≡ true
@@ -159,7 +182,7 @@ pub closed_text : (bytes text behind : List ℕ) → QuotedCut bytes text (Some 
 closed_text bytes text [] cut is = absurd (cc)
 closed_text bytes text (byte ∷ behind) cut is =
     let comma : is_comma byte ≡ true = grind (arith, nat_tests) in
-    closed bytes text (byte ∷ behind) cut ∙ texts_end Behind text byte behind comma
+    closed [] bytes text (byte ∷ behind) cut ∙ texts_end Behind text byte behind comma
 
 -- what is left of bytes behind the first of them
 pub behind_first : (bytes : List ℕ) (i : ℕ) → take (length bytes - i) (drop i bytes) ≡ drop i bytes
@@ -177,15 +200,6 @@ pub begin_unquoted : (bytes : List ℕ) → starts_with ◌==◌ bytes (34 ∷ [
 begin_unquoted [] is = unquoted_texts [] refl
 begin_unquoted (byte ∷ bytes) is = unquoted_texts (byte ∷ bytes) (grind (arith, nat_tests))
 
--- the byte at a place of the bytes ends a field, or goes on with it, or there is none
-pub ends_at : (place : Place) (text bytes : List ℕ) (i : ℕ) → i < length bytes → ends_field place (get_or bytes i 0) ≡ true
-    → texts_at place text (drop i bytes) ≡ text ∷ texts_in (drop (i + 1) bytes)
-ends_at place text bytes i within ends = rw (drop-next bytes i 0 within) (texts_end place text (get_or bytes i 0) (drop (i + 1) bytes) ends)
-
-pub goes_at : (place : Place) (text bytes : List ℕ) (i : ℕ) → i < length bytes → ends_field place (get_or bytes i 0) ≡ false
-    → texts_at place text (drop i bytes)
-    ≡ texts_at (place_after place (get_or bytes i 0)) (if is_kept place (get_or bytes i 0) then text ++ get_or bytes i 0 ∷ [] else text) (drop (i + 1) bytes)
-goes_at place text bytes i within more = rw (drop-next bytes i 0 within) (texts_more place text (get_or bytes i 0) (drop (i + 1) bytes) more)
-
+-- there is no byte at a place
 pub none_at : (place : Place) (text bytes : List ℕ) (i : ℕ) → length bytes ≤ i → texts_at place text (drop i bytes) ≡ text ∷ []
 none_at place text bytes i past = rw (drop_all i bytes past) (texts_none place text)

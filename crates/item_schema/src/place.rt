@@ -1,6 +1,6 @@
 //! Where the bytes of a field stand.
 ghost use Rattle.std.specs.Prelude.{◌≡◌};
-ghost use Rattle.item_schema.specs.CutLines.{ends_field, is_kept, place_after};
+ghost use Rattle.item_schema.specs.CutLines.{ends_field, place_after};
 
 /// A place between two bytes of a line.
 #[derive(Clone, Copy, Debug, PartialEq, Eq)]
@@ -23,16 +23,6 @@ impl Place {
         match self {
             Place::Quoted => false,
             Place::Front | Place::Plain | Place::Behind => byte == b',',
-        }
-    }
-
-    /// Whether the byte is one of the field.
-    pub(crate) fn keeps(self, byte: u8) -> bool
-        ensures { result ≡ is_kept self byte }
-    {
-        match self {
-            Place::Front | Place::Quoted => byte != b'"',
-            Place::Plain | Place::Behind => true,
         }
     }
 

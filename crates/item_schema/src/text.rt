@@ -6,7 +6,6 @@ ghost use Rattle.item_schema.specs.Texts.{bytes_of};
 ghost use Rattle.item_schema.specs.declared.place.Place.TheVariants.{Quoted};
 
 use crate::cut::cut_at;
-use crate::place::Place;
 use std::alloc::{AllocError, Global};
 
 /// A part of the line, or a copy of one without the quotes that do not belong to the text.
@@ -65,16 +64,20 @@ fn copied_text(alloc: Global, bytes: &[u8]) -> Result<(Text<'_>, Option<&[u8]>),
     ensures { IfOk result (λ cut.
         texts_at Quoted [] bytes.now ≡ bytes_of cut.0 ∷ texts_of (option_copied cut.1)) }
 {
-    let mut text = Vec::new(alloc);
-    let mut place = Place::Quoted;
-    'bytes: for (at, byte) in bytes.iter().enumerate() {
-        if place.ends_field(*byte) {
-            return Ok((Text::Copy(text), Some(&bytes[at + 1..])));
+    let mut text = Vec::with_capacity(alloc, bytes.len())?;
+    let mut rest = bytes;
+    'parts: loop {
+        let (part, behind) = cut_at(b'"', rest);
+        text.extend_from_slice(part)?;
+        let Some(behind) = behind else {
+            return Ok((Text::Copy(text), None));
+        };
+        if !behind.starts_with(b"\"") {
+            let (tail, behind) = cut_at(b',', behind);
+            text.extend_from_slice(tail)?;
+            return Ok((Text::Copy(text), behind));
         }
-        if place.keeps(*byte) {
-            text.push(*byte)?;
-        }
-        place = place.after(*byte);
+        text.push(b'"')?;
+        rest = &behind[1..];
     }
-    Ok((Text::Copy(text), None))
 }

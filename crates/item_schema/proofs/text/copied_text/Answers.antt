@@ -1,25 +1,29 @@
-use Rattle.std.proofs.Common.{◌≡◌, true, false, ◌+◌, get_or, refl, sym, ◌∙◌}
-use Rattle.item_schema.specs.CutLines.{is_kept}
-use Rattle.item_schema.proofs.FieldTexts.{behind_first, ends_at, goes_at, none_at}
+use Rattle.std.proofs.Common.{ap, sym, ◌∙◌}
+use Rattle.std.specs.Option.{option_copied}
+use Rattle.item_schema.proofs.FieldTexts.{behind_first, doubled, open_text, unquoted}
 use Rattle.item_schema.proofs.text.copied_text.Goals as goal
-use Rattle.item_schema.proofs.text.copied_text.Goals.{then-keeps+in_ok-push, else-keeps}
 
-pub returns-then-ends_field : goal.returns-then-ends_field
-returns-then-ends_field c =
-    rw (behind_first c.args.bytes.now (c.bytes.at + 1))
-    (c.bytes.invariant ∙ ends_at c.bytes.place c.bytes.text.items c.args.bytes.now c.bytes.at c.bytes-test.true (sym c.ends_field.ensures ∙ c.if-ends_field.true))
+pub returns-in_default : goal.returns-in_default
+returns-in_default c =
+    rw (c.in_ok-extend_from_slice.ensures.items)
+    (c.parts.invariant ∙ open_text c.parts.text.items c.parts.rest.now c.cut_at.result.0.now
+    (record { text_is = c.cut_at.ensures.before; behind_is = ap option_copied (sym c.in_default.is) ∙ c.cut_at.ensures.behind }))
 
-pub bytes-preserved : goal.bytes-preserved
-bytes-preserved c =
-    let on = goes_at c.bytes.place c.bytes.text.items c.args.bytes.now c.bytes.at c.bytes-test.true (sym c.ends_field.ensures ∙ c.if-ends_field.false) in
-    elim c.if-keeps.branch [
-      | then-keeps+in_ok-push w ↦
-          let kept : is_kept c.bytes.place (get_or c.args.bytes.now c.bytes.at 0) ≡ true = sym c.keeps.ensures ∙ w.if-keeps.true in
-          rw (c.after-place.ensures, w.text-is, w.in_ok-push.ensures.items) (c.bytes.invariant ∙ on ∙ rw kept refl)
-      | else-keeps w ↦
-          let kept : is_kept c.bytes.place (get_or c.args.bytes.now c.bytes.at 0) ≡ false = sym c.keeps.ensures ∙ w.if-keeps.false in
-          rw (c.after-place.ensures, w.text-is) (c.bytes.invariant ∙ on ∙ rw kept refl)
-    ]
+pub returns-then-not-starts_with : goal.returns-then-not-starts_with
+returns-then-not-starts_with c =
+    rw (
+      c.in_ok-extend_from_slice-2.ensures.items,
+      c.in_ok-extend_from_slice.ensures.items,
+      c.cut_at-then-not-starts_with.ensures.before,
+      c.cut_at-then-not-starts_with.ensures.behind,
+    )
+    (c.parts.invariant ∙ unquoted c.parts.text.items c.parts.rest.now c.cut_at.result.0.now c.in-Some.behind.now
+    (record { text_is = c.cut_at.ensures.before; behind_is = ap option_copied (sym c.in-Some.is) ∙ c.cut_at.ensures.behind })
+    (sym c.starts_with.ensures.value ∙ c.if-not-starts_with.true))
 
-pub returns : goal.returns
-returns c = c.bytes.invariant ∙ none_at c.bytes.place c.bytes.text.items c.args.bytes.now c.bytes.at c.bytes-test.false
+pub parts-preserved : goal.parts-preserved
+parts-preserved c =
+    rw (behind_first c.in-Some.behind.now 1, c.in_ok-push.ensures.items, c.in_ok-extend_from_slice.ensures.items)
+    (c.parts.invariant ∙ doubled c.parts.text.items c.parts.rest.now c.cut_at.result.0.now c.in-Some.behind.now
+    (record { text_is = c.cut_at.ensures.before; behind_is = ap option_copied (sym c.in-Some.is) ∙ c.cut_at.ensures.behind })
+    (sym c.starts_with.ensures.value ∙ c.if-not-starts_with.false))

@@ -1,4 +1,4 @@
-use Rattle.std.proofs.Common.{◌≡◌, ap, sym, ◌∙◌, length, arith}
+use Rattle.std.proofs.Common.{◌≡◌, [], ap, sym, ◌∙◌, length, arith}
 use Rattle.std.specs.Option.{option_copied}
 use Rattle.std.proofs.lemmas.Bool.Decides.{nat_tests}
 use Rattle.item_schema.proofs.FieldTexts.{behind_first, closed_last, closed_text, open_text}
@@ -6,7 +6,7 @@ use Rattle.item_schema.proofs.text.quoted_text.Goals as goal
 
 pub returns-in_default : goal.returns-in_default
 returns-in_default c =
-    open_text c.args.bytes.now c.cut_at.result.0.now
+    open_text [] c.args.bytes.now c.cut_at.result.0.now
     (record { text_is = c.cut_at.ensures.before; behind_is = ap option_copied (sym c.in_default.is) ∙ c.cut_at.ensures.behind })
 
 pub returns-then-is_empty : goal.returns-then-is_empty
