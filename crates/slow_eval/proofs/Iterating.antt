@@ -29,9 +29,10 @@ use Rattle.slow_eval.proofs.WellTyped.{typed_at, typed_on_both}
 use Rattle.slow_eval.proofs.Splitting.{answers_behind}
 
 -- The values on all pieces but the last, on the last, and on the whole, where the empty front has one
-pub record IsIterated (f : Qre) (number : ℤ) (e : Expression) (word : Word) (at : ℕ) (row : List (Option Value)) : Type 0 where
-  pub filled : IsFilled (Den (iter f number e)) (Den f) (Den (iter f number e)) e word at row
-  pub begins : get_or row 0 None ≡ None → ⊥
+pub record IsIterated (f : Qre) (number : ℤ) (e : Expression) (word : Word) (at : ℕ)
+    (answers : List (Option Value)) : Type 0 where
+  pub filled : IsFilled (Den (iter f number e)) (Den f) (Den (iter f number e)) e word at answers
+  pub begins : get_or answers 0 None ≡ None → ⊥
 
 -- a list with an element is not empty
 nothing_more : (pieces : List Word) → [] ∷ pieces ≡ [] → ⊥

@@ -1,8 +1,14 @@
+pub mod Collecting
+pub mod Composing
 pub mod Cutting
 pub mod Filling
 pub mod Folding
 pub mod Iterating
 pub mod Joining
+pub mod Keying
 pub mod Reading
 pub mod Splitting
+pub mod Stepping
+pub mod Streaming
+pub mod Tabling
 pub mod WellTyped

@@ -17,26 +17,26 @@ use Rattle.slow_eval.proofs.Filling.{some_not_none}
 
 -- the operands of a combine and of an apply, on the same word
 abbrev pub of_left : (f g : Qre) (e : Expression) (word : Word) → CanBeRead (combine f g e) word → CanBeRead f word
-of_left f g e word can = record { standing = bound; columns = can.columns; clear = can.clear.0; is_word = can.is_word; plain = can.plain.0 }
+of_left f g e word can = record { standing = bound; columns = can.columns; clear = can.clear.0; is_word = can.is_word; positions = can.positions.0 }
 
 abbrev pub of_right : (f g : Qre) (e : Expression) (word : Word) → CanBeRead (combine f g e) word → CanBeRead g word
-of_right f g e word can = record { standing = bound; columns = can.columns; clear = can.clear.1; is_word = can.is_word; plain = can.plain.1 }
+of_right f g e word can = record { standing = bound; columns = can.columns; clear = can.clear.1; is_word = can.is_word; positions = can.positions.1 }
 
 abbrev pub of_inner : (f : Qre) (e : Expression) (word : Word) → CanBeRead (apply f e) word → CanBeRead f word
-of_inner f e word can = record { standing = bound; columns = can.columns; clear = can.clear.0; is_word = can.is_word; plain = can.plain }
+of_inner f e word can = record { standing = bound; columns = can.columns; clear = can.clear.0; is_word = can.is_word; positions = can.positions }
 
 -- those of a split, the second behind a front
 abbrev pub of_front : (f g : Qre) (e : Expression) (word : Word) → CanBeRead (split f g e) word → CanBeRead f word
-of_front f g e word can = record { standing = bound; columns = can.columns; clear = can.clear.0; is_word = can.is_word; plain = can.plain.0 }
+of_front f g e word can = record { standing = bound; columns = can.columns; clear = can.clear.0; is_word = can.is_word; positions = can.positions.0 }
 
 abbrev pub of_rest : (f g : Qre) (e : Expression) (word : Word) (at : ℕ) → CanBeRead (split f g e) word
     → CanBeRead g (drop at word)
-of_rest f g e word at can = record { standing = bound; columns = can.columns; clear = can.clear.1; is_word = rest_word can.columns word at can.is_word; plain = can.plain.1 }
+of_rest f g e word at can = record { standing = bound; columns = can.columns; clear = can.clear.1; is_word = rest_word can.columns word at can.is_word; positions = can.positions.1 }
 
 -- that of an iter, behind a front
 abbrev pub of_piece : (f : Qre) (number : ℤ) (e : Expression) (word : Word) (at : ℕ) → CanBeRead (iter f number e) word
     → CanBeRead f (drop at word)
-of_piece f number e word at can = record { standing = bound; columns = can.columns; clear = can.clear.0; is_word = rest_word can.columns word at can.is_word; plain = can.plain }
+of_piece f number e word at can = record { standing = bound; columns = can.columns; clear = can.clear.0; is_word = rest_word can.columns word at can.is_word; positions = can.positions }
 
 -- a value stands inside of its row
 pub place_inside : (row : List (Option Value)) (place : ℕ) (v : Value) → get_or row place None ≡ Some v

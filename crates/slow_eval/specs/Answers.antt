@@ -6,16 +6,16 @@ use Rattle.rate_expr.specs.Words.{Word, IsWordOf}
 use Rattle.query_model.specs.Following.{IsAnswer}
 use Rattle.query_model.specs.Queries.{Qre}
 use Rattle.query_model.specs.Rules.{Standing, IsClear}
+use Rattle.query_model.specs.Sizes.{HasFewPositions}
 use Rattle.slow_eval.specs.Rows.{answer_at}
-use Rattle.query_model.specs.Shapes.{HasPlainShapes}
 
--- the query keeps the rules on columns of which the word is one, and has only the shapes that are searched
+-- the query keeps the rules on columns of which the word is one, and its rates have few positions
 pub record CanBeRead (query : Qre) (word : Word) : Type 0 where
   pub standing : Standing
   pub columns : List Column
   pub clear : IsClear standing columns query
   pub is_word : IsWordOf columns word
-  pub plain : HasPlainShapes query
+  pub positions : HasFewPositions query
 
 -- an answer on each front of the word, from the empty one to the whole
 pub record AreAnswers (query : Qre) (word : Word) (answers : List (Option Value)) : Type 0 where

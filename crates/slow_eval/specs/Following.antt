@@ -9,7 +9,6 @@ use Rattle.query_model.specs.Following.{IsAnswer}
 use Rattle.query_model.specs.Queries.{Qre, plain_of}
 use Rattle.query_model.specs.QueryTypes.{type_of}
 use Rattle.slow_eval.specs.declared.slow.Slow.{Slow}
-use Rattle.query_model.specs.Shapes.{HasPlainShapes}
 
 -- its query, and the columns of its stream
 abbrev pub query_of : Slow → Qre
@@ -36,11 +35,10 @@ size_of_answer (Some (value.Table entries)) = length entries + 1
 abbrev pub kept_of : Slow → ℕ
 kept_of slow = length slow.items.items + size_of_answer slow.answer
 
--- the items are of the stream, an answer has the type of the query, and the query has only shapes that are searched
+-- the items are of the stream, and an answer has the type of the query
 pub record IsSound (slow : Slow) : Type 0 where
   pub is_word : IsWordOf (columns_of slow) slow.items.items
   pub typed : MatchOption slow.answer (Unit {0}) (IsValueOf (type_of (columns_of slow) (query_of slow)))
-  pub plain : HasPlainShapes (query_of slow)
 
 -- the word is that of the items, and the answer the query's on it
 pub record Follows (slow : Slow) (word : Word) : Type 0 where

@@ -21,6 +21,16 @@ pub(crate) fn no_answers(alloc: Global, items: usize) -> Result<Vec<Option<Value
     Ok(row)
 }
 
+/// An equal answer.
+pub(crate) fn copied(alloc: Global, answer: &Option<Value>) -> Result<Option<Value>, AllocError>
+    ensures { IfOk result (λ copy. copy ≡ answer.now) }
+{
+    match answer {
+        Some(value) => Ok(Some(value.try_copy(alloc)?)),
+        None => Ok(None),
+    }
+}
+
 /// At each place the answer of the one row, or else that of the other.
 pub(crate) fn either(
     mut row: Vec<Option<Value>>,

@@ -20,11 +20,9 @@ pub struct Slow<'q> {
 impl<'q> Slow<'q> {
     ghost use Rattle.std.specs.Prelude.{◌≡◌, [], true, false, IfOk, OnOk, OnErr};
     ghost use Rattle.slow_eval.specs.Following.{columns_of, Follows, is_lost, IsSound, position_of, query_of};
-    ghost use Rattle.query_model.specs.Shapes.{HasPlainShapes};
 
     /// It follows the empty word.
     pub fn new(alloc: Global, checked: &'q Checked) -> Result<Slow<'q>, AllocError>
-        requires { HasPlainShapes (plain_of checked.now.main.shape) }
         ensures word { IfOk result (λ slow. Follows slow []) }
         ensures position { IfOk result (λ slow. position_of slow ≡ 0) }
         ensures found { IfOk result (λ slow. is_lost slow ≡ false) }

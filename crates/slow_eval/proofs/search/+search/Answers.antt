@@ -1,9 +1,21 @@
-use Rattle.std.proofs.Common.{rules, ◌≡◌, ◌<◌, ◌+◌, ◌∙◌, None, Some, length, get_or, drop, take_at, arith, sym, subst, ap}
+use Rattle.std.proofs.Common.{rules, List, ◌≡◌, ◌<◌, ◌≤◌, ◌+◌, ◌∙◌, None, Some, length, get_or, drop, take_at, arith, sym, subst, ap}
 use Rattle.std.proofs.lemmas.Int.{to_z-of_z}
 use Rattle.std.specs.Int.{w64}
+use Rattle.std.specs.List.{IsDistinct}
+use Rattle.std.specs.Str.{bytes_eq}
 use Rattle.value_ops.specs.Expressions as values
 use Rattle.query_model.specs.Queries.{plain_of, combine, apply}
 use Rattle.slow_eval.specs.Answers.{AreAnswers, CanBeRead}
+use Rattle.predicate_cells.specs.Plain as predicates
+use Rattle.rate_expr.specs.Plain as rates
+use Rattle.query_model.specs.Denotation.{projection}
+use Rattle.slow_eval.specs.declared.keyed.Keyed.{Keyed}
+use Rattle.slow_eval.specs.Projections.{AreKeysOf, IsOnItems}
+use Rattle.slow_eval.specs.Streams.{stream_of}
+use Rattle.slow_eval.specs.Tabled.{HaveAnswersAt, keys_in}
+use Rattle.slow_eval.proofs.Collecting.{AreKeyed, answers_there, collected, keyed, keyed_begin, keyed_more, keys_differ, keys_enough, of_key, tables_by}
+use Rattle.slow_eval.proofs.Composing.{composed, of_stream}
+use Rattle.slow_eval.proofs.Streaming.{on_rows}
 use Rattle.slow_eval.proofs.WellTyped.{both_typed, one_typed}
 use Rattle.slow_eval.proofs.Cutting.{rest_is}
 use Rattle.slow_eval.proofs.Iterating.{IsIterated, iter_ended, iter_joined, iter_skipped, iter_typed}
@@ -163,3 +175,136 @@ split_answers-returns t c =
     split_ended (plain_of c.args.first.now.shape) (plain_of c.args.second.now.shape) (values.plain_of c.args.expression.now)
     c.args.word.now c.places.place c.places.row.items c.places.invariant
     (omega (arith, c.in_ok-lefts.ensures.count, c.len-place-end.ensures))
+
+pub compose_answers-answers_on_fronts-requires-2 : goal.compose_answers-answers_on_fronts-requires-2
+compose_answers-answers_on_fronts-requires-2 t c =
+    let second = plain_of c.args.second.now.shape in
+    let firsts = c.in_ok-firsts.firsts.items in (
+      search rules,
+      subst (CanBeRead second)
+          (ap stream_of (sym c.deref.ensures.value) ∙ sym c.in_ok-stream.ensures ∙ sym c.deref-2.ensures.value)
+          (of_stream (plain_of c.args.first.now.shape) second c.args.word.now firsts c.requires c.in_ok-firsts.ensures),
+    )
+
+pub compose_answers-returns : goal.compose_answers-returns
+compose_answers-returns t c =
+    let second = plain_of c.args.second.now.shape in
+    let firsts = c.in_ok-firsts.firsts.items in
+    let seconds = c.in_ok-seconds.seconds.items in
+    composed (plain_of c.args.first.now.shape) second c.args.word.now firsts seconds c.in_ok-answers.answers.items
+    c.requires c.in_ok-firsts.ensures
+    (subst (λ w. AreAnswers second w seconds)
+    (c.deref-2.ensures.value ∙ c.in_ok-stream.ensures ∙ ap stream_of c.deref.ensures.value) c.in_ok-seconds.ensures)
+    (on_rows firsts c.deref-3.result.now seconds c.deref-4.result.now c.in_ok-answers.answers.items
+    c.in_ok-answers.ensures c.deref-3.ensures.value c.deref-4.ensures.value)
+
+pub collect_answers-keys-init : goal.collect_answers-keys-init
+collect_answers-keys-init t c =
+    let f = plain_of c.args.inner.now.shape in
+    subst (AreKeyed f c.args.column (predicates.plain_of c.args.sync.now) c.args.word.now _ 0)
+    (sym c.new-all.ensures.items) (keyed_begin f c.args.column (predicates.plain_of c.args.sync.now) c.args.word.now _)
+
+pub collect_answers-answers_on_fronts-requires : goal.collect_answers-answers_on_fronts-requires
+collect_answers-answers_on_fronts-requires t c =
+    let inner = plain_of c.args.inner.now.shape in (
+      search rules,
+      subst (CanBeRead inner) (sym c.in_ok-items.ensures ∙ sym c.deref.ensures.value)
+          (of_key c.args.column (predicates.plain_of c.args.sync.now) (rates.plain_of c.args.rate.now) inner
+          c.as_slice.result.now c.args.word.now c.requires),
+    )
+
+pub collect_answers-keys-preserved : goal.collect_answers-keys-preserved
+collect_answers-keys-preserved t c =
+    let f = plain_of c.args.inner.now.shape in
+    let column = c.args.column in
+    let sync = predicates.plain_of c.args.sync.now in
+    let word = c.args.word.now in
+    let keys = c.deref-key-items.result.now in
+    let at = c.keys.key-index in
+    let row = c.in_ok-answers.answers in
+    let found = c.in_ok-values.values.items in
+    let one : Keyed = record { key = c.in_ok-key.key; answers = row } in
+    let same = c.in_ok-key.ensures in
+    subst (AreKeyed f column sync word keys (at + 1)) (sym c.in_ok-push.ensures.items)
+    (keyed_more f column sync word keys at c.keys.all.items one c.keys.invariant (omega arith)
+    (subst (λ k. get_or keys at k ≡ k) (sym same) (sym c.key-item.is))
+    (keyed f column sync word one found
+    (subst (λ w. AreAnswers f w found)
+    (c.deref.ensures.value ∙ c.in_ok-items.ensures
+    ∙ ap (λ k. projection column sync k word) (c.as_slice.ensures ∙ sym same)) c.in_ok-values.ensures)
+    (subst (λ k. IsOnItems column sync k word found row.items) (c.as_slice-in-keys.ensures ∙ sym same)
+    (subst (λ fs. IsOnItems column sync c.as_slice-in-keys.result.now word fs row.items) c.deref-in-keys.ensures.value
+    c.in_ok-answers.ensures))))
+
+pub collect_answers-tables-requires-clause-distinct : goal.collect_answers-tables-requires-clause-distinct
+collect_answers-tables-requires-clause-distinct t c =
+    let f = plain_of c.args.inner.now.shape in
+    let column = c.args.column in
+    let sync = predicates.plain_of c.args.sync.now in
+    let r = rates.plain_of c.args.rate.now in
+    let word = c.args.word.now in
+    let keys = c.deref-key-items.result.now in
+    let counts = c.in_ok-found.found.counts.items in
+    let all = c.keys.all.items in
+    let are : AreKeysOf column sync word keys counts =
+    subst (λ ks. AreKeysOf column sync word ks counts) (sym c.deref-key-items.ensures.value) c.in_ok-found.ensures in
+    subst (λ xs. IsDistinct bytes_eq (keys_in xs)) (sym c.deref-4.ensures.value)
+    (keys_differ f column sync r word keys counts c.keys.key-index all c.requires are c.keys.invariant c.keys-test.false)
+
+pub collect_answers-tables-requires-clause-within : goal.collect_answers-tables-requires-clause-within
+collect_answers-tables-requires-clause-within t c = λ place inside.
+    let f = plain_of c.args.inner.now.shape in
+    let column = c.args.column in
+    let sync = predicates.plain_of c.args.sync.now in
+    let r = rates.plain_of c.args.rate.now in
+    let word = c.args.word.now in
+    let keys = c.deref-key-items.result.now in
+    let counts = c.in_ok-found.found.counts.items in
+    let all = c.keys.all.items in
+    let are : AreKeysOf column sync word keys counts =
+    subst (λ ks. AreKeysOf column sync word ks counts) (sym c.deref-key-items.ensures.value) c.in_ok-found.ensures in
+    let in_rate = c.in_ok-in_rate.in_rate.items in
+    let same : length c.deref-2.result.now ≡ length in_rate = ap length c.deref-2.ensures.value in
+    let count : length in_rate ≡ length word + 1 = c.in_ok-in_rate.ensures.count in
+    subst (λ cs. get_or cs place 0 ≤ length c.deref-4.result.now) (sym c.deref-3.ensures.value)
+    (subst (λ (xs : List Keyed). get_or counts place 0 ≤ length xs) (sym c.deref-4.ensures.value)
+    (keys_enough f column sync r word keys counts c.keys.key-index all c.requires are c.keys.invariant c.keys-test.false
+    place (omega arith)))
+
+pub collect_answers-tables-requires-clause-answers : goal.collect_answers-tables-requires-clause-answers
+collect_answers-tables-requires-clause-answers t c = λ place inside.
+    let f = plain_of c.args.inner.now.shape in
+    let column = c.args.column in
+    let sync = predicates.plain_of c.args.sync.now in
+    let r = rates.plain_of c.args.rate.now in
+    let word = c.args.word.now in
+    let keys = c.deref-key-items.result.now in
+    let counts = c.in_ok-found.found.counts.items in
+    let all = c.keys.all.items in
+    let are : AreKeysOf column sync word keys counts =
+    subst (λ ks. AreKeysOf column sync word ks counts) (sym c.deref-key-items.ensures.value) c.in_ok-found.ensures in
+    let in_rate = c.in_ok-in_rate.in_rate.items in
+    let same : length c.deref-2.result.now ≡ length in_rate = ap length c.deref-2.ensures.value in
+    let count : length in_rate ≡ length word + 1 = c.in_ok-in_rate.ensures.count in
+    subst (HaveAnswersAt place) (sym c.deref-4.ensures.value)
+    (answers_there f column sync r word keys counts c.keys.key-index all c.requires are c.keys.invariant c.keys-test.false
+    place (omega arith))
+
+pub collect_answers-returns : goal.collect_answers-returns
+collect_answers-returns t c =
+    let f = plain_of c.args.inner.now.shape in
+    let column = c.args.column in
+    let sync = predicates.plain_of c.args.sync.now in
+    let r = rates.plain_of c.args.rate.now in
+    let word = c.args.word.now in
+    let keys = c.deref-key-items.result.now in
+    let counts = c.in_ok-found.found.counts.items in
+    let all = c.keys.all.items in
+    let are : AreKeysOf column sync word keys counts =
+    subst (λ ks. AreKeysOf column sync word ks counts) (sym c.deref-key-items.ensures.value) c.in_ok-found.ensures in
+    let in_rate = c.in_ok-in_rate.in_rate.items in
+    let row = c.in_ok-answers-2.answers.items in
+    collected f column sync r word keys counts c.keys.key-index all c.requires are c.keys.invariant c.keys-test.false
+    in_rate row c.in_ok-in_rate.ensures
+    (tables_by in_rate c.deref-2.result.now counts c.deref-3.result.now all c.deref-4.result.now row
+    c.in_ok-answers-2.ensures c.deref-2.ensures.value c.deref-3.ensures.value c.deref-4.ensures.value)

@@ -2,6 +2,8 @@ use Rattle.std.proofs.Common.{◌+◌, ◌*◌, max}
 use Rattle.value_ops.specs.Expressions as values
 use Rattle.query_model.specs.declared.query.Query.{size-Query}
 use Rattle.query_model.specs.Queries.{plain_of}
+use Rattle.predicate_cells.specs.Plain as predicates
+use Rattle.slow_eval.proofs.Collecting.{AreKeyed}
 use Rattle.slow_eval.proofs.Iterating.{IsIterated}
 use Rattle.slow_eval.proofs.Splitting.{IsSplit}
 use Rattle.slow_eval.proofs.search.+search.Given as goal
@@ -22,3 +24,14 @@ decreases-split_answers l = 2 * max (size-Query l.first.now) (size-Query l.secon
 
 abbrev pub decreases-iter_answers : goal.decreases-iter_answers
 decreases-iter_answers l = 2 * size-Query l.inner.now + 1
+
+abbrev pub decreases-compose_answers : goal.decreases-compose_answers
+decreases-compose_answers l = 2 * max (size-Query l.first.now) (size-Query l.second.now) + 1
+
+abbrev pub invariant-collect_answers-keys : goal.invariant-collect_answers-keys
+invariant-collect_answers-keys l =
+    AreKeyed (plain_of l.inner.shape) l.column (predicates.plain_of l.sync) l.word
+    l.key-items l.key-index l.all.items
+
+abbrev pub decreases-collect_answers : goal.decreases-collect_answers
+decreases-collect_answers l = 2 * size-Query l.inner.now + 1

@@ -1,4 +1,4 @@
-use Rattle.std.proofs.Common.{rules, ◌≡◌, ◌∙◌, [], refl, sym, subst}
+use Rattle.std.proofs.Common.{rules, arith, ◌≡◌, ◌∙◌, [], refl, sym, subst}
 use Rattle.std.specs.Prelude.{pos, FitsSigned}
 use Rattle.std.specs.Int.{w64}
 use Rattle.value_ops.specs.Expressions.{binary, read}
@@ -21,7 +21,7 @@ can = record {
   columns = [];
   clear = (three, four, (refl, refl), λ u v u' v' is a b a' b' same. a ∙ sym a');
   is_word = tt;
-  plain = (tt, tt);
+  positions = (tt, tt, omega arith);
 }
 
 pub answers_on_fronts-requires : goal.answers_on_fronts-requires

@@ -15,7 +15,6 @@ returns-clause-sound c =
           c.main.ensures.checked.clear c.requires.sound.is_word
           (subst (λ word. IsAnswer (plain_of on.main.shape) word answer) c.deref.ensures.value
           (subst (λ query. IsAnswer (plain_of query.shape) c.deref.result.now answer) c.main.ensures.main (c.in_ok-self.ensures)));
-      plain = c.requires.sound.plain;
     }
 
 pub returns-clause-ok : goal.returns-clause-ok

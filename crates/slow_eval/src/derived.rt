@@ -1,0 +1,45 @@
+//! The stream of the values of a query, and the answers of another query on it.
+ghost use Rattle.std.specs.Prelude.{◌≡◌, ◌+◌, length, IfOk};
+ghost use Rattle.slow_eval.specs.Streams.{stream_of, IsOnStream};
+
+use crate::places::copied;
+use item_schema::Item;
+use std::alloc::{AllocError, Global};
+use value_ops::Value;
+
+/// The answers that are there, as items of a stream.
+pub(crate) fn stream_of(alloc: Global, answers: &[Option<Value>]) -> Result<Vec<Item>, AllocError>
+    ensures { IfOk result (λ stream. stream.items ≡ stream_of answers.now) }
+{
+    let mut stream = Vec::new(alloc);
+    'answers: for answer in answers {
+        if let Some(value) = answer {
+            stream.push(Item::of_value(alloc, value)?)?;
+        }
+    }
+    Ok(stream)
+}
+
+/// At each place where there is a first answer, the second one on as many items as there are first
+/// ones so far.
+pub(crate) fn on_stream(
+    alloc: Global,
+    firsts: &[Option<Value>],
+    seconds: &[Option<Value>],
+) -> Result<Vec<Option<Value>>, AllocError>
+    requires { length seconds.now ≡ length (stream_of firsts.now) + 1 }
+    ensures { IfOk result (λ row. IsOnStream firsts.now seconds.now row.items) }
+{
+    let mut row = Vec::new(alloc);
+    let mut items = 0;
+    'answers: for first in firsts {
+        row.push(match first {
+            Some(_) => {
+                items += 1;
+                copied(alloc, &seconds[items])?
+            }
+            None => None,
+        })?;
+    }
+    Ok(row)
+}
