@@ -1,0 +1,66 @@
+//! Goes through tables of queries, and tells what each is read to, how it is judged, or what a run of it writes.
+#![tactic(auto)]
+
+mod constructors;
+mod refusal;
+mod run;
+mod spelling;
+mod table;
+mod verdict;
+
+use crate::constructors::constructors;
+use crate::run::written;
+use crate::table::{Case, cases_of};
+use crate::verdict::verdict;
+use std::alloc::{AllocError, Global};
+use std::{fs, io};
+
+/// What is told of the cases of a table.
+#[derive(Clone, Copy)]
+enum Question {
+    /// The constructors that queries are read to.
+    Constructors,
+    /// Whether they are accepted.
+    Verdict,
+    /// What runs of them write.
+    Run,
+}
+
+fn main(rt: HostRuntime) -> io::Result<()> {
+    for (name, question) in [
+        ("constructors", Question::Constructors),
+        ("files", Question::Constructors),
+        ("unbuilt", Question::Verdict),
+        ("names", Question::Verdict),
+        ("types", Question::Verdict),
+        ("words", Question::Verdict),
+        ("order", Question::Verdict),
+        ("texts", Question::Verdict),
+        ("limits", Question::Verdict),
+        ("runs", Question::Run),
+    ] {
+        let table = fs::read_to_string(&rt, name)?;
+        let text = report(rt.alloc(), question, table.as_str())?;
+        println!(rt; "{name}")?;
+        print!(rt; "{text}")?;
+    }
+    Ok(())
+}
+
+/// A line for each case.
+fn report(alloc: Global, question: Question, table: &str) -> Result<String, AllocError> {
+    let mut text = String::new(alloc);
+    for case in &cases_of(alloc, table)? {
+        let told = told(alloc, question, case)?;
+        writeln!(text, "{}: {}", case.number, told)?;
+    }
+    Ok(text)
+}
+
+fn told(alloc: Global, question: Question, case: &Case) -> Result<String, AllocError> {
+    match question {
+        Question::Constructors => constructors(alloc, case.query.as_slice()),
+        Question::Verdict => verdict(alloc, case.query.as_slice()),
+        Question::Run => written(alloc, case.query.as_slice(), case.items.as_slice()),
+    }
+}

@@ -1,0 +1,28 @@
+//! Refusals of queries.
+
+use crate::spelling::push_spelled;
+use language_base::{Refusal, Span};
+use report_writer::refusal_text;
+use std::alloc::{AllocError, Global};
+
+/// Longer terms are told by their places alone.
+const SHORT: usize = 200;
+
+/// The refusal of the query, as the program writes it, and the term that is refused.
+pub(crate) fn refused(alloc: Global, query: &[u8], refusal: Refusal) -> Result<String, AllocError> {
+    let written = refusal_text(alloc, refusal)?;
+    let mut text = String::new(alloc);
+    push_spelled(&mut text, written.as_slice().trim_ascii_end())?;
+    let term = part_of(query, refusal.span);
+    if !term.is_empty() && term.len() <= SHORT {
+        text.push_str(": ")?;
+        push_spelled(&mut text, term)?;
+    }
+    Ok(text)
+}
+
+fn part_of(query: &[u8], span: Span) -> &[u8] {
+    query
+        .get(span.from as usize..span.to as usize)
+        .unwrap_or(&[])
+}

@@ -1,0 +1,66 @@
+//! The cases of a table.
+
+use crate::spelling::bytes_of;
+use std::alloc::{AllocError, Global};
+
+/// More lines than a table has.
+const LINES: u32 = 1_000;
+
+#[derive(Drop)]
+pub(crate) struct Case {
+    /// The line of the table where it stands.
+    pub(crate) number: u32,
+    pub(crate) query: Vec<u8>,
+    pub(crate) items: Vec<u8>,
+}
+
+/// What stands before and behind the part of a query.
+#[derive(Drop)]
+struct Frame {
+    front: Vec<u8>,
+    back: Vec<u8>,
+}
+
+impl Frame {
+    /// The frame that is spelled, with `...` in place of the part.
+    fn of(alloc: Global, spelled: &str) -> Result<Frame, AllocError> {
+        let mut pieces = spelled.split("...");
+        Ok(Frame {
+            front: bytes_of(alloc, pieces.next().unwrap_or(""))?,
+            back: bytes_of(alloc, pieces.next().unwrap_or(""))?,
+        })
+    }
+
+    fn around(&self, alloc: Global, part: &[u8]) -> Result<Vec<u8>, AllocError> {
+        let mut query = Vec::from_slice(alloc, &self.front)?;
+        query.extend_from_slice(part)?;
+        query.extend_from_slice(&self.back)?;
+        Ok(query)
+    }
+}
+
+/// The cases of the table, a line each: a part of a query, and behind a bar the items, if any. A line
+/// that begins with `frame` has the frame of the parts that follow. Lines that are empty or begin with
+/// `#` are none.
+pub(crate) fn cases_of(alloc: Global, table: &str) -> Result<Vec<Case>, AllocError> {
+    let mut frame = Frame::of(alloc, "...")?;
+    let mut cases = Vec::new(alloc);
+    for (number, line) in (1..LINES).zip(table.lines()) {
+        if let Some(spelled) = line.strip_prefix("frame ") {
+            frame = Frame::of(alloc, spelled)?;
+        } else if !line.is_empty() && !line.starts_with('#') {
+            cases.push(case_of(alloc, number, &frame, line)?)?;
+        }
+    }
+    Ok(cases)
+}
+
+fn case_of(alloc: Global, number: u32, frame: &Frame, line: &str) -> Result<Case, AllocError> {
+    let mut pieces = line.split(" | ");
+    let part = bytes_of(alloc, pieces.next().unwrap_or(""))?;
+    Ok(Case {
+        number,
+        query: frame.around(alloc, &part)?,
+        items: bytes_of(alloc, pieces.next().unwrap_or(""))?,
+    })
+}
