@@ -1,11 +1,9 @@
-// Each rule of reading at its edges, and the canonical text.
+// The longest texts, and the canonical text. The program `query_cases` shows the other rules of reading at
+// their edges.
 use crate::{ReadStop, print_file, read_file};
 use language_base::Bytes;
 use std::alloc::{AllocError, Global};
 use std::test::Fail;
-
-/// A stream of 26 bytes.
-const STREAM: &[u8] = b"stream(plain, col(a, int))";
 
 /// The number of the rule that refuses the text, and its place.
 fn refusal_of(alloc: Global, text: &[u8]) -> Option<(u8, u32, u32)> {
@@ -17,14 +15,6 @@ fn refusal_of(alloc: Global, text: &[u8]) -> Option<(u8, u32, u32)> {
     }
 }
 
-/// The same of a text behind the stream and a line feed, which are 27 bytes.
-fn refusal_behind_stream(alloc: Global, rest: &[u8]) -> Result<Option<(u8, u32, u32)>, AllocError> {
-    let mut text = Vec::from_slice(alloc, STREAM)?;
-    text.extend_from_slice(b"\n")?;
-    text.extend_from_slice(rest)?;
-    Ok(refusal_of(alloc, &text))
-}
-
 fn repeated(alloc: Global, piece: &[u8], count: u32) -> Result<Vec<u8>, AllocError> {
     let mut text = Vec::new(alloc);
     for _ in 0..count {
@@ -34,81 +24,17 @@ fn repeated(alloc: Global, piece: &[u8], count: u32) -> Result<Vec<u8>, AllocErr
 }
 
 #[test]
-fn refuses_by_the_first_rule_at_its_place(rt: HostRuntime) {
-    let cases = [
-        (b"@".as_slice(), (2, 0, 1)),
-        (b"a\x00", (2, 1, 2)),
-        (b"\x80", (2, 0, 1)),
-        (b"stream(\"a\\q\")", (2, 7, 8)),
-        (b"a(+-5)", (2, 2, 3)),
-        (b") @", (2, 2, 3)),
-        (b"@ )", (2, 0, 1)),
-        (b"a(", (3, 2, 2)),
-        (b"a()", (3, 2, 3)),
-        (b"a(,)", (3, 2, 3)),
-        (b")", (3, 0, 1)),
-        (b"a b c)", (3, 5, 6)),
-        (b"", (5, 0, 0)),
-        (b"# no file", (5, 9, 9)),
-        (b"main(a)", (5, 0, 7)),
-        (b"stream(plain)", (5, 0, 13)),
-        (STREAM, (5, 26, 26)),
-        (b"stream(plain,col(a,fixed(0)))", (5, 25, 26)),
-        (b"stream(plain,col(a,fixed(9)))", (5, 29, 29)),
-        (b"stream(plain,col(a,fixed(10)))", (5, 25, 27)),
-        (b"stream(plain,col(a,fixed(01)))", (5, 30, 30)),
-    ];
-    for (text, refusal) in cases {
-        assert_eq!(rt; refusal_of(rt.alloc(), text), Some(refusal));
-    }
+fn an_empty_text_is_no_file(rt: HostRuntime) {
+    assert_eq!(rt; refusal_of(rt.alloc(), b""), Some((5, 0, 0)));
 }
 
 #[test]
-fn refuses_forms_before_numbers(rt: HostRuntime) -> Result<(), Fail> {
-    let cases = [
-        (b"main(a)".as_slice(), None),
-        (b"main(a) main(a)", Some((5, 35, 42))),
-        (b"main(a) let(b, a)", Some((5, 35, 44))),
-        (b"main(or(or(1)))", Some((5, 32, 41))),
-        (b"let(b, eps(9223372036854775808))", Some((5, 59, 59))),
-        (b"main(eps(9223372036854775808))", Some((9, 36, 55))),
-        (b"main(eps(-9223372036854775809))", Some((9, 36, 56))),
-        (
-            b"main(eps(00000000009223372036854775808))",
-            Some((9, 36, 65)),
-        ),
-        (
-            b"main(eps(-00000000009223372036854775809))",
-            Some((9, 36, 66)),
-        ),
-        (b"main(eps(00000000009223372036854775807))", None),
-        (b"main(eps(-00000000009223372036854775808))", None),
-    ];
-    for (rest, refusal) in cases {
-        assert_eq!(rt; refusal_behind_stream(rt.alloc(), rest)?, refusal);
-    }
-    Ok(())
-}
-
-#[test]
-fn counts_bytes_columns_and_levels(rt: HostRuntime) -> Result<(), Fail> {
+fn a_text_has_65_536_bytes_at_the_most(rt: HostRuntime) -> Result<(), Fail> {
     let alloc = rt.alloc();
     let blank = repeated(alloc, b" ", 65_536)?;
     assert_eq!(rt; refusal_of(alloc, &blank), Some((5, 65_536, 65_536)));
     let blank = repeated(alloc, b" ", 65_537)?;
     assert_eq!(rt; refusal_of(alloc, &blank), Some((1, 65_536, 65_537)));
-    for (columns, refusal) in [(32, (5, 365, 365)), (33, (5, 0, 376))] {
-        let mut stream = repeated(alloc, b"stream(plain", 1)?;
-        stream.extend_from_slice(&repeated(alloc, b",col(a,int)", columns)?)?;
-        stream.extend_from_slice(b")")?;
-        assert_eq!(rt; refusal_of(alloc, &stream), Some(refusal));
-    }
-    for (calls, refusal) in [(63, (5, 0, 190)), (64, (4, 128, 129))] {
-        let mut nested = repeated(alloc, b"a(", calls)?;
-        nested.extend_from_slice(b"a")?;
-        nested.extend_from_slice(&repeated(alloc, b")", calls)?)?;
-        assert_eq!(rt; refusal_of(alloc, &nested), Some(refusal));
-    }
     Ok(())
 }
 
