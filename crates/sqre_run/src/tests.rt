@@ -1,6 +1,5 @@
-// What no clause says: that runs come to their end, and the very bytes that they write.
-mod items;
-mod refusals;
+// What no clause says: that runs come to their end, and the very bytes that they write. The program
+// `query_cases` shows more lines, queries and refusals.
 mod sessions;
 
 use crate::{Status, run_into_room, sqre};
@@ -9,6 +8,10 @@ use std::alloc::{AllocError, Global};
 use std::test::Fail;
 
 const SUM: &[u8] = b"stream(plain, col(a, int))\nmain(iter(atom(any, a), 0, add(x, y)))\n";
+
+const PRICES: &[u8] = b"stream(header, col(sym, text), col(price, fixed(2)))
+main(iter(atom(any, price), 0, add(x, y)))
+";
 
 // More reads than one for each byte of a source take.
 const READS: usize = 80;
@@ -156,5 +159,22 @@ fn a_read_waits_until_the_lines_before_it_are_answered(rt: HostRuntime) -> Resul
     assert_eq!(rt; sum_into_room::<2>(rt.alloc(), b"5\n7")?, Status::ItemFault);
     assert_eq!(rt; sum_into_room::<1>(rt.alloc(), b"5\n7")?, Status::SinkFault);
     assert_eq!(rt; sum_into_room::<0>(rt.alloc(), b"5")?, Status::ItemFault);
+    Ok(())
+}
+
+#[test]
+fn long_lines_are_skipped_or_the_header(rt: HostRuntime) -> Result<(), Fail> {
+    let mut items = vec![in rt.alloc(); b'0'; 65_535]?;
+    items.extend_from_slice(b"5\n")?;
+    items.extend_from_slice(&[b'0'; 65_537])?;
+    items.extend_from_slice(b"\n7\n")?;
+    let (status, bytes) = outcome(rt.alloc(), sum_over(&items))?;
+    assert_eq!(rt; status, Status::Done);
+    assert_eq!(rt; bytes.as_slice(), b"5\nskipped long 0\n12\n".as_slice());
+    let mut items = vec![in rt.alloc(); b'0'; 65_537]?;
+    items.extend_from_slice(b"\nA,0.07\n")?;
+    let (status, bytes) = outcome(rt.alloc(), run_of(PRICES, &items))?;
+    assert_eq!(rt; status, Status::Done);
+    assert_eq!(rt; bytes.as_slice(), b"7\n".as_slice());
     Ok(())
 }
