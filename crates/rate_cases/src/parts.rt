@@ -3,7 +3,7 @@
 use crate::automata::positions_of;
 use crate::spelling::test_of;
 use crate::stop::Stop;
-use rate_expr::{MAX_POSITIONS, Positions, SharedPreds};
+use rate_expr::{MAX_POSITIONS, Positions};
 use std::alloc::Global;
 
 /// Whether the parts of the first rate make the positions of the second.
@@ -52,16 +52,26 @@ fn joined(sign: u8, first: Positions, second: Positions) -> Result<Positions, St
 
 /// Whether both have the same sets, and keep the same tests at the same places.
 fn are_same(one: &Positions, other: &Positions) -> bool {
-    (one.nullable(), one.first(), one.last()) == (other.nullable(), other.first(), other.last())
-        && one.count() == other.count()
-        && (0..one.count()).all(|position| one.follow(position) == other.follow(position))
-        && keep_same(one.preds(), other.preds())
+    let ends = (one.nullable(), one.first(), one.last());
+    if ends != (other.nullable(), other.first(), other.last()) || one.count() != other.count() {
+        return false;
+    }
+    for position in 0..one.count() {
+        if one.follow(position) != other.follow(position) {
+            return false;
+        }
+    }
+    keep_same(one, other)
 }
 
-fn keep_same(kept: &SharedPreds, others: &SharedPreds) -> bool {
+fn keep_same(one: &Positions, other: &Positions) -> bool {
+    let (kept, others) = (one.preds(), other.preds());
+    for place in 0..kept.distinct().len() {
+        if others.distinct().place_of(kept.distinct().get(place)) != Some(place)
+            || kept.positions_of(place) != others.positions_of(place)
+        {
+            return false;
+        }
+    }
     kept.distinct().len() == others.distinct().len()
-        && (0..kept.distinct().len()).all(|place| {
-            others.distinct().place_of(kept.distinct().get(place)) == Some(place)
-                && kept.positions_of(place) == others.positions_of(place)
-        })
 }
