@@ -1,0 +1,32 @@
+//! Why a query has no bounds told.
+
+use std::alloc::{AllocError, AllocFailed};
+use std::fmt;
+
+#[derive(Clone, Copy)]
+pub(crate) enum Stop {
+    /// A line is not a query and, if it collects, a rate.
+    Spelling,
+    Memory,
+}
+
+impl fmt::Display for Stop {
+    fn fmt<W: fmt::Write>(&self, f: &mut fmt::Formatter<W>) -> fmt::Result {
+        f.write_str(match self {
+            Stop::Spelling => "a line is not a query and, if it collects, a rate",
+            Stop::Memory => "memory is wanting",
+        })
+    }
+}
+
+impl From<AllocError> for Stop {
+    fn from(_error: AllocError) -> Stop {
+        Stop::Memory
+    }
+}
+
+impl<T: Drop> From<AllocFailed<T>> for Stop {
+    fn from(_failed: AllocFailed<T>) -> Stop {
+        Stop::Memory
+    }
+}
