@@ -199,20 +199,20 @@ read_marked items rows row mask is inside read some fits =
     some_marked rows row mask (rw (← is) (sym (read ∙ get_or_default_zero items row mask inside))) more fits
 
 -- no node is marked where all rows are empty
-pub no_rows : (rows : List ℕ) (end : ℕ) → length rows ≤ end
-    → ((row : ℕ) → row < end → slice_index rows row ≡ 0) → (node : Node) → IsMarked rows node → ⊥
-no_rows rows end past empty node is = elim (cases_lt (row_of node) end) [
+pub no_rows : (masks : List ℕ) (end : ℕ) → length masks ≤ end
+    → ((row : ℕ) → row < end → slice_index masks row ≡ 0) → (node : Node) → IsMarked masks node → ⊥
+no_rows masks end past empty node is = elim (cases_lt (row_of node) end) [
   | inl below ↦ has_zero node.right (rw (empty (row_of node) below) at is)
   | inr above ↦
-      let far : length rows ≤ row_of node = omega arith in
-      has_zero node.right (rw (get_or-eq_default rows 0 far) at is)
+      let far : length masks ≤ row_of node = omega arith in
+      has_zero node.right (rw (get_or-eq_default masks 0 far) at is)
 ]
 
 -- a node that is marked has a row
-pub marked_inside : (rows : List ℕ) (node : Node) → IsMarked rows node → row_of node < length rows
-marked_inside rows node is = elim (cases_lt (row_of node) (length rows)) [
+pub marked_inside : (masks : List ℕ) (node : Node) → IsMarked masks node → row_of node < length masks
+marked_inside masks node is = elim (cases_lt (row_of node) (length masks)) [
   | inl below ↦ below
-  | inr above ↦ absurd (has_zero node.right (rw (get_or-eq_default rows 0 above) at is))
+  | inr above ↦ absurd (has_zero node.right (rw (get_or-eq_default masks 0 above) at is))
 ]
 
 -- its place on the left is below a third of the number of rows

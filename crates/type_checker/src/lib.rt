@@ -15,8 +15,6 @@ mod shapes;
 mod sizes;
 mod stop;
 mod stream_schema;
-#[cfg(test)]
-mod tests;
 mod typed;
 mod unbuilt;
 mod word_rules;
