@@ -182,14 +182,17 @@ Goes-quiet old now new got goes joins few (inr (inl lf)) = absurd (lf (Goes-no_l
 Goes-quiet old now new got goes joins few (inr (inr full)) =
     omega (arith, goes.shows.count, joins.waits.shows.count, full, few)
 
--- an LF stands among the bytes of which a line was cut
+-- an LF stands behind some bytes
+pub has_lf : (bytes piece rest : List ℕ) → bytes ≡ piece ++ 10 ∷ rest → NoLf bytes → ⊥
+has_lf bytes piece rest is no_lf =
+    let behind = All-drop (λ x. x ≢ 10) (length piece) _ (All-same (λ x. x ≢ 10) _ _ (sym is) no_lf) in
+    let at_lf = All-same (λ x. x ≢ 10) _ _ (sym (drop-append_seam piece (10 ∷ rest))) behind in
+    All-head (λ x. x ≢ 10) 10 rest at_lf refl
+
+-- and among the bytes of which a line was cut
 Cuts-lf : (old : Reading) (shown : Shown) (new : Reading) → Cuts old shown new → NoLf old.unread → ⊥
 Cuts-lf old shown new cuts no_lf =
-    let piece = cuts.cut.piece in
-    let cut : piece ++ 10 ∷ new.unread ≡ old.unread = sym cuts.cut.taken ∙ append-nil old.unread in
-    let behind = All-drop (λ x. x ≢ 10) (length piece) _ (All-same (λ x. x ≢ 10) _ _ cut no_lf) in
-    let at_lf = All-same (λ x. x ≢ 10) _ _ (sym (drop-append_seam piece (10 ∷ new.unread))) behind in
-    All-head (λ x. x ≢ 10) 10 new.unread at_lf refl
+    has_lf old.unread cuts.cut.piece new.unread (sym (append-nil old.unread) ∙ cuts.cut.taken) no_lf
 
 -- no line is found where the most bytes were taken before and none has an LF
 pub Goes-at_limit : (old now new : Reading) (got : List ℕ) (shown : Shown) → Goes old got now

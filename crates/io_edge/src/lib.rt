@@ -2,6 +2,7 @@
 #![tactic(auto)]
 
 mod chunk;
+mod held_bytes;
 mod laws;
 mod lazy_file;
 mod lines;

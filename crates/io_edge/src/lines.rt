@@ -1,5 +1,5 @@
 //! The lines of a source, in a buffer of one line and one read.
-ghost use Rattle.std.specs.Prelude.{◌≡◌, ℕ, ◌+◌, ◌^◌, ◌<◌, ◌≤◌, ◌↔◌, List, [], ◌∷◌, ◌++◌, length, take, drop, true, false, Ok, Err, None, IfOk, OnErr, IsErrOf, MatchOption, MatchResult};
+ghost use Rattle.std.specs.Prelude.{◌≡◌, ℕ, ◌+◌, ◌^◌, ◌<◌, ◌≤◌, ◌↔◌, List, [], ◌∷◌, ◌++◌, length, take, drop, true, false, Ok, Err, None, IfOk, OnErr, IsErrOf, IsFalse, IsTrue, MatchOption, MatchResult};
 ghost use Rattle.std.specs.Io.KnownBytes.{Consumes};
 ghost use Rattle.io_edge.specs.Counts.{FailsBy};
 ghost use Rattle.io_edge.specs.Ended.{MeetsEnd};
@@ -90,7 +90,8 @@ impl Lines {
         ensures* told { sem 𝓛 (Rests the_row self.entry (λ new.
             Told (S.left source.old) (S.left source.new) (S.ends source.old) (S.ends source.new)
             self.old new result)) }
-        ensures quiet { IsQuiet self.old → source.new ≡ source.old }
+        ensures quiet { IsQuiet self.old → (source.new ≡ source.old)
+            × (IsErrOf result LineStop.Failed → ⊥) }
         ensures cause { FailsBy (S.faults source.old) (S.faults source.new)
             (IsErrOf result LineStop.Failed) }
     {
@@ -99,6 +100,20 @@ impl Lines {
             Some(Answer::Long) => Ok(Line::Long),
             None => Ok(Line::End),
         }
+    }
+
+    /// Whether the next call of `next` answers without a read.
+    pub fn is_ready(&self) -> bool
+        ensures { IsTrue result ↔ IsQuiet self.now }
+    {
+        self.met || has_lf(self.chunk.as_slice()) || self.is_full()
+    }
+
+    /// Whether so many bytes were taken as are ever taken.
+    fn is_full(&self) -> bool
+        ensures { IsTrue result ↔ (count_of self.now ≡ max_count) }
+    {
+        self.answered + self.line.len() + self.chunk.as_slice().len() as u64 == MAX_COUNT
     }
 
     fn shown(&self) -> &[u8]
@@ -115,7 +130,8 @@ impl Lines {
             ((self.old.met ≡ false) × (self.new.met ≡ true)) }
         ensures again { ComesAgain self.old result self.new }
         ensures few { count_of self.new ≤ max_count }
-        ensures quiet { IsQuiet self.old → source.new ≡ source.old }
+        ensures quiet { IsQuiet self.old → (source.new ≡ source.old)
+            × (IsErrOf result LineStop.Failed → ⊥) }
         ensures cause { FailsBy (S.faults source.old) (S.faults source.new)
             (IsErrOf result LineStop.Failed) }
     {
@@ -195,6 +211,13 @@ impl Lines {
         self.answered += count;
         Some(self.line.end_with_input())
     }
+}
+
+fn has_lf(bytes: &[u8]) -> bool
+    ensures some { IsTrue result → NoLf bytes.now → ⊥ }
+    ensures none { IsFalse result → NoLf bytes.now }
+{
+    first_lf(bytes).is_some()
 }
 
 /// The place of the first LF.

@@ -1,9 +1,10 @@
 //! A sink over memory of a fixed size, whose writes may fail.
-ghost use Rattle.std.specs.Prelude.{◌≡◌, ◌<◌, ◌≤◌, ℕ, List, [], Option, Ok, Some, length, vec_len, vec_capacity, IfOk};
+ghost use Rattle.std.specs.Prelude.{◌≡◌, ◌<◌, ◌≤◌, ℕ, List, [], Option, Ok, Some, length, vec_len, vec_capacity, IfOk, IsOk};
 ghost use Rattle.std.specs.Io.{WritesAtMost};
 ghost use Rattle.std.specs.Io.KnownBytes.{WriteAppends};
 ghost use Rattle.io_edge.specs.Counts.{FailsByFault, next_count};
 ghost use Rattle.io_edge.specs.Memory.{WritesFilled};
+ghost use Rattle.io_edge.specs.Written.{HoldsNoMore};
 
 use crate::{Failed, Sink};
 use std::alloc::{AllocError, Global};
@@ -72,12 +73,15 @@ impl MemorySink {
 impl Sink for MemorySink {
     ghost taken = { λ s. Some s.taken };
 
+    ghost held = { λ _. 0 };
+
     ghost faults = { λ s. s.faults };
 
     fn write(&mut self, bytes: &[u8]) -> Result<usize, Failed>
         ensures bound { WritesAtMost result bytes.now }
         ensures some { 0 < length bytes.now → IfOk result (λ n. 0 < n) }
         ensures bytes { WriteAppends (Some self.old.taken) (Some self.new.taken) result bytes.now }
+        ensures held { HoldsNoMore 0 0 result }
         ensures cause { FailsByFault self.old.faults self.new.faults result }
         ensures nothing { length bytes.now ≡ 0 → (result ≡ Ok 0) × (self.new ≡ self.old) }
         ensures filled { 0 < length bytes.now →
@@ -99,6 +103,12 @@ impl Sink for MemorySink {
         }
         Ok(count)
     }
+
+    fn flush(&mut self) -> Result<(), Failed>
+        ensures { IsOk result × (self.new ≡ self.old) }
+    {
+        Ok(())
+    }
 }
 
 #[cfg(test)]
@@ -112,6 +122,7 @@ mod tests {
         for want in [Ok(3), Err(Failed), Ok(2), Err(Failed)] {
             assert_eq!(rt; sink.write(b""), Ok(0));
             assert_eq!(rt; sink.write(b"abc"), want);
+            assert_eq!(rt; sink.flush(), Ok(()));
         }
         assert_eq!(rt; sink.bytes(), b"abcab".as_slice());
         assert_eq!(rt; sink.faults, 2);

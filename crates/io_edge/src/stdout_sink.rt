@@ -1,27 +1,37 @@
 //! A sink over standard output.
-ghost use Rattle.std.specs.Prelude.{◌≡◌, None};
+ghost use Rattle.std.specs.Prelude.{◌≡◌, None, length, IfOk};
 
-use crate::system::write_once;
+use crate::held_bytes::HeldBytes;
 use crate::{Failed, Sink};
+use std::alloc::{AllocError, Global};
 use std::io;
 
-/// Keeps no buffer.
+/// Holds back up to 65,536 bytes, and hands them on when the next do not fit, or at `flush`.
 #[derive(Drop)]
 pub struct StdoutSink<R: Print + Drop> {
     rt: R,
+    held: HeldBytes,
     faults: u64,
 }
 
 impl<R: Print + Drop> StdoutSink<R> {
-    pub fn new(rt: R) -> Self
-        ensures { ⟦<StdoutSink<R> as Sink>⟧.faults result ≡ 0 }
+    /// Reserves memory for the bytes that it holds back. No later call takes more.
+    pub fn new(rt: R, alloc: Global) -> Result<Self, AllocError>
+        ensures none_held { IfOk result (λ s. ⟦<StdoutSink<R> as Sink>⟧.held s ≡ 0) }
+        ensures no_fault { IfOk result (λ s. ⟦<StdoutSink<R> as Sink>⟧.faults s ≡ 0) }
     {
-        StdoutSink { rt, faults: 0 }
+        Ok(StdoutSink {
+            rt,
+            held: HeldBytes::new(alloc)?,
+            faults: 0,
+        })
     }
 }
 
 impl<R: Print + Drop> Sink for StdoutSink<R> {
     ghost taken = { λ _. None };
+
+    ghost held = { λ s. length s.held };
 
     ghost faults = { λ s. s.faults };
 
@@ -29,7 +39,13 @@ impl<R: Print + Drop> Sink for StdoutSink<R> {
         if bytes.is_empty() {
             return Ok(0);
         }
-        write_once(&mut io::writer(&self.rt), bytes, &mut self.faults)
+        self.held
+            .take(bytes, &mut io::writer(&self.rt), &mut self.faults)
+    }
+
+    fn flush(&mut self) -> Result<(), Failed> {
+        self.held
+            .hand_on(&mut io::writer(&self.rt), &mut self.faults)
     }
 }
 
@@ -37,12 +53,15 @@ impl<R: Print + Drop> Sink for StdoutSink<R> {
 mod tests {
     use super::*;
     use crate::write_all;
+    use std::test::Fail;
 
     #[test]
-    fn writes_to_standard_output(rt: HostRuntime) {
-        let mut out = StdoutSink::new(rt);
+    fn writes_to_standard_output(rt: HostRuntime) -> Result<(), Fail> {
+        let mut out = StdoutSink::new(rt, rt.alloc())?;
         assert_eq!(rt; out.write(b""), Ok(0));
         assert_eq!(rt; write_all(&mut out, b"some bytes\n"), Ok(()));
+        assert_eq!(rt; out.flush(), Ok(()));
         assert_eq!(rt; out.faults, 0);
+        Ok(())
     }
 }

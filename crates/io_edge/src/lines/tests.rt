@@ -140,3 +140,35 @@ fn the_first_end_is_the_end(rt: HostRuntime) -> Result<(), Fail> {
     }
     Ok(())
 }
+
+// At the start, behind a line that was cut off, and behind the last one.
+#[test]
+fn a_call_reads_where_no_answer_is_ready(rt: HostRuntime) -> Result<(), Fail> {
+    let table: [(&[u8], usize, &[bool]); 5] = [
+        (b"a\nb\n", 1, &[false, false, false]),
+        (b"a\nb\n", 2, &[false, false, false]),
+        (b"a\nb\nc", 3, &[false, false, false]),
+        (b"a\nb\n", 9, &[false, true, false]),
+        (b"a\nb", 9, &[false, false, true]),
+    ];
+    for (bytes, cut, wanted) in table {
+        let mut source = MemorySource::new(rt.alloc(), bytes, &[cut; 9], &[])?;
+        let mut lines = Lines::new(rt.alloc())?;
+        for want in wanted {
+            assert_eq!(rt; lines.is_ready(), *want, "{bytes:?} at a cut of {cut}");
+            let _line = lines.next(&mut source);
+        }
+    }
+    Ok(())
+}
+
+#[test]
+fn the_limit_is_ready(rt: HostRuntime) -> Result<(), Fail> {
+    let mut source = MemorySource::new(rt.alloc(), b"ab", &[], &[])?;
+    let mut lines = Lines::new(rt.alloc())?;
+    lines.answered = MAX_COUNT - 1;
+    assert!(rt; !lines.is_ready());
+    assert!(rt; matches!(lines.next(&mut source), Err(LineStop::Limit)));
+    assert!(rt; lines.is_ready());
+    Ok(())
+}

@@ -14,5 +14,6 @@ pieces-preserved g c = record {
   in_range = grind (arith, length-drop, rw (take_rest c.args.bytes.now c.pieces.done) at c.in_ok-done.ensures.bound);
   written = Appends-take _ _ _ _ _ _ c.pieces.invariant.written
       (rw (take_rest c.args.bytes.now c.pieces.done) at c.in_ok-done.ensures.bytes);
+  held = omega (arith, c.pieces.invariant.held, c.in_ok-done.ensures.held);
   quiet = c.in_ok-done.ensures.cause.1 ∙ c.pieces.invariant.quiet;
 }

@@ -1,4 +1,8 @@
-use Rattle.std.proofs.Common.{rules, ◌∙◌}
+use Rattle.std.proofs.Common.{rules, ◌≡◌, Result, Err, ◌∙◌}
+use Rattle.std.proofs.lemmas.Result.{err_from_is_err_and}
+use Rattle.std.specs.Result.{IsErrOf}
+use Rattle.io_edge.specs.declared.lines.LineStop.{LineStop}
+use Rattle.io_edge.specs.declared.lines.LineStop.TheVariants.{Failed, Limit}
 use Rattle.io_edge.proofs.Readings.{Answers-from_cut, Takes-turn, Goes-at_limit, Goes-quiet, Reaches-end}
 use Rattle.io_edge.proofs.lines.Lines.advance.Goals as goal
 
@@ -15,11 +19,20 @@ returns-in-Some-clause-again g c =
       limit = λ _ no_lf full. absurd (Goes-at_limit _ _ _ _ _ now.takes.goes c.in-Some.ensures now.few no_lf full);
     }
 
+-- what a step stopped by is handed on, and is not a fault where it is the limit
+not_failed : {T U : Type 0} (result : Result T LineStop) (stop why : LineStop) → result ≡ Err stop → stop ≡ why
+    → IsErrOf {T = U} (Err why) Limit → IsErrOf result Failed → ⊥
+not_failed result stop why is same limit failed = cc (is, same, limit, failed)
+
 pub returns-in_err-refill-clause-quiet : goal.returns-in_err-refill-clause-quiet
 returns-in_err-refill-clause-quiet g c =
     let now = c.more.invariant in
     let full = Goes-quiet _ _ _ _ now.takes.goes c.in_default.ensures now.few in
-    λ quiet. c.in_err-refill.ensures.quiet (full quiet) ∙ now.quiet quiet
+    let p = err_from_is_err_and c.from_residual.result c.from_residual.ensures.1 in
+    λ quiet. (
+      c.in_err-refill.ensures.quiet (full quiet) ∙ now.quiet quiet,
+      not_failed _ _ _ p.1 p.2 (c.in_err-refill.ensures.limit.1 (full quiet)),
+    )
 
 pub returns-then-branch-eq0-clause-line : goal.returns-then-branch-eq0-clause-line
 returns-then-branch-eq0-clause-line g c =
@@ -30,7 +43,7 @@ pub returns-then-branch-eq0-clause-quiet : goal.returns-then-branch-eq0-clause-q
 returns-then-branch-eq0-clause-quiet g c =
     let now = c.more.invariant in
     let full = Goes-quiet _ _ _ _ now.takes.goes c.in_default.ensures now.few in
-    λ quiet. cc (c.in_ok-refill.ensures.limit.1 (full quiet))
+    λ quiet. absurd (cc (c.in_ok-refill.ensures.limit.1 (full quiet)))
 
 pub more-preserved : goal.more-preserved
 more-preserved g c =
