@@ -2,7 +2,7 @@
 //! cost without a query. The words are the kinds of the columns.
 #![tactic(auto)]
 
-use io_edge::{LazyFile, Line, Lines, Sink, StdoutSink, write_all};
+use io_edge::{LazyFile, Line, Lines, Sink, Source, StdoutSink, write_all};
 use item_schema::{Column, Item, ItemStop, Kind, Schema, are_columns, read_item};
 use language_base::Bytes;
 use report_writer::{answer_text, skip_text};
@@ -19,15 +19,31 @@ fn main(rt: HostRuntime) -> io::Result<()> {
     }
     let schema = Schema::new(false, columns);
     let mut source = LazyFile::new(rt, alloc, "-")?;
+    let mut out = StdoutSink::new(rt, alloc)?;
+    let ended = sum_lines(alloc, &schema, &mut source, &mut out);
+    // What was written goes out, whichever way it ended.
+    let _at_end = out.flush();
+    Ok(ended?)
+}
+
+/// Answers line by line. All answers are handed on before a read.
+fn sum_lines<S: Source, W: Sink>(
+    alloc: Global,
+    schema: &Schema,
+    source: &mut S,
+    out: &mut W,
+) -> Result<(), AllocError> {
     let mut lines = Lines::new(alloc)?;
-    let mut out = StdoutSink::new(rt);
     let mut sum = Scalar::Number(0);
     for _ in 0..u64::MAX {
-        let Ok(Line::Whole(line)) = lines.next(&mut source) else {
+        if !lines.is_ready() && out.flush().is_err() {
+            return Ok(());
+        }
+        let Ok(Line::Whole(line)) = lines.next(source) else {
             return Ok(());
         };
-        let text = reply_to(alloc, &schema, line, &mut sum)?;
-        if write_all(&mut out, text.as_slice()).is_err() {
+        let text = reply_to(alloc, schema, line, &mut sum)?;
+        if write_all(out, text.as_slice()).is_err() {
             return Ok(());
         }
     }

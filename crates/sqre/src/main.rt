@@ -25,7 +25,7 @@ fn run(rt: HostRuntime) -> io::Result<Status> {
     let words: Vec<String> = env::args(&rt)?.skip(1).collect(alloc)?;
     let mut query = LazyFile::new(rt, alloc, path(&words, 1))?;
     let mut items = LazyFile::new(rt, alloc, path(&words, 2))?;
-    let mut out = StdoutSink::new(rt);
+    let mut out = StdoutSink::new(rt, alloc)?;
     Ok(sqre(alloc, &words, &mut query, &mut items, &mut out))
 }
 

@@ -1,14 +1,16 @@
 -- One turn of the run: how it goes on, and how it ends.
-use Rattle.std.proofs.Common.{◌≡◌, ◌≤◌, ℕ, true, false, List, [], ◌∷◌, ◌++◌, length, Option, Some, None, Result, Ok, Err, IfOk, IfNone, IfSome, refl, sym, ap, subst, ◌∙◌, append_assoc, arith}
-use Rattle.std.proofs.KnownBytes.{Appends-trans, Consumes-trans, Appends-nil, Consumes-nil}
+use Rattle.std.proofs.Common.{◌≡◌, ◌⊎◌, inl, inr, ◌≤◌, ℕ, true, false, List, [], ◌∷◌, ◌++◌, length, Option, Some, None, Result, Ok, Err, IfOk, IfNone, IfSome, refl, sym, ap, subst, ◌∙◌, append_assoc, append-nil, arith}
+use Rattle.std.proofs.KnownBytes.{Appends-trans, Consumes-trans, Consumes-whole, Appends-nil, Consumes-nil}
+use Rattle.std.proofs.lemmas.List.{nil_from_length}
 use Rattle.std.specs.declared.alloc.AllocError.{AllocError}
 use Rattle.std.specs.Io.KnownBytes.{Appends, Consumes}
 use Rattle.io_edge.specs.Counts.{Rose}
 use Rattle.io_edge.specs.Lines.{Shown, lines}
-use Rattle.io_edge.specs.Reading.{Reading, Waits, count_of}
-use Rattle.io_edge.specs.Told.{Told}
+use Rattle.io_edge.specs.Reading.{Reading, Ends, Waits, count_of}
+use Rattle.io_edge.specs.Told.{Gives, Told}
 use Rattle.io_edge.specs.Written.{AppendsSome}
 use Rattle.io_edge.specs.declared.lines.Line.{Line}
+use Rattle.io_edge.specs.declared.lines.Line.TheVariants.{End}
 use Rattle.io_edge.specs.declared.lines.LineStop.{LineStop}
 use Rattle.io_edge.specs.declared.lines.LineStop.TheVariants.{Failed, Limit}
 use Rattle.sqre_run.specs.Output.{answer, answers, answers_after}
@@ -22,9 +24,9 @@ use Rattle.sqre_run.specs.Outside.{Outside, Wrote, Ended}
 use Rattle.sqre_run.specs.Running.{Showed, Running}
 use Rattle.sqre_run.specs.Handed.{HandedOver}
 use Rattle.sqre_run.specs.declared.status.Status.{Status}
-use Rattle.sqre_run.specs.declared.status.Status.TheVariants.{ItemFault, SinkFault, Memory, Limit as AtLimit}
+use Rattle.sqre_run.specs.declared.status.Status.TheVariants.{Done, ItemFault, SinkFault, Memory, Limit as AtLimit}
 use Rattle.sqre_run.proofs.Answering.{answers_after-append, answers-push}
-use Rattle.sqre_run.proofs.Showing.{Showed-split, Answers-lines, Answers-whole, Waits-lines}
+use Rattle.sqre_run.proofs.Showing.{Showed-ends, Showed-shows, Showed-split, Answers-lines, Answers-whole, Waits-lines, true_or_false}
 use Rattle.sqre_run.proofs.Takes.{TakesLine, Told-gives, Told-going}
 
 -- the same bytes, cut elsewhere
@@ -48,6 +50,42 @@ cut_short meaning shown all others line reply front rest replies parts are =
     ∙ ap (λ (l : List ℕ). l ++ behind)
     (sym replies ∙ ap (λ (l : List ℕ). answers meaning shown ++ l) parts)
     ∙ split_again (answers meaning shown) front rest behind
+
+-- the answers to some lines were written, and the sink does not hand them on
+ended_part : (on : OnStream) (old new : Outside) (got : List ℕ) (shown others : List Shown)
+    → Consumes old.left new.left got
+    → lines got true ≡ shown ++ others
+    → ((meaning : Meaning) → IsMeaning (monitor_of on) meaning → Appends old.taken new.taken (answers meaning shown))
+    → Ended (monitor_of on) SinkFault old new
+ended_part on old new got shown others read are wrote = (
+  got,
+  read,
+  λ meaning means. (
+    answers meaning shown,
+    answers_after meaning shown others,
+    ap (answers meaning) are ∙ answers_after-append meaning [] shown others,
+    wrote meaning means,
+  ),
+)
+
+-- a run ends by that fault where the sink does not hand on what it holds
+pub Ended-held : {F : Type 0} (follows : F → Word → Type 0) (on : OnStream) (old now : Outside) (reading : Reading)
+    (kept : Session F) (taken : Option (List ℕ)) → taken ≡ now.taken → Running follows on old now reading kept
+    → Ended (monitor_of on) SinkFault old (record now { taken = taken })
+Ended-held follows on old now reading kept taken same run =
+    let split = Showed-split run.got run.shown reading run.showed in
+    ended_part on old (record now { taken = taken }) run.got run.shown split.0 run.wrote.read split.1 (λ meaning means.
+    subst (λ (t : Option (List ℕ)). Appends old.taken t (answers meaning run.shown)) (sym same)
+    (run.wrote.wrote meaning means))
+
+-- how it ends where the sink hands on what it holds, or does not
+pub Ended-or_held : (on : OnStream) (old new : Outside) (status status' : Status)
+    → (status' ≡ status) ⊎ (status' ≡ SinkFault) → Ended (monitor_of on) status old new
+    → Ended (monitor_of on) SinkFault old new → Ended (monitor_of on) status' old new
+Ended-or_held on old new status status' (inl is) ended held =
+    subst (λ (s : Status). Ended (monitor_of on) s old new) (sym is) ended
+Ended-or_held on old new status status' (inr is) ended held =
+    subst (λ (s : Status). Ended (monitor_of on) s old new) (sym is) held
 
 module _ {F : Type 0} (follows : F → Word → Type 0) (on : OnStream) (old now new : Outside) (reading next : Reading) (kept : Session F) where
   -- the line was answered, and the run goes on
@@ -101,9 +139,11 @@ module _ {F : Type 0} (follows : F → Word → Type 0) (on : OnStream) (old now
 
   -- what was written so far, where the sink took nothing since
   wrote_before : new.taken ≡ now.taken → (run : Running follows on old now reading kept)
-      → (meaning : Meaning) → IsMeaning (monitor_of on) meaning → Appends old.taken new.taken (answers meaning run.shown)
+      → (meaning : Meaning) → IsMeaning (monitor_of on) meaning
+      → Appends old.taken new.taken (answers meaning run.shown)
   wrote_before same run meaning means =
-      subst (λ (t : Option (List ℕ)). Appends old.taken t (answers meaning run.shown)) (sym same) (run.wrote.wrote meaning means)
+      subst (λ (t : Option (List ℕ)). Appends old.taken t (answers meaning run.shown)) (sym same)
+      (run.wrote.wrote meaning means)
 
   -- its answer could not be made
   pub Ended-no_memory : (line : Shown) → TakesLine now.left new.left now.ends new.ends reading next line
@@ -121,6 +161,18 @@ module _ {F : Type 0} (follows : F → Word → Type 0) (on : OnStream) (old now
           };
         },
       )
+
+  -- its answer could not be made, and the sink does not hand on those before
+  pub Ended-no_memory_held : (line : Shown) → TakesLine now.left new.left now.ends new.ends reading next line
+      → new.taken ≡ now.taken → Running follows on old now reading kept → Ended (monitor_of on) SinkFault old new
+  Ended-no_memory_held line takes same run =
+      let got = run.got ++ takes.got in
+      let showed : Showed got (run.shown ++ line ∷ []) next =
+      Answers-lines run.got takes.got run.shown line reading next run.showed takes.going takes.answers in
+      let split = Showed-split got (run.shown ++ line ∷ []) next showed in
+      ended_part on old new got run.shown (line ∷ split.0)
+      (Consumes-trans _ _ _ _ _ run.wrote.read takes.consumed)
+      (split.1 ∙ append_assoc run.shown (line ∷ []) split.0) (wrote_before same run)
 
   -- a call that told no line: the answers to all whole lines were written
   Wrote-waiting : (got : List ℕ) → Consumes now.left new.left got → Waits reading got next
@@ -158,6 +210,83 @@ module _ {F : Type 0} (follows : F → Word → Type 0) (on : OnStream) (old now
           let wrote = Wrote-waiting taken.0 taken.1 taken.2.0 going same run in
           (run.got ++ taken.0, sym wrote.0 ∙ taken.2.1, wrote.1)
 
+      -- or there the sink does not hand on the answers
+      pub Ended-at_limit_held : result ≡ Err Limit → Ended (monitor_of on) SinkFault old new
+      Ended-at_limit_held is =
+          let taken = Told-gives told (Err Limit) is in
+          let got = run.got ++ taken.0 in
+          let going = Told-going told (λ e. cc (is, e)) in
+          let showed = Showed-shows run.got taken.0 run.shown [] reading next run.showed going taken.2.0.shows in
+          let split = Showed-split got (run.shown ++ []) next showed in
+          ended_part on old new got run.shown split.0 (Consumes-trans _ _ _ _ _ run.wrote.read taken.1)
+          (split.1 ∙ ap (λ (l : List Shown). l ++ split.0) (append-nil run.shown)) (wrote_before same run)
+
+      -- all lines were shown where the end was told
+      lines_at_end : (got : List ℕ) → Ends reading got [] next → lines (run.got ++ got) true ≡ run.shown
+      lines_at_end got ends = at (true_or_false reading.met)
+        where
+          at : (reading.met ≡ true) ⊎ (reading.met ≡ false) → lines (run.got ++ got) true ≡ run.shown
+          at (inl met) =
+              let again = (told.again met).1 in
+              let none : got ≡ [] = nil_from_length got (omega (arith, ends.count, ap count_of again)) in
+              ap (λ (l : List ℕ). lines (run.got ++ l) true) none
+              ∙ ap (λ (l : List ℕ). lines l true) (append-nil run.got)
+              ∙ run.showed.at_end met
+          at (inr going) =
+              let showed = Showed-ends run.got got run.shown [] reading next run.showed going ends in
+              showed.at_end ends.done.met ∙ append-nil run.shown
+
+      -- all items were answered
+      pub Ended-done : result ≡ Ok End → Ended (monitor_of on) Done old new
+      Ended-done is = (
+        rose (true_or_false reading.met),
+        λ meaning means. wrote meaning means (true_or_false reading.met),
+      )
+        where
+          taken : (got : List ℕ) × Consumes now.left new.left got × Gives reading got (Ok End) next
+          taken = Told-gives told (Ok End) is
+
+          rose : (reading.met ≡ true) ⊎ (reading.met ≡ false) → Rose old.ends new.ends
+          rose (inl met) =
+              let before : Rose old.ends now.ends = (run.at_end met).0 in
+              let later : now.ends ≤ new.ends = told.end.later in
+              omega arith
+          rose (inr going) =
+              let before : old.ends ≤ now.ends = run.later in
+              let later : Rose now.ends new.ends = (told.end.at_end (going, taken.2.0.done.met)).0 in
+              omega arith
+
+          all : (meaning : Meaning) → IsMeaning (monitor_of on) meaning
+              → Appends old.taken new.taken (answers meaning (lines (run.got ++ taken.0) true))
+          all meaning means =
+              subst (Appends old.taken new.taken) (ap (answers meaning) (sym (lines_at_end taken.0 taken.2.0)))
+              (wrote_before same run meaning means)
+
+          before : (meaning : Meaning) → IsMeaning (monitor_of on) meaning → reading.met ≡ true
+              → Appends old.taken new.taken (answers meaning (lines run.got true))
+          before meaning means met =
+              subst (Appends old.taken new.taken) (ap (answers meaning) (sym (run.showed.at_end met)))
+              (wrote_before same run meaning means)
+
+          wrote : (meaning : Meaning) → IsMeaning (monitor_of on) meaning → (reading.met ≡ true) ⊎ (reading.met ≡ false)
+              → IfSome old.left (λ bytes. Appends old.taken new.taken (answers meaning (lines bytes true)))
+          wrote meaning means (inl met) =
+              Consumes-whole old.left now.left run.got
+              (λ bytes. Appends old.taken new.taken (answers meaning (lines bytes true)))
+              run.wrote.read (run.at_end met).1 (before meaning means met)
+          wrote meaning means (inr going) =
+              Consumes-whole old.left new.left (run.got ++ taken.0)
+              (λ bytes. Appends old.taken new.taken (answers meaning (lines bytes true)))
+              (Consumes-trans _ _ _ _ _ run.wrote.read taken.1)
+              (told.end.at_end (going, taken.2.0.done.met)).1 (all meaning means)
+
+      -- or there the sink does not hand on the answers
+      pub Ended-done_held : result ≡ Ok End → Ended (monitor_of on) SinkFault old new
+      Ended-done_held is =
+          let taken = Told-gives told (Ok End) is in
+          ended_part on old new (run.got ++ taken.0) run.shown [] (Consumes-trans _ _ _ _ _ run.wrote.read taken.1)
+          (lines_at_end taken.0 taken.2.0 ∙ sym (append-nil run.shown)) (wrote_before same run)
+
 module _ {F : Type 0} (follows : F → Word → Type 0) (now new : Outside) (reading next : Reading) (kept kept' : Session F) (line : Shown) where
   -- where the text was written, whatever run there is goes on
   pub Handed-goes_on : (status : Option Status) (reply : Result (List ℕ) AllocError)
@@ -183,6 +312,8 @@ module _ {F : Type 0} (follows : F → Word → Type 0) (now new : Outside) (rea
       Ended-cut_short follows on old now new reading next kept kept' line said takes replies handed run
   Handed-stops (Some Memory) (Err error) takes replies handed = λ on old run.
       Ended-no_memory follows on old now new reading next kept line takes handed run
+  Handed-stops (Some SinkFault) (Err error) takes replies handed = λ on old run.
+      Ended-no_memory_held follows on old now new reading next kept line takes handed run
   Handed-stops (Some status) reply takes replies handed = absurd handed
 
 -- before the first line nothing was read and nothing was written

@@ -6,11 +6,12 @@ use Rattle.io_edge.specs.Written.{AppendsSome}
 use Rattle.sqre_run.specs.declared.status.Status.{Status}
 use Rattle.sqre_run.specs.declared.status.Status.TheVariants.{SinkFault, Memory}
 
--- nothing is answered where the text was written whole, Memory where there is no text, and
--- SinkFault where a part of it was written
+-- nothing is answered where the text was written whole, SinkFault where a part of it was written, and
+-- where there is no text Memory, or SinkFault where the sink does not hand on what it holds back
 abbrev pub HandedOver : Option Status → Result (List ℕ) AllocError
     → Option (List ℕ) → Option (List ℕ) → Type 0
 HandedOver None (Ok text) old new = Appends old new text
 HandedOver (Some SinkFault) (Ok text) old new = AppendsSome old new text
 HandedOver (Some Memory) (Err error) old new = new ≡ old
+HandedOver (Some SinkFault) (Err error) old new = new ≡ old
 HandedOver _ _ old new = ⊥

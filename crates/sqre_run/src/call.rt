@@ -12,8 +12,9 @@ ghost use Rattle.sqre_run.specs.QueryRead.{ReadsQuery};
 ghost use Rattle.sqre_run.specs.Call.{Completes, FirstFault, Outcome, Refuses, Untouched};
 
 use crate::Status;
+use crate::handing::{end, hand_over};
 use crate::query::{QueryStop, compile};
-use crate::run::{hand_over, run};
+use crate::run::run;
 use crate::words::is_run;
 use io_edge::{Sink, Source};
 use language_base::Refusal;
@@ -39,6 +40,8 @@ pub fn sqre<Q: Source, S: Source, W: Sink>(
         (S.faults items.old) (S.faults items.new) (W.faults out.old) (W.faults out.new) }
     ensures ends { result ≡ Status.Done
         → Rose (Q.ends query.old) (Q.ends query.new) × Rose (S.ends items.old) (S.ends items.new) }
+    ensures handed_on { W.held out.old ≡ 0 → (result ≡ Status.SinkFault → ⊥)
+        → W.held out.new ≡ 0 }
     ensures outcome { IfSome (Q.left query.old) (λ text. let at = outside S.left S.ends W.taken in
         Outcome text result (at items.old out.old) (at items.new out.new)) }
 
@@ -70,6 +73,8 @@ fn run_slow<S: Source, W: Sink>(
     requires { HasPlainShapes (plain_of checked.now.main.shape) }
     ensures ended { let at = outside S.left S.ends W.taken in
         Ended (monitor_of checked.now) result (at items.old out.old) (at items.new out.new) }
+    ensures handed_on { W.held out.old ≡ 0 → (result ≡ Status.SinkFault → ⊥)
+        → W.held out.new ≡ 0 }
     ensures item_faults { FailsBy (S.faults items.old) (S.faults items.new)
         (result ≡ Status.ItemFault) }
     ensures sink_faults { FailsBy (W.faults out.old) (W.faults out.new)
@@ -84,7 +89,11 @@ fn run_slow<S: Source, W: Sink>(
 // Writes the refusal.
 fn refuse<W: Sink>(alloc: Global, refusal: Refusal, out: &mut W) -> Status
     ensures refuses { Refuses refusal result (W.taken out.old) (W.taken out.new) }
+    ensures handed_on { (result ≡ Status.SinkFault → ⊥) → W.held out.new ≡ 0 }
     ensures cause { FailsBy (W.faults out.old) (W.faults out.new) (result ≡ Status.SinkFault) }
 {
-    hand_over(refusal_text(alloc, refusal), out).unwrap_or(Status::Refused)
+    match hand_over(refusal_text(alloc, refusal), out) {
+        Some(status) => status,
+        None => end(Status::Refused, out),
+    }
 }

@@ -2,6 +2,7 @@
 #![tactic(auto)]
 
 mod call;
+mod handing;
 mod laws;
 mod line_texts;
 mod query;

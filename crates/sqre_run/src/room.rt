@@ -1,57 +1,84 @@
-//! That an answer is written before the next read, as what a run into little room shows.
-ghost use Rattle.std.specs.Prelude.{◌≡◌, ◌≤◌, ℕ, List, [], Some, length, IfOk, IfSome};
+//! That an answer is handed on before the next read, as what a run into little room shows.
+ghost use Rattle.std.specs.Prelude.{◌≡◌, ◌≤◌, ◌-◌, ℕ, List, [], Some, length, vec_len, IfSome};
 ghost use Rattle.std.specs.Io.KnownBytes.{Consumes};
+ghost use Rattle.io_edge.specs.Counts.{FailsBy};
 ghost use Rattle.sqre_run.specs.Call.{Runs};
 ghost use Rattle.sqre_run.specs.Meanings.{IsMeaning, Meaning};
 ghost use Rattle.sqre_run.specs.Output.{answering, whole_output};
 
 use crate::{Status, sqre};
-use io_edge::{Failed, MemorySink, Sink, Source};
+use io_edge::{Failed, Sink, Source};
 use std::alloc::{AllocError, Global};
 
-/// Takes `ROOM` bytes in all, and then fails.
+/// Holds back all bytes until it is flushed. It hands on `ROOM` bytes in all, and then fails.
 #[derive(Drop)]
 struct RoomSink<const ROOM: usize> {
-    sink: MemorySink,
-    ghost room: { sink.room ≡ ROOM },
-    ghost within: { length sink.taken ≤ ROOM },
+    bytes: Vec<u8>,
+    handed_on: usize,
+    faults: u64,
+    ghost room: { handed_on ≤ ROOM },
+    ghost within: { handed_on ≤ vec_len bytes },
 }
 
 impl<const ROOM: usize> RoomSink<ROOM> {
-    fn new(alloc: Global) -> Result<Self, AllocError>
-        ensures { IfOk result (λ s. s.sink.taken ≡ []) }
+    fn new(alloc: Global) -> Self
+        ensures { (result.bytes.items ≡ []) × (result.handed_on ≡ 0) }
     {
-        Ok(RoomSink {
-            sink: MemorySink::new(alloc, ROOM, &[])?,
-        })
+        RoomSink {
+            bytes: Vec::new(alloc),
+            handed_on: 0,
+            faults: 0,
+        }
     }
 }
 
 impl<const ROOM: usize> Sink for RoomSink<ROOM> {
-    ghost taken = { λ s. Some s.sink.taken };
+    ghost taken = { λ s. Some s.bytes.items };
 
-    ghost faults = { λ s. s.sink.faults };
+    ghost held = { λ s. vec_len s.bytes - s.handed_on };
+
+    ghost faults = { λ s. s.faults };
 
     fn write(&mut self, bytes: &[u8]) -> Result<usize, Failed> {
-        self.sink.write(bytes)
+        if bytes.is_empty() {
+            return Ok(0);
+        }
+        match self.bytes.extend_from_slice(bytes) {
+            Ok(()) => Ok(bytes.len()),
+            Err(AllocError) => {
+                self.faults = self.faults.saturating_add(1);
+                Err(Failed)
+            }
+        }
+    }
+
+    fn flush(&mut self) -> Result<(), Failed> {
+        if self.bytes.len() > ROOM {
+            self.faults = self.faults.saturating_add(1);
+            return Err(Failed);
+        }
+        self.handed_on = self.bytes.len();
+        Ok(())
     }
 }
 
-/// A run into a sink that takes `ROOM` bytes in all. Where a read of the items fails, the answers to all
-/// whole lines that were taken by then had room: no line is taken behind one that is not answered yet.
+/// A run into a sink that hands on `ROOM` bytes in all. Where a read of the items fails, the answers
+/// to all whole lines that were taken by then had room, and none was held back: no read comes while
+/// an answer is.
 pub fn run_into_room<const ROOM: usize, Q: Source, S: Source>(
     alloc: Global,
     words: &[String],
     query: &mut Q,
     items: &mut S,
 ) -> Status
-    ensures { result ≡ Status.ItemFault → IfSome (Q.left query.old) (λ text. Runs text (λ monitor.
+    ensures fault { FailsBy (S.faults items.old) (S.faults items.new)
+        (result ≡ Status.ItemFault) }
+    ensures had_room { result ≡ Status.ItemFault → IfSome (Q.left query.old) (λ text.
+        Runs text (λ monitor.
         (got : List ℕ) × Consumes (S.left items.old) (S.left items.new) got
         × ((meaning : Meaning) → IsMeaning monitor meaning
         → length (whole_output (answering meaning) got) ≤ ROOM))) }
 {
-    match RoomSink::<ROOM>::new(alloc) {
-        Ok(mut out) => sqre(alloc, words, query, items, &mut out),
-        Err(AllocError) => Status::Memory,
-    }
+    let mut out = RoomSink::<ROOM>::new(alloc);
+    sqre(alloc, words, query, items, &mut out)
 }

@@ -1,24 +1,25 @@
 //! The loop over the lines of the items.
-ghost use Rattle.std.specs.Prelude.{◌≡◌, ◌<◌, ◌≤◌, [], IfNone, IfSome};
+ghost use Rattle.std.specs.Prelude.{◌≡◌, ◌⊎◌, ◌<◌, ◌≤◌, [], IfNone, IfSome};
 ghost use Rattle.io_edge.specs.Counts.{FailsBy};
 ghost use Rattle.io_edge.specs.Limits.{max_count};
+ghost use Rattle.io_edge.specs.Told.{IsQuiet};
 ghost use Rattle.query_model.specs.Checked.{OnStream};
 ghost use Rattle.query_model.specs.Monitors.{monitor_of};
 ghost use Rattle.query_model.specs.Queries.{plain_of};
 ghost use Rattle.sqre_run.specs.Outside.{Outside, outside, Ended};
 ghost use Rattle.sqre_run.specs.Running.{Running};
 ghost use Rattle.sqre_run.specs.Sessions.{IsReady};
-ghost use Rattle.sqre_run.specs.Handed.{HandedOver};
 
 use crate::Status;
+use crate::handing::{end, hand_on_before_read, hand_over};
 use crate::line_texts::{line_text, long_text};
 use crate::session::Session;
-use io_edge::{Line, LineStop, Lines, Sink, Source, write_all};
-use language_base::Bytes;
+use io_edge::{Failed, Line, LineStop, Lines, Sink, Source};
 use query_model::{Checked, Follower};
 use std::alloc::{AllocError, Global};
 
-/// Answers every line of the items, from the empty word on.
+/// Answers every line of the items, from the empty word on. All answers are handed on before a read
+/// and at the end.
 pub fn run<F: Follower + Drop, S: Source, W: Sink>(
     alloc: Global,
     checked: &Checked,
@@ -31,6 +32,8 @@ pub fn run<F: Follower + Drop, S: Source, W: Sink>(
     requires columns { F.columns follower ≡ checked.now.layout.columns }
     ensures ended { let at = outside S.left S.ends W.taken in
         Ended (monitor_of checked.now) result (at items.old out.old) (at items.new out.new) }
+    ensures handed_on { W.held out.old ≡ 0 → (result ≡ Status.SinkFault → ⊥)
+        → W.held out.new ≡ 0 }
     ensures item_faults { FailsBy (S.faults items.old) (S.faults items.new)
         (result ≡ Status.ItemFault) }
     ensures sink_faults { FailsBy (W.faults out.old) (W.faults out.new)
@@ -42,6 +45,9 @@ pub fn run<F: Follower + Drop, S: Source, W: Sink>(
     };
     let mut session = Session::begin(checked, follower);
     'lines: loop {
+        if let Err(Failed) = hand_on_before_read(&lines, out) {
+            return Status::SinkFault;
+        }
         if let Some(status) = turn(alloc, &mut lines, &mut session, items, out) {
             return status;
         }
@@ -58,6 +64,9 @@ fn turn<F: Follower, S: Source, W: Sink>(
 ) -> Option<Status>
     requires ready { IsReady F.query F.columns F.lost F.sound session.old }
     requires count { F.position session.old.follower ≤ lines.old.answered }
+
+    // A read finds nothing held back.
+    requires handed_on { IsQuiet lines.old ⊎ (W.held out.old ≡ 0) }
     ensures goes_on { let at = outside S.left S.ends W.taken in
         IfNone result ((on : OnStream) (before : Outside)
         → Running F.follows on before (at items.old out.old) lines.old session.old
@@ -66,6 +75,8 @@ fn turn<F: Follower, S: Source, W: Sink>(
         IfSome result (λ status. (on : OnStream) (before : Outside)
         → Running F.follows on before (at items.old out.old) lines.old session.old
         → Ended (monitor_of on) status before (at items.new out.new)) }
+    ensures handed_on { IfSome result (λ status.
+        (status ≡ Status.SinkFault → ⊥) → W.held out.new ≡ 0) }
     ensures ready { IfNone result (IsReady F.query F.columns F.lost F.sound session.new
         × (F.position session.new.follower ≤ lines.new.answered)) }
     ensures progress { IfNone result ((lines.old.answered < lines.new.answered)
@@ -78,23 +89,8 @@ fn turn<F: Follower, S: Source, W: Sink>(
     match lines.next(items) {
         Ok(Line::Whole(line)) => hand_over(line_text(alloc, session, line), out),
         Ok(Line::Long) => hand_over(long_text(alloc, session), out),
-        Ok(Line::End) => Some(Status::Done),
+        Ok(Line::End) => Some(end(Status::Done, out)),
         Err(LineStop::Failed) => Some(Status::ItemFault),
-        Err(LineStop::Limit) => Some(Status::Limit),
-    }
-}
-
-// Writes a text whole, or says why not.
-pub fn hand_over<W: Sink>(reply: Result<Bytes, AllocError>, out: &mut W) -> Option<Status>
-    ensures handed { HandedOver result reply (W.taken out.old) (W.taken out.new) }
-    ensures sink_faults { FailsBy (W.faults out.old) (W.faults out.new)
-        (result ≡ Some Status.SinkFault) }
-{
-    let Ok(reply) = reply else {
-        return Some(Status::Memory);
-    };
-    match write_all(out, reply.as_slice()) {
-        Ok(()) => None,
-        Err(_) => Some(Status::SinkFault),
+        Err(LineStop::Limit) => Some(end(Status::Limit, out)),
     }
 }

@@ -1,7 +1,8 @@
 use Rattle.std.proofs.Common.{[], refl, ap, sym, subst, arith}
 use Rattle.std.proofs.KnownBytes.{Consumes-nil, Appends-nil}
 use Rattle.sqre_run.proofs.Sessions.{behind_none, ready_begins}
-use Rattle.sqre_run.proofs.Turns.{Running-begins}
+use Rattle.sqre_run.proofs.Turns.{Ended-held, Running-begins}
+use Rattle.sqre_run.specs.Outside.{outside}
 use Rattle.sqre_run.proofs.run.run.Goals as goal
 
 -- nothing was read and nothing was written
@@ -32,3 +33,10 @@ lines-init g c =
       items_calm = refl;
       sink_calm = refl;
     }
+
+-- the answers to the lines so far were written, and are not handed on
+pub returns-in-Err-hand_on_before_read-clause-ended : goal.returns-in-Err-hand_on_before_read-clause-ended
+returns-in-Err-hand_on_before_read-clause-ended g c =
+    let at = outside g.S.Source.left g.S.Source.ends g.W.Sink.taken in
+    Ended-held g.F.Follower.follows c.args.checked.now (at c.args.items.now c.args.out.now) (at c.lines.items c.lines.out)
+    c.lines.lines c.lines.session _ c.hand_on_before_read.ensures.taken c.lines.invariant.running

@@ -1,6 +1,6 @@
 use Rattle.std.proofs.Common.{Ok, Err, ap, ◌∙◌, refl}
 use Rattle.sqre_run.proofs.Takes.{TakesLine-whole, TakesLine-long}
-use Rattle.sqre_run.proofs.Turns.{Handed-goes_on, Handed-stops, Ended-failed, Ended-at_limit}
+use Rattle.sqre_run.proofs.Turns.{Handed-goes_on, Handed-stops, Ended-failed, Ended-at_limit, Ended-at_limit_held, Ended-done, Ended-done_held, Ended-or_held}
 use Rattle.sqre_run.proofs.run.turn.Goals as goal
 
 pub returns-in-Ok-Whole-clause-goes_on : goal.returns-in-Ok-Whole-clause-goes_on
@@ -32,7 +32,19 @@ returns-in-Err-Failed-clause-stops g c first before run =
     let is = c.in-Err-Failed.is ∙ ap Err c.in-Err-Failed.field-0-is in
     Ended-failed _ first before _ _ _ _ _ c.next.follows.holds-at-none refl run is
 
+pub returns-in-Ok-End-clause-stops : goal.returns-in-Ok-End-clause-stops
+returns-in-Ok-End-clause-stops g c first before run =
+    let is = c.in-Ok-End.is ∙ ap Ok c.in-Ok-End.field-0-is in
+    let told = c.next.follows.holds-at-none in
+    let same = c.end.ensures.taken in
+    Ended-or_held first before _ _ _ c.end.ensures.ends (Ended-done _ first before _ _ _ _ _ told same run is)
+    (Ended-done_held _ first before _ _ _ _ _ told same run is)
+
 pub returns-in-Err-Limit-clause-stops : goal.returns-in-Err-Limit-clause-stops
 returns-in-Err-Limit-clause-stops g c first before run =
     let is = c.in-Err-Limit.is ∙ ap Err c.in-Err-Limit.field-0-is in
-    Ended-at_limit _ first before _ _ _ _ _ c.next.follows.holds-at-none refl run is
+    let told = c.next.follows.holds-at-none in
+    let same = c.end-in-Err-Limit.ensures.taken in
+    Ended-or_held first before _ _ _ c.end-in-Err-Limit.ensures.ends
+    (Ended-at_limit _ first before _ _ _ _ _ told same run is)
+    (Ended-at_limit_held _ first before _ _ _ _ _ told same run is)

@@ -1,0 +1,54 @@
+//! Handing texts to the sink, and having it hand them on.
+ghost use Rattle.std.specs.Prelude.{◌≡◌, ◌⊎◌, IfSome, OnOk};
+ghost use Rattle.io_edge.specs.Counts.{FailsBy, FailsByFault};
+ghost use Rattle.io_edge.specs.Told.{IsQuiet};
+ghost use Rattle.sqre_run.specs.Handed.{HandedOver};
+
+use crate::Status;
+use io_edge::{Failed, Lines, Sink, write_all};
+use language_base::Bytes;
+use std::alloc::AllocError;
+
+/// Writes a text whole, or says why not.
+pub fn hand_over<W: Sink>(reply: Result<Bytes, AllocError>, out: &mut W) -> Option<Status>
+    ensures handed { HandedOver result reply (W.taken out.old) (W.taken out.new) }
+    ensures handed_on { IfSome result (λ status.
+        (status ≡ Status.SinkFault → ⊥) → W.held out.new ≡ 0) }
+    ensures sink_faults { FailsBy (W.faults out.old) (W.faults out.new)
+        (result ≡ Some Status.SinkFault) }
+{
+    let Ok(reply) = reply else {
+        return Some(end(Status::Memory, out));
+    };
+    match write_all(out, reply.as_slice()) {
+        Ok(()) => None,
+        Err(Failed) => Some(Status::SinkFault),
+    }
+}
+
+/// Hands on all that the sink holds back, and ends the call so, or by a fault of the sink.
+pub fn end<W: Sink>(status: Status, out: &mut W) -> Status
+    requires no_fault { status ≡ Status.SinkFault → ⊥ }
+    ensures ends { (result ≡ status) ⊎ (result ≡ Status.SinkFault) }
+    ensures taken { W.taken out.new ≡ W.taken out.old }
+    ensures handed_on { (result ≡ Status.SinkFault → ⊥) → W.held out.new ≡ 0 }
+    ensures sink_faults { FailsBy (W.faults out.old) (W.faults out.new)
+        (result ≡ Status.SinkFault) }
+{
+    match out.flush() {
+        Ok(()) => status,
+        Err(Failed) => Status::SinkFault,
+    }
+}
+
+/// Hands on all that the sink holds back, where the next line takes a read.
+pub fn hand_on_before_read<W: Sink>(lines: &Lines, out: &mut W) -> Result<(), Failed>
+    ensures calm { OnOk result (IsQuiet lines.now ⊎ (W.held out.new ≡ 0)) }
+    ensures taken { W.taken out.new ≡ W.taken out.old }
+    ensures cause { FailsByFault (W.faults out.old) (W.faults out.new) result }
+{
+    if lines.is_ready() {
+        return Ok(());
+    }
+    out.flush()
+}
