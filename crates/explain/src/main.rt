@@ -1,0 +1,47 @@
+//! The program: each of its words is the file of a query, and the refusal of each is explained.
+#![tactic(auto)]
+
+use explain_run::{Status, explain};
+use io_edge::{LazyFile, Sink, StdoutSink};
+use std::env;
+use std::io::{self, ErrorKind};
+use std::process::ExitCode;
+
+/// The exit status where there are no words.
+const USAGE: u8 = 2;
+
+/// The exit status where the system refuses the words.
+const NO_WORDS: u8 = 9;
+
+fn main(rt: HostRuntime) -> ExitCode {
+    match run(rt) {
+        Ok(status) => ExitCode::from(status),
+        Err(error) if error.kind() == ErrorKind::OutOfMemory => ExitCode::from(
+            Status::Memory as u8,
+        ),
+        Err(_) => ExitCode::from(NO_WORDS),
+    }
+}
+
+fn run(rt: HostRuntime) -> io::Result<u8> {
+    let names: Vec<String> = env::args(&rt)?.skip(1).collect(rt.alloc())?;
+    if names.is_empty() {
+        return Ok(USAGE);
+    }
+    let mut out = StdoutSink::new(rt, rt.alloc())?;
+    let mut status = Status::Accepted;
+    for name in names.iter() {
+        match explain_file(rt, name.as_str(), &mut out)? {
+            Status::Accepted => {}
+            Status::Explained => status = Status::Explained,
+            fault => return Ok(fault as u8),
+        }
+    }
+    Ok(status as u8)
+}
+
+fn explain_file<W: Sink>(rt: HostRuntime, name: &str, out: &mut W) -> io::Result<Status> {
+    let alloc = rt.alloc();
+    let mut query = LazyFile::new(rt, alloc, name)?;
+    Ok(explain(alloc, name, &mut query, out))
+}

@@ -1,0 +1,63 @@
+//! The top call.
+ghost use Rattle.std.specs.Prelude.{◌≡◌, ◌≢◌, OnOk, MatchResult};
+ghost use Rattle.std.specs.Io.KnownBytes.{Appends};
+ghost use Rattle.io_edge.specs.Counts.{FailsBy, FailsByFault};
+ghost use Rattle.io_edge.specs.Written.{AppendsSome};
+ghost use Rattle.explain_run.specs.Call.{Outcome, Told};
+
+use crate::Status;
+use crate::query::explanation_of;
+use io_edge::{Failed, Sink, Source, TakeStop, read_to_limit, write_all};
+use std::alloc::{AllocError, Global};
+
+/// The most bytes that are read of a query, as a run of it reads them.
+const MAX_READ: usize = 65_537;
+
+/// Reads the query as a run of it does, explains its refusal if it is refused, and hands the
+/// explanation on. `name` is what the query is called there.
+pub fn explain<Q: Source, W: Sink>(alloc: Global, name: &str, query: &mut Q, out: &mut W) -> Status
+    ensures outcome { Outcome name.now (Q.left query.old) (Q.left query.new)
+        (Q.ends query.old) (Q.ends query.new) (W.taken out.old) (W.taken out.new) result }
+    ensures query_faults { FailsBy (Q.faults query.old) (Q.faults query.new)
+        (result ≡ Status.QueryFault) }
+    ensures sink_faults { FailsBy (W.faults out.old) (W.faults out.new)
+        (result ≡ Status.SinkFault) }
+    ensures handed_on { W.held out.old ≡ 0 → (result ≡ Status.SinkFault → ⊥)
+        → W.held out.new ≡ 0 }
+{
+    match read_to_limit(alloc, query, MAX_READ) {
+        Ok(text) => explain_text(alloc, name, text.as_slice(), out),
+        Err(TakeStop::Failed) => Status::QueryFault,
+        Err(TakeStop::Memory) => Status::Memory,
+    }
+}
+
+// Explains the refusal of a text, if it is refused, and hands the explanation on.
+fn explain_text<W: Sink>(alloc: Global, name: &str, text: &[u8], out: &mut W) -> Status
+    ensures told { Told name.now text.now (W.taken out.old) (W.taken out.new) result }
+    ensures faults { FailsBy (W.faults out.old) (W.faults out.new) (result ≡ Status.SinkFault) }
+    ensures read { result ≢ Status.QueryFault }
+    ensures handed_on { W.held out.old ≡ 0 → (result ≡ Status.SinkFault → ⊥)
+        → W.held out.new ≡ 0 }
+{
+    match explanation_of(alloc, name, text) {
+        Ok(None) => Status::Accepted,
+        Ok(Some(shown)) => match hand_over(shown.as_slice(), out) {
+            Ok(()) => Status::Explained,
+            Err(Failed) => Status::SinkFault,
+        },
+        Err(AllocError) => Status::Memory,
+    }
+}
+
+// Writes all of the bytes, and hands them on.
+fn hand_over<W: Sink>(bytes: &[u8], out: &mut W) -> Result<(), Failed>
+    ensures written { MatchResult result
+        (λ _. Appends (W.taken out.old) (W.taken out.new) bytes.now)
+        (λ _. AppendsSome (W.taken out.old) (W.taken out.new) bytes.now) }
+    ensures handed_on { OnOk result (W.held out.new ≡ 0) }
+    ensures cause { FailsByFault (W.faults out.old) (W.faults out.new) result }
+{
+    write_all(out, bytes)?;
+    out.flush()
+}

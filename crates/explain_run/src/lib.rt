@@ -1,0 +1,12 @@
+//! A query read and judged as a run of it does, and its refusal explained.
+#![tactic(auto)]
+
+mod call;
+mod query;
+mod status;
+#[cfg(test)]
+mod tests;
+
+pub use call::explain;
+pub use query::explanation_of;
+pub use status::Status;

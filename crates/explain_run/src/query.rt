@@ -1,0 +1,48 @@
+//! The query: compiled, and explained if it is refused.
+ghost use Rattle.std.specs.Prelude.{IfOk, MatchOption};
+ghost use Rattle.query_parser.specs.Reading.{IsFileOf};
+ghost use Rattle.query_syntax.specs.Files.{program_terms};
+ghost use Rattle.query_syntax.specs.Plain.{plain_program};
+ghost use Rattle.explain_run.specs.Explained.{Explains, IsAccepted};
+
+use explanation::{culprit_of, explanation_text};
+use language_base::Bytes;
+use query_parser::ReadStop;
+use query_syntax::{Program, read_syntax};
+use std::alloc::{AllocError, Global};
+use type_checker::{CheckStop, check};
+
+/// The explanation of the refusal of a text, which is a whole query; nothing if a run takes it.
+pub fn explanation_of(alloc: Global, name: &str, text: &[u8]) -> Result<Option<Bytes>, AllocError>
+    ensures { IfOk result (λ shown.
+        MatchOption shown (IsAccepted text.now) (Explains name.now text.now)) }
+{
+    match read_syntax(alloc, text) {
+        Ok(program) => explanation_in(alloc, name, text, &program),
+        Err(ReadStop::Refused(refusal)) => {
+            Ok(Some(explanation_text(alloc, name, text, refusal, None)?))
+        }
+        Err(ReadStop::Memory) => Err(AllocError),
+    }
+}
+
+// The same of a text that writes this program.
+fn explanation_in(
+    alloc: Global,
+    name: &str,
+    text: &[u8],
+    program: &Program,
+) -> Result<Option<Bytes>, AllocError>
+    requires { IsFileOf text.now (program_terms (plain_program program.now)) }
+    ensures { IfOk result (λ shown.
+        MatchOption shown (IsAccepted text.now) (Explains name.now text.now)) }
+{
+    match check(alloc, program) {
+        Ok(_checked) => Ok(None),
+        Err(CheckStop::Refused(refusal)) => {
+            let culprit = culprit_of(text, program, refusal);
+            Ok(Some(explanation_text(alloc, name, text, refusal, culprit)?))
+        }
+        Err(CheckStop::Memory) => Err(AllocError),
+    }
+}

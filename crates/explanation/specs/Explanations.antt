@@ -1,0 +1,45 @@
+-- Statement. The explanation of a refusal, from its parts.
+use Rattle.std.specs.Prelude.{ℕ, List, [], ◌++◌, codes, decimal, Option, Some, None}
+use Rattle.language_base.specs.declared.refusal.Refusal.{Refusal}
+use Rattle.language_base.specs.declared.rule.Rule.{Rule}
+use Rattle.place_in_text.specs.Places.{column_of, line_of}
+use Rattle.place_in_text.specs.Windows.{marked_line}
+use Rattle.report_writer.specs.Texts.{refusal_text}
+use Rattle.explanation.specs.CulpritLines.{culprit_line}
+use Rattle.explanation.specs.HintSentences.{hint_sentence}
+use Rattle.explanation.specs.Hints.{hint_of}
+use Rattle.explanation.specs.Sentences.{broken_where, mended_by}
+use Rattle.explanation.specs.declared.culprit.Culprit.{Culprit}
+use Rattle.explanation.specs.declared.hint.Hint.{Hint}
+
+-- a sentence on a line of its own
+abbrev pub line : List ℕ → List ℕ
+line sentence = sentence ++ codes "\n"
+
+-- the query's name, the line and the column
+abbrev pub place_text : List ℕ → ℕ → ℕ → List ℕ
+place_text name line column = name ++ codes ":" ++ decimal line ++ codes ":" ++ decimal column
+
+-- what a column counts
+unfoldable pub column_unit : List ℕ
+column_unit = codes " (the column in bytes): "
+
+-- where the query is refused, and the refusal as a run tells it
+unfoldable pub heading : List ℕ → ℕ → ℕ → Refusal → List ℕ
+heading name line column refusal = place_text name line column ++ column_unit ++ refusal_text refusal
+
+-- the rule, and how a query that breaks it is mended
+unfoldable pub advice : Rule → List ℕ
+advice rule = line (broken_where rule) ++ line (mended_by rule)
+
+-- a hint, where there is one
+abbrev pub hint_line : Option Hint → List ℕ
+hint_line (Some hint) = line (hint_sentence hint)
+hint_line None = []
+
+-- the explanation of a refusal of this text, which is called by this name and about that of the query
+unfoldable pub explanation : List ℕ → List ℕ → Refusal → Option Culprit → List ℕ
+explanation name text refusal culprit =
+    heading name (line_of text refusal.span.from) (column_of text refusal.span.from) refusal
+    ++ marked_line text refusal.span.from refusal.span.to
+    ++ advice refusal.rule ++ hint_line (hint_of text refusal) ++ culprit_line text culprit

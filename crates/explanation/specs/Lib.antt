@@ -1,0 +1,9 @@
+pub mod CulpritLines
+pub mod Culprits
+pub mod Explanations
+pub mod HintSentences
+pub mod Hints
+pub mod Misfits
+pub mod Scopes
+pub mod Sentences
+pub mod Unknown

@@ -1,0 +1,70 @@
+-- Statement. The first column of an atom, in the order of the text, whose kind does not fit where its name stands: a
+-- column of texts is tested for one alone, and tests with numbers and expressions take columns of numbers.
+use Rattle.std.specs.Prelude.{ℕ, Bool, true, false, not, ◌&&◌, List, Option, None, Some, if◌then◌else◌}
+use Rattle.std.specs.List.{list_any}
+use Rattle.std.specs.Str.{bytes_eq}
+use Rattle.query_syntax.specs.Expressions as e
+use Rattle.query_syntax.specs.Expressions.{Expression}
+use Rattle.query_syntax.specs.Predicates as p
+use Rattle.query_syntax.specs.Predicates.{Predicate}
+use Rattle.query_syntax.specs.declared.leaf.Literal.{Literal}
+use Rattle.query_syntax.specs.declared.leaf.Literal.TheVariants as literal
+use Rattle.query_syntax.specs.declared.leaf.Name.{Name}
+use Rattle.query_syntax.specs.declared.stream.Column.{Column}
+use Rattle.query_syntax.specs.declared.stream.Kind.{Kind}
+use Rattle.query_syntax.specs.declared.stream.Kind.TheVariants as kind
+use Rattle.explanation.specs.Unknown.{first_of}
+use Rattle.explanation.specs.declared.culprit.Culprit.{Culprit}
+use Rattle.explanation.specs.declared.culprit.Culprit.TheVariants.{Texts, Numbers}
+
+-- a text stands in a column of this kind, and no number
+abbrev pub is_text : Kind → Bool
+is_text (kind.Int span) = false
+is_text (kind.Text span) = true
+is_text (kind.Fixed digits span) = false
+
+-- a column of this name has texts
+abbrev pub has_texts : List Column → List ℕ → Bool
+has_texts columns name = list_any (λ c. bytes_eq name c.name.bytes && is_text c.kind) columns
+
+-- a column of this name has numbers
+abbrev pub has_numbers : List Column → List ℕ → Bool
+has_numbers columns name = list_any (λ c. bytes_eq name c.name.bytes && not (is_text c.kind)) columns
+
+-- it is the name, where a number is taken and the column has texts
+abbrev pub unless_number : List Column → Name → Option Culprit
+unless_number columns name = if has_texts columns name.bytes then Some (Texts name.span) else None
+
+-- it is the name, where a text is taken and the column has numbers
+abbrev pub unless_text : List Column → Name → Option Culprit
+unless_text columns name = if has_numbers columns name.bytes then Some (Numbers name.span) else None
+
+-- it is the name, where the column is compared with this
+abbrev pub misfit_with : List Column → Name → Literal → Option Culprit
+misfit_with columns name (literal.Number number) = unless_number columns name
+misfit_with columns name (literal.Text text) = unless_text columns name
+
+-- in a predicate
+abbrev pub misfit_test : List Column → Predicate → Option Culprit
+misfit_test columns (p.any span) = None
+misfit_test columns (p.equality operator column literal span) = misfit_with columns column literal
+misfit_test columns (p.order operator column bound span) = unless_number columns column
+misfit_test columns (p.between column low high span) = unless_number columns column
+misfit_test columns (p.is_num column span) = unless_number columns column
+misfit_test columns (p.joined operator left right span) =
+    first_of (misfit_test columns left) (misfit_test columns right)
+misfit_test columns (p.negated operand span) = misfit_test columns operand
+
+-- in an expression
+abbrev pub misfit_read : List Column → Expression → Option Culprit
+misfit_read columns (e.number number) = None
+misfit_read columns (e.name name) = unless_number columns name
+misfit_read columns (e.unary operator operand span) = misfit_read columns operand
+misfit_read columns (e.binary operator left right span) =
+    first_of (misfit_read columns left) (misfit_read columns right)
+misfit_read columns (e.choice operator left right at holds fails span) =
+    first_of (first_of (misfit_read columns left) (misfit_read columns right))
+    (first_of (misfit_read columns holds) (misfit_read columns fails))
+misfit_read columns (e.summary operator table span) = None
+misfit_read columns (e.extremum operator table first span) = misfit_read columns first
+misfit_read columns (e.get table key absent span) = misfit_read columns absent

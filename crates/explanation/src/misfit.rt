@@ -1,0 +1,95 @@
+//! The first column of an atom whose kind does not fit where its name stands.
+ghost use Rattle.std.specs.Prelude.{◌≡◌};
+ghost use Rattle.query_syntax.specs.Plain.{plain_expression, plain_predicate};
+ghost use Rattle.explanation.specs.Misfits.{has_numbers, has_texts, is_text, misfit_read, misfit_test, misfit_with, unless_number, unless_text};
+
+use crate::Culprit;
+use query_syntax::{Column, Expression, Kind, Literal, Name, Predicate};
+
+/// The first column in a predicate that is tested as one of the other kind.
+pub(crate) fn misfit_test(columns: &[Column], predicate: &Predicate) -> Option<Culprit>
+    ensures { result ≡ misfit_test columns.now (plain_predicate predicate.now) }
+{
+    match predicate {
+        Predicate::Any(_) => None,
+        Predicate::Equality {
+            column,
+            literal,
+            ..
+        } => misfit_with(columns, column, literal),
+        Predicate::Order { column, .. }
+        | Predicate::Between { column, .. }
+        | Predicate::IsNum { column, .. } => unless_number(columns, column),
+        Predicate::Joined { left, right, .. } => {
+            misfit_test(columns, left).or(misfit_test(columns, right))
+        }
+        Predicate::Not { operand, .. } => misfit_test(columns, operand),
+    }
+}
+
+/// The first column in an expression that has no numbers.
+pub(crate) fn misfit_read(columns: &[Column], expression: &Expression) -> Option<Culprit>
+    ensures { result ≡ misfit_read columns.now (plain_expression expression.now) }
+{
+    match expression {
+        Expression::Number(_) | Expression::Summary { .. } => None,
+        Expression::Name(name) => unless_number(columns, name),
+        Expression::Unary { operand, .. } => misfit_read(columns, operand),
+        Expression::Binary { left, right, .. } => {
+            misfit_read(columns, left).or(misfit_read(columns, right))
+        }
+        Expression::If {
+            test,
+            holds,
+            fails,
+            ..
+        } => {
+            let compared = misfit_read(columns, &test.left).or(misfit_read(columns, &test.right));
+            compared.or(misfit_read(columns, holds).or(misfit_read(columns, fails)))
+        }
+        Expression::Extremum { first, .. } => misfit_read(columns, first),
+        Expression::Get { absent, .. } => misfit_read(columns, absent),
+    }
+}
+
+fn misfit_with(columns: &[Column], column: &Name, literal: &Literal) -> Option<Culprit>
+    ensures { result ≡ misfit_with columns.now column.now literal.now }
+{
+    match literal {
+        Literal::Number(_) => unless_number(columns, column),
+        Literal::Text(_) => unless_text(columns, column),
+    }
+}
+
+fn unless_number(columns: &[Column], name: &Name) -> Option<Culprit>
+    ensures { result ≡ unless_number columns.now name.now }
+{
+    has_texts(columns, name.bytes.as_slice()).then_some(Culprit::Texts(name.span))
+}
+
+fn unless_text(columns: &[Column], name: &Name) -> Option<Culprit>
+    ensures { result ≡ unless_text columns.now name.now }
+{
+    has_numbers(columns, name.bytes.as_slice()).then_some(Culprit::Numbers(name.span))
+}
+
+fn has_texts(columns: &[Column], name: &[u8]) -> bool
+    ensures { result ≡ has_texts columns.now name.now }
+{
+    columns.iter().any(|column| name == column.name.bytes.as_slice() && is_text(column.kind))
+}
+
+fn has_numbers(columns: &[Column], name: &[u8]) -> bool
+    ensures { result ≡ has_numbers columns.now name.now }
+{
+    columns.iter().any(|column| name == column.name.bytes.as_slice() && !is_text(column.kind))
+}
+
+fn is_text(kind: Kind) -> bool
+    ensures { result ≡ is_text kind }
+{
+    match kind {
+        Kind::Text(_) => true,
+        Kind::Int(_) | Kind::Fixed { .. } => false,
+    }
+}
