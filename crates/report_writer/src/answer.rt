@@ -8,6 +8,9 @@ use itoa::Buffer;
 use std::alloc::{AllocError, Global};
 use value_ops::{Bytes, Scalar, Value};
 
+/// The bytes of the longest number and of an LF.
+const NUMBER_LINE: usize = 21;
+
 /// The text of a value, or of none.
 pub fn answer_text(alloc: Global, answer: Option<&Value>) -> Result<Bytes, AllocError>
     ensures { IfOk result (λ text. text ≡ answer_text (option_copied answer.entry)) }
@@ -15,7 +18,7 @@ pub fn answer_text(alloc: Global, answer: Option<&Value>) -> Result<Bytes, Alloc
     let Some(value) = answer else {
         return Bytes::from_slice(alloc, b"undefined\n");
     };
-    let mut text = Vec::new(alloc);
+    let mut text = Vec::with_capacity(alloc, NUMBER_LINE)?;
     push_value(value, &mut text)?;
     text.push(b'\n')?;
     Ok(Bytes::from_vec(text))
