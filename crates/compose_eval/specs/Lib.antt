@@ -1,0 +1,3 @@
+pub mod Followers
+pub mod Lending
+pub mod formers

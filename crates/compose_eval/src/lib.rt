@@ -1,0 +1,10 @@
+//! Followers of the right operand of a composition: those that starts feed, and idle ones.
+#![tactic(auto)]
+
+mod instance;
+mod instances;
+#[cfg(test)]
+mod tests;
+
+pub use instance::Instance;
+pub use instances::Instances;
