@@ -1,0 +1,4 @@
+pub mod Followers
+pub mod Keys
+pub mod Lending
+pub mod formers
