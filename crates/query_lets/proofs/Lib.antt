@@ -1,0 +1,7 @@
+mod Bound
+mod Building
+mod FirstWrong
+mod Keys
+mod Leading
+mod Placed
+mod Replacing

@@ -1,0 +1,5 @@
+use Rattle.query_lets.proofs.Leading.{places_kept}
+use Rattle.query_lets.proofs.scope.Scope.root.Goals as goal
+
+pub behind_name-requires : goal.behind_name-requires
+behind_name-requires c = places_kept c.args.places.now c.args.self c.names.scope c.names.invariant c.requires

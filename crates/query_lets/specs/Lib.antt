@@ -1,0 +1,6 @@
+pub mod Known
+pub mod Outlines
+pub mod Places
+pub mod Sizes
+pub mod Unfolded
+pub mod Words
