@@ -30,10 +30,11 @@ fn main(rt: HostRuntime) -> io::Result<()> {
     for (name, question) in [
         ("constructors", Question::Constructors),
         ("files", Question::Constructors),
-        ("unbuilt", Question::Verdict),
+        ("lets", Question::Verdict),
         ("names", Question::Verdict),
         ("types", Question::Verdict),
         ("words", Question::Verdict),
+        ("streams", Question::Verdict),
         ("order", Question::Verdict),
         ("texts", Question::Verdict),
         ("limits", Question::Verdict),

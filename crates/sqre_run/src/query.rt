@@ -5,8 +5,6 @@ ghost use Rattle.sqre_run.specs.Compiled.{Compiles};
 ghost use Rattle.sqre_run.specs.QueryRead.{ReadsFor};
 ghost use Rattle.sqre_run.specs.Stops.{IsStopAt, IsStopOf};
 ghost use Rattle.query_model.specs.Monitors.{monitor_of};
-ghost use Rattle.query_model.specs.Queries.{plain_of};
-ghost use Rattle.query_model.specs.Shapes.{HasPlainShapes};
 ghost use Rattle.type_checker.specs.Judged.{accepted};
 
 use io_edge::{Source, TakeStop, read_to_limit};
@@ -32,7 +30,6 @@ pub enum QueryStop {
 pub fn compile<Q: Source>(alloc: Global, query: &mut Q) -> Result<Checked, QueryStop>
     ensures accepted { IfOk result (λ compiled.
         IfSome (Q.left query.old) (λ text. Compiles text (accepted (monitor_of compiled)))) }
-    ensures plain { IfOk result (λ compiled. HasPlainShapes (plain_of compiled.main.shape)) }
     ensures refused { IfErr result (IsStopOf (Q.left query.old)) }
     ensures end { OnOk result (Rose (Q.ends query.old) (Q.ends query.new)) }
     ensures read { ReadsFor (Q.left query.old) (Q.left query.new)
@@ -56,7 +53,6 @@ pub fn compile<Q: Source>(alloc: Global, query: &mut Q) -> Result<Checked, Query
 fn compile_text(alloc: Global, text: &[u8]) -> Result<Checked, CheckStop>
     ensures accepted { IfOk result (λ compiled.
         Compiles text.now (accepted (monitor_of compiled))) }
-    ensures plain { IfOk result (λ compiled. HasPlainShapes (plain_of compiled.main.shape)) }
     ensures refused { IfErr result (IsStopAt text.now) }
 {
     let program = match read_syntax(alloc, text) {

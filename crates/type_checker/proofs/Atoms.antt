@@ -1,12 +1,11 @@
 -- What an atom is resolved to.
-use Rattle.std.proofs.Common.{◌≡◌, Bool, true, false, List, [], ◌∷◌, ◌++◌, Option, Some, None, Result, Ok, Err, refl, sym, ◌∙◌, ap, subst}
+use Rattle.std.proofs.Common.{◌≡◌, true, false, List, [], ◌∷◌, Option, Some, None, Ok, Err, refl, ◌∙◌, ap, subst}
 use Rattle.item_schema.specs.declared.column.Column.{Column}
-use Rattle.language_base.specs.declared.refusal.Refusal.{Refusal}
 use Rattle.language_base.specs.declared.rule.Rule.TheVariants.{Name, Type_}
 use Rattle.language_base.specs.declared.span.Span.{Span}
 use Rattle.predicate_cells.specs.Fits.{fits}
 use Rattle.predicate_cells.specs.Predicates as plain
-use Rattle.query_model.specs.Queries.{Qre, atom, plain_of}
+use Rattle.query_model.specs.Queries.{atom, plain_of}
 use Rattle.query_model.specs.QueryTypes as types
 use Rattle.query_syntax.specs.Expressions as e
 use Rattle.query_syntax.specs.Predicates as p
@@ -16,7 +15,7 @@ use Rattle.type_checker.specs.Findings.{places_in}
 use Rattle.type_checker.specs.Resolutions.{HasTypes, IsMade, columns_of}
 use Rattle.type_checker.specs.Resolved.{Nesting, resolved}
 use Rattle.type_checker.specs.Scopes.{HasFittingNumbers}
-use Rattle.type_checker.specs.Steps.{◌>>=◌, found, provided, refusal}
+use Rattle.type_checker.specs.Steps.{refusal}
 use Rattle.type_checker.specs.Tests.{resolved_over}
 use Rattle.type_checker.specs.declared.naming.Typed.{Typed}
 use Rattle.type_checker.specs.declared.shapes.Items.{Items}
@@ -34,52 +33,52 @@ pub are_columns : (items : Items) → HasTypes items → types_in items ≡ type
 are_columns items is =
     ap (λ (fs : List (Option ValueType)). let t : Types = record { fields = fs; left = None; right = None } in t) is
 
-module _ (columns : List Column) (predicate : p.Predicate) (tree : e.Expression) (span : Span) where
+module _ (nesting : Nesting) (columns : List Column) (predicate : p.Predicate) (tree : e.Expression) (span : Span) where
   -- a name in the predicate is no column's
-  pub untested : None ≡ resolved_over columns predicate → (nesting : Nesting)
+  pub untested : None ≡ resolved_over columns predicate
       → resolved nesting columns (q.atom predicate tree span) ≡ Err (refusal Name span)
   unfolding resolved
-  untested is nesting = rw (← is) refl
+  untested is = rw (← is) refl
 
   module _ (pred : plain.Predicate) (tested : Some pred ≡ resolved_over columns predicate) where
     -- or one in the expression
-    pub unnamed : None ≡ expression_over (of_item columns) tree → (nesting : Nesting)
+    pub unnamed : None ≡ expression_over (of_item columns) tree
         → resolved nesting columns (q.atom predicate tree span) ≡ Err (refusal Name span)
     unfolding resolved
-    unnamed is nesting = rw (← tested, ← is) refl
+    unnamed is = rw (← tested, ← is) refl
 
     module _ (value : values.Expression) (named : Some value ≡ expression_over (of_item columns) tree) where
       -- a test is of another kind than its column
-      pub unfit : fits columns pred ≡ false → (nesting : Nesting)
+      pub unfit : fits columns pred ≡ false
           → resolved nesting columns (q.atom predicate tree span) ≡ Err (refusal Type_ span)
       unfolding resolved
-      unfit is nesting = rw (← tested, ← named, is) refl
+      unfit is = rw (← tested, ← named, is) refl
 
       module _ (fit : fits columns pred ≡ true) (numbers : HasFittingNumbers value) (names : Types)
           (are : names ≡ types.of_columns columns) where
         -- the expression is not well typed
-        mistyped : is_typed (types.of_columns columns) value ≡ false → (nesting : Nesting)
+        mistyped : is_typed (types.of_columns columns) value ≡ false
             → resolved nesting columns (q.atom predicate tree span) ≡ Err (refusal Type_ span)
         unfolding resolved
-        mistyped is nesting = rw (← tested, ← named, fit, is) refl
+        mistyped is = rw (← tested, ← named, fit, is) refl
 
-        pub ill_typed : ((type : ValueType) → HasType names value type → ⊥) → (nesting : Nesting)
+        pub ill_typed : ((type : ValueType) → HasType names value type → ⊥)
             → resolved nesting columns (q.atom predicate tree span) ≡ Err (refusal Type_ span)
-        ill_typed none nesting =
-            mistyped (subst (λ (t : Types). is_typed t value ≡ false) are (untyped names value numbers none)) nesting
+        ill_typed none =
+            mistyped (subst (λ (t : Types). is_typed t value ≡ false) are (untyped names value numbers none))
 
-        passes : is_typed (types.of_columns columns) value ≡ true → (nesting : Nesting)
+        passes : is_typed (types.of_columns columns) value ≡ true
             → resolved nesting columns (q.atom predicate tree span) ≡ Ok (atom pred value)
         unfolding resolved
-        passes is nesting = rw (← tested, ← named, fit, is) refl
+        passes is = rw (← tested, ← named, fit, is) refl
 
         pub atom_made : (ty : ValueType) (made : Typed) → HasType names value ty
             → plain_of made.query.shape ≡ atom pred value → made.ty ≡ ty → places_in made.query ≡ span ∷ []
-            → IsMade columns (q.atom predicate tree span) made
+            → IsMade nesting columns (q.atom predicate tree span) made
         atom_made ty made has is ty_is places =
             let has' : HasType (types.of_columns columns) value ty = subst (λ (t : Types). HasType t value ty) are
             has in
-            made_of columns (q.atom predicate tree span) made (atom pred value) is
+            made_of nesting columns (q.atom predicate tree span) made (atom pred value) is
             (passes (is_typed_true (types.of_columns columns) value ty has'))
             (ty_is ∙ type_is (types.of_columns columns) value ty has')
-            (fit, well_typed (types.of_columns columns) value ty has') tt places
+            (fit, well_typed (types.of_columns columns) value ty has') places

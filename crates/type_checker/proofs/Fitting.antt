@@ -1,6 +1,5 @@
 -- The predicates of a query whose types are kept fit the columns.
-use Rattle.std.proofs.Common.{◌≡◌, ◌&&◌, true, false, Bool, List, ◌++◌, refl, ◌∙◌}
-use Rattle.std.specs.List.{list_all}
+use Rattle.std.proofs.Common.{List, ◌++◌, refl, ◌∙◌}
 use Rattle.std.proofs.lemmas.List.Folds.{list_all-append}
 use Rattle.item_schema.specs.declared.column.Column.{Column}
 use Rattle.predicate_cells.specs.Cells.{AllFit}
@@ -8,6 +7,7 @@ use Rattle.predicate_cells.specs.Fits.{fits}
 use Rattle.predicate_cells.specs.Predicates.{Predicate}
 use Rattle.query_model.specs.Queries.{Qre, atom, eps, choice, split, iter, combine, apply, compose, collect}
 use Rattle.query_model.specs.Sizes.{predicates_of}
+use Rattle.rate_expr.specs.Rates.{preds_of}
 use Rattle.type_checker.specs.Findings.{KeepsTypes}
 
 fit_both : (columns : List Column) (one other : List Predicate) → AllFit columns one → AllFit columns other
@@ -25,5 +25,7 @@ all_fit columns (iter f number expression) fit = all_fit columns f fit.0
 all_fit columns (combine f g expression) fit =
     fit_both columns (predicates_of f) (predicates_of g) (all_fit columns f fit.0) (all_fit columns g fit.1)
 all_fit columns (apply f expression) fit = all_fit columns f fit.0
-all_fit columns (compose f g) fit = absurd fit
-all_fit columns (collect column sync rate f) fit = absurd fit
+all_fit columns (compose f g) fit = all_fit columns f fit.0
+all_fit columns (collect column sync rate f) fit =
+    let words = fit_both columns (preds_of rate) (predicates_of f) fit.5 (all_fit columns f fit.0) in
+    rw (fit.4, words) refl

@@ -5,9 +5,10 @@ use Rattle.item_schema.specs.declared.column.Column.{Column}
 use Rattle.language_base.specs.declared.refusal.Refusal.{Refusal}
 use Rattle.language_base.specs.declared.span.Span.{Span}
 use Rattle.predicate_cells.specs.Cells.{Partition}
+use Rattle.query_lets.specs.Unfolded.{unfolded}
 use Rattle.query_model.specs.Checked.{IsChecked}
 use Rattle.query_model.specs.Queries.{Qre, plain_of}
-use Rattle.query_model.specs.Rules.{IsClear, Standing, free}
+use Rattle.query_model.specs.Rules.{IsClear, free}
 use Rattle.query_syntax.specs.Programs.{Program}
 use Rattle.type_checker.specs.Findings.{IsBrokenBy, IsUnresolved, places_in}
 use Rattle.type_checker.specs.Judged.{BreaksFirst, IsJudged, accepted, ambiguous, measured, sound, unmeasured}
@@ -35,20 +36,18 @@ module _ (program : Program) (made : Measured) (is : IsMeasured program made) wh
   query = plain_of made.query.shape
 
   abbrev Answers : Option Refusal → Type 0
-  Answers why = (standing : Standing)
-      → FirstBroken (nodes_in made.cells.layout.columns standing query) (places_in made.query) why
+  Answers why = FirstBroken (nodes_in made.cells.layout.columns free query) (places_in made.query) why
 
   answers : (why : Option Refusal) → Answers why → BreaksFirst program query why
   answers why is_first =
-      subst (λ (columns : List Column). FirstBroken (nodes_in columns free query) (places_of program.main.query) why)
+      subst (λ (columns : List Column). FirstBroken (nodes_in columns free query) (places_of (unfolded program)) why)
       (ap (λ (layout : Layout). layout.columns) is.cells)
       (subst (λ (places : List Span). FirstBroken (nodes_in made.cells.layout.columns free query) places why) is.places
-      (is_first free))
+      is_first)
 
   -- a rule of words is broken
   broken_stop : (stop : CheckStop)
-      → ((standing : Standing)
-      → IsBrokenBy (nodes_in made.cells.layout.columns standing query) (places_in made.query) stop)
+      → IsBrokenBy (nodes_in made.cells.layout.columns free query) (places_in made.query) stop
       → IsStopOf program stop
   broken_stop (Refused why) broken = ambiguous query why is.measured (answers (Some why) broken)
   broken_stop Memory broken = tt
@@ -56,17 +55,15 @@ module _ (program : Program) (made : Measured) (is : IsMeasured program made) wh
   -- the same over cells that are shared
   module _ (cells : Partition) (same : cells ≡ made.cells) where
     pub broken_on : (stop : CheckStop)
-        → ((standing : Standing)
-        → IsBrokenBy (nodes_in cells.layout.columns standing query) (places_in made.query) stop)
+        → IsBrokenBy (nodes_in cells.layout.columns free query) (places_in made.query) stop
         → IsStopOf program stop
     broken_on stop broken =
-        broken_stop stop (λ standing. subst (λ (c : Partition).
-        IsBrokenBy (nodes_in c.layout.columns standing query) (places_in made.query) stop) same (broken standing))
+        broken_stop stop (subst (λ (c : Partition).
+        IsBrokenBy (nodes_in c.layout.columns free query) (places_in made.query) stop) same broken)
 
-    pub kept_on : ((standing : Standing)
-        → FirstBroken (nodes_in cells.layout.columns standing query) (places_in made.query) None) → Answers None
-    kept_on kept standing = subst (λ (c : Partition).
-        FirstBroken (nodes_in c.layout.columns standing query) (places_in made.query) None) same (kept standing)
+    pub kept_on : FirstBroken (nodes_in cells.layout.columns free query) (places_in made.query) None → Answers None
+    kept_on kept = subst (λ (c : Partition).
+        FirstBroken (nodes_in c.layout.columns free query) (places_in made.query) None) same kept
 
   -- none is
   module _ (kept : Answers None) where
@@ -76,7 +73,7 @@ module _ (program : Program) (made : Measured) (is : IsMeasured program made) wh
         (sym is.layout) (sound query is.measured (answers None kept))
 
     clear : IsClear free (layout_of program.stream).columns query
-    clear = clear_from (layout_of program.stream).columns free query (places_of program.main.query) is.types
+    clear = clear_from (layout_of program.stream).columns free query (places_of (unfolded program)) is.types
         (nodes_have_places (layout_of program.stream).columns free made.query ∙ ap length is.places)
         (answers None kept)
 

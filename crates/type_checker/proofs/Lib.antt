@@ -1,27 +1,37 @@
 pub mod Asked
 mod Atoms
-mod Built
+pub mod Behind
 pub mod Clear
+mod Collecting
+mod Composing
+mod Counted
+pub mod Fed
+pub mod FieldTypes
 pub mod Fitting
 pub mod Judging
-pub mod Little
 pub mod ManyPositions
 pub mod Measuring
+pub mod Nested
 pub mod OfOperands
 mod Operands
 pub mod OverOne
 pub mod OverTwo
+pub mod Parted
 pub mod Placed
 pub mod Repeats
+pub mod Rooted
 pub mod Ruled
 pub mod SameMembers
 pub mod SamePaths
 mod Shaping
 pub mod SomeItem
+pub mod SomeMet
 pub mod SomeVerdict
 pub mod Told
+pub mod ToldApart
 mod Valued
 pub mod Verdicts
 pub mod Walked
 mod WellTyped
+mod WithoutTables
 pub mod WordVerdicts

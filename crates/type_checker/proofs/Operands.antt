@@ -1,36 +1,22 @@
 -- What a node takes from its operands: their places, and the first refusal of theirs.
-use Rattle.std.proofs.Common.{◌≡◌, ℤ, Bool, true, false, List, [], ◌∷◌, ◌++◌, Option, Some, None, Result, Ok, Err, FitsSigned, refl, sym, ◌∙◌, ap, subst, append_assoc}
-use Rattle.std.specs.Int.{w64}
+use Rattle.std.proofs.Common.{◌≡◌, List, [], ◌∷◌, ◌++◌, Result, Ok, refl, sym, ◌∙◌, ap, subst, append_assoc}
 use Rattle.item_schema.specs.declared.column.Column.{Column}
-use Rattle.language_base.specs.declared.refusal.Refusal.{Refusal}
-use Rattle.language_base.specs.declared.rule.Rule.TheVariants.{Name, Type_}
 use Rattle.language_base.specs.declared.span.Span.{Span}
-use Rattle.query_model.specs.Queries.{Qre, atom, eps, choice, split, iter, combine, apply, compose, collect, plain_of, spans_of}
-use Rattle.query_model.specs.QueryTypes as types
-use Rattle.query_model.specs.QueryTypes.{type_of, type_of_expression}
-use Rattle.query_model.specs.Rules.{IsTyped}
-use Rattle.query_model.specs.Shapes.{HasPlainShapes}
+use Rattle.query_model.specs.Queries.{Qre, plain_of, spans_of}
+use Rattle.query_model.specs.QueryTypes.{type_of}
 use Rattle.query_model.specs.declared.query.Query.{Query}
 use Rattle.query_syntax.specs.Expressions as e
 use Rattle.query_syntax.specs.Queries as q
-use Rattle.query_syntax.specs.declared.leaf.Name as leaf
 use Rattle.query_syntax.specs.declared.leaf.Number.{Number}
-use Rattle.type_checker.specs.Expressions.{of_item, of_one, of_two}
-use Rattle.type_checker.specs.Findings.{IsResolved, IsUnresolved, KeepsTypes, places_in}
+use Rattle.type_checker.specs.Findings.{KeepsTypes, places_in}
 use Rattle.type_checker.specs.Nodes.{places_of}
 use Rattle.type_checker.specs.Resolutions.{IsMade, IsMadeOfOne, IsMadeOfTwo, IsRefused, IsRefusedOverOne, IsRefusedOverTwo}
-use Rattle.type_checker.specs.Resolved.{Nesting, resolved, same_type}
-use Rattle.type_checker.specs.Steps.{◌>>=◌, found, provided, refusal}
+use Rattle.type_checker.specs.Resolved.{Nesting, resolved}
 use Rattle.type_checker.specs.declared.naming.Typed.{Typed}
 use Rattle.type_checker.specs.declared.stop.CheckStop.{CheckStop}
 use Rattle.type_checker.specs.declared.stop.CheckStop.TheVariants.{Refused, Memory}
 use Rattle.std.specs.Result.{IfErr, IfOk}
 use Rattle.std.proofs.lemmas.Result.{IfErr-weaker, IfOk-weaker}
-use Rattle.value_ops.specs.Expressions as values
-use Rattle.value_ops.specs.Typing.{HasType, Types}
-use Rattle.value_ops.specs.declared.expr.Expr.{Expr}
-use Rattle.value_ops.specs.declared.value.ValueType.{ValueType}
-use Rattle.value_ops.specs.declared.value.ValueType.TheVariants as type
 
 -- the places of two operands and a node
 regroup : (first second : List Span) (a b c : Span)
@@ -60,114 +46,130 @@ two_spans one other left right first second made is =
     is ∙ ap (λ (x : Query). spans_of x.shape ++ x.span ∷ spans_of other.shape ++ other.span ∷ []) first
     ∙ ap (λ (x : Query). spans_of left.shape ++ left.span ∷ spans_of x.shape ++ x.span ∷ []) second
 
-module _ (columns : List Column) where
+-- the places of a node with one operand
+pub one_place : (f : q.Query) (inner : Typed) (made : Query) (span : Span) → places_in inner.query ≡ places_of f
+    → spans_of made.shape ≡ spans_of inner.query.shape ++ inner.query.span ∷ [] → made.span ≡ span
+    → places_in made ≡ places_of f ++ span ∷ []
+one_place f inner made span places spans at =
+    ap (λ (s : List Span). s ++ made.span ∷ []) (spans ∙ places) ∙ ap (λ (a : Span). places_of f ++ a ∷ []) at
+
+-- and with two
+pub two_places : (f g : q.Query) (left right : Typed) (made : Query) (span : Span)
+    → places_in left.query ≡ places_of f → places_in right.query ≡ places_of g → spans_of made.shape
+    ≡ spans_of left.query.shape ++ left.query.span ∷ spans_of right.query.shape ++ right.query.span ∷ []
+    → made.span ≡ span → places_in made ≡ places_of f ++ places_of g ++ span ∷ []
+two_places f g left right made span first second spans at =
+    ap (λ (s : List Span). s ++ made.span ∷ []) spans
+    ∙ regroup (spans_of left.query.shape) (spans_of right.query.shape) left.query.span right.query.span made.span
+    ∙ ap (λ (s : List Span). s ++ places_in right.query ++ made.span ∷ []) first
+    ∙ ap (λ (s : List Span). places_of f ++ s ++ made.span ∷ []) second
+    ∙ ap (λ (a : Span). places_of f ++ places_of g ++ a ∷ []) at
+
+module _ (nesting : Nesting) (columns : List Column) where
   -- a query that is resolved to a query in memory
   pub made_of : (tree : q.Query) (made : Typed) (query : Qre) → plain_of made.query.shape ≡ query
-      → ((nesting : Nesting) → resolved nesting columns tree ≡ Ok query)
-      → made.ty ≡ type_of columns query → KeepsTypes columns query → HasPlainShapes query
-      → places_in made.query ≡ places_of tree → IsMade columns tree made
-  made_of tree made query is named ty keeps plain places = record {
-    resolved = λ nesting. named nesting ∙ ap Ok (sym is);
+      → resolved nesting columns tree ≡ Ok query → made.ty ≡ type_of columns query → KeepsTypes columns query
+      → places_in made.query ≡ places_of tree → IsMade nesting columns tree made
+  made_of tree made query is named ty keeps places = record {
+    resolved = named ∙ ap Ok (sym is);
     typed = record {
       type = ty ∙ ap (type_of columns) (sym is);
       keeps = subst (KeepsTypes columns) (sym is) keeps;
-      plain = subst HasPlainShapes (sym is) plain;
     };
     places = places;
   }
 
-  -- the places of a node with one operand
-  pub one_place : (f : q.Query) (inner : Typed) (made : Query) (span : Span) → IsMade columns f inner
-      → spans_of made.shape ≡ spans_of inner.query.shape ++ inner.query.span ∷ [] → made.span ≡ span
-      → places_in made ≡ places_of f ++ span ∷ []
-  one_place f inner made span is spans at =
-      ap (λ (s : List Span). s ++ made.span ∷ []) (spans ∙ is.places) ∙ ap (λ (a : Span). places_of f ++ a ∷ []) at
+  -- what is made or refused at every place is so at this one
+  module _ (tree : q.Query) (result : Result Typed CheckStop) where
+    pub made_there : IfOk result (λ made. (there : Nesting) → IsMade there columns tree made)
+        → IfOk result (IsMade nesting columns tree)
+    made_there is =
+        IfOk-weaker result (λ made. (there : Nesting) → IsMade there columns tree made) (IsMade nesting columns tree)
+        (λ made everywhere. everywhere nesting) is
 
-  -- and with two
-  pub two_places : (f g : q.Query) (left right : Typed) (made : Query) (span : Span) → IsMade columns f left
-      → IsMade columns g right → spans_of made.shape
-      ≡ spans_of left.query.shape ++ left.query.span ∷ spans_of right.query.shape ++ right.query.span ∷ []
-      → made.span ≡ span → places_in made ≡ places_of f ++ places_of g ++ span ∷ []
-  two_places f g left right made span is_left is_right spans at =
-      ap (λ (s : List Span). s ++ made.span ∷ []) spans
-      ∙ regroup (spans_of left.query.shape) (spans_of right.query.shape) left.query.span right.query.span made.span
-      ∙ ap (λ (s : List Span). s ++ places_in right.query ++ made.span ∷ []) is_left.places
-      ∙ ap (λ (s : List Span). places_of f ++ s ++ made.span ∷ []) is_right.places
-      ∙ ap (λ (a : Span). places_of f ++ places_of g ++ a ∷ []) at
+    pub refused_there : IfErr result (λ stop. (there : Nesting) → IsRefused there columns tree stop)
+        → IfErr result (IsRefused nesting columns tree)
+    refused_there is =
+        IfErr-weaker result (λ stop. (there : Nesting) → IsRefused there columns tree stop)
+        (IsRefused nesting columns tree) (λ stop everywhere. everywhere nesting) is
 
   -- a node is refused where its first operand is
   module _ (f : q.Query) where
     pub iter_first : (value : e.Expression) (first : Number) (span : Span) (stop : CheckStop)
-        → IsRefused columns f stop → IsRefused columns (q.iter f first value span) stop
+        → IsRefused nesting columns f stop → IsRefused nesting columns (q.iter f first value span) stop
     unfolding resolved
-    iter_first value first span (Refused why) left nesting = rw (left nesting) refl
-    iter_first value first span Memory left nesting = tt
+    iter_first value first span (Refused why) left = rw left refl
+    iter_first value first span Memory left = tt
 
-    pub apply_first : (value : e.Expression) (span : Span) (stop : CheckStop) → IsRefused columns f stop
-        → IsRefused columns (q.apply f value span) stop
+    pub apply_first : (value : e.Expression) (span : Span) (stop : CheckStop) → IsRefused nesting columns f stop
+        → IsRefused nesting columns (q.apply f value span) stop
     unfolding resolved
-    apply_first value span (Refused why) left nesting = rw (left nesting) refl
-    apply_first value span Memory left nesting = tt
+    apply_first value span (Refused why) left = rw left refl
+    apply_first value span Memory left = tt
 
     module _ (g : q.Query) where
-      pub or_first : (span : Span) (stop : CheckStop) → IsRefused columns f stop
-          → IsRefused columns (q.or f g span) stop
+      pub or_first : (span : Span) (stop : CheckStop) → IsRefused nesting columns f stop
+          → IsRefused nesting columns (q.or f g span) stop
       unfolding resolved
-      or_first span (Refused why) left nesting = rw (left nesting) refl
-      or_first span Memory left nesting = tt
+      or_first span (Refused why) left = rw left refl
+      or_first span Memory left = tt
 
-      pub split_first : (value : e.Expression) (span : Span) (stop : CheckStop) → IsRefused columns f stop
-          → IsRefused columns (q.split f g value span) stop
+      pub split_first : (value : e.Expression) (span : Span) (stop : CheckStop) → IsRefused nesting columns f stop
+          → IsRefused nesting columns (q.split f g value span) stop
       unfolding resolved
-      split_first value span (Refused why) left nesting = rw (left nesting) refl
-      split_first value span Memory left nesting = tt
+      split_first value span (Refused why) left = rw left refl
+      split_first value span Memory left = tt
 
-      pub combine_first : (value : e.Expression) (span : Span) (stop : CheckStop) → IsRefused columns f stop
-          → IsRefused columns (q.combine f g value span) stop
+      pub combine_first : (value : e.Expression) (span : Span) (stop : CheckStop) → IsRefused nesting columns f stop
+          → IsRefused nesting columns (q.combine f g value span) stop
       unfolding resolved
-      combine_first value span (Refused why) left nesting = rw (left nesting) refl
-      combine_first value span Memory left nesting = tt
+      combine_first value span (Refused why) left = rw left refl
+      combine_first value span Memory left = tt
 
       -- or its second one
-      pub or_second : (span : Span) (made : Typed) → IsMade columns f made → (stop : CheckStop)
-          → IsRefused columns g stop → IsRefused columns (q.or f g span) stop
+      pub or_second : (span : Span) (made : Typed) → IsMade nesting columns f made → (stop : CheckStop)
+          → IsRefused nesting columns g stop → IsRefused nesting columns (q.or f g span) stop
       unfolding resolved
-      or_second span made is (Refused why) left nesting = rw (is.resolved nesting, left nesting) refl
-      or_second span made is Memory left nesting = tt
+      or_second span made is (Refused why) left = rw (is.resolved, left) refl
+      or_second span made is Memory left = tt
 
-      pub split_second : (value : e.Expression) (span : Span) (made : Typed) → IsMade columns f made
-          → (stop : CheckStop) → IsRefused columns g stop → IsRefused columns (q.split f g value span) stop
+      pub split_second : (value : e.Expression) (span : Span) (made : Typed) → IsMade nesting columns f made
+          → (stop : CheckStop) → IsRefused nesting columns g stop
+          → IsRefused nesting columns (q.split f g value span) stop
       unfolding resolved
-      split_second value span made is (Refused why) left nesting = rw (is.resolved nesting, left nesting) refl
-      split_second value span made is Memory left nesting = tt
+      split_second value span made is (Refused why) left = rw (is.resolved, left) refl
+      split_second value span made is Memory left = tt
 
-      pub combine_second : (value : e.Expression) (span : Span) (made : Typed) → IsMade columns f made
-          → (stop : CheckStop) → IsRefused columns g stop → IsRefused columns (q.combine f g value span) stop
+      pub combine_second : (value : e.Expression) (span : Span) (made : Typed) → IsMade nesting columns f made
+          → (stop : CheckStop) → IsRefused nesting columns g stop
+          → IsRefused nesting columns (q.combine f g value span) stop
       unfolding resolved
-      combine_second value span made is (Refused why) left nesting = rw (is.resolved nesting, left nesting) refl
-      combine_second value span made is Memory left nesting = tt
+      combine_second value span made is (Refused why) left = rw (is.resolved, left) refl
+      combine_second value span made is Memory left = tt
 
   -- a node of one operand that is resolved, and of two
-  module _ (f : q.Query) (inner : Typed) (is_inner : IsMade columns f inner) (node : q.Query → q.Query)
+  module _ (f : q.Query) (inner : Typed) (is_inner : IsMade nesting columns f inner) (node : q.Query → q.Query)
       (result : Result Typed CheckStop) where
-    pub one_made : IfOk result (IsMadeOfOne node inner) → IfOk result (IsMade columns (node f))
+    pub one_made : IfOk result (IsMadeOfOne node inner) → IfOk result (IsMade nesting columns (node f))
     one_made is =
-        IfOk-weaker result (IsMadeOfOne node inner) (IsMade columns (node f))
-        (λ made of_it. of_it columns f is_inner) is
+        IfOk-weaker result (IsMadeOfOne node inner) (IsMade nesting columns (node f))
+        (λ made of_it. of_it nesting columns f is_inner) is
 
-    pub one_refused : IfErr result (IsRefusedOverOne node inner) → IfErr result (IsRefused columns (node f))
+    pub one_refused : IfErr result (IsRefusedOverOne node inner) → IfErr result (IsRefused nesting columns (node f))
     one_refused is =
-        IfErr-weaker result (IsRefusedOverOne node inner) (IsRefused columns (node f))
-        (λ stop over. over columns f is_inner) is
+        IfErr-weaker result (IsRefusedOverOne node inner) (IsRefused nesting columns (node f))
+        (λ stop over. over nesting columns f is_inner) is
 
-  module _ (f g : q.Query) (left right : Typed) (is_left : IsMade columns f left) (is_right : IsMade columns g right)
-      (node : q.Query → q.Query → q.Query) (result : Result Typed CheckStop) where
-    pub two_made : IfOk result (IsMadeOfTwo node left right) → IfOk result (IsMade columns (node f g))
+  module _ (f g : q.Query) (left right : Typed) (is_left : IsMade nesting columns f left)
+      (is_right : IsMade nesting columns g right) (node : q.Query → q.Query → q.Query)
+      (result : Result Typed CheckStop) where
+    pub two_made : IfOk result (IsMadeOfTwo node left right) → IfOk result (IsMade nesting columns (node f g))
     two_made is =
-        IfOk-weaker result (IsMadeOfTwo node left right) (IsMade columns (node f g))
-        (λ made of_them. of_them columns f g is_left is_right) is
+        IfOk-weaker result (IsMadeOfTwo node left right) (IsMade nesting columns (node f g))
+        (λ made of_them. of_them nesting columns f g is_left is_right) is
 
-    pub two_refused : IfErr result (IsRefusedOverTwo node left right) → IfErr result (IsRefused columns (node f g))
+    pub two_refused : IfErr result (IsRefusedOverTwo node left right)
+        → IfErr result (IsRefused nesting columns (node f g))
     two_refused is =
-        IfErr-weaker result (IsRefusedOverTwo node left right) (IsRefused columns (node f g))
-        (λ stop over. over columns f g is_left is_right) is
+        IfErr-weaker result (IsRefusedOverTwo node left right) (IsRefused nesting columns (node f g))
+        (λ stop over. over nesting columns f g is_left is_right) is

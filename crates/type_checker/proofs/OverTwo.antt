@@ -93,23 +93,22 @@ module _ (node : Qre → Qre → Qre) (query first second : Query) (is : IsOverT
       (few_of (plain_of first.shape) (plain_of second.shape) (subst HasFewPositions is.plain can.few))
 
   -- a node of an operand stops it
-  pub two_stopped : (stop : CheckStop)
+  pub two_stopped : (standing : Standing) (stop : CheckStop)
       → IsBrokenBy (nodes_of_both columns first second) (places_of_both first second) stop
-      → (standing : Standing)
       → IsBrokenBy (nodes_in columns standing (plain_of query.shape)) (places_in query) stop
-  two_stopped stop broken standing =
+  two_stopped standing stop broken =
       stopped_in columns standing query stop
       (subst (λ (nodes : List Node). IsBrokenBy nodes (spans_of query.shape) stop) (sym (is.nodes columns standing))
       (subst (λ (places : List Span). IsBrokenBy (nodes_of_both columns first second) places stop) (sym is.places)
       broken))
 
   -- no node of an operand does
-  module _ (kept : FirstBroken (nodes_of_both columns first second) (places_of_both first second) None)
+  module _ (standing : Standing)
+      (kept : FirstBroken (nodes_of_both columns first second) (places_of_both first second) None)
       (operands : Operands) (are : AreOperands cells (plain_of first.shape) (plain_of second.shape) operands)
       (result : Result Sets CheckStop) where
-    none : (standing : Standing)
-        → FirstBroken (operand_nodes columns standing (plain_of query.shape)) (spans_of query.shape) None
-    none standing =
+    none : FirstBroken (operand_nodes columns standing (plain_of query.shape)) (spans_of query.shape) None
+    none =
         subst (λ (nodes : List Node). FirstBroken nodes (spans_of query.shape) None) (sym (is.nodes columns standing))
         (subst (λ (places : List Span). FirstBroken (nodes_of_both columns first second) places None) (sym is.places)
         kept)
@@ -124,9 +123,9 @@ module _ (node : Qre → Qre → Qre) (query first second : Query) (is : IsOverT
         told_ok result _ (IsKept columns (plain_of query.shape)) told (λ sets given.
         subst (λ (n : Qre). IsKept columns n sets) (sym is.plain) (given cells _ _ are))
 
-    pub two_kept : AreTold → OnOk result ((standing : Standing)
-        → FirstBroken (nodes_in columns standing (plain_of query.shape)) (places_in query) None)
-    two_kept told = root_kept columns query none result (kept_here told)
+    pub two_kept : AreTold
+        → OnOk result (FirstBroken (nodes_in columns standing (plain_of query.shape)) (places_in query) None)
+    two_kept told = root_kept columns standing query none result (kept_here told)
 
     pub two_sets : AreTold → IfOk result (λ sets. AreSetsOf sets (rate_of (plain_of query.shape)))
     two_sets told = told_ok result _ _ (kept_here told) (λ sets here. here.sets)
@@ -134,9 +133,8 @@ module _ (node : Qre → Qre → Qre) (query first second : Query) (is : IsOverT
     -- and where it is refused
     pub two_refused : IfErr result (λ stop. (c : Partition) (f g : Qre) → AreOperands c f g operands
         → IsBrokenAt c.layout.columns (node f g) query.span stop)
-        → IfErr result (λ stop. (standing : Standing)
-        → IsBrokenBy (nodes_in columns standing (plain_of query.shape)) (places_in query) stop)
+        → IfErr result (IsBrokenBy (nodes_in columns standing (plain_of query.shape)) (places_in query))
     two_refused told =
-        root_refused columns query none result
+        root_refused columns standing query none result
         (told_err result _ (IsBrokenAt columns (plain_of query.shape) query.span) told (λ stop given.
         subst (λ (n : Qre). IsBrokenAt columns n query.span stop) (sym is.plain) (given cells _ _ are)))

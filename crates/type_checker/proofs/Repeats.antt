@@ -1,92 +1,65 @@
--- Names of columns that are repeated, and those that are not.
-use Rattle.std.proofs.Common.{◌≡◌, ℕ, ◌+◌, ◌<◌, Bool, true, false, ◌||◌, ◌&&◌, cond, List, [], ◌∷◌, ◌++◌, length, map, take, drop, drop-cons, slice_index_or, Option, Some, None, refl, sym, ap, ◌∙◌, add-one, append_assoc, arith}
+-- Columns whose names are right are those of a schema.
+use Rattle.std.proofs.Common.{◌≡◌, ℕ, Bool, true, false, ◌&&◌, cond, List, [], ◌∷◌, length, map, Option, Some, None, refl, sym, ap, ◌∙◌, arith}
+use Rattle.std.proofs.lemmas.Bool.{false_from_ne_true, false≢true}
 use Rattle.std.proofs.lemmas.Bool.Decides.{nat_tests}
-use Rattle.std.proofs.lemmas.List.{length-map, take_more}
-use Rattle.std.proofs.lemmas.List.Folds.{list_any-append}
+use Rattle.std.proofs.lemmas.List.{length-map}
 use Rattle.std.proofs.lemmas.Slice.Eq.{bytes_eq-Decides}
 use Rattle.std.specs.List.{AllByRecursion, list_all, list_any}
 use Rattle.std.specs.Str.{bytes_eq}
 use Rattle.item_schema.specs.Layout.{are_columns, are_distinct, has_digits, is_read}
 use Rattle.language_base.specs.declared.span.Span.{Span}
+use Rattle.query_lets.specs.Words.{column_words, first_wrong, is_known}
 use Rattle.query_syntax.specs.Limits.{HasDigits, IsWithin}
 use Rattle.query_syntax.specs.Programs.{Stream}
 use Rattle.query_syntax.specs.declared.stream.Column.{Column}
 use Rattle.query_syntax.specs.declared.stream.Kind.{Kind}
 use Rattle.query_syntax.specs.declared.stream.Kind.TheVariants.{Int, Text, Fixed}
 use Rattle.type_checker.specs.Layouts.{column_of, kind_of}
-use Rattle.type_checker.specs.Names.{first_repeated, has_name, repeated_behind}
-
-module _ (columns : List Column) (at : ℕ) (column : Column) (is_at : column ≡ slice_index_or columns at column)
-    (within : at < length columns) where
-  -- what is left begins with the column
-  left_is : drop at columns ≡ column ∷ drop (at + 1) columns
-  left_is = drop-cons columns at column within ∙ (rw (← is_at, add-one) refl)
-
-  -- one column more is behind
-  behind_is : take (at + 1) columns ≡ take at columns ++ column ∷ []
-  behind_is = take_more columns at column within ∙ ap (λ (c : Column). take at columns ++ c ∷ []) (sym is_at)
-
-  module _ (so_far : first_repeated columns ≡ repeated_behind (take at columns) (drop at columns)) where
-    answer_is : first_repeated columns
-        ≡ cond (has_name (take at columns) column.name.bytes) (Some column.name.span)
-        (repeated_behind (take at columns ++ column ∷ []) (drop (at + 1) columns))
-    answer_is = so_far ∙ ap (repeated_behind (take at columns)) left_is
-
-    -- a name that an earlier column has
-    pub seen_again : true ≡ has_name (take at columns) column.name.bytes → Some column.name.span ≡ first_repeated columns
-    seen_again again =
-        sym (answer_is ∙ ap (λ (b : Bool). cond b (Some column.name.span)
-        (repeated_behind (take at columns ++ column ∷ []) (drop (at + 1) columns))) (sym again))
-
-    -- a new name
-    pub seen_more : false ≡ has_name (take at columns) column.name.bytes
-        → first_repeated columns ≡ repeated_behind (take (at + 1) columns) (drop (at + 1) columns)
-    seen_more new =
-        answer_is ∙ ap (λ (b : Bool). cond b (Some column.name.span)
-        (repeated_behind (take at columns ++ column ∷ []) (drop (at + 1) columns))) (sym new)
-        ∙ ap (λ (l : List Column). repeated_behind l (drop (at + 1) columns)) (sym behind_is)
 
 -- where nothing is found, the test fails, and nothing is found behind it
-not_here : (test : Bool) (span : Span) (next : Option Span) → cond test (Some span) next ≡ None → (test ≡ false) × (next ≡ None)
+not_here : (test : Bool) (span : Span) (next : Option Span) → cond test (Some span) next ≡ None
+    → (test ≡ false) × (next ≡ None)
 not_here true span next is = absurd (cc)
 not_here false span next is = (refl, is)
 
--- neither of two tests that do not hold either way
-neither : (a b : Bool) → (a || b) ≡ false → (a ≡ false) × (b ≡ false)
-neither true b is = absurd (cc)
-neither false b is = (refl, is)
+module _ (known : List (List ℕ)) (first : Column) (columns : List Column)
+    (right : first_wrong (column_words known (first ∷ columns)) ≡ None) where
+  -- the first column has a new name, and those behind have names of their own
+  new_first : (is_known known first.name.bytes ≡ false)
+      × (first_wrong (column_words (first.name.bytes ∷ known) columns) ≡ None)
+  new_first = not_here (is_known known first.name.bytes) first.name.span
+      (first_wrong (column_words (first.name.bytes ∷ known) columns)) right
 
--- two texts differ in both directions
-differ : (a b : List ℕ) → bytes_eq a b ≡ false → bytes_eq b a ≡ false
-differ a b other = at (bytes_eq b a) refl
-  where
-    at : (test : Bool) → bytes_eq b a ≡ test → test ≡ false
-    at true same =
-        let back : bytes_eq a b ≡ true = (bytes_eq-Decides a b).1 (sym ((bytes_eq-Decides b a).0 same)) in
-        absurd (cc (other, back))
-    at false same = refl
+  -- it differs from a known name
+  differs : (name : List ℕ) → is_known known name ≡ true → bytes_eq name first.name.bytes ≡ false
+  differs name seen = false_from_ne_true (bytes_eq name first.name.bytes)
+      (λ same. let is : name ≡ first.name.bytes = (bytes_eq-Decides name first.name.bytes).0 same in
+      let again = ap (is_known known) is in
+      let new = new_first.0 in
+      false≢true (sym new ∙ sym again ∙ seen))
 
--- a column among those behind, of whose name no later one is
-unlike : (before columns : List Column) → repeated_behind before columns ≡ None → (front back : List Column) (column : Column)
-    → before ≡ front ++ column ∷ back → list_any (λ c. bytes_eq column.name.bytes c.name) (map column_of columns) ≡ false
-unlike before [] clear front back column is = refl
-unlike before (first ∷ columns) clear front back column is =
-    let parts = not_here (has_name before first.name.bytes) first.name.span (repeated_behind (before ++ first ∷ []) columns) clear in
-    let test : Column → Bool = λ (c : Column). bytes_eq first.name.bytes c.name.bytes in
-    let apart : (list_any test front || list_any test (column ∷ back)) ≡ false =
-    sym (list_any-append test front (column ∷ back)) ∙ ap (list_any test) (sym is) ∙ parts.0 in
-    let here = neither (list_any test front) (list_any test (column ∷ back)) apart in
-    let this = neither (bytes_eq first.name.bytes column.name.bytes) (list_any test back) here.1 in
-    let others = unlike (before ++ first ∷ []) columns parts.1 front (back ++ first ∷ []) column
-    (ap (λ (l : List Column). l ++ first ∷ []) is ∙ append_assoc front (column ∷ back) (first ∷ [])) in
-    rw (differ first.name.bytes column.name.bytes this.0) others
+-- no column has a known name
+unlike : (known : List (List ℕ)) (columns : List Column) → first_wrong (column_words known columns) ≡ None
+    → (name : List ℕ) → is_known known name ≡ true
+    → list_any (λ c. bytes_eq name c.name) (map column_of columns) ≡ false
+unlike known [] right name seen = refl
+unlike known (first ∷ columns) right name seen =
+    let others : is_known (first.name.bytes ∷ known) name ≡ true =
+    rw (differs known first columns right name seen) seen in
+    rw (differs known first columns right name seen)
+    (unlike (first.name.bytes ∷ known) columns (new_first known first columns right).1 name others)
 
--- where no name is repeated, they are distinct
-distinct_from : (before columns : List Column) → repeated_behind before columns ≡ None → are_distinct (map column_of columns) ≡ true
-distinct_from before [] clear = refl
-distinct_from before (first ∷ columns) clear =
-    let parts = not_here (has_name before first.name.bytes) first.name.span (repeated_behind (before ++ first ∷ []) columns) clear in
-    rw (unlike (before ++ first ∷ []) columns parts.1 before [] first refl) (distinct_from (before ++ first ∷ []) columns parts.1)
+-- where no name is wrong, they are distinct
+distinct_from : (known : List (List ℕ)) (columns : List Column) → first_wrong (column_words known columns) ≡ None
+    → are_distinct (map column_of columns) ≡ true
+distinct_from known [] right = refl
+distinct_from known (first ∷ columns) right =
+    let rest = (new_first known first columns right).1 in
+    let same : bytes_eq first.name.bytes first.name.bytes ≡ true =
+    (bytes_eq-Decides first.name.bytes first.name.bytes).1 refl in
+    let seen : is_known (first.name.bytes ∷ known) first.name.bytes ≡ true = rw same refl in
+    rw (unlike (first.name.bytes ∷ known) columns rest first.name.bytes seen)
+    (distinct_from (first.name.bytes ∷ known) columns rest)
 
 -- the columns of a stream are read from lines
 read_kind : (kind : Kind) → is_read (kind_of kind) ≡ true
@@ -107,7 +80,7 @@ kinds_from (first ∷ columns) (here, others) =
     rw (digits_kind first.kind here, read_kind first.kind) (kinds_from columns others)
 
 -- the columns of a stream are those of a schema
-pub are_columns_of : (stream : Stream) → IsWithin stream → first_repeated stream.columns ≡ None
+pub are_columns_of : (stream : Stream) → IsWithin stream → first_wrong (column_words [] stream.columns) ≡ None
     → are_columns (map column_of stream.columns) ≡ true
 are_columns_of stream within distinct =
     let long : length (map column_of stream.columns) ≡ length stream.columns = length-map stream.columns column_of in

@@ -6,14 +6,15 @@ use Rattle.language_base.specs.declared.span.Span.{Span}
 use Rattle.predicate_cells.specs.Cells.{Partition}
 use Rattle.query_model.specs.Queries.{Qre}
 use Rattle.query_model.specs.Rates.{rate_of}
-use Rattle.query_model.specs.Rules.{Standing}
+use Rattle.query_model.specs.Rules.{Standing, bound}
 use Rattle.rate_expr.specs.FirstLastFollow.{AreSetsOf}
+use Rattle.rate_expr.specs.Rates.{Expression}
 use Rattle.rate_expr.specs.Sets.{Sets}
 use Rattle.rate_expr.proofs.SetsOf.{sets_spell}
 use Rattle.symbolic_nfa.specs.Automata.{Automaton}
-use Rattle.type_checker.specs.Findings.{AreOperands, IsAutomatonOf, IsBrokenAt, IsKept}
+use Rattle.type_checker.specs.Findings.{AreOperands, IsAutomatonOf, IsBrokenAt, IsKept, IsUnfed}
 use Rattle.type_checker.specs.Steps.{refusal}
-use Rattle.type_checker.specs.WordRules.{BreaksAt}
+use Rattle.type_checker.specs.WordRules.{BreaksAt, BreaksFed}
 use Rattle.type_checker.specs.declared.roots.Operands.{Operands}
 use Rattle.type_checker.specs.declared.stop.CheckStop.{CheckStop}
 use Rattle.type_checker.specs.declared.stop.CheckStop.TheVariants.{Refused}
@@ -53,3 +54,25 @@ pub automaton_of : (cells : Partition) (query : Qre) (sets : Sets) (nfa : Automa
     → nfa ≡ record { sets = sets; cells = cells } → AreSetsOf sets (rate_of query) → IsAutomatonOf query nfa
 automaton_of cells query sets nfa is are =
     subst (IsAutomatonOf query) (sym is) (record { sets = are; spells = sets_spell sets (rate_of query) are })
+
+-- what is told of the values of another query
+module _ (standing : Standing) (columns : List Column) (r : Expression) (broken : Option Rule)
+    (breaks : BreaksFed standing columns r broken) where
+  pub fed_by : broken ≡ None → BreaksFed standing columns r None
+  fed_by none = subst (BreaksFed standing columns r) none breaks
+
+  pub unfed_by : (span : Span) (stop : CheckStop)
+      → ((rule : Rule) × (broken ≡ Some rule) × (stop ≡ Refused (refusal rule span)))
+      → IsUnfed standing columns r span stop
+  unfed_by span stop (rule, is, stops) =
+      subst (IsUnfed standing columns r span) (sym stops)
+      (rule, refl, subst (BreaksFed standing columns r) is breaks)
+
+-- what an automaton tells of a rate, on its cells
+pub on_values : (sets : Sets) (cells : Partition) (nfa : Automaton) → nfa ≡ record { sets = sets; cells = cells }
+    → (broken : Option Rule)
+    → ((r : Expression) → AreSetsOf nfa.sets r → BreaksFed bound nfa.cells.layout.columns r broken)
+    → (r : Expression) → AreSetsOf sets r → BreaksFed bound cells.layout.columns r broken
+on_values sets cells nfa is broken told r are =
+    subst (λ (n : Automaton). BreaksFed bound n.cells.layout.columns r broken) is
+    (told r (subst (λ (n : Automaton). AreSetsOf n.sets r) (sym is) are))

@@ -1,4 +1,4 @@
--- All sets of one rate have the same paths, so that words lead to as many pairs of their states.
+-- All sets of one rate have the same paths, so that words lead to as many of their states, and pairs of them.
 use Rattle.std.proofs.Common.{◌≡◌, ◌+◌, ◌∙◌, ℕ, List, [], ◌∷◌, Some, slice_get, sym, subst}
 use Rattle.item_schema.specs.declared.column.Column.{Column}
 use Rattle.value_ops.specs.declared.field.Field.{Field}
@@ -11,8 +11,8 @@ use Rattle.rate_expr.specs.Sets.{Sets, Has}
 use Rattle.rate_expr.specs.Words.{Word}
 use Rattle.rate_expr.specs.declared.state.State.{State}
 use Rattle.rate_expr.specs.declared.state.State.TheVariants.{Initial, At}
-use Rattle.rate_equal.specs.Reach.{LeadToApart, ReachPairs, max_reach}
-use Rattle.type_checker.specs.WordRules.{ReachManyPairs}
+use Rattle.rate_equal.specs.Reach.{LeadToApart, ReachPairs, ReachStates, max_reach}
+use Rattle.type_checker.specs.WordRules.{ReachManyPairs, ReachManyStates}
 
 module _ (r : Expression) (one other : Sets) (ones : AreSetsOf one r) (others : AreSetsOf other r) where
   begins_too : (position : ℕ) → Has one.first position → Has other.first position
@@ -65,5 +65,17 @@ module _ (columns : List Column) (r s : Expression) (first second : Sets) (first
     items = many.items;
     each_two = λ i j d before within.
         apart_too first' second' firsts' seconds' _ _ (many.each_two i j d before within);
+    so_many = many.so_many;
+  }
+
+module _ (columns : List Column) (r : Expression) (sets : Sets) (are : AreSetsOf sets r) where
+  -- the same of single states
+  pub many_states_here : ReachManyStates columns r → ReachStates columns sets (max_reach + 1)
+  many_states_here (others, ares, many) = record {
+    words = many.words;
+    items = many.items;
+    each_two = λ i j d before within. λ s s' a b.
+        many.each_two i j d before within s s' (behind_too r sets others are ares _ s a)
+        (behind_too r sets others are ares _ s' b);
     so_many = many.so_many;
   }

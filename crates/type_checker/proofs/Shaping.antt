@@ -1,26 +1,23 @@
 -- What a node is resolved to, from what its operands are.
-use Rattle.std.proofs.Common.{◌≡◌, ℤ, Bool, true, false, List, [], ◌∷◌, ◌++◌, Option, Some, None, Result, Ok, Err, FitsSigned, refl, sym, ◌∙◌, ap, subst, append_assoc}
+use Rattle.std.proofs.Common.{◌≡◌, Bool, true, false, List, [], ◌∷◌, ◌++◌, Ok, Err, FitsSigned, refl, sym, ◌∙◌, ap, subst}
 use Rattle.std.specs.Int.{w64}
 use Rattle.item_schema.specs.declared.column.Column.{Column}
-use Rattle.language_base.specs.declared.refusal.Refusal.{Refusal}
 use Rattle.language_base.specs.declared.rule.Rule.TheVariants.{Name, Type_}
 use Rattle.language_base.specs.declared.span.Span.{Span}
-use Rattle.query_model.specs.Queries.{Qre, atom, eps, choice, split, iter, combine, apply, compose, collect, plain_of, spans_of}
+use Rattle.query_model.specs.Queries.{Qre, eps, choice, split, iter, combine, apply, plain_of, spans_of}
 use Rattle.query_model.specs.QueryTypes as types
 use Rattle.query_model.specs.QueryTypes.{type_of, type_of_expression}
 use Rattle.query_model.specs.Rules.{IsTyped}
-use Rattle.query_model.specs.Shapes.{HasPlainShapes}
-use Rattle.query_model.specs.declared.query.Query.{Query}
 use Rattle.query_syntax.specs.Expressions as e
 use Rattle.query_syntax.specs.Queries as q
 use Rattle.query_syntax.specs.declared.leaf.Name as leaf
 use Rattle.query_syntax.specs.declared.leaf.Number.{Number}
-use Rattle.type_checker.specs.Expressions.{of_item, of_one, of_two}
-use Rattle.type_checker.specs.Findings.{IsResolved, IsUnresolved, KeepsTypes, places_in}
+use Rattle.type_checker.specs.Expressions.{of_one, of_two}
+use Rattle.type_checker.specs.Findings.{IsUnresolved, places_in}
 use Rattle.type_checker.specs.Nodes.{places_of}
 use Rattle.type_checker.specs.Resolutions.{IsRefused, IsMade, IsNumberOver, IsValueOver, number_then, typed_then}
 use Rattle.type_checker.specs.Resolved.{Nesting, resolved, same_type}
-use Rattle.type_checker.specs.Steps.{◌>>=◌, found, provided, refusal}
+use Rattle.type_checker.specs.Steps.{◌>>=◌, provided, refusal}
 use Rattle.type_checker.specs.declared.naming.Typed.{Typed}
 use Rattle.type_checker.specs.declared.stop.CheckStop.{CheckStop}
 use Rattle.type_checker.specs.declared.stop.CheckStop.TheVariants.{Refused, Memory}
@@ -44,59 +41,58 @@ pub two_types : (names : Types) (a b c d : ValueType) → names ≡ types.of_two
     → names ≡ types.of_two c d
 two_types names a b c d is first second = rw (← first, ← second) is
 
-module _ (columns : List Column) where
+module _ (nesting : Nesting) (columns : List Column) where
   -- a name stands for no query
-  pub name_refused : (name : leaf.Name) (nesting : Nesting)
-      → resolved nesting columns (q.name name) ≡ Err (refusal Name name.span)
+  pub name_refused : (name : leaf.Name) → resolved nesting columns (q.name name) ≡ Err (refusal Name name.span)
   unfolding resolved
-  name_refused name nesting = refl
+  name_refused name = refl
 
   -- a number
   pub eps_made : (number : Number) (span : Span) (made : Typed) → plain_of made.query.shape ≡ eps number.value
       → made.ty ≡ type.Number → FitsSigned w64 number.value → places_in made.query ≡ span ∷ []
-      → IsMade columns (q.eps number span) made
+      → IsMade nesting columns (q.eps number span) made
   unfolding resolved
   eps_made number span made is ty fits places =
-      made_of columns (q.eps number span) made (eps number.value) is (λ nesting. refl) ty fits tt places
+      made_of nesting columns (q.eps number span) made (eps number.value) is refl ty fits places
 
   -- a choice
-  module _ (f g : q.Query) (left right : Typed) (is_left : IsMade columns f left) (is_right : IsMade columns g right)
-      (span : Span) where
-    or_step : (nesting : Nesting) → resolved nesting columns (q.or f g span)
+  module _ (f g : q.Query) (left right : Typed) (is_left : IsMade nesting columns f left)
+      (is_right : IsMade nesting columns g right) (span : Span) where
+    or_step : resolved nesting columns (q.or f g span)
         ≡ (provided Type_ span (same_type (type_of columns (plain_of right.query.shape))
         (type_of columns (plain_of left.query.shape)))
         >>= (λ (typed : Unit {0}). Ok (choice (plain_of left.query.shape) (plain_of right.query.shape))))
     unfolding resolved
-    or_step nesting = rw (is_left.resolved nesting, is_right.resolved nesting) refl
+    or_step = rw (is_left.resolved, is_right.resolved) refl
 
-    or_tested : (same : Bool) → same_type right.ty left.ty ≡ same → (nesting : Nesting)
+    or_tested : (same : Bool) → same_type right.ty left.ty ≡ same
         → resolved nesting columns (q.or f g span) ≡ (provided Type_ span same
         >>= (λ (typed : Unit {0}). Ok (choice (plain_of left.query.shape) (plain_of right.query.shape))))
-    or_tested same is nesting =
+    or_tested same is =
         let same' : same_type (type_of columns (plain_of right.query.shape))
         (type_of columns (plain_of left.query.shape)) ≡ same
         = rw (← is_right.typed.type, ← is_left.typed.type) is in
-        or_step nesting ∙ ap (λ (b : Bool). provided Type_ span b
+        or_step ∙ ap (λ (b : Bool). provided Type_ span b
         >>= (λ (typed : Unit {0}). Ok (choice (plain_of left.query.shape) (plain_of right.query.shape)))) same'
 
-    pub or_refused : same_type right.ty left.ty ≡ false → IsRefused columns (q.or f g span)
+    pub or_refused : same_type right.ty left.ty ≡ false → IsRefused nesting columns (q.or f g span)
         (Refused (refusal Type_ span))
-    or_refused differ nesting = or_tested false differ nesting
+    or_refused differ = or_tested false differ
 
     pub or_made : (made : Typed) → same_type right.ty left.ty ≡ true
         → plain_of made.query.shape ≡ choice (plain_of left.query.shape) (plain_of right.query.shape)
         → spans_of made.query.shape
         ≡ spans_of left.query.shape ++ left.query.span ∷ spans_of right.query.shape ++ right.query.span ∷ []
-        → made.query.span ≡ span → made.ty ≡ left.ty → IsMade columns (q.or f g span) made
+        → made.query.span ≡ span → made.ty ≡ left.ty → IsMade nesting columns (q.or f g span) made
     or_made made same is spans at ty =
-        made_of columns (q.or f g span) made (choice (plain_of left.query.shape) (plain_of right.query.shape)) is
+        made_of nesting columns (q.or f g span) made
+        (choice (plain_of left.query.shape) (plain_of right.query.shape)) is
         (or_tested true same) (ty ∙ is_left.typed.type) (
           is_left.typed.keeps,
           is_right.typed.keeps,
           sym is_right.typed.type ∙ same_is right.ty left.ty same ∙ is_left.typed.type,
         )
-        (is_left.typed.plain, is_right.typed.plain)
-        (two_places columns f g left right made.query span is_left is_right spans at)
+        (two_places f g left right made.query span is_left.places is_right.places spans at)
 
     -- a split, and a combination
     module _ (tree : e.Expression) (names : Types) (are : names ≡ types.of_two left.ty right.ty) where
@@ -104,35 +100,35 @@ module _ (columns : List Column) where
           (type_of columns (plain_of right.query.shape))
       are_two = two_types names left.ty right.ty _ _ are is_left.typed.type is_right.typed.type
 
-      split_step : (nesting : Nesting) → resolved nesting columns (q.split f g tree span)
+      split_step : resolved nesting columns (q.split f g tree span)
           ≡ typed_then of_two names tree span (split (plain_of left.query.shape) (plain_of right.query.shape))
       unfolding resolved
-      split_step nesting =
-          rw (is_left.resolved nesting, is_right.resolved nesting)
+      split_step =
+          rw (is_left.resolved, is_right.resolved)
           (ap (λ (t : Types). typed_then of_two t tree span
           (split (plain_of left.query.shape) (plain_of right.query.shape))) (sym are_two))
 
-      combine_step : (nesting : Nesting) → resolved nesting columns (q.combine f g tree span)
+      combine_step : resolved nesting columns (q.combine f g tree span)
           ≡ typed_then of_two names tree span (combine (plain_of left.query.shape) (plain_of right.query.shape))
       unfolding resolved
-      combine_step nesting =
-          rw (is_left.resolved nesting, is_right.resolved nesting)
+      combine_step =
+          rw (is_left.resolved, is_right.resolved)
           (ap (λ (t : Types). typed_then of_two t tree span
           (combine (plain_of left.query.shape) (plain_of right.query.shape))) (sym are_two))
 
       pub split_refused : (stop : CheckStop)
           → ((make : values.Expression → Qre) → IsUnresolved (typed_then of_two names tree span make) stop)
-          → IsRefused columns (q.split f g tree span) stop
-      split_refused (Refused why) left' nesting =
-          split_step nesting ∙ left' (split (plain_of left.query.shape) (plain_of right.query.shape))
-      split_refused Memory left' nesting = tt
+          → IsRefused nesting columns (q.split f g tree span) stop
+      split_refused (Refused why) left' =
+          split_step ∙ left' (split (plain_of left.query.shape) (plain_of right.query.shape))
+      split_refused Memory left' = tt
 
       pub combine_refused : (stop : CheckStop)
           → ((make : values.Expression → Qre) → IsUnresolved (typed_then of_two names tree span make) stop)
-          → IsRefused columns (q.combine f g tree span) stop
-      combine_refused (Refused why) left' nesting =
-          combine_step nesting ∙ left' (combine (plain_of left.query.shape) (plain_of right.query.shape))
-      combine_refused Memory left' nesting = tt
+          → IsRefused nesting columns (q.combine f g tree span) stop
+      combine_refused (Refused why) left' =
+          combine_step ∙ left' (combine (plain_of left.query.shape) (plain_of right.query.shape))
+      combine_refused Memory left' = tt
 
       module _ (value : Expr) (ty : ValueType) (is_value : IsValueOver of_two names tree value ty) (made : Typed)
           (spans : spans_of made.query.shape
@@ -151,7 +147,7 @@ module _ (columns : List Column) where
         typed_two = subst (λ (t : Types). IsTyped t (values.plain_of value)) are_two is_value.typed
 
         places_two : places_in made.query ≡ places_of f ++ places_of g ++ span ∷ []
-        places_two = two_places columns f g left right made.query span is_left is_right spans at
+        places_two = two_places f g left right made.query span is_left.places is_right.places spans at
 
         fit_two : (make : values.Expression → Qre) → typed_then of_two names tree span make ≡ Ok
             (make (values.plain_of value))
@@ -159,56 +155,56 @@ module _ (columns : List Column) where
 
         pub split_made : plain_of made.query.shape
             ≡ split (plain_of left.query.shape) (plain_of right.query.shape) (values.plain_of value)
-            → IsMade columns (q.split f g tree span) made
+            → IsMade nesting columns (q.split f g tree span) made
         split_made is =
-            made_of columns (q.split f g tree span) made
+            made_of nesting columns (q.split f g tree span) made
             (split (plain_of left.query.shape) (plain_of right.query.shape) (values.plain_of value)) is
-            (λ nesting. split_step nesting ∙ fit_two (split (plain_of left.query.shape) (plain_of right.query.shape)))
+            (split_step ∙ fit_two (split (plain_of left.query.shape) (plain_of right.query.shape)))
             type_two (is_left.typed.keeps, is_right.typed.keeps, typed_two)
-            (is_left.typed.plain, is_right.typed.plain) places_two
+            places_two
 
         pub combine_made : plain_of made.query.shape
             ≡ combine (plain_of left.query.shape) (plain_of right.query.shape) (values.plain_of value)
-            → IsMade columns (q.combine f g tree span) made
+            → IsMade nesting columns (q.combine f g tree span) made
         combine_made is =
-            made_of columns (q.combine f g tree span) made
+            made_of nesting columns (q.combine f g tree span) made
             (combine (plain_of left.query.shape) (plain_of right.query.shape) (values.plain_of value)) is
-            (λ nesting. combine_step nesting ∙ fit_two
+            (combine_step ∙ fit_two
             (combine (plain_of left.query.shape) (plain_of right.query.shape)))
             type_two (is_left.typed.keeps, is_right.typed.keeps, typed_two)
-            (is_left.typed.plain, is_right.typed.plain) places_two
+            places_two
 
   -- an iteration, and an application
-  module _ (f : q.Query) (inner : Typed) (is_inner : IsMade columns f inner) (tree : e.Expression) (span : Span)
+  module _ (f : q.Query) (inner : Typed) (is_inner : IsMade nesting columns f inner) (tree : e.Expression) (span : Span)
       (names : Types) where
     module _ (first : Number) (are : names ≡ types.of_two type.Number inner.ty) where
       are_number : names ≡ types.of_two type.Number (type_of columns (plain_of inner.query.shape))
       are_number = two_types names type.Number inner.ty type.Number _ are refl is_inner.typed.type
 
-      iter_step : (nesting : Nesting) → resolved nesting columns (q.iter f first tree span)
+      iter_step : resolved nesting columns (q.iter f first tree span)
           ≡ number_then of_two names tree span (iter (plain_of inner.query.shape) first.value)
       unfolding resolved
-      iter_step nesting =
-          rw (is_inner.resolved nesting)
+      iter_step =
+          rw (is_inner.resolved)
           (ap (λ (t : Types). number_then of_two t tree span (iter (plain_of inner.query.shape) first.value))
           (sym are_number))
 
       pub iter_refused : (stop : CheckStop)
           → ((make : values.Expression → Qre) → IsUnresolved (number_then of_two names tree span make) stop)
-          → IsRefused columns (q.iter f first tree span) stop
-      iter_refused (Refused why) left' nesting =
-          iter_step nesting ∙ left' (iter (plain_of inner.query.shape) first.value)
-      iter_refused Memory left' nesting = tt
+          → IsRefused nesting columns (q.iter f first tree span) stop
+      iter_refused (Refused why) left' =
+          iter_step ∙ left' (iter (plain_of inner.query.shape) first.value)
+      iter_refused Memory left' = tt
 
       pub iter_made : (value : Expr) (made : Typed) → IsNumberOver of_two names tree value
           → FitsSigned w64 first.value
           → plain_of made.query.shape ≡ iter (plain_of inner.query.shape) first.value (values.plain_of value)
           → spans_of made.query.shape ≡ spans_of inner.query.shape ++ inner.query.span ∷ []
-          → made.query.span ≡ span → made.ty ≡ type.Number → IsMade columns (q.iter f first tree span) made
+          → made.query.span ≡ span → made.ty ≡ type.Number → IsMade nesting columns (q.iter f first tree span) made
       iter_made value made is_value fits is spans at ty =
-          made_of columns (q.iter f first tree span) made
+          made_of nesting columns (q.iter f first tree span) made
           (iter (plain_of inner.query.shape) first.value (values.plain_of value)) is
-          (λ nesting. iter_step nesting ∙ fit_number of_two names tree span (values.plain_of value)
+          (iter_step ∙ fit_number of_two names tree span (values.plain_of value)
           (sym is_value.named)
           is_value.passes (iter (plain_of inner.query.shape) first.value))
           ty (
@@ -216,33 +212,34 @@ module _ (columns : List Column) where
             fits,
             subst (λ (t : Types). HasType t (values.plain_of value) type.Number) are_number is_value.number,
           )
-          is_inner.typed.plain (one_place columns f inner made.query span is_inner spans at)
+          (one_place f inner made.query span is_inner.places spans at)
 
     module _ (are : names ≡ types.of_one inner.ty) where
       are_one : names ≡ types.of_one (type_of columns (plain_of inner.query.shape))
       are_one = are ∙ ap types.of_one is_inner.typed.type
 
-      apply_step : (nesting : Nesting) → resolved nesting columns (q.apply f tree span)
+      apply_step : resolved nesting columns (q.apply f tree span)
           ≡ typed_then of_one names tree span (apply (plain_of inner.query.shape))
       unfolding resolved
-      apply_step nesting =
-          rw (is_inner.resolved nesting)
+      apply_step =
+          rw (is_inner.resolved)
           (ap (λ (t : Types). typed_then of_one t tree span (apply (plain_of inner.query.shape))) (sym are_one))
 
       pub apply_refused : (stop : CheckStop)
           → ((make : values.Expression → Qre) → IsUnresolved (typed_then of_one names tree span make) stop)
-          → IsRefused columns (q.apply f tree span) stop
-      apply_refused (Refused why) left' nesting = apply_step nesting ∙ left' (apply (plain_of inner.query.shape))
-      apply_refused Memory left' nesting = tt
+          → IsRefused nesting columns (q.apply f tree span) stop
+      apply_refused (Refused why) left' = apply_step ∙ left' (apply (plain_of inner.query.shape))
+      apply_refused Memory left' = tt
 
       pub apply_made : (value : Expr) (made : Typed) (ty : ValueType) → IsValueOver of_one names tree value ty
           → plain_of made.query.shape ≡ apply (plain_of inner.query.shape) (values.plain_of value)
           → spans_of made.query.shape ≡ spans_of inner.query.shape ++ inner.query.span ∷ []
-          → made.query.span ≡ span → made.ty ≡ ty → IsMade columns (q.apply f tree span) made
+          → made.query.span ≡ span → made.ty ≡ ty → IsMade nesting columns (q.apply f tree span) made
       apply_made value made ty is_value is spans at ty_is =
-          made_of columns (q.apply f tree span) made (apply (plain_of inner.query.shape) (values.plain_of value)) is
-          (λ nesting. apply_step nesting ∙ fit of_one names tree span (values.plain_of value) (sym is_value.named)
+          made_of nesting columns (q.apply f tree span) made
+          (apply (plain_of inner.query.shape) (values.plain_of value)) is
+          (apply_step ∙ fit of_one names tree span (values.plain_of value) (sym is_value.named)
           is_value.passes (apply (plain_of inner.query.shape)))
           (ty_is ∙ is_value.type ∙ ap (λ (t : Types). type_of_expression t (values.plain_of value)) are_one)
           (is_inner.typed.keeps, subst (λ (t : Types). IsTyped t (values.plain_of value)) are_one is_value.typed)
-          is_inner.typed.plain (one_place columns f inner made.query span is_inner spans at)
+          (one_place f inner made.query span is_inner.places spans at)

@@ -1,5 +1,5 @@
 -- No program is without a verdict.
-use Rattle.std.proofs.Common.{◌≡◌, ◌≢◌, ◌⊎◌, inl, inr, suc, Bool, true, false, nat_eq, List, [], ◌∷◌, ◌++◌, length, map, Option, None, Some, Result, Ok, Err, refl, sym, ap, ◌∙◌, arith}
+use Rattle.std.proofs.Common.{◌≡◌, ◌⊎◌, inl, inr, suc, Bool, true, false, nat_eq, List, [], ◌∷◌, ◌++◌, length, map, Option, None, Some, Result, Ok, Err, refl, ap, arith}
 use Rattle.std.proofs.lemmas.Bool.Decides.{nat_tests}
 use Rattle.std.proofs.lemmas.Slice.Eq.{bytes_eq-Decides}
 use Rattle.std.specs.List.{AllByRecursion, Contains}
@@ -8,7 +8,6 @@ use Rattle.language_base.specs.declared.refusal.Refusal.{Refusal}
 use Rattle.language_base.specs.declared.rule.Rule.{Rule}
 use Rattle.language_base.specs.declared.rule.Rule.TheVariants.{Choice, Compose, Empty, Iter, Rates, Reach, Split}
 use Rattle.language_base.specs.declared.span.Span.{Span}
-use Rattle.value_ops.specs.declared.field.Field.{Field}
 use Rattle.item_schema.specs.declared.column.Column.{Column}
 use Rattle.predicate_cells.specs.Met.{IsMet, IsUnmet}
 use Rattle.predicate_cells.specs.Predicates.{Predicate}
@@ -19,12 +18,13 @@ use Rattle.rate_expr.specs.Rates.{Expression, preds_of}
 use Rattle.rate_expr.specs.Readings.{AreEqual, HasAllButEmpty}
 use Rattle.rate_expr.specs.Words.{Word, IsWordOf, join}
 use Rattle.rate_expr.proofs.Deciding.{in_or_not}
+use Rattle.query_lets.specs.Unfolded.{unfolded}
 use Rattle.query_model.specs.Queries.{Qre, atom, eps, choice, split, iter, combine, apply, compose, collect}
 use Rattle.query_model.specs.QueryTypes.{derived_columns, type_of}
 use Rattle.query_model.specs.Rates.{rate_of}
 use Rattle.query_model.specs.Rules.{Standing, free, bound}
 use Rattle.query_syntax.specs.Programs.{Program}
-use Rattle.type_checker.specs.Judged.{BreaksFirst, IsJudged, Verdict, accepted, ambiguous, measured, refused, sound, unmeasured}
+use Rattle.type_checker.specs.Judged.{BreaksFirst, IsJudged, Verdict, ambiguous, measured, refused, sound, unmeasured}
 use Rattle.type_checker.specs.Layouts.{layout_of}
 use Rattle.type_checker.specs.Nodes.{Node, nodes_in, places_of}
 use Rattle.type_checker.specs.Steps.{refusal}
@@ -177,7 +177,8 @@ module _ (columns : List Column) (standing : Standing) where
           same = same;
           differ = λ alike.
               let long : bytes_eq (map length us) (map length vs) ≡ true =
-              (bytes_eq-Decides (map length us) (map length vs)).1 (ap (map length) alike) in absurd (cc (differ, long));
+              (bytes_eq-Decides (map length us) (map length vs)).1 (ap (map length) alike) in
+              absurd (cc (differ, long));
         },
       )))
 
@@ -213,7 +214,7 @@ module _ (program : Program) (never : (verdict : Verdict) → IsJudged program v
 
   of_measured : (made : Result Qre Refusal) → measured program ≡ made → ⊥
   of_measured (Ok query) is =
-      some_refusal (nodes_in (layout_of program.stream).columns free query) (places_of program.main.query)
+      some_refusal (nodes_in (layout_of program.stream).columns free query) (places_of (unfolded program))
       (of_answer query is)
   of_measured (Err why) is = never (refused why) (unmeasured why is)
 

@@ -1,19 +1,18 @@
 -- What the passes over an expression find, from its names and its types.
-use Rattle.std.proofs.Common.{◌≡◌, Bool, true, false, Option, Some, None, Result, Ok, Err, option_map, refl, sym, ◌∙◌, ap, subst}
-use Rattle.language_base.specs.declared.refusal.Refusal.{Refusal}
+use Rattle.std.proofs.Common.{◌≡◌, true, false, Some, None, Ok, Err, refl}
 use Rattle.language_base.specs.declared.rule.Rule.TheVariants.{Name, Type_}
 use Rattle.language_base.specs.declared.span.Span.{Span}
 use Rattle.query_model.specs.Queries.{Qre}
 use Rattle.query_syntax.specs.Expressions as e
 use Rattle.value_ops.specs.Expressions.{Expression}
-use Rattle.value_ops.specs.Typing.{HasType, IsNumber, Types}
+use Rattle.value_ops.specs.Typing.{HasType, Types}
 use Rattle.value_ops.specs.declared.value.ValueType.{ValueType}
 use Rattle.value_ops.specs.declared.value.ValueType.TheVariants.{Number, Table}
 use Rattle.type_checker.specs.Expressions.{Scope, expression_over, is_number, is_typed}
 use Rattle.type_checker.specs.Resolutions.{number_then, typed_then}
 use Rattle.type_checker.specs.Scopes.{HasFittingNumbers}
-use Rattle.type_checker.specs.Steps.{◌>>=◌, found, provided, refusal}
-use Rattle.type_checker.proofs.WellTyped.{is_number_true, no_number, table_is_no_number, untyped}
+use Rattle.type_checker.specs.Steps.{refusal}
+use Rattle.type_checker.proofs.WellTyped.{no_number, table_is_no_number, untyped}
 
 module _ (scope : Scope) (types : Types) (tree : e.Expression) (span : Span) where
   -- a name stands for nothing

@@ -26,7 +26,7 @@ stops_before nodes others spans places (Refused why) broken = broken_before node
 stops_before nodes others spans places Memory broken = tt
 
 -- what stops behind nodes that break no rule
-stops_behind : (nodes others : List Node) (spans places : List Span) (stop : CheckStop)
+pub stops_behind : (nodes others : List Node) (spans places : List Span) (stop : CheckStop)
     → length nodes ≡ length spans → FirstBroken nodes spans None → IsBrokenBy others places stop
     → IsBrokenBy (nodes ++ others) (spans ++ places) stop
 stops_behind nodes others spans places (Refused why) same kept broken =
@@ -34,7 +34,7 @@ stops_behind nodes others spans places (Refused why) same kept broken =
 stops_behind nodes others spans places Memory same kept broken = tt
 
 -- the nodes of a query in memory
-abbrev nodes_at : List Column → Standing → Query → List Node
+abbrev pub nodes_at : List Column → Standing → Query → List Node
 nodes_at columns standing query = nodes_in columns standing (plain_of query.shape)
 
 module _ (columns : List Column) (first second : Query)
@@ -109,30 +109,25 @@ module _ (columns : List Column) (standing : Standing) (query : Query) where
       (stops_before _ _ _ (query.span ∷ []) stop broken)
 
 -- no node of the operands of a query breaks a rule, and its root is asked
-module _ (columns : List Column) (query : Query)
-    (none : (standing : Standing)
-    → FirstBroken (operand_nodes columns standing (plain_of query.shape)) (spans_of query.shape) None) where
+module _ (columns : List Column) (standing : Standing) (query : Query)
+    (none : FirstBroken (operand_nodes columns standing (plain_of query.shape)) (spans_of query.shape) None) where
   pub root_kept : (result : Result Sets CheckStop) → IfOk result (IsKept columns (plain_of query.shape))
-      → OnOk result ((standing : Standing)
-      → FirstBroken (nodes_at columns standing query) (places_in query) None)
-  root_kept (Ok sets) kept = λ standing. kept_at columns standing query (none standing) (kept.rule standing)
+      → OnOk result (FirstBroken (nodes_at columns standing query) (places_in query) None)
+  root_kept (Ok sets) kept = kept_at columns standing query none (kept.rule standing)
   root_kept (Err stop) kept = tt
 
   pub root_refused : (result : Result Sets CheckStop)
       → IfErr result (IsBrokenAt columns (plain_of query.shape) query.span)
-      → IfErr result (λ stop. (standing : Standing)
-      → IsBrokenBy (nodes_at columns standing query) (places_in query) stop)
+      → IfErr result (IsBrokenBy (nodes_at columns standing query) (places_in query))
   root_refused (Ok sets) broken = tt
-  root_refused (Err (Refused why)) (rule, is, breaks) = λ standing.
+  root_refused (Err (Refused why)) (rule, is, breaks) =
       subst (λ (w : Refusal). FirstBroken (nodes_at columns standing query) (places_in query) (Some w)) (sym is)
-      (refused_at columns standing query rule (none standing) (breaks standing))
-  root_refused (Err Memory) broken = λ standing. tt
+      (refused_at columns standing query rule none (breaks standing))
+  root_refused (Err Memory) broken = tt
 
 -- a query without operands
-pub none_without : (query : Query) (shape : Shape) (columns : List Column) → query.shape ≡ shape
-    → ((standing : Standing) → FirstBroken (operand_nodes columns standing (plain_of shape)) (spans_of shape) None)
-    → (standing : Standing)
+pub none_without : (query : Query) (shape : Shape) (columns : List Column) (standing : Standing) → query.shape ≡ shape
+    → FirstBroken (operand_nodes columns standing (plain_of shape)) (spans_of shape) None
     → FirstBroken (operand_nodes columns standing (plain_of query.shape)) (spans_of query.shape) None
-none_without query shape columns is none standing =
-    subst (λ (s : Shape). FirstBroken (operand_nodes columns standing (plain_of s)) (spans_of s) None) (sym is)
-    (none standing)
+none_without query shape columns standing is none =
+    subst (λ (s : Shape). FirstBroken (operand_nodes columns standing (plain_of s)) (spans_of s) None) (sym is) none

@@ -1,5 +1,5 @@
 -- The tests of types decide the relation of an expression to its type, where its numbers are of 64 bits.
-use Rattle.std.proofs.Common.{◌≡◌, ℕ, Bool, true, false, ◌&&◌, ◌||◌, List, Option, Some, None, FitsSigned, refl, sym, ◌∙◌, ap, subst, ◌↔◌}
+use Rattle.std.proofs.Common.{◌≡◌, Bool, true, false, ◌&&◌, ◌||◌, Option, Some, None, refl, sym, ap, subst, ◌↔◌}
 use Rattle.std.proofs.lemmas.Bool.{and_from, and_parts}
 use Rattle.value_ops.specs.Expressions.{Expression, literal, read, unary, binary, choice, sum, count, most, least, entry}
 use Rattle.value_ops.specs.Typing.{HasType, IsNumber, Types, type_named}

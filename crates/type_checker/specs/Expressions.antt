@@ -47,12 +47,15 @@ both_of joined _ _ = None
 
 -- a choice, where there are all four parts
 abbrev pub choice_of : (Expression → Expression → Expression → Expression → Expression)
-    → Option Expression → Option Expression → Option Expression → Option Expression → Option Expression
-choice_of joined (Some left) (Some right) (Some met) (Some other) = Some (joined left right met other)
+    → Option Expression → Option Expression → Option Expression → Option Expression
+    → Option Expression
+choice_of joined (Some left) (Some right) (Some met) (Some other) =
+    Some (joined left right met other)
 choice_of joined _ _ _ _ = None
 
 -- a table's name and an expression, where there are both
-abbrev pub table_form : (Var → Expression → Expression) → Option Var → Option Expression → Option Expression
+abbrev pub table_form : (Var → Expression → Expression) → Option Var → Option Expression
+    → Option Expression
 table_form joined (Some table) (Some inner) = Some (joined table inner)
 table_form joined _ _ = None
 
@@ -60,7 +63,8 @@ table_form joined _ _ = None
 abbrev pub expression_over : Scope → e.Expression → Option Expression
 expression_over scope (e.number n) = Some (literal n.value)
 expression_over scope (e.name n) = option_map read (named_in scope n.bytes)
-expression_over scope (e.unary operator inner span) = option_map (unary operator) (expression_over scope inner)
+expression_over scope (e.unary operator inner span) =
+    option_map (unary operator) (expression_over scope inner)
 expression_over scope (e.binary operator left right span) =
     both_of (binary operator) (expression_over scope left) (expression_over scope right)
 expression_over scope (e.choice compare left right at met other span) =
@@ -80,20 +84,22 @@ is_of Number (Some Number) = true
 is_of Table (Some Table) = true
 is_of _ _ = false
 
--- Well typed, and a number: operators, comparisons and branches take numbers, and what is made of a table takes a
--- name of one.
+-- Well typed, and a number: operators, comparisons and branches take numbers, and what is made of a
+-- table takes a name of one.
 abbrev pub is_number : Types → Expression → Bool
 is_number types (literal number) = true
 is_number types (read name) = is_of Number (type_named types name)
 is_number types (unary operator inner) = is_number types inner
 is_number types (binary operator left right) = is_number types left && is_number types right
 is_number types (choice compare left right met other) =
-    (is_number types left && is_number types right) && (is_number types met && is_number types other)
+    (is_number types left && is_number types right)
+    && (is_number types met && is_number types other)
 is_number types (sum table) = is_of Table (type_named types table)
 is_number types (count table) = is_of Table (type_named types table)
 is_number types (most table first) = is_of Table (type_named types table) && is_number types first
 is_number types (least table first) = is_of Table (type_named types table) && is_number types first
-is_number types (entry table key other) = is_of Table (type_named types table) && is_number types other
+is_number types (entry table key other) =
+    is_of Table (type_named types table) && is_number types other
 
 -- a bare name of a table
 abbrev pub is_table : Types → Expression → Bool

@@ -1,5 +1,5 @@
 -- For the prover. What a pass over a query finds, as its caller needs it.
-use Rattle.std.specs.Prelude.{◌≡◌, ◌↔◌, Result, Err, List, ◌∷◌, [], ◌++◌, None, Some, true, Ok, FitsSigned}
+use Rattle.std.specs.Prelude.{◌≡◌, ◌↔◌, Bool, true, Result, Err, List, ◌∷◌, [], ◌++◌, Option, None, Some, FitsSigned}
 use Rattle.std.specs.List.{Contains}
 use Rattle.language_base.specs.declared.refusal.Refusal.{Refusal}
 use Rattle.language_base.specs.declared.rule.Rule.{Rule}
@@ -7,22 +7,23 @@ use Rattle.language_base.specs.declared.span.Span.{Span}
 use Rattle.predicate_cells.specs.Predicates.{Predicate}
 use Rattle.query_model.specs.Queries.{spans_of, Qre, atom, eps, choice, split, iter, combine, apply, compose, collect, plain_of}
 use Rattle.item_schema.specs.declared.column.Column.{Column}
-use Rattle.predicate_cells.specs.Cells.{Partition}
+use Rattle.predicate_cells.specs.Cells.{AllFit, Partition}
 use Rattle.rate_expr.specs.FirstLastFollow.{AreSetsOf}
 use Rattle.rate_expr.specs.Paths.{AreOf}
+use Rattle.rate_expr.specs.Rates.{Expression, preds_of}
 use Rattle.rate_expr.specs.Sets.{Sets}
 use Rattle.symbolic_nfa.specs.Automata.{Automaton}
 use Rattle.query_model.specs.QueryTypes.{derived_columns, type_of, of_columns, of_one, of_two}
 use Rattle.query_model.specs.Rates.{rate_of}
-use Rattle.query_model.specs.Rules.{Standing, bound, IsTyped}
-use Rattle.query_model.specs.Shapes.{HasPlainShapes}
-use Rattle.query_model.specs.Sizes.{HasFewPositions, predicates_of}
+use Rattle.query_model.specs.Rules.{HasNoCollect, Standing, bound, IsTyped}
+use Rattle.query_model.specs.Sizes.{HasFewPositions, HaveFewCells, predicates_of}
 use Rattle.query_model.specs.declared.query.Query.{Query}
-use Rattle.type_checker.specs.Nodes.{Node, nodes_in}
+use Rattle.type_checker.specs.Nodes.{Node, first_where, nodes_in}
+use Rattle.type_checker.specs.Sizes.{derives_many_cells}
 use Rattle.type_checker.specs.Steps.{refusal}
-use Rattle.type_checker.specs.WordRules.{BreaksAt, FirstBroken}
+use Rattle.type_checker.specs.WordRules.{BreaksAt, BreaksFed, FirstBroken}
 use Rattle.std.specs.Int.{w64}
-use Rattle.predicate_cells.specs.Fits.{fits}
+use Rattle.predicate_cells.specs.Fits.{fits, has_texts}
 use Rattle.type_checker.specs.declared.naming.Typed.{Typed}
 use Rattle.type_checker.specs.declared.roots.Operands.{Operands}
 use Rattle.type_checker.specs.declared.stop.CheckStop.{CheckStop}
@@ -39,16 +40,56 @@ IsUnresolved found Memory = Unit {0}
 abbrev pub places_in : Query → List Span
 places_in query = spans_of query.shape ++ query.span ∷ []
 
+-- the place of the first node of a query in memory that is so
+abbrev pub first_in : (Node → Bool) → List Column → Standing → Query → Option Span
+first_in is_so columns standing query =
+    first_where is_so (nodes_in columns standing (plain_of query.shape)) (places_in query)
+
+-- the node is a composition whose right operand tells too many values of the left one apart
+abbrev pub derives_many : Node → Bool
+derives_many node = derives_many_cells node.columns node.query
+
 -- two lists have the same members
 abbrev pub HaveSameMembers : List Predicate → List Predicate → Type 0
 HaveSameMembers one other = (pred : Predicate) → Contains one pred ↔ Contains other pred
 
--- the query has only the shapes that are built, each of its rates has few positions, and the cells
--- were made with each of its predicates
+-- At each node tests are of the kinds of their columns, expressions are well typed and numbers of
+-- 64 bits; no collection stands on the right of a composition or in another, and what is collected
+-- is a number.
+abbrev pub KeepsTypes : List Column → Qre → Type 0
+KeepsTypes columns (atom pred expression) =
+    (fits columns pred ≡ true) × IsTyped (of_columns columns) expression
+KeepsTypes columns (eps number) = FitsSigned w64 number
+KeepsTypes columns (choice f g) =
+    KeepsTypes columns f × KeepsTypes columns g × (type_of columns g ≡ type_of columns f)
+KeepsTypes columns (split f g expression) =
+    KeepsTypes columns f × KeepsTypes columns g
+    × IsTyped (of_two (type_of columns f) (type_of columns g)) expression
+KeepsTypes columns (iter f number expression) =
+    KeepsTypes columns f × FitsSigned w64 number
+    × HasType (of_two Number (type_of columns f)) expression Number
+KeepsTypes columns (combine f g expression) =
+    KeepsTypes columns f × KeepsTypes columns g
+    × IsTyped (of_two (type_of columns f) (type_of columns g)) expression
+KeepsTypes columns (apply f expression) =
+    KeepsTypes columns f × IsTyped (of_one (type_of columns f)) expression
+KeepsTypes columns (compose f g) =
+    KeepsTypes columns f × KeepsTypes (derived_columns (type_of columns f)) g × HasNoCollect g
+KeepsTypes columns (collect column sync rate f) =
+    KeepsTypes columns f × (type_of columns f ≡ Number) × HasNoCollect f
+    × (has_texts columns column ≡ true) × (fits columns sync ≡ true)
+    × AllFit columns (preds_of rate)
+
+-- the cells were made with each of the predicates
+abbrev pub AreAmong : Partition → List Predicate → Type 0
+AreAmong cells preds = (pred : Predicate) → Contains preds pred → Contains cells.preds pred
+
+-- the query keeps types and limits, and the cells were made with each of its predicates
 pub record CanBeAsked (cells : Partition) (query : Qre) : Type 0 where
-  pub plain : HasPlainShapes query
+  pub types : KeepsTypes cells.layout.columns query
   pub few : HasFewPositions query
-  pub members : (pred : Predicate) → Contains (predicates_of query) pred → Contains cells.preds pred
+  pub derived : HaveFewCells cells.layout.columns query
+  pub members : AreAmong cells (predicates_of query)
 
 -- the automaton is one of the query's rate
 pub record IsAutomatonOf (query : Qre) (nfa : Automaton) : Type 0 where
@@ -73,6 +114,18 @@ IsBrokenAt columns query span (Refused why) = (rule : Rule) × (why ≡ refusal 
     × ((standing : Standing) → BreaksAt columns standing query (Some rule))
 IsBrokenAt columns query span Memory = Unit {0}
 
+-- the refusal is that of the rule which words of values break, or memory was wanting
+abbrev pub IsUnfed : Standing → List Column → Expression → Span → CheckStop → Type 0
+IsUnfed standing columns r span (Refused why) =
+    (rule : Rule) × (why ≡ refusal rule span) × BreaksFed standing columns r (Some rule)
+IsUnfed standing columns r span Memory = Unit {0}
+
+-- the nodes of the second operand of a composition, and then the composition
+abbrev pub nodes_behind : List Column → Standing → Qre → Qre → List Node
+nodes_behind columns standing f g =
+    nodes_in (derived_columns (type_of columns f)) standing g
+    ++ (record { columns = columns; standing = standing; query = compose f g }) ∷ []
+
 -- the nodes of the operands of a query
 abbrev pub operand_nodes : List Column → Standing → Qre → List Node
 operand_nodes columns standing (atom pred expression) = []
@@ -93,29 +146,7 @@ abbrev pub IsBrokenBy : List Node → List Span → CheckStop → Type 0
 IsBrokenBy nodes places (Refused refusal) = FirstBroken nodes places (Some refusal)
 IsBrokenBy nodes places Memory = Unit {0}
 
--- at each node tests are of the kinds of their columns, expressions are well typed and numbers of 64 bits
-abbrev pub KeepsTypes : List Column → Qre → Type 0
-KeepsTypes columns (atom pred expression) =
-    (fits columns pred ≡ true) × IsTyped (of_columns columns) expression
-KeepsTypes columns (eps number) = FitsSigned w64 number
-KeepsTypes columns (choice f g) =
-    KeepsTypes columns f × KeepsTypes columns g × (type_of columns g ≡ type_of columns f)
-KeepsTypes columns (split f g expression) =
-    KeepsTypes columns f × KeepsTypes columns g
-    × IsTyped (of_two (type_of columns f) (type_of columns g)) expression
-KeepsTypes columns (iter f number expression) =
-    KeepsTypes columns f × FitsSigned w64 number
-    × HasType (of_two Number (type_of columns f)) expression Number
-KeepsTypes columns (combine f g expression) =
-    KeepsTypes columns f × KeepsTypes columns g
-    × IsTyped (of_two (type_of columns f) (type_of columns g)) expression
-KeepsTypes columns (apply f expression) =
-    KeepsTypes columns f × IsTyped (of_one (type_of columns f)) expression
-KeepsTypes columns (compose f g) = ⊥
-KeepsTypes columns (collect column sync rate f) = ⊥
-
--- a query with its type, made of shapes that are built
+-- a query with its type
 pub record IsResolved (columns : List Column) (made : Typed) : Type 0 where
   pub type : made.ty ≡ type_of columns (plain_of made.query.shape)
   pub keeps : KeepsTypes columns (plain_of made.query.shape)
-  pub plain : HasPlainShapes (plain_of made.query.shape)

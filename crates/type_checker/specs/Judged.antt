@@ -1,29 +1,30 @@
--- Statement. How a program is judged: pass by pass, and the first pass that finds a broken rule decides. The passes of the text,
--- which make the program, come before.
+-- Statement. How a program is judged: pass by pass, and the first pass that finds a broken rule
+-- decides. The passes of the text, which make the program, come before.
 use Rattle.std.specs.Prelude.{◌≡◌, Option, None, Some, Result, Ok, Err}
 use Rattle.language_base.specs.declared.refusal.Refusal.{Refusal}
-use Rattle.language_base.specs.declared.rule.Rule.TheVariants.{Cells, Form, Name, Size}
+use Rattle.language_base.specs.declared.rule.Rule.TheVariants.{Cells, Name, Size}
 use Rattle.item_schema.specs.Layout.{Layout}
-use Rattle.item_schema.specs.declared.column.Column.{Column}
 use Rattle.query_model.specs.Monitors.{Monitor}
 use Rattle.query_model.specs.Queries.{Qre}
 use Rattle.query_model.specs.Rules.{free}
+use Rattle.query_lets.specs.Unfolded.{unfolded}
+use Rattle.query_lets.specs.Words.{wrong_name}
 use Rattle.query_syntax.specs.Programs.{Program, Stream}
 use Rattle.query_syntax.specs.Queries.{Query}
 use Rattle.query_syntax.specs.Spans.{query_span}
 use Rattle.type_checker.specs.Layouts.{layout_of}
-use Rattle.type_checker.specs.Names.{first_repeated}
-use Rattle.type_checker.specs.Nodes.{Node, nodes_in, places_of}
+use Rattle.type_checker.specs.Nodes.{nodes_in, places_of}
 use Rattle.type_checker.specs.Resolved.{outside, resolved}
 use Rattle.type_checker.specs.Sizes.{derives_many_cells, first_node, has_few_cells, has_few_nodes, has_few_slots, has_many_positions}
 use Rattle.type_checker.specs.Steps.{◌>>=◌, because, provided, unless}
-use Rattle.type_checker.specs.Unbuilt.{first_unbuilt}
 use Rattle.type_checker.specs.WordRules.{FirstBroken}
 
--- Positions and slots: the rate of each node has at most 128 positions, and little is kept for the whole.
+-- Positions and slots: the rate of each node has at most 128 positions, and little is kept for the
+-- whole.
 unfoldable pub limited : Layout → Query → Qre → Result (Unit {0}) Refusal
 limited layout tree query = do
-  positions ← because Size (unless (first_node has_many_positions layout.columns query (places_of tree)))
+  positions ← because Size (unless
+      (first_node has_many_positions layout.columns query (places_of tree)))
   provided Size (query_span tree) (has_few_slots query)
 
 -- Cells: first those of the stream's items, then those of the values inside.
@@ -33,22 +34,21 @@ parted stream tree query = do
   because Cells (unless (first_node (λ node. derives_many_cells node.columns node.query)
       (layout_of stream).columns query (places_of tree)))
 
--- All passes but the last: terms that are not built, columns that are declared twice, nodes, names and types,
--- positions and slots, cells.
+-- All passes but the last: names of columns and lets, nodes, names and types, positions and slots,
+-- cells. Those behind the first are over the main query after lets.
 unfoldable pub measured : Program → Result Qre Refusal
 measured program = do
-  built ← because Form (unless (first_unbuilt program))
-  distinct ← because Name (unless (first_repeated program.stream.columns))
-  few ← provided Size (query_span program.main.query) (has_few_nodes program.main.query)
-  query ← resolved outside (layout_of program.stream).columns program.main.query
-  small ← limited (layout_of program.stream) program.main.query query
-  cells ← parted program.stream program.main.query query
+  right ← because Name (unless (wrong_name program))
+  few ← provided Size (query_span (unfolded program)) (has_few_nodes (unfolded program))
+  query ← resolved outside (layout_of program.stream).columns (unfolded program)
+  small ← limited (layout_of program.stream) (unfolded program) query
+  cells ← parted program.stream (unfolded program) query
   Ok query
 
 -- the last: the rules of words at the nodes of the query
 abbrev pub BreaksFirst : Program → Qre → Option Refusal → Type 0
 BreaksFirst program query why = FirstBroken
-    (nodes_in (layout_of program.stream).columns free query) (places_of program.main.query) why
+    (nodes_in (layout_of program.stream).columns free query) (places_of (unfolded program)) why
 
 -- a query that is run, or a refusal
 pub data Verdict : Type 0 where

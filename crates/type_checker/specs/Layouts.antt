@@ -28,4 +28,5 @@ has_header (Header span) = true
 
 -- the columns of the items, and whether a header line comes before them
 abbrev pub layout_of : Stream → Layout
-layout_of stream = record { has_header = has_header stream.mode; columns = map column_of stream.columns }
+layout_of stream =
+    record { has_header = has_header stream.mode; columns = map column_of stream.columns }

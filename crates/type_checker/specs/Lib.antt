@@ -3,6 +3,7 @@ pub mod Findings
 pub mod Judged
 pub mod Layouts
 pub mod Names
+pub mod Nestings
 pub mod Nodes
 pub mod Passes
 pub mod Rates
@@ -10,8 +11,8 @@ pub mod Resolutions
 pub mod Resolved
 pub mod Scopes
 pub mod Sizes
+pub mod Standings
 pub mod Steps
 pub mod Stops
 pub mod Tests
-pub mod Unbuilt
 pub mod WordRules

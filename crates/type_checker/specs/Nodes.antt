@@ -1,4 +1,5 @@
--- Statement. The nodes of a query and their places, each behind those of its operands, from left to right.
+-- Statement. The nodes of a query and their places, each behind those of its operands, from left to
+-- right.
 use Rattle.std.specs.Prelude.{Bool, List, [], ◌∷◌, ◌++◌, Option, None, Some, if◌then◌else◌}
 use Rattle.language_base.specs.declared.span.Span.{Span}
 use Rattle.item_schema.specs.declared.column.Column.{Column}

@@ -1,11 +1,11 @@
 -- For the prover. What a query, or an expression in it, is resolved to.
-use Rattle.std.specs.Prelude.{◌≡◌, true, List, map, Option, Some, Result, Ok}
+use Rattle.std.specs.Prelude.{◌≡◌, true, List, Some, Result, Ok}
 use Rattle.item_schema.specs.declared.column.Column.{Column}
 use Rattle.language_base.specs.declared.refusal.Refusal.{Refusal}
 use Rattle.language_base.specs.declared.rule.Rule.TheVariants.{Name, Type_}
 use Rattle.language_base.specs.declared.span.Span.{Span}
 use Rattle.query_model.specs.Queries.{Qre, plain_of}
-use Rattle.query_model.specs.QueryTypes.{of_columns, type_of_expression}
+use Rattle.query_model.specs.QueryTypes.{derived_columns, of_columns, type_of_expression}
 use Rattle.query_model.specs.Rules.{IsTyped}
 use Rattle.query_syntax.specs.Expressions as e
 use Rattle.query_syntax.specs.Queries as q
@@ -13,7 +13,7 @@ use Rattle.type_checker.specs.Expressions.{Scope, expression_over, is_number, is
 use Rattle.type_checker.specs.Findings.{IsResolved, IsUnresolved, places_in}
 use Rattle.type_checker.specs.Nodes.{places_of}
 use Rattle.type_checker.specs.Resolved as whole
-use Rattle.type_checker.specs.Resolved.{Nesting}
+use Rattle.type_checker.specs.Resolved.{Nesting, inside}
 use Rattle.type_checker.specs.Steps.{◌>>=◌, found, provided}
 use Rattle.type_checker.specs.declared.naming.Typed.{Typed}
 use Rattle.type_checker.specs.declared.shapes.Items.{Items}
@@ -32,59 +32,80 @@ columns_of items = items.schema.now.columns
 abbrev pub HasTypes : Items → Type 0
 HasTypes items = items.types.now ≡ (of_columns (columns_of items)).fields
 
--- a query as it is written is resolved to this one
-pub record IsMade (columns : List Column) (tree : q.Query) (made : Typed) : Type 0 where
-  pub resolved : (nesting : Nesting)
-      → whole.resolved nesting columns tree ≡ Ok (plain_of made.query.shape)
+-- a query as it is written is resolved to this one at such a place
+pub record IsMade (nesting : Nesting) (columns : List Column) (tree : q.Query) (made : Typed)
+    : Type 0 where
+  pub resolved : whole.resolved nesting columns tree ≡ Ok (plain_of made.query.shape)
   pub typed : IsResolved columns made
   pub places : places_in made.query ≡ places_of tree
 
 -- it is refused so
-abbrev pub IsRefused : List Column → q.Query → CheckStop → Type 0
-IsRefused columns tree stop = (nesting : Nesting) → IsUnresolved (whole.resolved nesting columns tree) stop
+abbrev pub IsRefused : Nesting → List Column → q.Query → CheckStop → Type 0
+IsRefused nesting columns tree stop = IsUnresolved (whole.resolved nesting columns tree) stop
 
 -- a node is made of one operand, whatever that was written as, or of two
 abbrev pub IsMadeOfOne : (q.Query → q.Query) → Typed → Typed → Type 0
-IsMadeOfOne node operand made =
-    (columns : List Column) (f : q.Query) → IsMade columns f operand → IsMade columns (node f) made
+IsMadeOfOne node operand made = (nesting : Nesting) (columns : List Column) (f : q.Query)
+    → IsMade nesting columns f operand → IsMade nesting columns (node f) made
 
 abbrev pub IsMadeOfTwo : (q.Query → q.Query → q.Query) → Typed → Typed → Typed → Type 0
-IsMadeOfTwo node left right made =
-    (columns : List Column) (f g : q.Query) → IsMade columns f left → IsMade columns g right
-    → IsMade columns (node f g) made
+IsMadeOfTwo node left right made = (nesting : Nesting) (columns : List Column) (f g : q.Query)
+    → IsMade nesting columns f left → IsMade nesting columns g right
+    → IsMade nesting columns (node f g) made
 
 -- a node is refused over one operand, or over two
 abbrev pub IsRefusedOverOne : (q.Query → q.Query) → Typed → CheckStop → Type 0
-IsRefusedOverOne node operand stop =
-    (columns : List Column) (f : q.Query) → IsMade columns f operand → IsRefused columns (node f) stop
+IsRefusedOverOne node operand stop = (nesting : Nesting) (columns : List Column) (f : q.Query)
+    → IsMade nesting columns f operand → IsRefused nesting columns (node f) stop
 
 abbrev pub IsRefusedOverTwo : (q.Query → q.Query → q.Query) → Typed → Typed → CheckStop → Type 0
-IsRefusedOverTwo node left right stop =
-    (columns : List Column) (f g : q.Query) → IsMade columns f left → IsMade columns g right
-    → IsRefused columns (node f g) stop
+IsRefusedOverTwo node left right stop = (nesting : Nesting) (columns : List Column) (f g : q.Query)
+    → IsMade nesting columns f left → IsMade nesting columns g right
+    → IsRefused nesting columns (node f g) stop
+
+-- a composition is made of two operands, of which the second is on the values of the first
+abbrev pub IsComposed : Span → Typed → Typed → Typed → Type 0
+IsComposed span left right made = (nesting : Nesting) (columns : List Column) (f g : q.Query)
+    → IsMade nesting columns f left → IsMade inside (derived_columns left.ty) g right
+    → IsMade nesting columns (q.compose f g span) made
+
+-- a node at a place is made, or refused, over an operand that is inside of a collection
+abbrev pub IsMadeOfInner : Nesting → List Column → (q.Query → q.Query) → Typed → Typed → Type 0
+IsMadeOfInner nesting columns node operand made =
+    (f : q.Query) → IsMade inside columns f operand → IsMade nesting columns (node f) made
+
+abbrev pub IsRefusedOverInner : Nesting → List Column → (q.Query → q.Query) → Typed → CheckStop
+    → Type 0
+IsRefusedOverInner nesting columns node operand stop =
+    (f : q.Query) → IsMade inside columns f operand → IsRefused nesting columns (node f) stop
 
 -- what is made of an expression that is well typed
-abbrev pub typed_then : Scope → Types → e.Expression → Span → (Expression → Qre) → Result Qre Refusal
+abbrev pub typed_then : Scope → Types → e.Expression → Span → (Expression → Qre)
+    → Result Qre Refusal
 typed_then scope types tree span make =
     found Name span (expression_over scope tree) >>= (λ (expression : Expression).
-    provided Type_ span (is_typed types expression) >>= (λ (typed : Unit {0}). Ok (make expression)))
+    provided Type_ span (is_typed types expression) >>= (λ (typed : Unit {0}).
+    Ok (make expression)))
 
 -- and of one that is a number
-abbrev pub number_then : Scope → Types → e.Expression → Span → (Expression → Qre) → Result Qre Refusal
+abbrev pub number_then : Scope → Types → e.Expression → Span → (Expression → Qre)
+    → Result Qre Refusal
 number_then scope types tree span make =
     found Name span (expression_over scope tree) >>= (λ (expression : Expression).
-    provided Type_ span (is_number types expression) >>= (λ (typed : Unit {0}). Ok (make expression)))
+    provided Type_ span (is_number types expression) >>= (λ (typed : Unit {0}).
+    Ok (make expression)))
 
 -- an expression and its type
-pub record IsValueOver (scope : Scope) (types : Types) (tree : e.Expression) (value : Expr) (ty : ValueType)
-    : Type 0 where
+pub record IsValueOver (scope : Scope) (types : Types) (tree : e.Expression) (value : Expr)
+    (ty : ValueType) : Type 0 where
   pub named : expression_over scope tree ≡ Some (values.plain_of value)
   pub passes : is_typed types (values.plain_of value) ≡ true
   pub typed : IsTyped types (values.plain_of value)
   pub type : ty ≡ type_of_expression types (values.plain_of value)
 
 -- a number
-pub record IsNumberOver (scope : Scope) (types : Types) (tree : e.Expression) (value : Expr) : Type 0 where
+pub record IsNumberOver (scope : Scope) (types : Types) (tree : e.Expression) (value : Expr)
+    : Type 0 where
   pub named : expression_over scope tree ≡ Some (values.plain_of value)
   pub passes : is_number types (values.plain_of value) ≡ true
   pub number : IsNumber types (values.plain_of value)

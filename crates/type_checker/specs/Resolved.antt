@@ -1,7 +1,8 @@
--- Statement. Names and types: a query as it is written is resolved, or the first node that breaks a rule of names, of
--- nesting or of types is told. The operands of a node are asked from left to right and then the node; at
--- one node names are asked first, then whether a collection may stand there, then types.
-use Rattle.std.specs.Prelude.{ℕ, Bool, ◌&&◌, true, false, List, Result, Ok, Err}
+-- Statement. Names and types: a query as it is written is resolved, or the first node that breaks a
+-- rule of names, of nesting or of types is told. The operands of a node are asked from left to
+-- right and then the node; at one node names are asked first, then whether a collection may stand
+-- there, then types.
+use Rattle.std.specs.Prelude.{Bool, ◌&&◌, true, false, List, Result, Ok, Err}
 use Rattle.std.specs.List.{list_all}
 use Rattle.language_base.specs.declared.refusal.Refusal.{Refusal}
 use Rattle.language_base.specs.declared.rule.Rule.TheVariants.{Name, Nested, Type_}
@@ -56,7 +57,8 @@ resolved nesting columns (q.split left right value span) = do
   f ← resolved nesting columns left
   g ← resolved nesting columns right
   expression ← found Name span (expression_over of_two value)
-  typed ← provided Type_ span (is_typed (types.of_two (type_of columns f) (type_of columns g)) expression)
+  typed ← provided Type_ span (is_typed (types.of_two (type_of columns f) (type_of columns g))
+      expression)
   Ok (split f g expression)
 resolved nesting columns (q.iter operand first step span) = do
   f ← resolved nesting columns operand
@@ -67,7 +69,8 @@ resolved nesting columns (q.combine left right value span) = do
   f ← resolved nesting columns left
   g ← resolved nesting columns right
   expression ← found Name span (expression_over of_two value)
-  typed ← provided Type_ span (is_typed (types.of_two (type_of columns f) (type_of columns g)) expression)
+  typed ← provided Type_ span (is_typed (types.of_two (type_of columns f) (type_of columns g))
+      expression)
   Ok (combine f g expression)
 resolved nesting columns (q.apply operand value span) = do
   f ← resolved nesting columns operand

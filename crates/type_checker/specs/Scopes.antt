@@ -1,4 +1,5 @@
--- For the prover. What the names of an expression stand for, and the numbers in it, as they lie in memory.
+-- For the prover. What the names of an expression stand for, and the numbers in it, as they lie in
+-- memory.
 use Rattle.std.specs.Prelude.{FitsSigned}
 use Rattle.std.specs.Int.{w64}
 use Rattle.value_ops.specs.Expressions.{Expression, literal, read, unary, binary, choice, sum, count, most, least, entry}
@@ -19,7 +20,8 @@ HasFittingNumbers (read name) = Unit {0}
 HasFittingNumbers (unary operator inner) = HasFittingNumbers inner
 HasFittingNumbers (binary operator left right) = HasFittingNumbers left × HasFittingNumbers right
 HasFittingNumbers (choice compare left right met other) =
-    HasFittingNumbers left × HasFittingNumbers right × HasFittingNumbers met × HasFittingNumbers other
+    HasFittingNumbers left × HasFittingNumbers right × HasFittingNumbers met
+    × HasFittingNumbers other
 HasFittingNumbers (sum name) = Unit {0}
 HasFittingNumbers (count name) = Unit {0}
 HasFittingNumbers (most name first) = HasFittingNumbers first

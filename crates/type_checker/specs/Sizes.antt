@@ -1,9 +1,10 @@
 -- Statement. The limits of a program.
-use Rattle.std.specs.Prelude.{ℕ, Bool, false, not, List, length, nat_le, Option, None}
+use Rattle.std.specs.Prelude.{Bool, false, not, List, nat_le, Option}
 use Rattle.language_base.specs.Limits.{max_cells, max_positions}
 use Rattle.language_base.specs.declared.span.Span.{Span}
 use Rattle.item_schema.specs.declared.column.Column.{Column}
 use Rattle.predicate_cells.specs.Cells.{count_from}
+use Rattle.query_lets.specs.Sizes.{nodes_of}
 use Rattle.query_model.specs.Bounds.{slots_of}
 use Rattle.query_model.specs.Queries.{Qre, compose}
 use Rattle.query_model.specs.QueryTypes.{derived_columns, type_of}
@@ -12,11 +13,11 @@ use Rattle.query_model.specs.Rules.{free}
 use Rattle.query_model.specs.Sizes.{max_nodes, max_slots, predicates_of}
 use Rattle.query_syntax.specs.Queries.{Query}
 use Rattle.rate_expr.specs.Rates.{size_of}
-use Rattle.type_checker.specs.Nodes.{Node, first_where, nodes_in, places_of}
+use Rattle.type_checker.specs.Nodes.{Node, first_where, nodes_in}
 
 -- the query as it is written has few nodes
 abbrev pub has_few_nodes : Query → Bool
-has_few_nodes tree = nat_le (length (places_of tree)) max_nodes
+has_few_nodes tree = nat_le (nodes_of tree) max_nodes
 
 -- the rate of the node has too many positions
 abbrev pub has_many_positions : Node → Bool
@@ -30,9 +31,11 @@ has_few_slots query = nat_le (slots_of query) max_slots
 abbrev pub has_few_cells : List Column → Qre → Bool
 has_few_cells columns query = nat_le (count_from 0 columns (predicates_of query)) max_cells
 
--- the node is a composition whose right operand's predicates tell apart too many values of the left one
+-- the node is a composition whose right operand's predicates tell apart too many values of the left
+-- one
 abbrev pub derives_many_cells : List Column → Qre → Bool
-derives_many_cells columns (compose f g) = not (has_few_cells (derived_columns (type_of columns f)) g)
+derives_many_cells columns (compose f g) =
+    not (has_few_cells (derived_columns (type_of columns f)) g)
 derives_many_cells columns _ = false
 
 -- the place of the first node that is so

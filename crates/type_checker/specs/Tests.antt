@@ -34,7 +34,8 @@ joined_by And left right = conjunction left right
 joined_by Or left right = disjunction left right
 
 -- the same, where there are both
-abbrev pub both : Connective → Option plain.Predicate → Option plain.Predicate → Option plain.Predicate
+abbrev pub both : Connective → Option plain.Predicate → Option plain.Predicate
+    → Option plain.Predicate
 both connective (Some left) (Some right) = Some (joined_by connective left right)
 both connective _ _ = None
 
@@ -47,7 +48,8 @@ resolved_over columns (order operator column bound span) =
     option_map (order_test operator bound.value) (column_named columns column.bytes)
 resolved_over columns (between column low high span) =
     option_map (λ c. plain.between c low.value high.value) (column_named columns column.bytes)
-resolved_over columns (is_num column span) = option_map plain.is_num (column_named columns column.bytes)
+resolved_over columns (is_num column span) =
+    option_map plain.is_num (column_named columns column.bytes)
 resolved_over columns (joined connective left right span) =
     both connective (resolved_over columns left) (resolved_over columns right)
 resolved_over columns (negated operand span) = option_map negation (resolved_over columns operand)

@@ -1,6 +1,6 @@
--- Statement. The rules of words: at each node they are asked over all words of items of the node's stream, the rule of the
--- lower number first.
-use Rattle.std.specs.Prelude.{◌+◌, ◌⊎◌, ◌≡◌, List, [], ◌∷◌, Option, None, Some}
+-- Statement. The rules of words: at each node they are asked over all words of items of the node's
+-- stream, the rule of the lower number first.
+use Rattle.std.specs.Prelude.{◌+◌, ◌⊎◌, ◌≡◌, List, ◌∷◌, Option, None, Some}
 use Rattle.std.specs.List.{AllByRecursion, Contains}
 use Rattle.language_base.specs.declared.refusal.Refusal.{Refusal}
 use Rattle.language_base.specs.declared.rule.Rule.{Rule}
@@ -24,12 +24,13 @@ use Rattle.type_checker.specs.Steps.{refusal}
 
 -- words lead to too many pairs of states of the automata of two rates
 abbrev pub ReachManyPairs : List Column → Expression → Expression → Type 0
-ReachManyPairs columns r s = (first : Sets) × (second : Sets) × AreSetsOf first r × AreSetsOf second s
-    × ReachPairs columns first second (max_reach + 1)
+ReachManyPairs columns r s = (first : Sets) × (second : Sets) × AreSetsOf first r
+    × AreSetsOf second s × ReachPairs columns first second (max_reach + 1)
 
 -- words lead to too many states of the automaton of a rate
 abbrev pub ReachManyStates : List Column → Expression → Type 0
-ReachManyStates columns r = (sets : Sets) × AreSetsOf sets r × ReachStates columns sets (max_reach + 1)
+ReachManyStates columns r =
+    (sets : Sets) × AreSetsOf sets r × ReachStates columns sets (max_reach + 1)
 
 -- the first rule that the rates of a combination's operands break, or that they break none
 abbrev pub BreaksEqual : List Column → Expression → Expression → Option Rule → Type 0
@@ -38,7 +39,8 @@ BreaksEqual columns r s (Some Rates) = (ReachManyPairs columns r s → ⊥) × H
 BreaksEqual columns r s None = (ReachManyPairs columns r s → ⊥) × AreEqual columns r s
 BreaksEqual columns r s _ = ⊥
 
--- the same of the rate of the right operand of a composition, which is bound only if its value is never missing
+-- the same of the rate of the right operand of a composition, which is bound only if its value is
+-- never missing
 abbrev pub BreaksFed : Standing → List Column → Expression → Option Rule → Type 0
 BreaksFed free columns r None = Unit {0}
 BreaksFed bound columns r (Some Reach) = ReachManyStates columns r
@@ -48,11 +50,13 @@ BreaksFed _ columns r _ = ⊥
 
 -- some item meets each of the predicates, or none meets one of them
 abbrev pub BreaksMet : List Column → List Predicate → Option Rule → Type 0
-BreaksMet columns preds (Some Empty) = (pred : Predicate) × Contains preds pred × IsUnmet columns pred
+BreaksMet columns preds (Some Empty) =
+    (pred : Predicate) × Contains preds pred × IsUnmet columns pred
 BreaksMet columns preds None = AllByRecursion (IsMet columns) preds
 BreaksMet columns preds _ = ⊥
 
--- the first rule of words that a query over these columns breaks at its root, or that it breaks none there
+-- the first rule of words that a query over these columns breaks at its root, or that it breaks
+-- none there
 abbrev pub BreaksAt : List Column → Standing → Qre → Option Rule → Type 0
 BreaksAt columns standing (atom pred expression) (Some Empty) = IsUnmet columns pred
 BreaksAt columns standing (atom pred expression) None = IsMet columns pred
@@ -62,14 +66,16 @@ BreaksAt columns standing (choice f g) None = AreDisjoint columns (rate_of f) (r
 BreaksAt columns standing (split f g expression) (Some Split) =
     HaveTwoSplits columns (rate_of f) (rate_of g)
 BreaksAt columns standing (split f g expression) None = HaveOneSplit columns (rate_of f) (rate_of g)
-BreaksAt columns standing (iter f number expression) (Some Iter) = HasTwoFactorings columns (rate_of f)
+BreaksAt columns standing (iter f number expression) (Some Iter) =
+    HasTwoFactorings columns (rate_of f)
 BreaksAt columns standing (iter f number expression) None = HasOneFactoring columns (rate_of f)
 BreaksAt columns standing (combine f g expression) broken =
     BreaksEqual columns (rate_of f) (rate_of g) broken
 BreaksAt columns standing (apply f expression) None = Unit {0}
 BreaksAt columns standing (compose f g) broken =
     BreaksFed standing (derived_columns (type_of columns f)) (rate_of g) broken
-BreaksAt columns standing (collect column sync rate f) broken = BreaksMet columns (preds_of rate) broken
+BreaksAt columns standing (collect column sync rate f) broken =
+    BreaksMet columns (preds_of rate) broken
 BreaksAt columns standing _ _ = ⊥
 
 -- the same of a node

@@ -4,20 +4,21 @@ ghost use Rattle.predicate_cells.specs.Cells.{AllFit};
 ghost use Rattle.predicate_cells.specs.Plain as predicate;
 ghost use Rattle.predicate_cells.specs.declared.stop.CellStop.TheVariants.{TooMany};
 ghost use Rattle.query_model.specs.Queries.{plain_of};
-ghost use Rattle.query_model.specs.Shapes.{HasPlainShapes};
 ghost use Rattle.query_model.specs.Sizes.{predicates_of};
+ghost use Rattle.rate_expr.specs.Plain as rates;
+ghost use Rattle.rate_expr.specs.Rates.{preds_of};
 ghost use Rattle.type_checker.specs.Findings.{HaveSameMembers};
 ghost use Rattle.type_checker.specs.Sizes.{has_few_cells};
 
 use item_schema::Schema;
 use predicate_cells::{CellStop, Cells, Pred, Preds};
 use query_model::{Query, Shape};
+use rate_expr::Rate;
 use std::alloc::{AllocError, Global};
 
 /// The cells of the schema's items under the predicates of the query, each of them once.
 pub fn cells_of(alloc: Global, schema: &Schema, query: &Query) -> Result<Cells, CellStop>
-    requires plain { HasPlainShapes (plain_of query.now.shape) }
-    requires fit { AllFit schema.now.columns (predicates_of (plain_of query.now.shape)) }
+    requires { AllFit schema.now.columns (predicates_of (plain_of query.now.shape)) }
     ensures layout { IfOk result (λ cells. cells.layout ≡ schema.now) }
     ensures members { IfOk result (λ cells.
         HaveSameMembers cells.preds (predicates_of (plain_of query.now.shape))) }
@@ -32,21 +33,41 @@ pub fn cells_of(alloc: Global, schema: &Schema, query: &Query) -> Result<Cells, 
 }
 
 fn add_those_of(query: &Query, preds: &mut Preds) -> Result<(), AllocError>
-    requires { HasPlainShapes (plain_of query.now.shape) }
     ensures { OnOk result (HaveSameMembers preds.new
         (preds.old ++ predicates_of (plain_of query.now.shape))) }
 {
     match &query.shape {
         Shape::Atom(pred, _) => add_once(pred, preds),
+        Shape::Eps(_) => Ok(()),
         Shape::Or(first, second)
         | Shape::Split(first, second, _)
         | Shape::Combine(first, second, _) => {
             add_those_of(first, preds)?;
             add_those_of(second, preds)
         }
-        Shape::Iter(inner, ..) | Shape::Apply(inner, _) => add_those_of(inner, preds),
-        // No query of plain shapes is a composition or a collection.
-        Shape::Eps(_) | Shape::Compose(..) | Shape::Collect(..) => Ok(()),
+        Shape::Iter(inner, ..) | Shape::Apply(inner, _) | Shape::Compose(inner, _) => {
+            add_those_of(inner, preds)
+        }
+        Shape::Collect(_, sync, rate, inner) => {
+            add_once(sync, preds)?;
+            add_those_in(rate, preds)?;
+            add_those_of(inner, preds)
+        }
+    }
+}
+
+fn add_those_in(rate: &Rate, preds: &mut Preds) -> Result<(), AllocError>
+    ensures { OnOk result (HaveSameMembers preds.new
+        (preds.old ++ preds_of (rates.plain_of rate.now))) }
+{
+    match rate {
+        Rate::Empty => Ok(()),
+        Rate::One(pred) => add_once(pred, preds),
+        Rate::Seq(first, second) | Rate::Alt(first, second) => {
+            add_those_in(first, preds)?;
+            add_those_in(second, preds)
+        }
+        Rate::Star(inner) => add_those_in(inner, preds),
     }
 }
 

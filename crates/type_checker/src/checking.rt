@@ -1,8 +1,6 @@
 //! The top call.
 ghost use Rattle.std.specs.Prelude.{◌≡◌, IfErr, IfOk};
 ghost use Rattle.query_model.specs.Monitors.{monitor_of};
-ghost use Rattle.query_model.specs.Queries.{plain_of};
-ghost use Rattle.query_model.specs.Shapes.{HasPlainShapes};
 ghost use Rattle.query_syntax.specs.Limits.{IsWithin};
 ghost use Rattle.query_syntax.specs.Plain.{plain_program, plain_stream};
 ghost use Rattle.type_checker.specs.Judged.{IsJudged, accepted};
@@ -10,6 +8,7 @@ ghost use Rattle.type_checker.specs.Stops.{IsStopOf};
 
 use crate::CheckStop;
 use crate::measured::measure;
+use crate::standing::Standing;
 use crate::words::keep_words;
 use predicate_cells::Cells;
 use query_model::Checked;
@@ -22,12 +21,11 @@ pub fn check(alloc: Global, program: &Program) -> Result<Checked, CheckStop>
     requires { IsWithin (plain_stream program.now.stream) }
     ensures accepted { IfOk result (λ made.
         IsJudged (plain_program program.now) (accepted (monitor_of made))) }
-    ensures plain { IfOk result (λ made. HasPlainShapes (plain_of made.main.shape)) }
     ensures refused { IfErr result (IsStopOf (plain_program program.now)) }
 {
     let found = measure(alloc, program)?;
     let cells = shared(alloc, found.cells)?;
-    keep_words(alloc, &cells, &found.query)?;
+    keep_words(alloc, Standing::Free, &cells, &found.query)?;
     Ok(Checked::new(found.schema, found.query))
 }
 

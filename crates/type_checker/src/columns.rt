@@ -1,32 +1,9 @@
 //! The names of columns.
 ghost use Rattle.std.specs.Prelude.{◌≡◌, ◌<◌, IfSome, length};
-ghost use Rattle.type_checker.specs.Names.{column_named, first_repeated, has_name};
+ghost use Rattle.predicate_cells.specs.Fits.{has_texts};
+ghost use Rattle.type_checker.specs.Names.{column_named};
 
-use item_schema::Schema;
-use language_base::Span;
-use query_syntax::Column;
-
-/// The place of the first name, in the order of the text, that an earlier column has. There are at most
-/// 32 columns.
-pub fn first_repeated(columns: &[Column]) -> Option<Span>
-    ensures { result ≡ first_repeated columns.now }
-{
-    'columns: for (index, column) in columns.iter().enumerate() {
-        if has_name(&columns[..index], column.name.bytes.as_slice()) {
-            return Some(column.name.span);
-        }
-    }
-    None
-}
-
-// Whether one of the columns has this name.
-fn has_name(columns: &[Column], name: &[u8]) -> bool
-    ensures { result ≡ has_name columns.now name.now }
-{
-    columns
-        .iter()
-        .any(|column| name == column.name.bytes.as_slice())
-}
+use item_schema::{Kind, Schema};
 
 /// The column of this name, counted from 0.
 pub fn column_named(schema: &Schema, name: &[u8]) -> Option<u32>
@@ -43,4 +20,14 @@ fn place_named(columns: &[item_schema::Column], name: &[u8]) -> Option<usize>
     columns
         .iter()
         .position(|column| name == column.name.as_slice())
+}
+
+/// Whether the column is there and has texts.
+pub fn has_texts(schema: &Schema, column: u32) -> bool
+    ensures { result ≡ has_texts schema.now.columns column }
+{
+    schema
+        .columns()
+        .get(column as usize)
+        .is_some_and(|found| matches!(found.kind, Kind::Text))
 }

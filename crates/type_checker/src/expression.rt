@@ -207,7 +207,8 @@ fn summary_of(summary: Summary, table: Var) -> Expr
 
 fn extremum_with(extremum: Extremum, table: Var, first: Box<Expr>) -> Expr
     ensures made { plain_of result ≡ extremum_of extremum table (plain_of first.value) }
-    ensures numbers { HasFittingNumbers (plain_of first.value) → HasFittingNumbers (plain_of result) }
+    ensures numbers { HasFittingNumbers (plain_of first.value)
+        → HasFittingNumbers (plain_of result) }
 {
     match extremum {
         Extremum::Max => Expr::Most(table, first),

@@ -1,6 +1,8 @@
 //! The checker of query files: a syntax tree is a query with one meaning, or breaks a first rule.
 #![tactic(auto)]
 
+mod after_lets;
+mod apart;
 mod cells;
 mod checking;
 mod columns;
@@ -8,15 +10,18 @@ mod expression;
 mod laws;
 mod measured;
 mod naming;
-mod nodes;
+mod nesting;
 mod predicate;
+mod rate;
 mod roots;
 mod shapes;
 mod sizes;
+mod standing;
 mod stop;
 mod stream_schema;
+mod streams;
 mod typed;
-mod unbuilt;
+mod values;
 mod word_rules;
 mod words;
 

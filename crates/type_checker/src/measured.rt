@@ -1,36 +1,38 @@
 //! The passes before the rules of words.
-ghost use Rattle.std.specs.Prelude.{◌≡◌, ◌≤◌, IfErr, IfOk, None, Ok, OnOk};
+ghost use Rattle.std.specs.Prelude.{◌≡◌, IfErr, IfOk, Ok, OnOk};
 ghost use Rattle.std.specs.List.{Contains};
 ghost use Rattle.item_schema.specs.Layout.{Layout};
 ghost use Rattle.predicate_cells.specs.Predicates.{Predicate};
-ghost use Rattle.query_model.specs.Bounds.{nodes_of};
 ghost use Rattle.query_model.specs.Queries.{plain_of};
-ghost use Rattle.query_model.specs.Shapes.{HasPlainShapes};
-ghost use Rattle.query_model.specs.Sizes.{max_nodes, predicates_of};
+ghost use Rattle.query_model.specs.Sizes.{predicates_of};
 ghost use Rattle.query_syntax.specs.Limits.{IsWithin};
 ghost use Rattle.query_syntax.specs.Plain.{plain_program, plain_query, plain_stream};
 ghost use Rattle.query_syntax.specs.Queries as syntax;
 ghost use Rattle.type_checker.specs.Findings.{CanBeAsked, IsUnresolved, KeepsTypes, places_in};
 ghost use Rattle.type_checker.specs.Judged.{limited, measured};
-ghost use Rattle.type_checker.specs.Layouts.{layout_of};
+ghost use Rattle.type_checker.specs.Nestings.{MayStand};
 ghost use Rattle.type_checker.specs.Nodes.{places_of};
-ghost use Rattle.type_checker.specs.Passes.{IsLimited, IsMeasured, IsNamed, counted, distinct, told_apart};
-ghost use Rattle.type_checker.specs.Unbuilt.{unbuilt_query};
+ghost use Rattle.type_checker.specs.Passes.{IsLimited, IsMeasured, IsNamed, told_apart, values_apart};
+ghost use Rattle.type_checker.specs.Resolved.{outside, resolved};
 
 use crate::CheckStop;
+use crate::after_lets::main_query;
+use crate::apart::first_apart;
 use crate::cells::cells_of;
-use crate::columns::first_repeated;
 use crate::naming::resolve;
-use crate::nodes::has_few_nodes;
+use crate::nesting::Nesting;
 use crate::sizes::positions_of;
 use crate::stream_schema::schema_of;
-use crate::unbuilt::first_unbuilt;
 use item_schema::Schema;
 use language_base::{Rule, Span};
+use memory_bound::slots;
 use predicate_cells::{CellStop, Cells};
 use query_model::Query;
-use query_syntax::{Program, Stream};
+use query_syntax::Program;
 use std::alloc::Global;
+
+// What is kept for a query, at the most.
+const MAX_SLOTS: u32 = 1_048_576;
 
 /// A query that keeps all rules but those of words, its stream, and the cells of its items.
 #[derive(Drop)]
@@ -46,13 +48,12 @@ pub fn measure(alloc: Global, program: &Program) -> Result<Measured, CheckStop>
     ensures measured { IfOk result (IsMeasured (plain_program program.now)) }
     ensures refused { IfErr result (IsUnresolved (measured (plain_program program.now))) }
 {
-    if let Some(span) = first_unbuilt(program) {
-        return Err(CheckStop::refused(Rule::Form, span));
-    }
-    let schema = schema_in(alloc, &program.stream)?;
-    let query = query_in(alloc, &schema, &program.main.query)?;
+    let tree = main_query(alloc, program)?;
+    let schema = schema_of(alloc, &program.stream)?;
+    let query = query_in(alloc, &schema, &tree)?;
     keep_limits(&query)?;
     let cells = cells_in(alloc, &schema, &query, program.stream.span)?;
+    keep_values(alloc, &schema, &query)?;
     Ok(Measured {
         schema,
         query,
@@ -60,53 +61,38 @@ pub fn measure(alloc: Global, program: &Program) -> Result<Measured, CheckStop>
     })
 }
 
-// The schema of a stream, whose columns are to have names of their own.
-fn schema_in(alloc: Global, stream: &Stream) -> Result<Schema, CheckStop>
-    requires { IsWithin (plain_stream stream.now) }
-    ensures schema { IfOk result (λ schema. schema ≡ layout_of (plain_stream stream.now)) }
-    ensures distinct { OnOk result (distinct (plain_stream stream.now) ≡ Ok tt) }
-    ensures refused { IfErr result (IsUnresolved (distinct (plain_stream stream.now))) }
-{
-    if let Some(span) = first_repeated(&stream.columns) {
-        return Err(CheckStop::refused(Rule::Name, span));
-    }
-    Ok(schema_of(alloc, stream)?)
-}
-
-// The query of a tree with few nodes, whose names and types are resolved.
+// The query of a tree whose names and types are resolved.
 fn query_in(alloc: Global, schema: &Schema, tree: &query_syntax::Query) -> Result<Query, CheckStop>
-    requires { unbuilt_query (plain_query tree.now) ≡ None }
+    requires { MayStand outside schema.now.columns }
     ensures named { IfOk result (IsNamed schema.now.columns (plain_query tree.now)) }
     ensures refused { IfErr result (IsUnresolved
-        (counted schema.now.columns (plain_query tree.now))) }
+        (resolved outside schema.now.columns (plain_query tree.now))) }
 {
-    if !has_few_nodes(tree) {
-        return Err(CheckStop::refused(Rule::Size, tree.span()));
-    }
-    let typed = resolve(alloc, schema, tree)?;
+    let typed = resolve(alloc, Nesting::Outside, schema, tree)?;
     Ok(typed.query)
 }
 
-// Whether each node has few positions. A query of the shapes that are built keeps so little that there
-// is nothing to ask about it.
+// Whether each node has few positions, and little is kept for the query.
 fn keep_limits(query: &Query) -> Result<(), CheckStop>
-    requires plain { HasPlainShapes (plain_of query.now.shape) }
-    requires few { nodes_of (plain_of query.now.shape) ≤ max_nodes }
     ensures limited { OnOk result (IsLimited query.now) }
     ensures refused { IfErr result (λ stop. (layout : Layout) (tree : syntax.Query)
         → places_of tree ≡ places_in query.now
         → IsUnresolved (limited layout tree (plain_of query.now.shape)) stop) }
 {
     match positions_of(query) {
-        Ok(_) => Ok(()),
+        Ok(_) => {
+            if slots(query) > MAX_SLOTS {
+                return Err(CheckStop::refused(Rule::Size, query.span));
+            }
+            Ok(())
+        }
         Err(span) => Err(CheckStop::refused(Rule::Size, span)),
     }
 }
 
 // The cells of a stream's items under the predicates of a query.
 fn cells_in(alloc: Global, schema: &Schema, query: &Query, stream: Span) -> Result<Cells, CheckStop>
-    requires plain { HasPlainShapes (plain_of query.now.shape) }
-    requires types { KeepsTypes schema.now.columns (plain_of query.now.shape) }
+    requires { KeepsTypes schema.now.columns (plain_of query.now.shape) }
     ensures layout { IfOk result (λ cells. cells.layout ≡ schema.now) }
     ensures members { IfOk result (λ cells. (pred : Predicate)
         → Contains (predicates_of (plain_of query.now.shape)) pred → Contains cells.preds pred) }
@@ -119,5 +105,17 @@ fn cells_in(alloc: Global, schema: &Schema, query: &Query, stream: Span) -> Resu
         Ok(cells) => Ok(cells),
         Err(CellStop::TooMany) => Err(CheckStop::refused(Rule::Cells, stream)),
         Err(CellStop::Memory) => Err(CheckStop::Memory),
+    }
+}
+
+// Whether the values inside of a query are told apart in few ways.
+fn keep_values(alloc: Global, schema: &Schema, query: &Query) -> Result<(), CheckStop>
+    requires { KeepsTypes schema.now.columns (plain_of query.now.shape) }
+    ensures few { OnOk result (values_apart schema.now.columns query.now ≡ Ok tt) }
+    ensures refused { IfErr result (IsUnresolved (values_apart schema.now.columns query.now)) }
+{
+    match first_apart(alloc, schema, query)? {
+        Some(span) => Err(CheckStop::refused(Rule::Cells, span)),
+        None => Ok(()),
     }
 }

@@ -1,16 +1,14 @@
 //! Queries whose names are resolved and whose types fit.
-ghost use Rattle.std.specs.Prelude.{◌≡◌, IfErr, IfOk, None, Ok};
-ghost use Rattle.query_model.specs.Queries.{plain_of};
+ghost use Rattle.std.specs.Prelude.{◌≡◌, IfErr, IfOk};
 ghost use Rattle.query_model.specs.QueryTypes.{of_columns, type_of_kind};
 ghost use Rattle.query_syntax.specs.Plain.{plain_query};
-ghost use Rattle.type_checker.specs.Findings.{IsResolved, IsUnresolved, places_in};
-ghost use Rattle.type_checker.specs.Nodes.{places_of};
+ghost use Rattle.type_checker.specs.Nestings.{MayStand, nesting_of};
 ghost use Rattle.type_checker.specs.Resolutions.{HasTypes, IsRefused, IsMade, columns_of};
-ghost use Rattle.type_checker.specs.Resolved.{Nesting, resolved};
-ghost use Rattle.type_checker.specs.Unbuilt.{unbuilt_query};
 
 use crate::CheckStop;
+use crate::nesting::Nesting;
 use crate::shapes::{Items, apply, atom, choice, combine, eps, iter, split};
+use crate::streams::{Collection, collect, compose};
 use item_schema::{Column, Kind, Schema};
 use language_base::Rule;
 use query_syntax::Query;
@@ -24,30 +22,41 @@ pub struct Typed {
     pub ty: ValueType,
 }
 
-/// The query on items of the schema, or the first rule of names and types that it breaks.
-pub fn resolve(alloc: Global, schema: &Schema, tree: &Query) -> Result<Typed, CheckStop>
-    requires { unbuilt_query (plain_query tree.now) ≡ None }
-    ensures resolved { IfOk result (λ made. (nesting : Nesting)
-        → resolved nesting schema.now.columns (plain_query tree.now)
-        ≡ Ok (plain_of made.query.shape)) }
-    ensures typed { IfOk result (λ made. IsResolved schema.now.columns made) }
-    ensures places { IfOk result (λ made. places_in made.query ≡ places_of (plain_query tree.now)) }
-    ensures refused { IfErr result (λ stop. (nesting : Nesting)
-        → IsUnresolved (resolved nesting schema.now.columns (plain_query tree.now)) stop) }
+/// The query on items of the schema, or the first rule of names, nesting or types that it breaks.
+#[cycle(resolve)]
+pub fn resolve(
+    alloc: Global,
+    nesting: Nesting,
+    schema: &Schema,
+    tree: &Query,
+) -> Result<Typed, CheckStop>
+    requires { MayStand (nesting_of nesting) schema.now.columns }
+    ensures made { IfOk result
+        (IsMade (nesting_of nesting) schema.now.columns (plain_query tree.now)) }
+    ensures refused { IfErr result
+        (IsRefused (nesting_of nesting) schema.now.columns (plain_query tree.now)) }
 {
     let types = types_of(alloc, schema.columns())?;
     let items = Items {
         schema,
         types: &types,
     };
-    resolve_over(alloc, &items, tree)
+    resolve_over(alloc, nesting, &items, tree)
 }
 
-fn resolve_over(alloc: Global, items: &Items<'_>, tree: &Query) -> Result<Typed, CheckStop>
+#[cycle(resolve)]
+fn resolve_over(
+    alloc: Global,
+    nesting: Nesting,
+    items: &Items<'_>,
+    tree: &Query,
+) -> Result<Typed, CheckStop>
     requires types { HasTypes items.now }
-    requires built { unbuilt_query (plain_query tree.now) ≡ None }
-    ensures made { IfOk result (IsMade (columns_of items.now) (plain_query tree.now)) }
-    ensures refused { IfErr result (IsRefused (columns_of items.now) (plain_query tree.now)) }
+    requires stands { MayStand (nesting_of nesting) (columns_of items.now) }
+    ensures made { IfOk result
+        (IsMade (nesting_of nesting) (columns_of items.now) (plain_query tree.now)) }
+    ensures refused { IfErr result
+        (IsRefused (nesting_of nesting) (columns_of items.now) (plain_query tree.now)) }
 {
     match tree {
         Query::Name(name) => Err(CheckStop::refused(Rule::Name, name.span)),
@@ -58,8 +67,8 @@ fn resolve_over(alloc: Global, items: &Items<'_>, tree: &Query) -> Result<Typed,
         } => atom(alloc, items, predicate, value, *span),
         Query::Eps { value, span } => Ok(eps(value, *span)),
         Query::Or { left, right, span } => {
-            let left = resolve_over(alloc, items, left)?;
-            let right = resolve_over(alloc, items, right)?;
+            let left = resolve_over(alloc, nesting, items, left)?;
+            let right = resolve_over(alloc, nesting, items, right)?;
             choice(alloc, left, right, *span)
         }
         Query::Split {
@@ -68,8 +77,8 @@ fn resolve_over(alloc: Global, items: &Items<'_>, tree: &Query) -> Result<Typed,
             value,
             span,
         } => {
-            let left = resolve_over(alloc, items, left)?;
-            let right = resolve_over(alloc, items, right)?;
+            let left = resolve_over(alloc, nesting, items, left)?;
+            let right = resolve_over(alloc, nesting, items, right)?;
             split(alloc, left, right, value, *span)
         }
         Query::Iter {
@@ -78,7 +87,7 @@ fn resolve_over(alloc: Global, items: &Items<'_>, tree: &Query) -> Result<Typed,
             step,
             span,
         } => {
-            let operand = resolve_over(alloc, items, operand)?;
+            let operand = resolve_over(alloc, nesting, items, operand)?;
             iter(alloc, operand, first, step, *span)
         }
         Query::Combine {
@@ -87,8 +96,8 @@ fn resolve_over(alloc: Global, items: &Items<'_>, tree: &Query) -> Result<Typed,
             value,
             span,
         } => {
-            let left = resolve_over(alloc, items, left)?;
-            let right = resolve_over(alloc, items, right)?;
+            let left = resolve_over(alloc, nesting, items, left)?;
+            let right = resolve_over(alloc, nesting, items, right)?;
             combine(alloc, left, right, value, *span)
         }
         Query::Apply {
@@ -96,14 +105,31 @@ fn resolve_over(alloc: Global, items: &Items<'_>, tree: &Query) -> Result<Typed,
             value,
             span,
         } => {
-            let operand = resolve_over(alloc, items, operand)?;
+            let operand = resolve_over(alloc, nesting, items, operand)?;
             apply(alloc, operand, value, *span)
         }
-        Query::Compose { .. } | Query::Collect { .. } => unreachable!(),
+        Query::Compose { left, right, span } => {
+            let left = resolve_over(alloc, nesting, items, left)?;
+            let values = Schema::derived(alloc, left.ty)?;
+            let right = resolve(alloc, Nesting::Inside, &values, right)?;
+            Ok(compose(alloc, left, right, *span)?)
+        }
+        Query::Collect {
+            key,
+            sync,
+            rate,
+            body,
+            span,
+        } => {
+            let written = Collection { key, sync, rate };
+            let operand = resolve_over(alloc, Nesting::Inside, items, body)?;
+            collect(alloc, nesting, items, &written, operand, *span)
+        }
     }
 }
 
-fn types_of(alloc: Global, columns: &[Column]) -> Result<Vec<Option<ValueType>>, AllocError>
+/// The types of the fields in the columns.
+pub fn types_of(alloc: Global, columns: &[Column]) -> Result<Vec<Option<ValueType>>, AllocError>
     ensures { IfOk result (λ types. types.items ≡ (of_columns columns.now).fields) }
 {
     columns

@@ -1,20 +1,30 @@
 //! The root of a query: its rule of words, and its positions, made from those of its operands.
-ghost use Rattle.std.specs.Prelude.{◌≡◌, ◌+◌, ◌≤◌, ℤ, None, Some, IfErr, IfOk, OnOk, length};
+ghost use Rattle.std.specs.Prelude.{◌≡◌, ◌+◌, ◌≤◌, ℕ, ℤ, None, Some, IfErr, IfOk, OnOk, length};
 ghost use Rattle.std.specs.List.{Contains};
 ghost use Rattle.language_base.specs.Limits.{max_positions};
 ghost use Rattle.language_base.specs.declared.rule.Rule.{Rule};
 ghost use Rattle.predicate_cells.specs.Cells.{Partition};
 ghost use Rattle.predicate_cells.specs.Plain.{plain_of};
-ghost use Rattle.query_model.specs.Queries.{Qre, atom, choice, combine, iter, split};
-ghost use Rattle.symbolic_nfa.specs.Automata.{Automaton};
+ghost use Rattle.predicate_cells.specs.Predicates.{Predicate};
+ghost use Rattle.query_model.specs.Queries.{Qre, atom, choice, collect, combine, iter, split};
+ghost use Rattle.rate_expr.specs.FirstLastFollow.{AreSetsOf};
+ghost use Rattle.rate_expr.specs.Plain as rates;
+ghost use Rattle.rate_expr.specs.Rates as rate;
+ghost use Rattle.rate_expr.specs.Rates.{preds_of, size_of};
+ghost use Rattle.symbolic_nfa.specs.Automata.{AreDecided, Automaton};
 ghost use Rattle.value_ops.specs.Expressions.{Expression};
-ghost use Rattle.type_checker.specs.Findings.{AreOperands, IsAutomatonOf, IsBrokenAt, IsKept};
+ghost use Rattle.type_checker.specs.Findings.{AreAmong, AreOperands, IsAutomatonOf, IsBrokenAt, IsKept, IsUnfed};
+ghost use Rattle.type_checker.specs.Standings.{standing_of};
+ghost use Rattle.type_checker.specs.WordRules.{BreaksFed};
 
 use crate::CheckStop;
-use crate::word_rules::{choice_rule, empty_rule, iter_rule, rates_rule, split_rule};
+use crate::standing::Standing;
+use crate::word_rules::{
+    choice_rule, empty_rule, fed_rule, iter_rule, met_rule, rates_rule, split_rule,
+};
 use language_base::{Rule, Span};
 use predicate_cells::{Cells, Pred};
-use rate_expr::Positions;
+use rate_expr::{Positions, Rate};
 use std::alloc::Global;
 use std::rc::Rc;
 use symbolic_nfa::Nfa;
@@ -102,6 +112,49 @@ pub(crate) fn side_by_side(
 {
     keep(rates_rule(alloc, &operands.left, &operands.right)?, span)?;
     Ok(operands.left.into_positions())
+}
+
+/// Whether a query on the values of another has one behind each of them, where that is asked.
+pub(crate) fn fed(
+    alloc: Global,
+    standing: Standing,
+    cells: &Rc<Cells>,
+    second: Positions,
+    span: Span,
+) -> Result<(), CheckStop>
+    requires { AreDecided second cells.now.value }
+    ensures kept { OnOk result ((r : rate.Expression) → AreSetsOf second r
+        → BreaksFed (standing_of standing) cells.now.value.layout.columns r None) }
+    ensures refused { IfErr result (λ stop. (r : rate.Expression) → AreSetsOf second r
+        → IsUnfed (standing_of standing) cells.now.value.layout.columns r span stop) }
+{
+    match standing {
+        Standing::Free => Ok(()),
+        Standing::Bound => {
+            let second = Nfa::new(alloc, second, cells)?;
+            keep(fed_rule(alloc, &second)?, span)
+        }
+    }
+}
+
+/// Words of a written rate.
+pub(crate) fn collected(
+    alloc: Global,
+    cells: &Rc<Cells>,
+    rate: &Rate,
+    span: Span,
+) -> Result<Positions, CheckStop>
+    requires few { size_of (rates.plain_of rate.now) ≤ max_positions }
+    requires members { AreAmong cells.now.value (preds_of (rates.plain_of rate.now)) }
+    ensures kept { IfOk result (λ sets. (key : ℕ) (sync : Predicate) (f : Qre)
+        → IsKept cells.now.value.layout.columns
+        (collect key sync (rates.plain_of rate.now) f) sets) }
+    ensures refused { IfErr result (λ stop. (key : ℕ) (sync : Predicate) (f : Qre)
+        → IsBrokenAt cells.now.value.layout.columns
+        (collect key sync (rates.plain_of rate.now) f) span stop) }
+{
+    keep(met_rule(cells.as_ref(), rate), span)?;
+    Ok(Positions::of(alloc, rate)?)
 }
 
 // Whether no rule is broken; the rule that is broken is refused at the place.

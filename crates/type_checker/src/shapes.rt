@@ -5,8 +5,8 @@ ghost use Rattle.query_syntax.specs.Plain.{plain_expression, plain_predicate};
 ghost use Rattle.query_syntax.specs.Queries as q;
 ghost use Rattle.type_checker.specs.Resolutions.{HasTypes, IsMade, IsMadeOfOne, IsMadeOfTwo, columns_of};
 ghost use Rattle.type_checker.specs.Resolutions.{IsRefused, IsRefusedOverOne, IsRefusedOverTwo};
-ghost use Rattle.type_checker.specs.Resolved.{same_type};
-ghost use Rattle.query_model.specs.QueryTypes.{of_two};
+ghost use Rattle.type_checker.specs.Resolved.{Nesting, same_type};
+ghost use Rattle.query_model.specs.QueryTypes.{of_one, of_two};
 ghost use Rattle.value_ops.specs.Shown.{shown_types};
 
 use crate::CheckStop;
@@ -36,10 +36,11 @@ pub fn atom(
     span: Span,
 ) -> Result<Typed, CheckStop>
     requires { HasTypes items.now }
-    ensures made { IfOk result (IsMade (columns_of items.now)
-        (q.atom (plain_predicate predicate.now) (plain_expression value.now) span)) }
-    ensures refused { IfErr result (IsRefused (columns_of items.now)
-        (q.atom (plain_predicate predicate.now) (plain_expression value.now) span)) }
+    ensures made { IfOk result (λ made. (nesting : Nesting) → IsMade nesting (columns_of items.now)
+        (q.atom (plain_predicate predicate.now) (plain_expression value.now) span) made) }
+    ensures refused { IfErr result (λ stop. (nesting : Nesting)
+        → IsRefused nesting (columns_of items.now)
+        (q.atom (plain_predicate predicate.now) (plain_expression value.now) span) stop) }
 {
     let Some(pred) = pred_over(alloc, items.schema, predicate)? else {
         return Err(CheckStop::refused(Rule::Name, span));
@@ -66,7 +67,8 @@ pub fn atom(
 }
 
 pub fn eps(number: &Number, span: Span) -> Typed
-    ensures { (columns : List Column) → IsMade columns (q.eps number.now span) result }
+    ensures { (nesting : Nesting) (columns : List Column)
+        → IsMade nesting columns (q.eps number.now span) result }
 {
     let shape = Shape::Eps(number.value);
     Typed {
@@ -172,11 +174,7 @@ pub fn apply(
     ensures refused { IfErr result (IsRefusedOverOne
         (λ f. q.apply f (plain_expression value.now) span) operand) }
 {
-    let types = Types {
-        fields: &[],
-        left: Some(operand.ty),
-        right: None,
-    };
+    let types = of_one(operand.ty);
     let (value, ty) = value_over(alloc, Scope::One, &types, value, span)?;
     let inner = boxed(alloc, operand.query)?;
     let shape = Shape::Apply(inner, value);
@@ -186,8 +184,19 @@ pub fn apply(
     })
 }
 
-// The types of the names of two values.
-fn of_two(left: ValueType, right: ValueType) -> Types<'static>
+/// The type of the name of one value.
+pub fn of_one(value: ValueType) -> Types<'static>
+    ensures { shown_types result ≡ of_one value }
+{
+    Types {
+        fields: &[],
+        left: Some(value),
+        right: None,
+    }
+}
+
+/// The types of the names of two values.
+pub fn of_two(left: ValueType, right: ValueType) -> Types<'static>
     ensures { shown_types result ≡ of_two left right }
 {
     Types {
@@ -203,7 +212,7 @@ fn same_type(one: ValueType, other: ValueType) -> bool
     one == other
 }
 
-fn boxed(alloc: Global, query: Query) -> Result<Box<Query>, AllocError>
+pub fn boxed(alloc: Global, query: Query) -> Result<Box<Query>, AllocError>
     ensures { IfOk result (λ boxed. boxed.value ≡ query) }
 {
     Ok(Box::new(alloc, query)?)

@@ -5,8 +5,8 @@ ghost use Rattle.language_base.specs.Limits.{max_positions};
 ghost use Rattle.query_model.specs.Queries.{plain_of};
 ghost use Rattle.query_model.specs.Rates.{rate_of};
 ghost use Rattle.query_model.specs.Rules.{Standing};
-ghost use Rattle.query_model.specs.Shapes.{HasPlainShapes};
 ghost use Rattle.query_model.specs.Sizes.{HasFewPositions};
+ghost use Rattle.rate_expr.specs.Plain as rates;
 ghost use Rattle.rate_expr.specs.Rates.{size_of};
 ghost use Rattle.type_checker.specs.Findings.{places_in};
 ghost use Rattle.type_checker.specs.Nodes.{first_where, nodes_in};
@@ -14,11 +14,10 @@ ghost use Rattle.type_checker.specs.Sizes.{has_many_positions};
 
 use language_base::Span;
 use query_model::{Query, Shape};
-use rate_expr::MAX_POSITIONS;
+use rate_expr::{MAX_POSITIONS, Rate};
 
 /// The positions of the query's rate, or the place of the first node whose rate has too many.
 pub fn positions_of(query: &Query) -> Result<u32, Span>
-    requires { HasPlainShapes (plain_of query.now.shape) }
     ensures count { IfOk result (λ count.
         count ≡ size_of (rate_of (plain_of query.now.shape))) }
     ensures few { OnOk result (HasFewPositions (plain_of query.now.shape)
@@ -48,8 +47,15 @@ pub fn positions_of(query: &Query) -> Result<u32, Span>
             Ok(count)
         }
         Shape::Apply(inner, _) => positions_of(inner),
-        // No query of plain shapes has these.
-        Shape::Compose(..) | Shape::Collect(..) => Ok(0),
+        Shape::Compose(first, second) => {
+            let count = positions_of(first)?;
+            positions_of(second)?;
+            Ok(count)
+        }
+        Shape::Collect(_, _, rate, inner) => {
+            positions_of(inner)?;
+            few_in(rate, query.span)
+        }
     }
 }
 
@@ -66,4 +72,18 @@ fn few_together(first: u32, second: u32, span: Span) -> Result<u32, Span>
         return Err(span);
     }
     Ok(count)
+}
+
+// The positions of a written rate, or the place of its node where they are too many.
+fn few_in(rate: &Rate, span: Span) -> Result<u32, Span>
+    ensures count { IfOk result (λ count. count ≡ size_of (rates.plain_of rate.now)) }
+    ensures few { OnOk result (size_of (rates.plain_of rate.now) ≤ max_positions) }
+    ensures many { IfErr result (λ place. (place ≡ span)
+        × (max_positions < size_of (rates.plain_of rate.now))) }
+{
+    let positions = rate.positions();
+    if positions > MAX_POSITIONS {
+        return Err(span);
+    }
+    Ok(positions)
 }

@@ -1,9 +1,9 @@
 //! The schema of a stream.
-ghost use Rattle.std.specs.Prelude.{◌≡◌, IfOk, None, map};
+ghost use Rattle.std.specs.Prelude.{◌≡◌, [], IfOk, None, map};
+ghost use Rattle.query_lets.specs.Words.{column_words, first_wrong};
 ghost use Rattle.query_syntax.specs.Limits.{IsWithin};
 ghost use Rattle.query_syntax.specs.Plain.{plain_stream};
 ghost use Rattle.type_checker.specs.Layouts.{column_of, has_header, kind_of, layout_of};
-ghost use Rattle.type_checker.specs.Names.{first_repeated};
 
 use item_schema::{Column, Kind, Schema};
 use query_syntax::{Mode, Stream};
@@ -12,7 +12,7 @@ use std::alloc::{AllocError, Global};
 /// The schema of a stream whose columns have names of their own.
 pub fn schema_of(alloc: Global, stream: &Stream) -> Result<Schema, AllocError>
     requires within { IsWithin (plain_stream stream.now) }
-    requires distinct { first_repeated stream.now.columns.items ≡ None }
+    requires distinct { first_wrong (column_words [] stream.now.columns.items) ≡ None }
     ensures { IfOk result (λ schema. schema ≡ layout_of (plain_stream stream.now)) }
 {
     let columns = columns_of(alloc, &stream.columns)?;

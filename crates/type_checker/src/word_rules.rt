@@ -3,15 +3,20 @@ ghost use Rattle.std.specs.Prelude.{◌≡◌, ℤ, IfOk};
 ghost use Rattle.std.specs.List.{Contains};
 ghost use Rattle.predicate_cells.specs.Plain.{plain_of};
 ghost use Rattle.query_model.specs.Queries.{Qre, atom, choice, combine, iter, split};
-ghost use Rattle.query_model.specs.Rules.{Standing};
+ghost use Rattle.query_model.specs.Rules.{Standing, bound};
+ghost use Rattle.rate_expr.specs.FirstLastFollow.{AreSetsOf};
+ghost use Rattle.rate_expr.specs.Plain as rates;
+ghost use Rattle.rate_expr.specs.Rates as rate;
+ghost use Rattle.rate_expr.specs.Rates.{preds_of};
 ghost use Rattle.value_ops.specs.Expressions.{Expression};
-ghost use Rattle.type_checker.specs.Findings.{IsAutomatonOf};
-ghost use Rattle.type_checker.specs.WordRules.{BreaksAt};
+ghost use Rattle.type_checker.specs.Findings.{AreAmong, IsAutomatonOf};
+ghost use Rattle.type_checker.specs.WordRules.{BreaksAt, BreaksFed, BreaksMet};
 
 use ambiguity_check::{disjoint, one_factoring, one_split};
 use language_base::Rule;
 use predicate_cells::{Cells, Pred};
-use rate_equal::{EqualStop, same};
+use rate_equal::{EqualStop, all_but_empty, same};
+use rate_expr::Rate;
 use std::alloc::{AllocError, Global};
 use symbolic_nfa::Nfa;
 
@@ -94,5 +99,34 @@ pub(crate) fn rates_rule(
         Ok(false) => Ok(Some(Rule::Rates)),
         Err(EqualStop::Reach) => Ok(Some(Rule::Reach)),
         Err(EqualStop::Memory) => Err(AllocError),
+    }
+}
+
+/// The rule that a composition breaks, where it is bound and a word of values is not in the rate of
+/// its second operand or too many states would have to be looked at.
+pub(crate) fn fed_rule(alloc: Global, second: &Nfa) -> Result<Option<Rule>, AllocError>
+    ensures { IfOk result (λ broken. (r : rate.Expression) → AreSetsOf second.now.sets r
+        → BreaksFed bound second.now.cells.layout.columns r broken) }
+{
+    match all_but_empty(alloc, second) {
+        Ok(true) => Ok(None),
+        Ok(false) => Ok(Some(Rule::Compose)),
+        Err(EqualStop::Reach) => Ok(Some(Rule::Reach)),
+        Err(EqualStop::Memory) => Err(AllocError),
+    }
+}
+
+/// The rule that a written rate breaks, where no item meets one of its predicates.
+pub(crate) fn met_rule(cells: &Cells, rate: &Rate) -> Option<Rule>
+    requires { AreAmong cells.now (preds_of (rates.plain_of rate.now)) }
+    ensures { BreaksMet cells.now.layout.columns (preds_of (rates.plain_of rate.now)) result }
+{
+    match rate {
+        Rate::Empty => None,
+        Rate::One(pred) => empty_rule(cells, pred),
+        Rate::Seq(first, second) | Rate::Alt(first, second) => {
+            met_rule(cells, first).or(met_rule(cells, second))
+        }
+        Rate::Star(inner) => met_rule(cells, inner),
     }
 }

@@ -30,6 +30,17 @@ returns-in-Iter t c =
     let parts : predicates_of (plain_of c.args.query.now.shape) ≡ predicates_of (plain_of c.in-Iter.inner.value.shape) =
     elim c.in-Iter.is [
       | inl (number, expression, is) ↦ ap (λ (shape : Shape). predicates_of (plain_of shape)) is
-      | inr (expression, is) ↦ ap (λ (shape : Shape). predicates_of (plain_of shape)) is
+      | inr others ↦ elim others [
+        | inl (expression, is) ↦ ap (λ (shape : Shape). predicates_of (plain_of shape)) is
+        | inr (second, is) ↦ ap (λ (shape : Shape). predicates_of (plain_of shape)) is
+      ]
     ] in
-    rw parts (rw c.deref.ensures at c.add_those_of.ensures)
+    rw parts (rw c.deref-in-Iter.ensures at c.add_those_of-in-Iter.ensures)
+
+pub returns-in_ok-add_those_in-in-Collect : goal.returns-in_ok-add_those_in-in-Collect
+returns-in_ok-add_those_in-in-Collect t c =
+    let inner = rw c.deref.ensures at c.add_those_of.ensures in
+    rw c.in-Collect.is (on_ok_weaker c.add_those_of.result
+    (added_both c.args.preds.now c.add_those_in.new.preds c.add_those_of.new.preds _ _
+    (added_both c.args.preds.now c.add_once-in-Collect.new.preds c.add_those_in.new.preds _ _
+    c.in_ok-add_once-in-Collect.ensures c.in_ok-add_those_in-in-Collect.ensures)) inner)

@@ -10,7 +10,7 @@ use Rattle.type_checker.proofs.cells.cells_of.Goals as goal
 pub new-requires : goal.new-requires
 new-requires c =
     let same = rw c.new-preds.ensures at c.in_ok-add_those_of.ensures in
-    all_fit_alike _ _ same c.args.schema.now.columns c.requires.fit
+    all_fit_alike _ _ same c.args.schema.now.columns c.requires
 
 pub returns-clause-members : goal.returns-clause-members
 returns-clause-members c =

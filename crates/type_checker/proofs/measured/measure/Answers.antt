@@ -1,52 +1,57 @@
-use Rattle.std.proofs.Common.{◌≡◌, None, rules, sym}
+use Rattle.std.proofs.Common.{subst, sym}
 use Rattle.std.proofs.lemmas.Result.{err_from_is_err_and}
+use Rattle.item_schema.specs.Layout.{Layout}
 use Rattle.query_syntax.specs.Plain.{plain_program}
-use Rattle.type_checker.specs.Unbuilt.{first_unbuilt}
-use Rattle.type_checker.proofs.Measuring.{cells_refused, columns_refused, limits_refused, measured_by, names_refused, unbuilt_stop}
+use Rattle.type_checker.specs.Nestings.{MayStand}
+use Rattle.type_checker.specs.Resolved.{outside}
+use Rattle.type_checker.proofs.Measuring.{cells_refused, columns_read, columns_right, count_refused, limits_refused, measured_by, names_refused, values_refused}
 use Rattle.type_checker.proofs.measured.measure.Goals as goal
 
-pub returns-in-Some-clause-refused : goal.returns-in-Some-clause-refused
-returns-in-Some-clause-refused c =
-    rw c.refused.ensures (unbuilt_stop (plain_program c.args.program.now) c.in-Some.span (sym c.in-Some.ensures))
-
-pub returns-in_err-schema-clause-refused : goal.returns-in_err-schema-clause-refused
-returns-in_err-schema-clause-refused c =
-    let program = plain_program c.args.program.now in
-    let built : first_unbuilt program ≡ None = search rules in
+pub returns-in_err-tree-clause-refused : goal.returns-in_err-tree-clause-refused
+returns-in_err-tree-clause-refused c =
     let err = err_from_is_err_and c.from_residual.result c.from_residual.ensures.1 in
-    rw (err.1, err.2) (columns_refused program built _ c.in_err-schema.ensures.refused)
+    rw (err.1, err.2) (count_refused (plain_program c.args.program.now) _ c.in_err-tree.ensures.refused)
+
+pub schema_of-requires-clause-distinct : goal.schema_of-requires-clause-distinct
+schema_of-requires-clause-distinct c =
+    columns_right (plain_program c.args.program.now) c.in_ok-tree.ensures.main.right
+
+pub query_in-requires : goal.query_in-requires
+query_in-requires c =
+    subst (λ (layout : Layout). MayStand outside layout.columns) (sym c.in_ok-schema.ensures)
+    (columns_read (plain_program c.args.program.now).stream.columns)
 
 pub returns-in_err-query-clause-refused : goal.returns-in_err-query-clause-refused
 returns-in_err-query-clause-refused c =
-    let program = plain_program c.args.program.now in
-    let built : first_unbuilt program ≡ None = search rules in
     let err = err_from_is_err_and c.from_residual-in_err-query.result c.from_residual-in_err-query.ensures.1 in
-    rw (err.1, err.2) (names_refused program built c.in_ok-schema.ensures.distinct c.in_ok-schema.schema
-    c.in_ok-schema.ensures.schema _ c.in_err-query.ensures.refused)
+    rw (err.1, err.2) (names_refused (plain_program c.args.program.now) c.in_ok-tree.tree c.in_ok-tree.ensures.main
+    c.in_ok-schema.schema c.in_ok-schema.ensures _ c.in_err-query.ensures.refused)
 
 pub returns-in_err-keep_limits-clause-refused : goal.returns-in_err-keep_limits-clause-refused
 returns-in_err-keep_limits-clause-refused c =
-    let program = plain_program c.args.program.now in
-    let built : first_unbuilt program ≡ None = search rules in
     let err = err_from_is_err_and c.from_residual-in_err-keep_limits.result
     c.from_residual-in_err-keep_limits.ensures.1 in
-    rw (err.1, err.2) (limits_refused program built c.in_ok-schema.ensures.distinct c.in_ok-schema.schema
-    c.in_ok-schema.ensures.schema c.in_ok-query.query c.in_ok-query.ensures.named _
+    rw (err.1, err.2) (limits_refused (plain_program c.args.program.now) c.in_ok-tree.tree c.in_ok-tree.ensures.main
+    c.in_ok-schema.schema c.in_ok-schema.ensures c.in_ok-query.query c.in_ok-query.ensures.named _
     c.in_err-keep_limits.ensures.refused)
 
 pub returns-in_err-cells-clause-refused : goal.returns-in_err-cells-clause-refused
 returns-in_err-cells-clause-refused c =
-    let program = plain_program c.args.program.now in
-    let built : first_unbuilt program ≡ None = search rules in
     let err = err_from_is_err_and c.from_residual-in_err-cells.result c.from_residual-in_err-cells.ensures.1 in
-    rw (err.1, err.2) (cells_refused program built c.in_ok-schema.ensures.distinct c.in_ok-schema.schema
-    c.in_ok-schema.ensures.schema c.in_ok-query.query c.in_ok-query.ensures.named c.in_ok-keep_limits.ensures.limited _
-    c.in_err-cells.ensures.refused)
+    rw (err.1, err.2) (cells_refused (plain_program c.args.program.now) c.in_ok-tree.tree c.in_ok-tree.ensures.main
+    c.in_ok-schema.schema c.in_ok-schema.ensures c.in_ok-query.query c.in_ok-query.ensures.named
+    c.in_ok-keep_limits.ensures.limited _ c.in_err-cells.ensures.refused)
+
+pub returns-in_err-keep_values-clause-refused : goal.returns-in_err-keep_values-clause-refused
+returns-in_err-keep_values-clause-refused c =
+    let err = err_from_is_err_and c.from_residual-in_err-keep_values.result
+    c.from_residual-in_err-keep_values.ensures.1 in
+    rw (err.1, err.2) (values_refused (plain_program c.args.program.now) c.in_ok-tree.tree c.in_ok-tree.ensures.main
+    c.in_ok-schema.schema c.in_ok-schema.ensures c.in_ok-query.query c.in_ok-query.ensures.named
+    c.in_ok-keep_limits.ensures.limited c.in_ok-cells.ensures.few _ c.in_err-keep_values.ensures.refused)
 
 pub returns-clause-measured : goal.returns-clause-measured
 returns-clause-measured c =
-    let program = plain_program c.args.program.now in
-    let built : first_unbuilt program ≡ None = search rules in
-    measured_by program _ built c.in_ok-schema.ensures.distinct c.in_ok-schema.ensures.schema
-    c.in_ok-query.ensures.named c.in_ok-keep_limits.ensures.limited c.in_ok-cells.ensures.layout
-    c.in_ok-cells.ensures.few c.in_ok-cells.ensures.members
+    measured_by (plain_program c.args.program.now) _ c.in_ok-tree.tree c.in_ok-tree.ensures.main
+    c.in_ok-schema.ensures c.in_ok-query.ensures.named c.in_ok-keep_limits.ensures.limited c.in_ok-cells.ensures.layout
+    c.in_ok-cells.ensures.few c.in_ok-cells.ensures.members c.in_ok-keep_values.ensures.few

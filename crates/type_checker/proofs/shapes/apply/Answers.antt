@@ -1,9 +1,9 @@
-use Rattle.std.proofs.Common.{refl, rules}
+use Rattle.std.proofs.Common.{refl}
 use Rattle.std.proofs.lemmas.Result.{err_from_is_err_and}
 use Rattle.query_model.specs.Queries.{Qre, apply}
-use Rattle.query_model.specs.QueryTypes.{of_one}
 use Rattle.query_syntax.specs.Plain.{plain_expression}
 use Rattle.value_ops.specs.Expressions as values
+use Rattle.value_ops.specs.Shown.{shown_types}
 use Rattle.type_checker.proofs.Operands.{one_shape, one_span}
 use Rattle.type_checker.proofs.Shaping.{apply_refused, apply_made}
 use Rattle.type_checker.proofs.shapes.apply.Goals as goal
@@ -12,13 +12,16 @@ pub returns-in_err-value-clause-refused : goal.returns-in_err-value-clause-refus
 returns-in_err-value-clause-refused c =
     let err = err_from_is_err_and c.from_residual.result c.from_residual.ensures.1 in
     rw (err.1, err.2)
-    (λ columns f is. apply_refused columns f c.args.operand is (plain_expression c.args.value.now) c.args.span
-    (of_one c.args.operand.ty) refl _ c.in_err-value.ensures.refused)
+    (λ nesting columns f is.
+    apply_refused nesting columns f c.args.operand is (plain_expression c.args.value.now) c.args.span
+    (shown_types c.of_one-types.result) c.of_one-types.ensures _ c.in_err-value.ensures.refused)
 
 pub returns-clause-made : goal.returns-clause-made
 returns-clause-made c =
-    λ columns f is. apply_made columns f c.args.operand is (plain_expression c.args.value.now) c.args.span
-    (of_one c.args.operand.ty) refl c.in_ok-value.value _ c.in_ok-value.ty c.in_ok-value.ensures.made
+    λ nesting columns f is.
+    apply_made nesting columns f c.args.operand is (plain_expression c.args.value.now) c.args.span
+    (shown_types c.of_one-types.result) c.of_one-types.ensures c.in_ok-value.value _ c.in_ok-value.ty
+    c.in_ok-value.ensures.made
     (one_shape c.in_ok-inner.inner.value c.args.operand.query c.in_ok-inner.ensures
     (λ (a : Qre). apply a (values.plain_of c.in_ok-value.value)) _ refl)
     (one_span c.in_ok-inner.inner.value c.args.operand.query c.in_ok-inner.ensures _ refl)

@@ -9,13 +9,15 @@ pub returns-then-not-same_type-clause-refused : goal.returns-then-not-same_type-
 returns-then-not-same_type-clause-refused c =
     let differ : same_type c.args.right.ty c.args.left.ty ≡ false = first_of (cc, search rules) in
     rw c.refused.ensures
-    (λ columns f g is_left is_right. or_refused columns f g c.args.left c.args.right is_left is_right c.args.span
+    (λ nesting columns f g is_left is_right.
+    or_refused nesting columns f g c.args.left c.args.right is_left is_right c.args.span
     differ)
 
 pub returns-clause-made : goal.returns-clause-made
 returns-clause-made c =
     let same : same_type c.args.right.ty c.args.left.ty ≡ true = first_of (cc, search rules) in
-    λ columns f g is_left is_right. or_made columns f g c.args.left c.args.right is_left is_right c.args.span _ same
+    λ nesting columns f g is_left is_right.
+    or_made nesting columns f g c.args.left c.args.right is_left is_right c.args.span _ same
     (two_shapes c.in_ok-first.first.value c.in_ok-second.second.value c.args.left.query c.args.right.query
     c.in_ok-first.ensures c.in_ok-second.ensures choice _ refl)
     (two_spans c.in_ok-first.first.value c.in_ok-second.second.value c.args.left.query c.args.right.query

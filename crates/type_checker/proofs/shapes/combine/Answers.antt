@@ -12,13 +12,15 @@ pub returns-in_err-value-clause-refused : goal.returns-in_err-value-clause-refus
 returns-in_err-value-clause-refused c =
     let err = err_from_is_err_and c.from_residual.result c.from_residual.ensures.1 in
     rw (err.1, err.2)
-    (λ columns f g is_left is_right. combine_refused columns f g c.args.left c.args.right is_left is_right c.args.span
+    (λ nesting columns f g is_left is_right.
+    combine_refused nesting columns f g c.args.left c.args.right is_left is_right c.args.span
     (plain_expression c.args.value.now) (shown_types c.of_two-types.result) c.of_two-types.ensures _
     c.in_err-value.ensures.refused)
 
 pub returns-clause-made : goal.returns-clause-made
 returns-clause-made c =
-    λ columns f g is_left is_right. combine_made columns f g c.args.left c.args.right is_left is_right c.args.span
+    λ nesting columns f g is_left is_right.
+    combine_made nesting columns f g c.args.left c.args.right is_left is_right c.args.span
     (plain_expression c.args.value.now) (shown_types c.of_two-types.result) c.of_two-types.ensures
     c.in_ok-value.value c.in_ok-value.ty c.in_ok-value.ensures.made _
     (two_spans c.in_ok-first.first.value c.in_ok-second.second.value c.args.left.query c.args.right.query

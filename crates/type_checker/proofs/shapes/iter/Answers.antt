@@ -12,12 +12,14 @@ pub returns-in_err-step-clause-refused : goal.returns-in_err-step-clause-refused
 returns-in_err-step-clause-refused c =
     let err = err_from_is_err_and c.from_residual.result c.from_residual.ensures.1 in
     rw (err.1, err.2)
-    (λ columns f is. iter_refused columns f c.args.operand is (plain_expression c.args.step.now) c.args.span
+    (λ nesting columns f is.
+    iter_refused nesting columns f c.args.operand is (plain_expression c.args.step.now) c.args.span
     (shown_types c.of_two-types.result) c.args.first.now c.of_two-types.ensures _ c.in_err-step.ensures.refused)
 
 pub returns-clause-made : goal.returns-clause-made
 returns-clause-made c =
-    λ columns f is. iter_made columns f c.args.operand is (plain_expression c.args.step.now) c.args.span
+    λ nesting columns f is.
+    iter_made nesting columns f c.args.operand is (plain_expression c.args.step.now) c.args.span
     (shown_types c.of_two-types.result) c.args.first.now c.of_two-types.ensures c.in_ok-step.step _
     c.in_ok-step.ensures.made
     (search rules)

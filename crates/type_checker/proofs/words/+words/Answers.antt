@@ -1,17 +1,23 @@
 use Rattle.std.proofs.Common.{None, ap, refl, rules, subst, sym}
-use Rattle.std.proofs.lemmas.Result.{err_from_is_err_and}
+use Rattle.std.proofs.lemmas.Result.{IfErr-weaker, err_from_is_err_and, on_ok_weaker}
+use Rattle.predicate_cells.specs.Plain as predicates
+use Rattle.rate_expr.specs.Plain as rates
 use Rattle.query_model.specs.Queries as q
 use Rattle.query_model.specs.Queries.{plain_of}
-use Rattle.query_model.specs.Rules.{bound}
 use Rattle.query_model.specs.declared.query.Shape.TheViews.{the_lemmas}
 use Rattle.value_ops.specs.Expressions as values
 use Rattle.rate_expr.specs.FirstLastFollow.{AreSetsOf}
 use Rattle.query_model.specs.Rates.{rate_of}
 use Rattle.symbolic_nfa.specs.Automata.{Automaton}
 use Rattle.type_checker.specs.Findings.{IsBrokenAt, IsKept}
+use Rattle.type_checker.specs.Standings.{standing_of}
 use Rattle.type_checker.specs.WordRules.{BreaksAt}
-use Rattle.type_checker.proofs.Asked.{asked_as, asked_choice, asked_combine, asked_iter, asked_of, asked_split}
+use Rattle.type_checker.proofs.Asked.{asked_apply, asked_as, asked_both_of, asked_choice, asked_collect}
+use Rattle.type_checker.proofs.Asked.{asked_combine, asked_compose, asked_iter, asked_of, asked_rate, asked_split}
 use Rattle.type_checker.proofs.Asked.{positions_decided}
+use Rattle.type_checker.proofs.Fed.{composed_first, composed_kept, composed_second, composition}
+use Rattle.type_checker.proofs.Fed.{fed_kept, fed_refused, fed_stopped}
+use Rattle.type_checker.proofs.OverOne.{collect_kept, collect_refused, collect_sets}
 use Rattle.type_checker.proofs.OverOne.{apply_kept, apply_refused, apply_sets, iter_kept, iter_refused, iter_sets}
 use Rattle.type_checker.proofs.OverOne.{one_stopped, over_one}
 use Rattle.type_checker.proofs.OverTwo.{broken_with, kept_with, over_two, two_few, two_kept}
@@ -36,19 +42,19 @@ keep_both-new-requires-2 t c =
 pub keep_both-returns-in_err-left-clause-refused : goal.keep_both-returns-in_err-left-clause-refused
 keep_both-returns-in_err-left-clause-refused t c =
     let err = err_from_is_err_and c.from_residual.result c.from_residual.ensures.1 in
-    rw (err.1, err.2) (stops_before _ _ _ _ _ (c.in_err-left.ensures.refused bound))
+    rw (err.1, err.2) (stops_before _ _ _ _ _ c.in_err-left.ensures.refused)
 
 pub keep_both-returns-in_err-right-clause-refused : goal.keep_both-returns-in_err-right-clause-refused
 keep_both-returns-in_err-right-clause-refused t c =
     let err = err_from_is_err_and c.from_residual-in_err-right.result c.from_residual-in_err-right.ensures.1 in
     rw (err.1, err.2)
     (second_stopped c.args.cells.now.value.layout.columns c.args.first.now c.args.second.now
-    (c.in_ok-left.ensures.kept bound) _ (c.in_err-right.ensures.refused bound))
+    c.in_ok-left.ensures.kept _ c.in_err-right.ensures.refused)
 
 pub keep_both-returns-clause-kept : goal.keep_both-returns-clause-kept
 keep_both-returns-clause-kept t c =
     both_kept c.args.cells.now.value.layout.columns c.args.first.now c.args.second.now
-    (c.in_ok-left.ensures.kept bound) (c.in_ok-right.ensures.kept bound)
+    c.in_ok-left.ensures.kept c.in_ok-right.ensures.kept
 
 pub keep_both-returns-clause-automata : goal.keep_both-returns-clause-automata
 keep_both-returns-clause-automata t c = record {
@@ -64,7 +70,9 @@ keep_both-returns-clause-automata t c = record {
 pub keep_words-returns-in-Atom-clause-kept : goal.keep_words-returns-in-Atom-clause-kept
 keep_words-returns-in-Atom-clause-kept t c =
     let columns = c.args.cells.now.value.layout.columns in
-    root_kept columns c.args.query.now (none_without c.args.query.now _ columns c.in-Atom.is (λ standing. refl)) _
+    let standing = standing_of c.args.standing in
+    root_kept columns standing c.args.query.now
+    (none_without c.args.query.now _ columns standing c.in-Atom.is refl) _
     (told_ok _ _ (IsKept columns (plain_of c.args.query.now.shape)) c.one_item.ensures.kept (λ sets given.
     subst (λ shape. IsKept columns (plain_of shape) sets) (sym c.in-Atom.is)
     (given (values.plain_of c.in-Atom.field-1))))
@@ -78,17 +86,19 @@ keep_words-returns-in-Atom-clause-positions t c =
 pub keep_words-returns-in-Atom-clause-refused : goal.keep_words-returns-in-Atom-clause-refused
 keep_words-returns-in-Atom-clause-refused t c =
     let columns = c.args.cells.now.value.layout.columns in
-    root_refused columns c.args.query.now (none_without c.args.query.now _ columns c.in-Atom.is (λ standing. refl)) _
+    let standing = standing_of c.args.standing in
+    root_refused columns standing c.args.query.now
+    (none_without c.args.query.now _ columns standing c.in-Atom.is refl) _
     (told_err _ _ (IsBrokenAt columns (plain_of c.args.query.now.shape) c.args.query.now.span)
     c.one_item.ensures.refused (λ stop given.
     subst (λ shape. IsBrokenAt columns (plain_of shape) c.args.query.now.span stop) (sym c.in-Atom.is)
     (given (values.plain_of c.in-Atom.field-1))))
 
 pub keep_words-returns-in-Eps-clause-kept : goal.keep_words-returns-in-Eps-clause-kept
-keep_words-returns-in-Eps-clause-kept t c = λ standing.
+keep_words-returns-in-Eps-clause-kept t c =
     let columns = c.args.cells.now.value.layout.columns in
-    kept_at columns standing c.args.query.now
-    (none_without c.args.query.now _ columns c.in-Eps.is (λ standing. refl) standing)
+    let standing = standing_of c.args.standing in
+    kept_at columns standing c.args.query.now (none_without c.args.query.now _ columns standing c.in-Eps.is refl)
     (subst (λ shape. BreaksAt columns standing (plain_of shape) None) (sym c.in-Eps.is) tt)
 
 pub keep_words-returns-in-Eps-clause-positions : goal.keep_words-returns-in-Eps-clause-positions
@@ -111,7 +121,8 @@ keep_words-returns-in_err-operands-in-Or-clause-refused t c =
     let is = over_two q.choice c.args.query.now _ _ _ _ _
     c.in-Or.is c.deref.ensures c.deref-in-Or.ensures refl
     (λ columns standing. refl) refl in
-    rw (err.1, err.2) (two_stopped _ _ _ _ is c.args.cells.now.value _ c.in_err-operands-in-Or.ensures.refused)
+    rw (err.1, err.2) (two_stopped _ _ _ _ is c.args.cells.now.value (standing_of c.args.standing) _
+    c.in_err-operands-in-Or.ensures.refused)
 
 pub keep_words-returns-in_ok-operands-in-Or-clause-kept :
     goal.keep_words-returns-in_ok-operands-in-Or-clause-kept
@@ -119,7 +130,7 @@ keep_words-returns-in_ok-operands-in-Or-clause-kept t c =
     let is = over_two q.choice c.args.query.now _ _ _ _ _
     c.in-Or.is c.deref.ensures c.deref-in-Or.ensures refl
     (λ columns standing. refl) refl in
-    two_kept _ _ _ _ is c.args.cells.now.value
+    two_kept _ _ _ _ is c.args.cells.now.value (standing_of c.args.standing)
     c.in_ok-operands-in-Or.ensures.kept _
     c.in_ok-operands-in-Or.ensures.automata _
     c.choice.ensures.kept
@@ -130,7 +141,7 @@ keep_words-returns-in_ok-operands-in-Or-clause-positions t c =
     let is = over_two q.choice c.args.query.now _ _ _ _ _
     c.in-Or.is c.deref.ensures c.deref-in-Or.ensures refl
     (λ columns standing. refl) refl in
-    two_sets _ _ _ _ is c.args.cells.now.value
+    two_sets _ _ _ _ is c.args.cells.now.value (standing_of c.args.standing)
     c.in_ok-operands-in-Or.ensures.kept _
     c.in_ok-operands-in-Or.ensures.automata _
     c.choice.ensures.kept
@@ -141,7 +152,7 @@ keep_words-returns-in_ok-operands-in-Or-clause-refused t c =
     let is = over_two q.choice c.args.query.now _ _ _ _ _
     c.in-Or.is c.deref.ensures c.deref-in-Or.ensures refl
     (λ columns standing. refl) refl in
-    two_refused _ _ _ _ is c.args.cells.now.value
+    two_refused _ _ _ _ is c.args.cells.now.value (standing_of c.args.standing)
     c.in_ok-operands-in-Or.ensures.kept _
     c.in_ok-operands-in-Or.ensures.automata _
     c.choice.ensures.refused
@@ -163,7 +174,8 @@ keep_words-returns-in_err-operands-in-Split-clause-refused t c =
     let is = over_two (λ f g. q.split f g (values.plain_of c.in-Split.field-2)) c.args.query.now _ _ _ _ _
     c.in-Split.is c.deref-in-Split.ensures c.deref-in-Split-2.ensures refl
     (λ columns standing. refl) refl in
-    rw (err.1, err.2) (two_stopped _ _ _ _ is c.args.cells.now.value _ c.in_err-operands-in-Split.ensures.refused)
+    rw (err.1, err.2) (two_stopped _ _ _ _ is c.args.cells.now.value (standing_of c.args.standing) _
+    c.in_err-operands-in-Split.ensures.refused)
 
 pub keep_words-returns-in_ok-operands-in-Split-clause-kept :
     goal.keep_words-returns-in_ok-operands-in-Split-clause-kept
@@ -171,7 +183,7 @@ keep_words-returns-in_ok-operands-in-Split-clause-kept t c =
     let is = over_two (λ f g. q.split f g (values.plain_of c.in-Split.field-2)) c.args.query.now _ _ _ _ _
     c.in-Split.is c.deref-in-Split.ensures c.deref-in-Split-2.ensures refl
     (λ columns standing. refl) refl in
-    two_kept _ _ _ _ is c.args.cells.now.value
+    two_kept _ _ _ _ is c.args.cells.now.value (standing_of c.args.standing)
     c.in_ok-operands-in-Split.ensures.kept _
     c.in_ok-operands-in-Split.ensures.automata _
     (kept_with q.split _ (values.plain_of c.in-Split.field-2) _ c.split.ensures.kept)
@@ -182,7 +194,7 @@ keep_words-returns-in_ok-operands-in-Split-clause-positions t c =
     let is = over_two (λ f g. q.split f g (values.plain_of c.in-Split.field-2)) c.args.query.now _ _ _ _ _
     c.in-Split.is c.deref-in-Split.ensures c.deref-in-Split-2.ensures refl
     (λ columns standing. refl) refl in
-    two_sets _ _ _ _ is c.args.cells.now.value
+    two_sets _ _ _ _ is c.args.cells.now.value (standing_of c.args.standing)
     c.in_ok-operands-in-Split.ensures.kept _
     c.in_ok-operands-in-Split.ensures.automata _
     (kept_with q.split _ (values.plain_of c.in-Split.field-2) _ c.split.ensures.kept)
@@ -193,7 +205,7 @@ keep_words-returns-in_ok-operands-in-Split-clause-refused t c =
     let is = over_two (λ f g. q.split f g (values.plain_of c.in-Split.field-2)) c.args.query.now _ _ _ _ _
     c.in-Split.is c.deref-in-Split.ensures c.deref-in-Split-2.ensures refl
     (λ columns standing. refl) refl in
-    two_refused _ _ _ _ is c.args.cells.now.value
+    two_refused _ _ _ _ is c.args.cells.now.value (standing_of c.args.standing)
     c.in_ok-operands-in-Split.ensures.kept _
     c.in_ok-operands-in-Split.ensures.automata _
     (broken_with q.split _ (values.plain_of c.in-Split.field-2) _ _ c.split.ensures.refused)
@@ -215,7 +227,8 @@ keep_words-returns-in_err-operands-in-Combine-clause-refused t c =
     let is = over_two (λ f g. q.combine f g (values.plain_of c.in-Combine.field-2)) c.args.query.now _ _ _ _ _
     c.in-Combine.is c.deref-in-Combine.ensures c.deref-in-Combine-2.ensures refl
     (λ columns standing. refl) refl in
-    rw (err.1, err.2) (two_stopped _ _ _ _ is c.args.cells.now.value _ c.in_err-operands-in-Combine.ensures.refused)
+    rw (err.1, err.2) (two_stopped _ _ _ _ is c.args.cells.now.value (standing_of c.args.standing) _
+    c.in_err-operands-in-Combine.ensures.refused)
 
 pub keep_words-returns-in_ok-operands-in-Combine-clause-kept :
     goal.keep_words-returns-in_ok-operands-in-Combine-clause-kept
@@ -223,7 +236,7 @@ keep_words-returns-in_ok-operands-in-Combine-clause-kept t c =
     let is = over_two (λ f g. q.combine f g (values.plain_of c.in-Combine.field-2)) c.args.query.now _ _ _ _ _
     c.in-Combine.is c.deref-in-Combine.ensures c.deref-in-Combine-2.ensures refl
     (λ columns standing. refl) refl in
-    two_kept _ _ _ _ is c.args.cells.now.value
+    two_kept _ _ _ _ is c.args.cells.now.value (standing_of c.args.standing)
     c.in_ok-operands-in-Combine.ensures.kept _
     c.in_ok-operands-in-Combine.ensures.automata _
     (kept_with q.combine _ (values.plain_of c.in-Combine.field-2) _ c.side_by_side.ensures.kept)
@@ -234,7 +247,7 @@ keep_words-returns-in_ok-operands-in-Combine-clause-positions t c =
     let is = over_two (λ f g. q.combine f g (values.plain_of c.in-Combine.field-2)) c.args.query.now _ _ _ _ _
     c.in-Combine.is c.deref-in-Combine.ensures c.deref-in-Combine-2.ensures refl
     (λ columns standing. refl) refl in
-    two_sets _ _ _ _ is c.args.cells.now.value
+    two_sets _ _ _ _ is c.args.cells.now.value (standing_of c.args.standing)
     c.in_ok-operands-in-Combine.ensures.kept _
     c.in_ok-operands-in-Combine.ensures.automata _
     (kept_with q.combine _ (values.plain_of c.in-Combine.field-2) _ c.side_by_side.ensures.kept)
@@ -245,12 +258,18 @@ keep_words-returns-in_ok-operands-in-Combine-clause-refused t c =
     let is = over_two (λ f g. q.combine f g (values.plain_of c.in-Combine.field-2)) c.args.query.now _ _ _ _ _
     c.in-Combine.is c.deref-in-Combine.ensures c.deref-in-Combine-2.ensures refl
     (λ columns standing. refl) refl in
-    two_refused _ _ _ _ is c.args.cells.now.value
+    two_refused _ _ _ _ is c.args.cells.now.value (standing_of c.args.standing)
     c.in_ok-operands-in-Combine.ensures.kept _
     c.in_ok-operands-in-Combine.ensures.automata _
     (broken_with q.combine _ (values.plain_of c.in-Combine.field-2) _ _ c.side_by_side.ensures.refused)
 
 -- an iteration
+pub keep_words-keep_words-requires : goal.keep_words-keep_words-requires
+keep_words-keep_words-requires t c =
+    let cells = c.args.cells.now.value in
+    let can = asked_iter cells _ _ _ (asked_as cells _ _ c.in-Iter.is c.requires) in
+    (search (rules, the_lemmas), asked_of cells _ _ c.deref-in-Iter.ensures can)
+
 pub keep_words-new-requires : goal.keep_words-new-requires
 keep_words-new-requires t c =
     let cells = c.args.cells.now.value in
@@ -267,7 +286,8 @@ keep_words-returns-in_err-positions-in-Iter-clause-refused t c =
     c.in-Iter.is
     c.deref-in-Iter.ensures refl (λ columns standing. refl) refl in
     rw (err.1, err.2)
-    (one_stopped _ _ _ is c.args.cells.now.value.layout.columns _ c.in_err-positions-in-Iter.ensures.refused)
+    (one_stopped _ _ _ is c.args.cells.now.value.layout.columns (standing_of c.args.standing) _
+    c.in_err-positions-in-Iter.ensures.refused)
 
 pub keep_words-returns-in_ok-operand-in-Iter-clause-kept :
     goal.keep_words-returns-in_ok-operand-in-Iter-clause-kept
@@ -277,7 +297,8 @@ keep_words-returns-in_ok-operand-in-Iter-clause-kept t c =
     c.deref-in-Iter.ensures refl (λ columns standing. refl) refl in
     let of_it = automaton_of c.args.cells.now.value (plain_of c.deref-in-Iter.result.now.shape) _ _
     c.in_ok-operand-in-Iter.ensures c.in_ok-positions-in-Iter.ensures.positions in
-    iter_kept _ _ _ _ is c.args.cells.now.value c.in_ok-positions-in-Iter.ensures.kept _
+    iter_kept _ _ _ _ is c.args.cells.now.value (standing_of c.args.standing)
+    c.in_ok-positions-in-Iter.ensures.kept _
     (ap (λ (nfa : Automaton). nfa.cells) c.in_ok-operand-in-Iter.ensures) of_it _ c.iterated.ensures.kept
 
 pub keep_words-returns-in_ok-operand-in-Iter-clause-positions :
@@ -288,7 +309,8 @@ keep_words-returns-in_ok-operand-in-Iter-clause-positions t c =
     c.deref-in-Iter.ensures refl (λ columns standing. refl) refl in
     let of_it = automaton_of c.args.cells.now.value (plain_of c.deref-in-Iter.result.now.shape) _ _
     c.in_ok-operand-in-Iter.ensures c.in_ok-positions-in-Iter.ensures.positions in
-    iter_sets _ _ _ _ is c.args.cells.now.value c.in_ok-positions-in-Iter.ensures.kept _
+    iter_sets _ _ _ _ is c.args.cells.now.value (standing_of c.args.standing)
+    c.in_ok-positions-in-Iter.ensures.kept _
     (ap (λ (nfa : Automaton). nfa.cells) c.in_ok-operand-in-Iter.ensures) of_it _ c.iterated.ensures.kept
 
 pub keep_words-returns-in_ok-operand-in-Iter-clause-refused :
@@ -299,30 +321,40 @@ keep_words-returns-in_ok-operand-in-Iter-clause-refused t c =
     c.deref-in-Iter.ensures refl (λ columns standing. refl) refl in
     let of_it = automaton_of c.args.cells.now.value (plain_of c.deref-in-Iter.result.now.shape) _ _
     c.in_ok-operand-in-Iter.ensures c.in_ok-positions-in-Iter.ensures.positions in
-    iter_refused _ _ _ _ is c.args.cells.now.value c.in_ok-positions-in-Iter.ensures.kept _
+    iter_refused _ _ _ _ is c.args.cells.now.value (standing_of c.args.standing)
+    c.in_ok-positions-in-Iter.ensures.kept _
     (ap (λ (nfa : Automaton). nfa.cells) c.in_ok-operand-in-Iter.ensures) of_it _ c.iterated.ensures.refused
 
 -- an application
+pub keep_words-keep_words-requires-in-Apply : goal.keep_words-keep_words-requires-in-Apply
+keep_words-keep_words-requires-in-Apply t c =
+    let cells = c.args.cells.now.value in
+    let can = asked_apply cells _ _ (asked_as cells _ _ c.in-Apply.is c.requires) in
+    (search (rules, the_lemmas), asked_of cells _ _ c.deref-in-Apply.ensures can)
+
 pub keep_words-returns-in-Apply-clause-kept : goal.keep_words-returns-in-Apply-clause-kept
 keep_words-returns-in-Apply-clause-kept t c =
     let is = over_one (λ f. q.apply f (values.plain_of c.in-Apply.field-1)) c.args.query.now _ _ _
     c.in-Apply.is
     c.deref-in-Apply.ensures refl (λ columns standing. refl) refl in
-    apply_kept _ _ _ is c.args.cells.now.value.layout.columns _ c.keep_words-in-Apply.ensures.kept
+    apply_kept _ _ _ is c.args.cells.now.value.layout.columns (standing_of c.args.standing) _
+    c.keep_words-in-Apply.ensures.kept
 
 pub keep_words-returns-in-Apply-clause-positions : goal.keep_words-returns-in-Apply-clause-positions
 keep_words-returns-in-Apply-clause-positions t c =
     let is = over_one (λ f. q.apply f (values.plain_of c.in-Apply.field-1)) c.args.query.now _ _ _
     c.in-Apply.is
     c.deref-in-Apply.ensures refl (λ columns standing. refl) refl in
-    apply_sets _ _ _ is c.args.cells.now.value.layout.columns _ c.keep_words-in-Apply.ensures.positions
+    apply_sets _ _ _ is c.args.cells.now.value.layout.columns (standing_of c.args.standing) _
+    c.keep_words-in-Apply.ensures.positions
 
 pub keep_words-returns-in-Apply-clause-refused : goal.keep_words-returns-in-Apply-clause-refused
 keep_words-returns-in-Apply-clause-refused t c =
     let is = over_one (λ f. q.apply f (values.plain_of c.in-Apply.field-1)) c.args.query.now _ _ _
     c.in-Apply.is
     c.deref-in-Apply.ensures refl (λ columns standing. refl) refl in
-    apply_refused _ _ _ is c.args.cells.now.value.layout.columns _ c.keep_words-in-Apply.ensures.refused
+    apply_refused _ _ _ is c.args.cells.now.value.layout.columns (standing_of c.args.standing) _
+    c.keep_words-in-Apply.ensures.refused
 
 pub keep_words-choice-requires-clause-few : goal.keep_words-choice-requires-clause-few
 keep_words-choice-requires-clause-few t c =
@@ -339,3 +371,139 @@ keep_words-split-requires-clause-few t c =
     (λ columns standing. refl) refl in
     two_few _ _ _ _ is c.args.cells.now.value (λ f g few. few.2) c.requires _
     c.in_ok-operands-in-Split.ensures.automata
+
+-- a composition
+pub keep_words-keep_words-requires-in-Compose : goal.keep_words-keep_words-requires-in-Compose
+keep_words-keep_words-requires-in-Compose t c =
+    let cells = c.args.cells.now.value in
+    let can = asked_compose cells _ _ (asked_as cells _ _ c.in-Compose.is c.requires) in
+    (search (rules, the_lemmas), asked_of cells _ _ c.deref-in-Compose.ensures can)
+
+pub keep_words-keep_fed-requires : goal.keep_words-keep_fed-requires
+keep_words-keep_fed-requires t c =
+    let cells = c.args.cells.now.value in
+    let can = asked_as cells _ _ c.in-Compose.is c.requires in (
+      search (rules, the_lemmas),
+      asked_both_of cells _ _ _ _ c.deref-in-Compose-2.ensures
+          c.deref-in-Compose-3.ensures can,
+    )
+
+pub keep_words-returns-in_err-left-in-Compose-clause-refused :
+    goal.keep_words-returns-in_err-left-in-Compose-clause-refused
+keep_words-returns-in_err-left-in-Compose-clause-refused t c =
+    let err = err_from_is_err_and c.from_residual-in_err-left-in-Compose.result
+    c.from_residual-in_err-left-in-Compose.ensures.1 in
+    let is = composition c.args.query.now _ c.in-Compose.first.value c.in-Compose.second.value
+    c.deref-in-Compose.result.now c.in-Compose.second.value c.in-Compose.is c.deref-in-Compose.ensures refl refl refl in
+    rw (err.1, err.2)
+    (composed_first _ _ _ is c.args.cells.now.value.layout.columns (standing_of c.args.standing) _
+    c.in_err-left-in-Compose.ensures.refused)
+
+pub keep_words-returns-in_err-keep_fed-in-Compose-clause-refused :
+    goal.keep_words-returns-in_err-keep_fed-in-Compose-clause-refused
+keep_words-returns-in_err-keep_fed-in-Compose-clause-refused t c =
+    let err = err_from_is_err_and c.from_residual-in_err-keep_fed-in-Compose.result
+    c.from_residual-in_err-keep_fed-in-Compose.ensures.1 in
+    let is = composition c.args.query.now _ c.in-Compose.first.value c.in-Compose.second.value
+    c.in-Compose.first.value c.in-Compose.second.value c.in-Compose.is refl refl refl refl in
+    let kept = rw c.deref-in-Compose.ensures at c.in_ok-left-in-Compose.ensures.kept in
+    let broken = rw (c.deref-in-Compose-2.ensures, c.deref-in-Compose-3.ensures)
+    at c.in_err-keep_fed-in-Compose.ensures.refused in
+    rw (err.1, err.2)
+    (composed_second _ _ _ is c.args.cells.now.value.layout.columns (standing_of c.args.standing) kept _ broken)
+
+pub keep_words-returns-in_ok-keep_fed-in-Compose-clause-kept :
+    goal.keep_words-returns-in_ok-keep_fed-in-Compose-clause-kept
+keep_words-returns-in_ok-keep_fed-in-Compose-clause-kept t c =
+    let is = composition c.args.query.now _ c.in-Compose.first.value c.in-Compose.second.value
+    c.in-Compose.first.value c.in-Compose.second.value c.in-Compose.is refl refl refl refl in
+    let kept = rw c.deref-in-Compose.ensures at c.in_ok-left-in-Compose.ensures.kept in
+    let later = rw (c.deref-in-Compose-2.ensures, c.deref-in-Compose-3.ensures)
+    at c.in_ok-keep_fed-in-Compose.ensures.kept in
+    composed_kept _ _ _ is c.args.cells.now.value.layout.columns (standing_of c.args.standing) kept later
+
+-- a collection
+pub keep_words-keep_words-requires-in-Collect : goal.keep_words-keep_words-requires-in-Collect
+keep_words-keep_words-requires-in-Collect t c =
+    let cells = c.args.cells.now.value in
+    let can = asked_collect cells _ _ _ _ (asked_as cells _ _ c.in-Collect.is c.requires) in
+    (search (rules, the_lemmas), asked_of cells _ _ c.deref-in-Collect.ensures can)
+
+pub keep_words-collected-requires : goal.keep_words-collected-requires
+keep_words-collected-requires t c =
+    let cells = c.args.cells.now.value in
+    let can = asked_as cells _ _ c.in-Collect.is c.requires in
+    record { few = can.few.1; members = asked_rate cells _ _ _ _ can }
+
+pub keep_words-returns-in_err-keep_words-in-Collect-clause-refused :
+    goal.keep_words-returns-in_err-keep_words-in-Collect-clause-refused
+keep_words-returns-in_err-keep_words-in-Collect-clause-refused t c =
+    let err = err_from_is_err_and c.from_residual-in_err-keep_words-in-Collect.result
+    c.from_residual-in_err-keep_words-in-Collect.ensures.1 in
+    let is = over_one (λ f. q.collect c.in-Collect.field-0 (predicates.plain_of c.in-Collect.field-1)
+    (rates.plain_of c.in-Collect.rate) f) c.args.query.now _ _ _ c.in-Collect.is
+    c.deref-in-Collect.ensures refl (λ columns standing. refl) refl in
+    rw (err.1, err.2)
+    (one_stopped _ _ _ is c.args.cells.now.value.layout.columns (standing_of c.args.standing) _
+    c.in_err-keep_words-in-Collect.ensures.refused)
+
+pub keep_words-returns-in_ok-keep_words-in-Collect-clause-kept :
+    goal.keep_words-returns-in_ok-keep_words-in-Collect-clause-kept
+keep_words-returns-in_ok-keep_words-in-Collect-clause-kept t c =
+    let is = over_one (λ f. q.collect c.in-Collect.field-0 (predicates.plain_of c.in-Collect.field-1)
+    (rates.plain_of c.in-Collect.rate) f) c.args.query.now _ _ _ c.in-Collect.is
+    c.deref-in-Collect.ensures refl (λ columns standing. refl) refl in
+    collect_kept _ _ _ _ _ is c.args.cells.now.value.layout.columns (standing_of c.args.standing)
+    c.in_ok-keep_words-in-Collect.ensures.kept _ c.collected.ensures.kept
+
+pub keep_words-returns-in_ok-keep_words-in-Collect-clause-positions :
+    goal.keep_words-returns-in_ok-keep_words-in-Collect-clause-positions
+keep_words-returns-in_ok-keep_words-in-Collect-clause-positions t c =
+    let is = over_one (λ f. q.collect c.in-Collect.field-0 (predicates.plain_of c.in-Collect.field-1)
+    (rates.plain_of c.in-Collect.rate) f) c.args.query.now _ _ _ c.in-Collect.is
+    c.deref-in-Collect.ensures refl (λ columns standing. refl) refl in
+    collect_sets _ _ _ _ _ is c.args.cells.now.value.layout.columns (standing_of c.args.standing)
+    c.in_ok-keep_words-in-Collect.ensures.kept _ c.collected.ensures.kept
+
+pub keep_words-returns-in_ok-keep_words-in-Collect-clause-refused :
+    goal.keep_words-returns-in_ok-keep_words-in-Collect-clause-refused
+keep_words-returns-in_ok-keep_words-in-Collect-clause-refused t c =
+    let is = over_one (λ f. q.collect c.in-Collect.field-0 (predicates.plain_of c.in-Collect.field-1)
+    (rates.plain_of c.in-Collect.rate) f) c.args.query.now _ _ _ c.in-Collect.is
+    c.deref-in-Collect.ensures refl (λ columns standing. refl) refl in
+    collect_refused _ _ _ _ _ is c.args.cells.now.value.layout.columns (standing_of c.args.standing)
+    c.in_ok-keep_words-in-Collect.ensures.kept _ c.collected.ensures.refused
+
+-- the second operand of a composition
+pub keep_fed-keep_words-requires : goal.keep_fed-keep_words-requires
+keep_fed-keep_words-requires t c = (search (rules, the_lemmas), c.in_ok-values.ensures.asked)
+
+pub keep_fed-fed-requires : goal.keep_fed-fed-requires
+keep_fed-fed-requires t c =
+    positions_decided _ (plain_of c.args.second.now.shape) _ c.in_ok-values.ensures.asked
+    c.in_ok-right.ensures.positions
+
+pub keep_fed-returns-in_err-right-clause-refused : goal.keep_fed-returns-in_err-right-clause-refused
+keep_fed-returns-in_err-right-clause-refused t c =
+    let err = err_from_is_err_and c.from_residual-in_err-right.result c.from_residual-in_err-right.ensures.1 in
+    let values = rw c.as_ref.ensures at c.in_ok-values.ensures.layout in
+    rw (err.1, err.2)
+    (fed_stopped c.args.cells.now.value.layout.columns (standing_of c.args.standing)
+    (plain_of c.args.first.now.shape) c.args.second.now _ values c.args.span _
+    c.in_err-right.ensures.refused)
+
+pub keep_fed-returns-clause-kept : goal.keep_fed-returns-clause-kept
+keep_fed-returns-clause-kept t c =
+    let values = rw c.as_ref.ensures at c.in_ok-values.ensures.layout in
+    fed_kept c.args.cells.now.value.layout.columns (standing_of c.args.standing)
+    (plain_of c.args.first.now.shape) c.args.second.now _ values c.args.span
+    c.in_ok-right.ensures.kept _
+    (on_ok_weaker c.fed.result (λ each. each _ c.in_ok-right.ensures.positions) c.fed.ensures.kept)
+
+pub keep_fed-returns-clause-refused : goal.keep_fed-returns-clause-refused
+keep_fed-returns-clause-refused t c =
+    let values = rw c.as_ref.ensures at c.in_ok-values.ensures.layout in
+    fed_refused c.args.cells.now.value.layout.columns (standing_of c.args.standing)
+    (plain_of c.args.first.now.shape) c.args.second.now _ values c.args.span
+    c.in_ok-right.ensures.kept _
+    (IfErr-weaker c.fed.result _ _ (λ stop each. each _ c.in_ok-right.ensures.positions) c.fed.ensures.refused)

@@ -1,0 +1,128 @@
+-- What a collection is resolved to.
+use Rattle.std.proofs.Common.{◌≡◌, ◌&&◌, ℕ, Bool, true, false, List, [], ◌∷◌, ◌++◌, Some, None, Result, Ok, Err, refl}
+use Rattle.std.specs.List.{list_all}
+use Rattle.std.specs.Result.{IfErr, IfOk}
+use Rattle.std.proofs.lemmas.Bool.{and_parts}
+use Rattle.std.proofs.lemmas.Result.{IfErr-weaker, IfOk-weaker}
+use Rattle.item_schema.specs.Layout.{is_read}
+use Rattle.item_schema.specs.declared.column.Column.{Column}
+use Rattle.language_base.specs.declared.rule.Rule.TheVariants.{Name, Nested, Type_}
+use Rattle.language_base.specs.declared.span.Span.{Span}
+use Rattle.predicate_cells.specs.Fits.{fits, has_texts}
+use Rattle.predicate_cells.specs.Predicates as plain
+use Rattle.query_model.specs.Queries.{Qre, collect, plain_of, spans_of}
+use Rattle.query_syntax.specs.Predicates as p
+use Rattle.query_syntax.specs.Queries as q
+use Rattle.query_syntax.specs.Rates as r
+use Rattle.query_syntax.specs.declared.leaf.Name as leaf
+use Rattle.rate_expr.specs.Rates.{Expression, preds_of}
+use Rattle.type_checker.specs.Names.{column_named}
+use Rattle.type_checker.specs.Nestings.{MayStand}
+use Rattle.type_checker.specs.Rates.{rate_over}
+use Rattle.type_checker.specs.Resolutions.{IsMadeOfInner, IsMade, IsRefused, IsRefusedOverInner}
+use Rattle.type_checker.specs.Resolved.{Nesting, inside, may_collect, outside, resolved}
+use Rattle.type_checker.specs.Steps.{refusal}
+use Rattle.type_checker.specs.Tests.{resolved_over}
+use Rattle.type_checker.specs.declared.naming.Typed.{Typed}
+use Rattle.type_checker.specs.declared.stop.CheckStop.{CheckStop}
+use Rattle.type_checker.specs.declared.stop.CheckStop.TheVariants.{Refused, Memory}
+use Rattle.type_checker.proofs.Composing.{made_inside}
+use Rattle.type_checker.proofs.Operands.{made_of, one_place}
+use Rattle.type_checker.proofs.WithoutTables.{gives_numbers, lines_no_table}
+use Rattle.value_ops.specs.declared.value.ValueType.TheVariants as type
+
+-- where a collection may stand the columns are read from lines
+read_there : (nesting : Nesting) (columns : List Column) → may_collect nesting ≡ true → MayStand nesting columns
+    → list_all (λ column. is_read column.kind) columns ≡ true
+read_there outside columns may stands = stands
+read_there inside columns may stands = absurd (cc)
+
+module _ (nesting : Nesting) (columns : List Column) (key : leaf.Name) (sync : p.Predicate) (rate : r.Rate)
+    (f : q.Query) (span : Span) where
+  -- a collection is refused where its operand is
+  pub collect_first : (stop : CheckStop) → IsRefused inside columns f stop
+      → IsRefused nesting columns (q.collect key sync rate f span) stop
+  unfolding resolved
+  collect_first (Refused why) first = rw first refl
+  collect_first Memory first = tt
+
+  module _ (operand : Typed) (is : IsMade inside columns f operand) where
+    -- the key is no column's name
+    pub unkeyed : None ≡ column_named columns key.bytes
+        → resolved nesting columns (q.collect key sync rate f span) ≡ Err (refusal Name span)
+    unfolding resolved
+    unkeyed none = rw (is.resolved, ← none) refl
+
+    module _ (column : ℕ) (keyed : Some column ≡ column_named columns key.bytes) where
+      -- or a name in the predicate is none
+      pub untested_sync : None ≡ resolved_over columns sync
+          → resolved nesting columns (q.collect key sync rate f span) ≡ Err (refusal Name span)
+      unfolding resolved
+      untested_sync none = rw (is.resolved, ← keyed, ← none) refl
+
+      module _ (pred : plain.Predicate) (tested : Some pred ≡ resolved_over columns sync) where
+        -- or one in the rate
+        pub unrated : None ≡ rate_over columns rate
+            → resolved nesting columns (q.collect key sync rate f span) ≡ Err (refusal Name span)
+        unfolding resolved
+        unrated none = rw (is.resolved, ← keyed, ← tested, ← none) refl
+
+        module _ (words : Expression) (rated : Some words ≡ rate_over columns rate) where
+          abbrev parts_fit : Bool
+          parts_fit = has_texts columns column && (fits columns pred && list_all (fits columns) (preds_of words))
+
+          -- no collection may stand there
+          pub misplaced : may_collect nesting ≡ false
+              → resolved nesting columns (q.collect key sync rate f span) ≡ Err (refusal Nested span)
+          unfolding resolved
+          misplaced never = rw (is.resolved, ← keyed, ← tested, ← rated, never) refl
+
+          module _ (may : may_collect nesting ≡ true) where
+            -- a column is of another kind than is asked of it
+            pub unfit_parts : parts_fit ≡ false
+                → resolved nesting columns (q.collect key sync rate f span) ≡ Err (refusal Type_ span)
+            unfolding resolved
+            unfit_parts unfit = rw (is.resolved, ← keyed, ← tested, ← rated, may, unfit) refl
+
+            module _ (fit : parts_fit ≡ true) where
+              collect_step : resolved nesting columns (q.collect key sync rate f span)
+                  ≡ Ok (collect column pred words (plain_of operand.query.shape))
+              unfolding resolved
+              collect_step = rw (is.resolved, ← keyed, ← tested, ← rated, may, fit) refl
+
+              pub collect_made : (made : Typed) → MayStand nesting columns
+                  → plain_of made.query.shape ≡ collect column pred words (plain_of operand.query.shape)
+                  → spans_of made.query.shape ≡ spans_of operand.query.shape ++ operand.query.span ∷ []
+                  → made.query.span ≡ span → made.ty ≡ type.Table
+                  → IsMade nesting columns (q.collect key sync rate f span) made
+              collect_made made stands shape spans at ty =
+                  let inner : Qre = plain_of operand.query.shape in
+                  let single = made_inside columns f operand is in
+                  let parts = and_parts (has_texts columns column)
+                  (fits columns pred && list_all (fits columns) (preds_of words)) fit in
+                  let tests = and_parts (fits columns pred) (list_all (fits columns) (preds_of words)) parts.1 in
+                  made_of nesting columns (q.collect key sync rate f span) made (collect column pred words inner) shape
+                  collect_step ty (
+                    is.typed.keeps,
+                    gives_numbers columns (lines_no_table columns (read_there nesting columns may stands)) inner single,
+                    single,
+                    parts.0,
+                    tests.0,
+                    tests.1,
+                  )
+                  (one_place f operand made.query span is.places spans at)
+
+-- what a collection is over its operand
+module _ (nesting : Nesting) (columns : List Column) (f : q.Query) (operand : Typed)
+    (is : IsMade inside columns f operand) (node : q.Query → q.Query) (result : Result Typed CheckStop) where
+  pub inner_made : IfOk result (IsMadeOfInner nesting columns node operand)
+      → IfOk result (IsMade nesting columns (node f))
+  inner_made of_it =
+      IfOk-weaker result (IsMadeOfInner nesting columns node operand) (IsMade nesting columns (node f))
+      (λ made over. over f is) of_it
+
+  pub inner_refused : IfErr result (IsRefusedOverInner nesting columns node operand)
+      → IfErr result (IsRefused nesting columns (node f))
+  inner_refused of_it =
+      IfErr-weaker result (IsRefusedOverInner nesting columns node operand) (IsRefused nesting columns (node f))
+      (λ stop over. over f is) of_it

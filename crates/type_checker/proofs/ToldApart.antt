@@ -1,0 +1,107 @@
+-- The first composition that tells too many values apart, by those in the operands of a query.
+use Rattle.std.proofs.Common.{◌≡◌, Bool, false, cond, not, List, [], ◌∷◌, ◌++◌, Option, Some, None, sym, subst, ap, ap₂, ◌∙◌}
+use Rattle.std.specs.Option.{option_or}
+use Rattle.item_schema.specs.Layout.{Layout, derived_layout}
+use Rattle.item_schema.specs.declared.column.Column.{Column}
+use Rattle.language_base.specs.declared.span.Span.{Span}
+use Rattle.query_model.specs.Queries.{Qre, compose, plain_of, spans_of}
+use Rattle.query_model.specs.QueryTypes.{derived_columns, type_of}
+use Rattle.query_model.specs.Rules.{Standing, bound}
+use Rattle.query_model.specs.declared.query.Query.{Query}
+use Rattle.query_model.specs.declared.query.Shape.{Shape}
+use Rattle.type_checker.specs.Findings.{KeepsTypes, derives_many, first_in}
+use Rattle.type_checker.specs.Nodes.{Node, first_where, nodes_in}
+use Rattle.type_checker.specs.Sizes.{derives_many_cells, has_few_cells}
+use Rattle.type_checker.proofs.OfOperands.{first_of_one, first_of_two, or_none}
+
+-- the root of a query
+abbrev root : List Column → Standing → Qre → Node
+root columns standing query = record { columns = columns; standing = standing; query = query }
+
+-- the first in a query that has nodes and places like these
+first_like : (columns : List Column) (standing : Standing) (query : Query) (shape : Shape) → query.shape ≡ shape
+    → (nodes : List Node) (spans : List Span) → nodes_in columns standing (plain_of shape) ≡ nodes
+    → spans_of shape ≡ spans
+    → first_in derives_many columns standing query ≡ first_where derives_many nodes (spans ++ query.span ∷ [])
+first_like columns standing query shape is nodes spans same places =
+    ap (λ (s : Shape).
+    first_where derives_many (nodes_in columns standing (plain_of s)) (spans_of s ++ query.span ∷ [])) is
+    ∙ ap₂ (first_where derives_many) same (ap (λ (all : List Span). all ++ query.span ∷ []) places)
+
+-- the query is no composition, and has this operand on its own stream
+pub record IsAbove (query f : Query) : Type 0 where
+  pub keeps : (columns : List Column) → KeepsTypes columns (plain_of query.shape)
+      → KeepsTypes columns (plain_of f.shape)
+  pub first : (columns : List Column) (standing : Standing) (found : Option Span)
+      → first_in derives_many columns bound f ≡ found → first_in derives_many columns standing query ≡ found
+
+pub above : (query : Query) (shape : Shape) (f : Query) → query.shape ≡ shape
+    → ((columns : List Column) → KeepsTypes columns (plain_of shape) → KeepsTypes columns (plain_of f.shape))
+    → ((columns : List Column) (standing : Standing) → nodes_in columns standing (plain_of shape)
+    ≡ nodes_in columns bound (plain_of f.shape) ++ root columns standing (plain_of shape) ∷ [])
+    → ((columns : List Column) → derives_many_cells columns (plain_of shape) ≡ false)
+    → spans_of shape ≡ spans_of f.shape ++ f.span ∷ [] → IsAbove query f
+above query shape f is keeps nodes single spans = record {
+  keeps = λ columns kept. keeps columns (subst (λ (s : Shape). KeepsTypes columns (plain_of s)) is kept);
+  first = λ columns standing found one.
+      first_like columns standing query shape is _ _ (nodes columns standing) spans
+      ∙ first_of_one derives_many query.span (root columns standing (plain_of shape)) columns bound f found one
+      ∙ ap (λ (b : Bool). option_or found (cond b (Some query.span) None)) (single columns)
+      ∙ or_none found;
+}
+
+-- the query is no composition, and has these two
+pub record IsBeside (query f g : Query) : Type 0 where
+  pub keeps : (columns : List Column) → KeepsTypes columns (plain_of query.shape)
+      → KeepsTypes columns (plain_of f.shape) × KeepsTypes columns (plain_of g.shape)
+  pub first : (columns : List Column) (standing : Standing) (found later : Option Span)
+      → first_in derives_many columns bound f ≡ found → first_in derives_many columns bound g ≡ later
+      → first_in derives_many columns standing query ≡ option_or found later
+
+pub beside : (query : Query) (shape : Shape) (f g : Query) → query.shape ≡ shape
+    → ((columns : List Column) → KeepsTypes columns (plain_of shape)
+    → KeepsTypes columns (plain_of f.shape) × KeepsTypes columns (plain_of g.shape))
+    → ((columns : List Column) (standing : Standing) → nodes_in columns standing (plain_of shape)
+    ≡ nodes_in columns bound (plain_of f.shape) ++ nodes_in columns bound (plain_of g.shape)
+    ++ root columns standing (plain_of shape) ∷ [])
+    → ((columns : List Column) → derives_many_cells columns (plain_of shape) ≡ false)
+    → spans_of shape ≡ spans_of f.shape ++ f.span ∷ spans_of g.shape ++ g.span ∷ [] → IsBeside query f g
+beside query shape f g is keeps nodes single spans = record {
+  keeps = λ columns kept. keeps columns (subst (λ (s : Shape). KeepsTypes columns (plain_of s)) is kept);
+  first = λ columns standing found later one other.
+      first_like columns standing query shape is _ _ (nodes columns standing) spans
+      ∙ first_of_two derives_many query.span (root columns standing (plain_of shape)) columns bound f columns bound g
+      found later one other
+      ∙ ap (λ (b : Bool). option_or (option_or found later) (cond b (Some query.span) None)) (single columns)
+      ∙ or_none (option_or found later);
+}
+
+-- the query is a composition
+module _ (query : Query) (shape : Shape) (f g : Query) (is : query.shape ≡ shape)
+    (plain : plain_of shape ≡ compose (plain_of f.shape) (plain_of g.shape))
+    (spans : spans_of shape ≡ spans_of f.shape ++ f.span ∷ spans_of g.shape ++ g.span ∷ [])
+    (columns : List Column) where
+  abbrev values : List Column
+  values = derived_columns (type_of columns (plain_of f.shape))
+
+  pub compose_keeps : KeepsTypes columns (plain_of query.shape)
+      → KeepsTypes columns (plain_of f.shape) × KeepsTypes values (plain_of g.shape)
+  compose_keeps kept =
+      let both = subst (KeepsTypes columns) plain (subst (λ (s : Shape). KeepsTypes columns (plain_of s)) is kept) in
+      (both.0, both.1)
+
+  pub compose_first : (standing : Standing) (found later here : Option Span)
+      → first_in derives_many columns standing f ≡ found → first_in derives_many values standing g ≡ later
+      → here ≡ cond (not (has_few_cells values (plain_of g.shape))) (Some query.span) None
+      → first_in derives_many columns standing query ≡ option_or (option_or found later) here
+  compose_first standing found later here one other many =
+      first_like columns standing query shape is _ _ (ap (nodes_in columns standing) plain) spans
+      ∙ first_of_two derives_many query.span (root columns standing (compose (plain_of f.shape) (plain_of g.shape)))
+      columns standing f values standing g found later one other
+      ∙ ap (option_or (option_or found later)) (sym many)
+
+-- what holds over the stream of values
+pub on_stream : (layout : Layout) (columns : List Column) (f : Query)
+    → layout ≡ derived_layout (type_of columns (plain_of f.shape)) → (P : List Column → Type 0)
+    → P (derived_columns (type_of columns (plain_of f.shape))) → P layout.columns
+on_stream layout columns f is P holds = subst (λ (l : Layout). P l.columns) (sym is) holds

@@ -1,0 +1,67 @@
+//! The cells of the streams of values inside of a query.
+ghost use Rattle.std.specs.Prelude.{◌≡◌, Some, None, not, if◌then◌else◌, IfOk};
+ghost use Rattle.predicate_cells.specs.Cells.{AllFit};
+ghost use Rattle.query_model.specs.Queries.{plain_of};
+ghost use Rattle.query_model.specs.Rules.{Standing};
+ghost use Rattle.query_model.specs.Sizes.{predicates_of};
+ghost use Rattle.type_checker.specs.Findings.{KeepsTypes, derives_many, first_in};
+ghost use Rattle.type_checker.specs.Sizes.{has_few_cells};
+
+use crate::cells::cells_of;
+use crate::values::values_of;
+use item_schema::Schema;
+use language_base::Span;
+use predicate_cells::CellStop;
+use query_model::{Query, Shape};
+use std::alloc::{AllocError, Global};
+
+/// The place of the first composition that tells too many of its first operand's values apart.
+pub fn first_apart(
+    alloc: Global,
+    schema: &Schema,
+    query: &Query,
+) -> Result<Option<Span>, AllocError>
+    requires { KeepsTypes schema.now.columns (plain_of query.now.shape) }
+    ensures { IfOk result (λ found. (standing : Standing)
+        → first_in derives_many schema.now.columns standing query.now ≡ found) }
+{
+    match &query.shape {
+        Shape::Atom(..) | Shape::Eps(_) => Ok(None),
+        Shape::Or(first, second)
+        | Shape::Split(first, second, _)
+        | Shape::Combine(first, second, _) => {
+            let left = first_apart(alloc, schema, first)?;
+            let right = first_apart(alloc, schema, second)?;
+            Ok(left.or(right))
+        }
+        Shape::Iter(inner, ..) | Shape::Apply(inner, _) | Shape::Collect(_, _, _, inner) => {
+            first_apart(alloc, schema, inner)
+        }
+        Shape::Compose(first, second) => {
+            let left = first_apart(alloc, schema, first)?;
+            let values = values_of(alloc, schema, first)?;
+            let right = first_apart(alloc, &values, second)?;
+            let here = place_of_many(alloc, &values, second, query.span)?;
+            Ok(left.or(right).or(here))
+        }
+    }
+}
+
+// The place, where the predicates of the query tell too many items of its stream apart.
+fn place_of_many(
+    alloc: Global,
+    schema: &Schema,
+    query: &Query,
+    span: Span,
+) -> Result<Option<Span>, AllocError>
+    requires { AllFit schema.now.columns (predicates_of (plain_of query.now.shape)) }
+    ensures { IfOk result (λ place. place
+        ≡ (if not (has_few_cells schema.now.columns (plain_of query.now.shape)) then Some span
+        else None)) }
+{
+    match cells_of(alloc, schema, query) {
+        Ok(_) => Ok(None),
+        Err(CellStop::TooMany) => Ok(Some(span)),
+        Err(CellStop::Memory) => Err(AllocError),
+    }
+}
