@@ -1,0 +1,75 @@
+-- The same calls of the same nodes.
+use Rattle.std.proofs.Common.{◌≡◌, ◌∙◌, ℕ, Bool, List, Option, Result, Ok, Err, ap, sym, subst}
+use Rattle.std.specs.Prelude.{IfOk}
+use Rattle.value_ops.specs.declared.field.Field.{Field}
+use Rattle.query_model.specs.declared.query.Query.{Query}
+use Rattle.query_model.specs.Queries.{Qre, plain_of}
+use Rattle.eval_tree.specs.declared.hit.Hit.{Hit}
+use Rattle.eval_tree.specs.declared.node.Node.{Node}
+use Rattle.eval_tree.specs.declared.progress.Progress.{Progress}
+use Rattle.eval_tree.specs.Holdings.{Holding}
+use Rattle.eval_tree.specs.Live.{live_of}
+use Rattle.eval_tree.specs.Plain.{holding_of, seen_of}
+use Rattle.eval_tree.specs.Steps.{CanStart, CanStep, Starts, StartsSoundly, Steps, StepsSoundly}
+
+-- what a reference leads to
+pub same_query : (x y : Query) → x ≡ y → plain_of y.shape ≡ plain_of x.shape
+same_query x y same = ap (λ (query : Query). plain_of query.shape) (sym same)
+
+pub same_node : (x y : Node) → x ≡ y → holding_of y.state ≡ holding_of x.state
+same_node x y same = ap (λ (node : Node). holding_of node.state) (sym same)
+
+pub live_as : (query other : Query) (node beside : Node) (start : ℕ) (live : Bool) → query ≡ other → node ≡ beside
+    → live ≡ live_of (plain_of query.shape) (holding_of node.state) start
+    → live ≡ live_of (plain_of other.shape) (holding_of beside.state) start
+live_as query other node beside start live same_one same_other is =
+    is ∙ ap (λ (q : Query). live_of (plain_of q.shape) (holding_of node.state) start) same_one
+    ∙ ap (λ (n : Node). live_of (plain_of other.shape) (holding_of n.state) start) same_other
+
+pub where_ok : {T E : Type 0} → (result : Result T E) (P Q : T → Type 0) → ((x : T) → P x → Q x) → IfOk result P
+    → IfOk result Q
+where_ok (Ok x) P Q each is = each x is
+where_ok (Err e) P Q each is = tt
+
+-- a fact on a query, a node before a call and behind it, and a hit
+moved : (P : Qre → Holding Progress → Holding Progress → Option Hit → Type 0) (q q' : Qre)
+    (h h' k k' : Holding Progress)
+    (hit hit' : Option Hit) → q' ≡ q → h' ≡ h → k' ≡ k → hit' ≡ hit → P q h k hit → P q' h' k' hit'
+moved P q q' h h' k k' hit hit' query before after hits is =
+    subst (λ (x : Qre). P x h' k' hit') (sym query)
+    (subst (λ (x : Holding Progress). P q x k' hit') (sym before)
+    (subst (λ (x : Holding Progress). P q h x hit') (sym after)
+    (subst (λ (x : Option Hit). P q h k x) (sym hits) is)))
+
+pub started_as : (q q' : Qre) (h h' k k' : Holding Progress) (at : ℕ) (hit hit' : Option Hit) → q' ≡ q → h' ≡ h
+    → k' ≡ k → hit' ≡ hit → Starts seen_of q h at k hit → Starts seen_of q' h' at k' hit'
+started_as q q' h h' k k' at hit hit' =
+    moved (λ p old new found. Starts seen_of p old at new found) q q' h h' k k' hit hit'
+
+pub soundly_started_as : (q q' : Qre) (h h' k k' : Holding Progress) (at : ℕ) (hit hit' : Option Hit) → q' ≡ q
+    → h' ≡ h → k' ≡ k → hit' ≡ hit → StartsSoundly seen_of q h at k hit → StartsSoundly seen_of q' h' at k' hit'
+soundly_started_as q q' h h' k k' at hit hit' =
+    moved (λ p old new found. StartsSoundly seen_of p old at new found) q q' h h' k k' hit hit'
+
+pub stepped_as : (q q' : Qre) (h h' k k' : Holding Progress) (now : ℕ) (item : List Field) (hit hit' : Option Hit)
+    → q' ≡ q → h' ≡ h → k' ≡ k → hit' ≡ hit → Steps seen_of q h now item k hit → Steps seen_of q' h' now item k' hit'
+stepped_as q q' h h' k k' now item hit hit' =
+    moved (λ p old new found. Steps seen_of p old now item new found) q q' h h' k k' hit hit'
+
+pub soundly_stepped_as : (q q' : Qre) (h h' k k' : Holding Progress) (now : ℕ) (item : List Field)
+    (hit hit' : Option Hit) → q' ≡ q → h' ≡ h → k' ≡ k → hit' ≡ hit
+    → StepsSoundly seen_of q h now item k hit → StepsSoundly seen_of q' h' now item k' hit'
+soundly_stepped_as q q' h h' k k' now item hit hit' =
+    moved (λ p old new found. StepsSoundly seen_of p old now item new found) q q' h h' k k' hit hit'
+
+pub can_start_as : (q q' : Qre) (h h' : Holding Progress) (at : ℕ) → q' ≡ q → h' ≡ h → CanStart seen_of q h at
+    → CanStart seen_of q' h' at
+can_start_as q q' h h' at query before is =
+    subst (λ (x : Qre). CanStart seen_of x h' at) (sym query)
+    (subst (λ (x : Holding Progress). CanStart seen_of q x at) (sym before) is)
+
+pub can_step_as : (q q' : Qre) (h h' : Holding Progress) (now : ℕ) (item : List Field) → q' ≡ q → h' ≡ h
+    → CanStep seen_of q h now item → CanStep seen_of q' h' now item
+can_step_as q q' h h' now item query before is =
+    subst (λ (x : Qre). CanStep seen_of x h' now item) (sym query)
+    (subst (λ (x : Holding Progress). CanStep seen_of q x now item) (sym before) is)

@@ -1,0 +1,247 @@
+-- Live starts are at most as many as there are places for them.
+use Rattle.std.proofs.Common.{◌≡◌, ◌≤◌, ℕ, ◌+◌, ◌∙◌, List, [], ◌∷◌, ◌++◌, drop, length, refl, sym, ap, subst, arith, append-nil, ◌⊎◌, inl, inr}
+use Rattle.std.specs.Prelude.{ℤ}
+use Rattle.std.specs.List.{Contains}
+use Rattle.value_ops.specs.Expressions.{Expression}
+use Rattle.predicate_cells.specs.Predicates.{Predicate}
+use Rattle.item_schema.specs.declared.column.Column.{Column}
+use Rattle.rate_expr.specs.Language.{In}
+use Rattle.rate_expr.specs.Readings.{HasExtension}
+use Rattle.rate_expr.specs.Words.{Word, IsWordOf}
+use Rattle.rate_expr.proofs.Wording.{comparable, word_parts}
+use Rattle.query_model.specs.Bounds.{places_of}
+use Rattle.query_model.specs.Queries.{Qre, atom, eps, choice, split, iter, combine, apply, compose, collect}
+use Rattle.query_model.specs.Rates.{rate_of}
+use Rattle.query_model.specs.Rules.{Standing, bound, IsClear}
+use Rattle.eval_tree.specs.Shapes.{CanRun}
+use Rattle.eval_tree.specs.Starts.{AreApart, AreDifferent, ArePositions, IsLive, IsPiece}
+use Rattle.eval_tree.proofs.Apart.{apart_first, apart_second, apart_left, apart_right}
+use Rattle.eval_tree.proofs.Members.{first_member, later_member, member_cases, no_member}
+use Rattle.eval_tree.proofs.Pieces.{at_end, none_before, piece_goes_on, some_item, split_piece}
+
+-- of different numbers that are each of one kind or another
+pub record AreParted (P Q : ℕ → Type 0) (all : List ℕ) : Type 0 where
+  pub firsts : List ℕ
+  pub seconds : List ℕ
+  pub count : length all ≡ length firsts + length seconds
+  pub different : AreDifferent firsts × AreDifferent seconds
+  pub among : ((i : ℕ) → Contains firsts i → Contains all i) × ((i : ℕ) → Contains seconds i → Contains all i)
+  pub are : ((i : ℕ) → Contains firsts i → P i) × ((i : ℕ) → Contains seconds i → Q i)
+
+parted : (P Q : ℕ → Type 0) (all : List ℕ) → AreDifferent all → ((i : ℕ) → Contains all i → P i ⊎ Q i)
+    → AreParted P Q all
+parted P Q [] different each = record {
+  firsts = [];
+  seconds = [];
+  count = refl;
+  different = (tt, tt);
+  among = (λ i there. there, λ i there. there);
+  are = (λ i there. absurd (no_member i there), λ i there. absurd (no_member i there));
+}
+parted P Q (x ∷ all) different each =
+    let rest = parted P Q all different.1 (λ i there. each i (later_member x i all there)) in
+    let count = rest.count in
+    elim (each x (first_member x all)) [
+      | inl is ↦ record {
+        firsts = x ∷ rest.firsts;
+        seconds = rest.seconds;
+        count = omega (arith, count);
+        different = ((λ there. different.0 (rest.among.0 x there), rest.different.0), rest.different.1);
+        among = (
+          λ i there. elim (member_cases x i rest.firsts there) [
+            | inl same ↦ subst (Contains (x ∷ all)) same (first_member x all)
+            | inr later ↦ later_member x i all (rest.among.0 i later)
+          ],
+          λ i there. later_member x i all (rest.among.1 i there),
+        );
+        are = (
+          λ i there. elim (member_cases x i rest.firsts there) [
+            | inl same ↦ subst P same is
+            | inr later ↦ rest.are.0 i later
+          ],
+          rest.are.1,
+        );
+      }
+      | inr is ↦ record {
+        firsts = rest.firsts;
+        seconds = x ∷ rest.seconds;
+        count = omega (arith, count);
+        different = (rest.different.0, (λ there. different.0 (rest.among.1 x there), rest.different.1));
+        among = (
+          λ i there. later_member x i all (rest.among.0 i there),
+          λ i there. elim (member_cases x i rest.seconds there) [
+            | inl same ↦ subst (Contains (x ∷ all)) same (first_member x all)
+            | inr later ↦ later_member x i all (rest.among.1 i later)
+          ],
+        );
+        are = (
+          rest.are.0,
+          λ i there. elim (member_cases x i rest.seconds there) [
+            | inl same ↦ subst Q same is
+            | inr later ↦ rest.are.1 i later
+          ],
+        );
+      }
+    ]
+
+-- the start of an atom that can go on is the end of the word
+pub live_atom : (columns : List Column) (pred : Predicate) (e : Expression) (word : Word) (starts : List ℕ) (start : ℕ)
+    → ArePositions word starts → IsLive columns (atom pred e) word starts start → start ≡ length word
+live_atom columns pred e word starts start positions (there, (item, more, is, (other, whole, meets))) =
+    at_end word start (positions start there) (none_before (drop start word) item other more whole)
+
+few_atom : (columns : List Column) (pred : Predicate) (e : Expression) (word : Word) (starts live : List ℕ)
+    → ArePositions word starts → AreDifferent live
+    → ((i : ℕ) → Contains live i → IsLive columns (atom pred e) word starts i) → length live ≤ 1
+few_atom columns pred e word starts [] positions different each = omega arith
+few_atom columns pred e word starts (x ∷ []) positions different each = omega arith
+few_atom columns pred e word starts (x ∷ y ∷ live) positions different each =
+    let a = live_atom columns pred e word starts x positions (each x (first_member x (y ∷ live))) in
+    let b = live_atom columns pred e word starts y positions
+    (each y (later_member x y (y ∷ live) (first_member y live))) in
+    absurd (different.0 (subst (Contains (y ∷ live)) (b ∙ sym a) (first_member y live)))
+
+pub no_live : (columns : List Column) (number : ℤ) (word : Word) (starts : List ℕ) (start : ℕ)
+    → IsLive columns (eps number) word starts start → ⊥
+no_live columns number word starts start (there, (item, more, is, whole)) = some_item (drop start word) item more whole
+
+few_eps : (columns : List Column) (number : ℤ) (word : Word) (starts live : List ℕ)
+    → ((i : ℕ) → Contains live i → IsLive columns (eps number) word starts i) → length live ≤ 0
+few_eps columns number word starts [] each = omega arith
+few_eps columns number word starts (x ∷ live) each =
+    absurd (no_live columns number word starts x (each x (first_member x live)))
+
+-- a right piece goes on from a position behind a left piece of the start
+abbrev pub GoesOnAt : List Column → Qre → Qre → Word → List ℕ → ℕ → ℕ → Type 0
+GoesOnAt columns f g word starts start at = (piece : Word) × Contains starts start × IsPiece word start piece at
+    × In (rate_of f) piece × HasExtension columns (rate_of g) (drop at word)
+
+abbrev pub GoesOnRight : List Column → Qre → Qre → Word → List ℕ → ℕ → Type 0
+GoesOnRight columns f g word starts start = (at : ℕ) × GoesOnAt columns f g word starts start at
+
+-- a split goes on in its left piece or in its right one
+pub live_split : (columns : List Column) (f g : Qre) (e : Expression) (word : Word) (starts : List ℕ) (start : ℕ)
+    → IsWordOf columns word → ArePositions word starts → IsLive columns (split f g e) word starts start
+    → IsLive columns f word starts start ⊎ GoesOnRight columns f g word starts start
+live_split columns f g e word starts start is positions (there, (item, more, more_is, (u, v, whole, in_f, in_g))) =
+    elim (comparable (drop start word) (item ∷ more) u v whole) [
+      | inl (t, longer, rest) ↦ left t longer rest
+      | inr (t, longer, rest) ↦
+          let cut = split_piece word start u t (positions start there) longer in
+          inr (
+            start + length u,
+            (
+              u,
+              there,
+              cut.0,
+              in_f,
+              (item, more, more_is, subst (In (rate_of g)) (rest ∙ ap (λ w. w ++ item ∷ more) (sym cut.1)) in_g),
+            ),
+          )
+    ]
+  where
+    left : (t : Word) → u ≡ drop start word ++ t → item ∷ more ≡ t ++ v
+        → IsLive columns f word starts start ⊎ GoesOnRight columns f g word starts start
+    left [] longer rest =
+        let same : u ≡ drop start word = longer ∙ append-nil (drop start word) in
+        let cut = split_piece word start u [] (positions start there) (sym same ∙ sym (append-nil u)) in
+        inr (
+          start + length u,
+          (
+            u,
+            there,
+            cut.0,
+            in_f,
+            (item, more, more_is, subst (In (rate_of g)) (sym rest ∙ ap (λ w. w ++ item ∷ more) (sym cut.1)) in_g),
+          ),
+        )
+    left (x ∷ t) longer rest =
+        let parts = word_parts columns (x ∷ t) v (subst (IsWordOf columns) rest more_is) in
+        inl (there, (x, t, parts.0, subst (In (rate_of f)) longer in_f))
+
+-- positions at which the starts go on on the right, one for each
+pub record AreThrough (columns : List Column) (f g : Qre) (word : Word) (starts all : List ℕ) : Type 0 where
+  pub ends : List ℕ
+  pub count : length all ≡ length ends
+  pub different : AreDifferent ends
+  pub each : (at : ℕ) → Contains ends at
+      → (start : ℕ) × Contains all start × GoesOnAt columns f g word starts start at
+
+through : (columns : List Column) (f g : Qre) (e : Expression) (word : Word) (starts all : List ℕ)
+    → IsClear bound columns (split f g e) → IsWordOf columns word → AreApart columns (split f g e) word starts
+    → AreDifferent all → ((i : ℕ) → Contains all i → GoesOnRight columns f g word starts i)
+    → AreThrough columns f g word starts all
+through columns f g e word starts [] clear is apart different each = record {
+  ends = [];
+  count = refl;
+  different = tt;
+  each = λ at there. absurd (no_member at there);
+}
+through columns f g e word starts (x ∷ all) clear is apart different each =
+    let rest = through columns f g e word starts all clear is apart different.1
+    (λ i there. each i (later_member x i all there)) in
+    let (at, goes_on) = each x (first_member x all) in
+    let count = rest.count in
+    record {
+      ends = at ∷ rest.ends;
+      count = omega (arith, count);
+      different = (
+        λ there.
+            let (other, among, (piece', from', is', in_f', (item', more', more_is', in_g'))) = rest.each at there in
+            let (piece, from, is_piece, in_f, (item, more, more_is, in_g)) = goes_on in
+            let same : x ≡ other = apart x other (item ∷ more) more_is from from'
+            (piece, drop at word ++ item ∷ more, piece_goes_on word x at piece (item ∷ more) is_piece, in_f, in_g)
+            (piece', drop at word ++ item ∷ more, piece_goes_on word other at piece' (item ∷ more) is', in_f', in_g) in
+            different.0 (subst (Contains all) (sym same) among),
+        rest.different,
+      );
+      each = λ place there. elim (member_cases at place rest.ends there) [
+        | inl same ↦ (x, first_member x all, subst (GoesOnAt columns f g word starts x) same goes_on)
+        | inr later ↦ let (start, among, more) = rest.each place later in (start, later_member x start all among, more)
+      ];
+    }
+
+pub few_live : (standing : Standing) (columns : List Column) (q : Qre) (word : Word) (starts live : List ℕ) → CanRun q
+    → IsClear standing columns q → IsWordOf columns word → ArePositions word starts
+    → AreApart columns q word starts → AreDifferent live
+    → ((i : ℕ) → Contains live i → IsLive columns q word starts i) → length live ≤ places_of q
+few_live standing columns (atom pred e) word starts live run clear is positions apart different each =
+    few_atom columns pred e word starts live positions different each
+few_live standing columns (eps number) word starts live run clear is positions apart different each =
+    few_eps columns number word starts live each
+few_live standing columns (choice f g) word starts live run clear is positions apart different each =
+    let two = parted (IsLive columns f word starts) (IsLive columns g word starts) live different
+    (λ i there. let (among, (item, more, more_is, in_either)) = each i there in
+    elim in_either [
+      | inl in_f ↦ inl (among, (item, more, more_is, in_f))
+      | inr in_g ↦ inr (among, (item, more, more_is, in_g))
+    ]) in
+    let count = two.count in
+    let first = few_live bound columns f word starts two.firsts run.0 clear.0 is positions
+    (apart_first columns f g word starts apart) two.different.0 two.are.0 in
+    let second = few_live bound columns g word starts two.seconds run.1 clear.1 is positions
+    (apart_second columns f g word starts apart) two.different.1 two.are.1 in
+    omega (arith, count, first, second)
+few_live standing columns (split f g e) word starts live run clear is positions apart different each =
+    let two = parted (IsLive columns f word starts) (GoesOnRight columns f g word starts) live different
+    (λ i there. live_split columns f g e word starts i is positions (each i there)) in
+    let right = through columns f g e word starts two.seconds clear is apart two.different.1 two.are.1 in
+    let count = two.count in
+    let same = right.count in
+    let first = few_live bound columns f word starts two.firsts run.0 clear.0 is positions
+    (apart_left columns f g e word starts clear.1 apart) two.different.0 two.are.0 in
+    let second = few_live bound columns g word right.ends right.ends run.1 clear.1 is
+    (λ at there. let (start, among, (piece, from, is_piece, in_f, more)) = right.each at there in is_piece.inside)
+    (apart_right columns f g e word starts right.ends clear is apart
+    (λ at there. let (start, among, (piece, from, is_piece, in_f, more)) = right.each at there in
+    (start, piece, from, is_piece, in_f)))
+    right.different
+    (λ at there. let (start, among, (piece, from, is_piece, in_f, more)) = right.each at there in (there, more)) in
+    omega (arith, count, same, first, second)
+few_live standing columns (iter f number e) word starts live run clear is positions apart different each = absurd run
+few_live standing columns (combine f g e) word starts live run clear is positions apart different each = absurd run
+few_live standing columns (apply f e) word starts live run clear is positions apart different each =
+    few_live bound columns f word starts live run clear.0 is positions apart different each
+few_live standing columns (compose f g) word starts live run clear is positions apart different each = absurd run
+few_live standing columns (collect column sync rate f) word starts live run clear is positions apart different each =
+    absurd run

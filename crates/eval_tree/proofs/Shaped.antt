@@ -1,0 +1,41 @@
+-- What a node in memory is kept for: only queries of shapes for which there are nodes.
+use Rattle.std.proofs.Common.{ℕ, List}
+use Rattle.item_schema.specs.declared.column.Column.{Column}
+use Rattle.rate_expr.specs.Words.{Word}
+use Rattle.query_model.specs.Queries.{Qre, atom, eps, choice, split, iter, combine, apply, compose, collect}
+use Rattle.eval_tree.specs.declared.node.State.{State}
+use Rattle.eval_tree.specs.declared.node.State.TheVariants.{Item, Both', Operand', Sequence'}
+use Rattle.eval_tree.specs.Plain.{holding_of, seen_of}
+use Rattle.eval_tree.specs.Represents.{Represents}
+use Rattle.eval_tree.specs.Shapes.{CanRun}
+use Rattle.eval_tree.specs.Sound.{IsSound}
+
+pub shaped : (columns : List Column) (q : Qre) (state : State) (word : Word) (starts : List ℕ)
+    → Represents seen_of columns q (holding_of state) word starts → CanRun q
+shaped columns (atom pred e) state word starts rep = tt
+shaped columns (eps number) state word starts rep = tt
+shaped columns (choice f g) (Both' p a q b) word starts rep =
+    (shaped columns f a word starts rep.0, shaped columns g b word starts rep.1)
+shaped columns (split f g e) (Sequence' p a q b left) word starts rep =
+    (shaped columns f a word starts rep.0, shaped columns g b word rep.1.0 rep.1.2)
+shaped columns (apply f e) (Operand' p a) word starts rep = shaped columns f a word starts rep
+shaped columns (iter f number e) (Item found) word starts rep = absurd rep
+shaped columns (combine f g e) (Item found) word starts rep = absurd rep
+shaped columns (compose f g) (Item found) word starts rep = absurd rep
+shaped columns (collect column sync rate f) (Item found) word starts rep = absurd rep
+shaped columns q state word starts rep = absurd rep
+
+pub soundly_shaped : (columns : List Column) (q : Qre) (state : State) (position : ℕ)
+    → IsSound seen_of columns q position (holding_of state) → CanRun q
+soundly_shaped columns (atom pred e) state position sound = tt
+soundly_shaped columns (eps number) state position sound = tt
+soundly_shaped columns (choice f g) (Both' p a q b) position sound =
+    (soundly_shaped columns f a position sound.0, soundly_shaped columns g b position sound.1)
+soundly_shaped columns (split f g e) (Sequence' p a q b left) position sound =
+    (soundly_shaped columns f a position sound.0, soundly_shaped columns g b position sound.1)
+soundly_shaped columns (apply f e) (Operand' p a) position sound = soundly_shaped columns f a position sound
+soundly_shaped columns (iter f number e) (Item found) position sound = absurd sound
+soundly_shaped columns (combine f g e) (Item found) position sound = absurd sound
+soundly_shaped columns (compose f g) (Item found) position sound = absurd sound
+soundly_shaped columns (collect column sync rate f) (Item found) position sound = absurd sound
+soundly_shaped columns q state position sound = absurd sound

@@ -1,0 +1,53 @@
+-- Statement. What the runner follows, and what it keeps.
+use Rattle.std.specs.Prelude.{◌≡◌, ◌⊎◌, ℕ, ◌+◌, Bool, true, false, List}
+use Rattle.item_schema.specs.declared.column.Column.{Column}
+use Rattle.rate_expr.specs.Words.{Word, IsWordOf}
+use Rattle.query_model.specs.Queries.{Qre, plain_of}
+use Rattle.query_model.specs.QueryTypes.{type_of}
+use Rattle.eval_tree.specs.Counts.{size_of_answer, stored_in}
+use Rattle.eval_tree.specs.Plain.{holding_of, seen_of}
+use Rattle.eval_tree.specs.Represents.{IsFollowing, Represents}
+use Rattle.eval_tree.specs.Shapes.{CanRun}
+use Rattle.eval_tree.specs.Sound.{IsSound, IsSoundRunner}
+use Rattle.eval_tree.specs.declared.progress.Progress.{Progress}
+use Rattle.eval_tree.specs.declared.runner.Runner.{Runner}
+
+-- its query, and the columns of its stream
+abbrev pub query_of : Runner → Qre
+query_of runner = plain_of runner.checked.now.main.shape
+
+abbrev pub columns_of : Runner → List Column
+columns_of runner = runner.checked.now.layout.columns
+
+-- how many items went by
+abbrev pub position_of : Runner → ℕ
+position_of runner = runner.progress.position
+
+-- memory was wanting
+abbrev pub is_lost : Runner → Bool
+is_lost runner = runner.failed
+
+-- what it keeps, counted: its position, its answer, and what is kept for the query
+abbrev pub kept_of : Runner → ℕ
+kept_of runner =
+    stored_in (holding_of runner.progress.node.state) + size_of_answer runner.progress.answer + 1
+
+-- it is sound for the query, and follows the word of its stream
+pub record IsAt (columns : List Column) (query : Qre) (word : Word)
+    (progress : Progress) : Type 0 where
+  pub is_word : IsWordOf columns word
+  pub sound : IsSoundRunner seen_of (IsSound seen_of columns query) (type_of columns query) progress
+  pub follows : IsFollowing seen_of (Represents seen_of columns query) query word progress
+
+-- its query is one that can be run, and where it is not lost it is sound
+pub record IsSoundly (runner : Runner) : Type 0 where
+  pub run : CanRun (query_of runner)
+  pub sound : (runner.failed ≡ true) ⊎ IsSoundRunner seen_of
+      (IsSound seen_of (columns_of runner) (query_of runner))
+      (type_of (columns_of runner) (query_of runner)) runner.progress
+
+-- it is not lost, and follows the word
+pub record Follows (runner : Runner) (word : Word) : Type 0 where
+  pub run : CanRun (query_of runner)
+  pub found : runner.failed ≡ false
+  pub at : IsAt (columns_of runner) (query_of runner) word runner.progress

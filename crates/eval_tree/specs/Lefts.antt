@@ -1,0 +1,71 @@
+-- For the prover. What becomes of left values: they are put, found for a right hit, and joined with
+-- it.
+use Rattle.std.specs.Prelude.{◌≡◌, ◌<◌, ◌⊎◌, ℕ, Bool, true, List, [], ◌∷◌, ◌++◌, Option, None, Some, MatchOption, length}
+use Rattle.value_ops.specs.declared.value.Value.{Value}
+use Rattle.value_ops.specs.declared.value.ValueType.{ValueType}
+use Rattle.value_ops.specs.Evaluation.{given}
+use Rattle.value_ops.specs.Expressions.{Expression}
+use Rattle.value_ops.specs.Typing.{HasType, types_of}
+use Rattle.query_model.specs.Denotation.{on_both, on_one}
+use Rattle.split_eval.specs.Entries.{Contents, entry_at}
+use Rattle.split_eval.specs.declared.entry.Entry.{Entry}
+use Rattle.eval_tree.specs.declared.hit.Hit.{Hit}
+
+-- it is put where it can go on, none has its inner start, and there is room
+pub record CanPut (goes_on : Bool) (held : Contents Value) (inner : ℕ) : Type 0 where
+  pub live : goes_on ≡ true
+  pub fresh : entry_at held.entries inner ≡ None
+  pub room : length held.entries < held.room
+
+-- the entry is put where it can be, and else nothing changes
+abbrev pub IsPut : Bool → Contents Value → Entry Value → Contents Value → Type 0
+IsPut live old entry new =
+    (CanPut live old entry.inner × (new.entries ≡ old.entries ++ entry ∷ [])
+    × (new.room ≡ old.room))
+    ⊎ ((CanPut live old entry.inner → ⊥) × (new ≡ old))
+
+-- a hit at the start, with what the expression gives on the value and that of the right hit, and
+-- none without it
+abbrev pub IsJoined : Expression → ℕ → Value → Option Hit → Option Hit → Type 0
+IsJoined expression start left right joined = MatchOption right (joined ≡ None) (λ found.
+    (value : Value) × (joined ≡ Some (record { start = start; value = value }))
+    × (on_both expression left found.value ≡ Some value))
+
+-- the same with the left value that waits at the start of the right hit, and none where none does
+abbrev pub IsJoinedWith : Expression → Option (Entry Value) → Option Hit → Option Hit → Type 0
+IsJoinedWith expression waiting right joined =
+    MatchOption waiting (joined ≡ None)
+    (λ entry. IsJoined expression entry.outer entry.value right joined)
+
+abbrev pub IsEnded : Expression → List (Entry Value) → Option Hit → Option Hit → Type 0
+IsEnded expression entries right joined = MatchOption right (joined ≡ None) (λ found.
+    IsJoinedWith expression (entry_at entries found.start) right joined)
+
+-- what the expression gives on the value of a hit
+abbrev pub IsApplied : Expression → Option Hit → Option Hit → Type 0
+IsApplied expression inner applied = MatchOption inner (applied ≡ None) (λ found.
+    (value : Value) × (applied ≡ Some (record { start = found.start; value = value }))
+    × (on_one expression found.value ≡ Some value))
+
+-- the expression is well typed on a value, and on two
+abbrev pub IsTypedOnOne : Expression → Value → Type 0
+IsTypedOnOne expression left =
+    (type : ValueType) × HasType (types_of (given [] (Some left) None)) expression type
+
+abbrev pub IsTypedOnBoth : Expression → Value → Value → Type 0
+IsTypedOnBoth expression left right =
+    (type : ValueType) × HasType (types_of (given [] (Some left) (Some right))) expression type
+
+-- it is well typed on the value of a hit, on a left value and that of a right hit, and on the one
+-- that waits and it
+abbrev pub IsTypedOnHit : Expression → Option Hit → Type 0
+IsTypedOnHit expression inner = MatchOption inner (Unit {0})
+    (λ found. IsTypedOnOne expression found.value)
+
+abbrev pub IsTypedWith : Expression → Value → Option Hit → Type 0
+IsTypedWith expression left right =
+    MatchOption right (Unit {0}) (λ found. IsTypedOnBoth expression left found.value)
+
+abbrev pub AreTypedWith : Expression → List (Entry Value) → Option Hit → Type 0
+AreTypedWith expression entries right = MatchOption right (Unit {0}) (λ found. (entry : Entry Value)
+    → entry_at entries found.start ≡ Some entry → IsTypedOnBoth expression entry.value found.value)

@@ -1,0 +1,12 @@
+pub mod Counts
+pub mod Following
+pub mod Holdings
+pub mod Laws
+pub mod Lefts
+pub mod Live
+pub mod Plain
+pub mod Represents
+pub mod Shapes
+pub mod Sound
+pub mod Starts
+pub mod Steps

@@ -1,0 +1,119 @@
+-- Statement. What it is that a node stands for a word and starts in it: its lists have exactly the
+-- readings of the word from these starts that can go on.
+use Rattle.std.specs.Prelude.{◌≡◌, ◌↔◌, ℕ, ◌+◌, List, [], ◌∷◌, Some, drop, filter, length, map}
+use Rattle.std.specs.List.{Contains}
+use Rattle.value_ops.specs.declared.value.Value.{Value}
+use Rattle.item_schema.specs.declared.column.Column.{Column}
+use Rattle.predicate_cells.specs.Predicates.{Predicate}
+use Rattle.predicate_cells.specs.Truth.{holds}
+use Rattle.rate_expr.specs.Behind.{IsBehind}
+use Rattle.rate_expr.specs.FirstLastFollow.{AreSetsOf}
+use Rattle.rate_expr.specs.Language.{In}
+use Rattle.rate_expr.specs.Rates as rate
+use Rattle.rate_expr.specs.Readings.{HasExtension}
+use Rattle.rate_expr.specs.Words.{Word}
+use Rattle.query_model.specs.Bounds.{places_of}
+use Rattle.query_model.specs.Denotation.{Den, Outputs, keys_after, projection}
+use Rattle.query_model.specs.Following.{IsAnswer}
+use Rattle.query_model.specs.Queries.{Qre, atom, eps, choice, split, iter, combine, apply, compose, collect}
+use Rattle.query_model.specs.QueryTypes.{derived_columns, type_of}
+use Rattle.query_model.specs.Rates.{rate_of}
+use Rattle.split_eval.specs.Entries.{entry_at, AreDistinct}
+use Rattle.split_eval.specs.declared.entry.Entry.{Entry}
+use Rattle.eval_tree.specs.Holdings.{Holding, waiting, nothing, both, paired, operand, pending, chained, fed, tracked, Seen, Track}
+use Rattle.eval_tree.specs.Starts.{IsLive, IsPiece, AreDifferent}
+
+-- the positions at which pieces of the set end that begin at the starts
+abbrev pub AreReached : (Word → Type 0) → Word → List ℕ → List ℕ → Type 0
+AreReached A word starts ends = (end : ℕ) → Contains ends end
+    ↔ ((start : ℕ) × (piece : Word) × Contains starts start
+    × IsPiece word start piece end × A piece)
+
+-- an entry of these starts and this value is found
+abbrev pub IsEntry : List (Entry Value) → ℕ → ℕ → Value → Type 0
+IsEntry entries inner outer value =
+    entry_at entries inner ≡ Some (record { inner = inner; outer = outer; value = value })
+
+-- the entries are the values of pieces that begin at the starts, and behind which more may go on
+pub record AreWaiting (D : Word → Value → Type 0) (goes_on : Word → Type 0) (word : Word)
+    (starts : List ℕ)
+    (entries : List (Entry Value)) : Type 0 where
+  pub distinct : AreDistinct entries
+  pub each : (inner outer : ℕ) (value : Value) → IsEntry entries inner outer value
+      ↔ (Contains starts outer × ((piece : Word) × IsPiece word outer piece inner × D piece value)
+      × goes_on (drop inner word))
+
+module _ {R : Type 0} (seen : R → Seen R) where
+  -- a runner follows a word of a query: what is kept for it stands for the word and the one start 0
+  pub record IsFollowing (stands : Holding R → Word → List ℕ → Type 0) (query : Qre) (word : Word)
+      (runner : R) : Type 0 where
+    pub position : (seen runner).position ≡ length word
+    pub node : stands (seen runner).node word (0 ∷ [])
+    pub answer : IsAnswer query word (seen runner).answer
+
+  -- it follows what comes out of the left operand on the word
+  abbrev pub IsFed : (Word → Value → Type 0) → (Word → R → Type 0) → Word → R → Type 0
+  IsFed D follows word runner = (out : Word) × Outputs D [] word out × follows out runner
+
+  -- each start that can go on has one runner, which follows what it is to see; with the idle ones
+  -- they are so many
+  pub record AreFed (lives : ℕ → Type 0) (sees : ℕ → R → Type 0) (count : ℕ) (live : List (ℕ × R))
+      (idle : List R) : Type 0 where
+    pub distinct : AreDifferent (map (λ one. one.0) live)
+    pub there : (start : ℕ) → Contains (map (λ one. one.0) live) start ↔ lives start
+    pub each : (start : ℕ) (runner : R) → Contains live (start, runner) → sees start runner
+    pub full : length live + length idle ≡ count
+
+  -- the runners of a start follow what the word has for their keys, and the fallback what it has
+  -- for all keys
+  pub record IsKeyed (follows : Word → R → Type 0) (column : ℕ) (sync : Predicate) (word : Word)
+      (track : Track R) : Type 0 where
+    pub fallback : follows (filter (holds sync) word) track.fallback
+    pub keys : map (λ one. one.0) track.keyed ≡ keys_after column sync [] word
+    pub each : (key : List ℕ) (runner : R) → Contains track.keyed (key, runner)
+        → follows (projection column sync key word) runner
+
+  -- each start that can go on is there once, with the state and the runners behind its piece
+  pub record AreTracked (lives : ℕ → Type 0) (tracks : ℕ → Track R → Type 0)
+      (all : List (Track R)) : Type 0 where
+    pub distinct : AreDifferent (map (λ track. track.start) all)
+    pub there : (start : ℕ) → Contains (map (λ track. track.start) all) start ↔ lives start
+    pub each : (track : Track R) → Contains all track → tracks track.start track
+
+  -- what is kept for the query stands for the word and the starts
+  abbrev pub Represents : List Column → Qre → Holding R → Word → List ℕ → Type 0
+  Represents columns (atom pred expression) (waiting found) word starts =
+      (start : ℕ) → (found ≡ Some start) ↔ (Contains starts start × (start ≡ length word))
+  Represents columns (eps number) nothing word starts = Unit {0}
+  Represents columns (choice f g) (both a b) word starts =
+      Represents columns f a word starts × Represents columns g b word starts
+  Represents columns (split f g expression) (pending a b left) word starts =
+      Represents columns f a word starts
+      × ((ends : List ℕ) × AreReached (In (rate_of f)) word starts ends
+      × Represents columns g b word ends)
+      × AreWaiting (Den f) (HasExtension columns (rate_of g)) word starts left.entries
+      × (left.room ≡ places_of g)
+  Represents columns (iter f number expression) (chained a so_far) word starts =
+      ((ends : List ℕ) × AreReached (In (rate.star (rate_of f))) word starts ends
+      × Represents columns f a word ends)
+      × AreWaiting (Den (iter f number expression)) (HasExtension columns (rate_of f)) word starts
+      so_far.entries
+      × (so_far.room ≡ places_of f)
+  Represents columns (combine f g expression) (paired a b) word starts =
+      Represents columns f a word starts × Represents columns g b word starts
+  Represents columns (apply f expression) (operand a) word starts =
+      Represents columns f a word starts
+  Represents columns (compose f g) (fed a live idle) word starts =
+      Represents columns f a word starts
+      × AreFed (IsLive columns f word starts)
+      (λ start runner. IsFed (Den f)
+      (IsFollowing (Represents (derived_columns (type_of columns f)) g) g)
+      (drop start word) runner)
+      (places_of f + 1) live idle
+  Represents columns (collect column sync rate f) (tracked sets all) word starts =
+      AreSetsOf sets rate
+      × AreTracked (IsLive columns (collect column sync rate f) word starts)
+      (λ start track. IsBehind sets (drop start word) track.state
+      × IsKeyed (IsFollowing (Represents columns f) f) column sync (drop start word) track)
+      all
+  Represents columns query holding word starts = ⊥

@@ -1,0 +1,77 @@
+-- Statement. What holds of a node whatever words went by: it has the query's shape, its lists have
+-- their rooms, no start stands twice in one, and values have their types.
+use Rattle.std.specs.Prelude.{◌≡◌, ◌≤◌, ℕ, ◌+◌, List, Option, MatchOption, length, map}
+use Rattle.std.specs.List.{AllByRecursion}
+use Rattle.value_ops.specs.declared.value.Value.{Value}
+use Rattle.value_ops.specs.declared.value.ValueType.{ValueType}
+use Rattle.value_ops.specs.declared.value.ValueType.TheVariants.{Number}
+use Rattle.value_ops.specs.Types.{IsValueOf}
+use Rattle.item_schema.specs.declared.column.Column.{Column}
+use Rattle.rate_expr.specs.Behind.{IsStateOf}
+use Rattle.rate_expr.specs.FirstLastFollow.{AreSetsOf}
+use Rattle.rate_expr.specs.Sets.{AreSets, Sets}
+use Rattle.query_model.specs.Bounds.{places_of}
+use Rattle.query_model.specs.Queries.{Qre, atom, eps, choice, split, iter, combine, apply, compose, collect}
+use Rattle.query_model.specs.QueryTypes.{derived_columns, type_of}
+use Rattle.split_eval.specs.Entries.{Contents, AreDistinct}
+use Rattle.eval_tree.specs.Holdings.{Holding, waiting, nothing, both, paired, operand, pending, chained, fed, tracked, Seen, Track}
+use Rattle.eval_tree.specs.Starts.{AreDifferent}
+
+-- an answer that is there has the type
+abbrev pub IsTyped : ValueType → Option Value → Type 0
+IsTyped type answer = MatchOption answer (Unit {0}) (IsValueOf type)
+
+-- entries of values of the type, in a room of so many
+pub record AreEntriesOf (type : ValueType) (places : ℕ) (held : Contents Value) : Type 0 where
+  pub room : held.room ≡ places
+  pub few : length held.entries ≤ held.room
+  pub distinct : AreDistinct held.entries
+  pub typed : AllByRecursion (λ entry. IsValueOf type entry.value) held.entries
+
+module _ {R : Type 0} (seen : R → Seen R) where
+  -- what is kept for a runner is sound, and its answer has the type
+  pub record IsSoundRunner (sound : ℕ → Holding R → Type 0) (type : ValueType)
+      (runner : R) : Type 0 where
+    pub node : sound (seen runner).position (seen runner).node
+    pub answer : IsTyped type (seen runner).answer
+
+  -- a runner with at most so many items, sound
+  pub record IsSoundWithin (is_sound : R → Type 0) (most : ℕ) (runner : R) : Type 0 where
+    pub within : (seen runner).position ≤ most
+    pub sound : is_sound runner
+
+  -- the runners of a start
+  pub record IsSoundTrack (sound : R → Type 0) (most : ℕ) (sets : Sets)
+      (track : Track R) : Type 0 where
+    pub state : IsStateOf sets track.state
+    pub fallback : IsSoundWithin sound most track.fallback
+    pub keyed : AllByRecursion (λ one. IsSoundWithin sound most one.1) track.keyed
+
+  -- what is kept for the query is sound where so many items of its stream went by
+  abbrev pub IsSound : List Column → Qre → ℕ → Holding R → Type 0
+  IsSound columns (atom pred expression) position (waiting found) = Unit {0}
+  IsSound columns (eps number) position nothing = Unit {0}
+  IsSound columns (choice f g) position (both a b) =
+      IsSound columns f position a × IsSound columns g position b
+  IsSound columns (split f g expression) position (pending a b left) =
+      IsSound columns f position a × IsSound columns g position b
+      × AreEntriesOf (type_of columns f) (places_of g) left
+  IsSound columns (iter f number expression) position (chained a so_far) =
+      IsSound columns f position a × AreEntriesOf Number (places_of f) so_far
+  IsSound columns (combine f g expression) position (paired a b) =
+      IsSound columns f position a × IsSound columns g position b
+  IsSound columns (apply f expression) position (operand a) = IsSound columns f position a
+  IsSound columns (compose f g) position (fed a live idle) =
+      IsSound columns f position a
+      × AreDifferent (map (λ one. one.0) live) × (length live + length idle ≡ places_of f + 1)
+      × AllByRecursion (λ one. IsSoundWithin (IsSoundRunner
+      (IsSound (derived_columns (type_of columns f)) g)
+      (type_of (derived_columns (type_of columns f)) g))
+      (position + 1) one.1) live
+      × AllByRecursion (IsSoundRunner (IsSound (derived_columns (type_of columns f)) g)
+      (type_of (derived_columns (type_of columns f)) g)) idle
+  IsSound columns (collect column sync rate f) position (tracked sets all) =
+      AreSets sets × AreSetsOf sets rate × AreDifferent (map (λ track. track.start) all)
+      × AllByRecursion
+      (IsSoundTrack (IsSoundRunner (IsSound columns f) (type_of columns f)) position sets) all
+  IsSound columns query position holding = ⊥

@@ -1,0 +1,91 @@
+//! How the runner follows a word.
+
+use crate::counts::size_of_answer;
+use crate::runner::value_of;
+use crate::{Progress, Runner, step};
+use item_schema::Item;
+use query_model::Follower;
+use std::alloc::{AllocError, Global};
+use value_ops::Value;
+
+impl Follower for Runner<'_> {
+    ghost use Rattle.eval_tree.specs.Following.{columns_of, Follows, is_lost, IsSoundly, kept_of, position_of, query_of};
+    ghost use Rattle.eval_tree.specs.Laws.{follows_ends, follows_found, follows_sound};
+
+    ghost query = { query_of };
+
+    ghost columns = { columns_of };
+
+    ghost position = { position_of };
+
+    ghost lost = { is_lost };
+
+    ghost follows = { Follows };
+
+    ghost sound = { IsSoundly };
+
+    ghost kept = { kept_of };
+
+    fn step(&mut self, alloc: Global, item: &Item) -> Result<(), AllocError> {
+        self.failed = true;
+        let now = self.progress.position + 1;
+        let hit = step(
+            self.checked.main(),
+            &mut self.progress.node,
+            alloc,
+            now,
+            item,
+        )?;
+        self.progress.position = now;
+        self.progress.answer = value_of(hit);
+        self.failed = false;
+        Ok(())
+    }
+
+    fn answer(&self) -> Option<&Value> {
+        if self.failed {
+            return None;
+        }
+        self.progress.answer.as_ref()
+    }
+
+    fn try_copy(&self, alloc: Global) -> Result<Self, AllocError> {
+        let node = self.progress.node.try_copy(alloc)?;
+        let answer = match &self.progress.answer {
+            Some(value) => Some(value.try_copy(alloc)?),
+            None => None,
+        };
+        Ok(Runner {
+            checked: self.checked,
+            progress: Progress {
+                node,
+                position: self.progress.position,
+                answer,
+            },
+            failed: self.failed,
+        })
+    }
+
+    fn reset(&mut self, alloc: Global) -> Result<(), AllocError> {
+        self.failed = true;
+        self.progress = Progress::new(alloc, self.checked)?;
+        self.failed = false;
+        Ok(())
+    }
+
+    fn failed(&self) -> bool {
+        self.failed
+    }
+
+    fn stored(&self) -> u64 {
+        let node = self.progress.node.stored();
+        let answer = size_of_answer(&self.progress.answer);
+        node.saturating_add(answer).saturating_add(1)
+    }
+
+    ghost lost_follows = { follows_found };
+
+    ghost at_end = { follows_ends };
+
+    ghost follows_sound = { follows_sound };
+}

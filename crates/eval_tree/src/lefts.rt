@@ -1,0 +1,106 @@
+//! Left values of a split: they wait, and are joined with the right values behind them.
+ghost use Rattle.std.specs.Prelude.{◌≡◌, ◌<◌, ◌++◌, ◌∷◌, [], ℕ, Bool, length, IfOk};
+ghost use Rattle.std.specs.Option.{option_copied};
+ghost use Rattle.value_ops.specs.Expressions.{plain_of};
+ghost use Rattle.eval_tree.specs.Lefts.{AreTypedWith, IsApplied, IsEnded, IsJoined, IsPut, IsTypedOnHit, IsTypedWith};
+ghost use Rattle.eval_tree.specs.Live.{is_outer};
+
+use crate::Hit;
+use split_eval::Pending;
+use std::alloc::{AllocError, Global};
+use value_ops::{Expr, Value};
+
+/// Whether a left value waits whose whole begins at the start.
+pub(crate) fn has_outer(held: &Pending<Value>, start: u64) -> bool
+    ensures { result ≡ is_outer held.now.entries start }
+{
+    'entries: for i in 0..held.len() {
+        if held.entry(i).outer == start {
+            return true;
+        }
+    }
+    false
+}
+
+/// The left value waits behind its piece, where more may go on. Where the starts are apart there is
+/// always room.
+pub(crate) fn wait(held: &mut Pending<Value>, live: bool, at: u64, left: Hit)
+    ensures { IsPut live held.old
+        (record { inner = at; outer = left.start; value = left.value }) held.new }
+{
+    if live && held.find(at).is_none() && held.len() < held.room() as usize {
+        held.put(at, left.start, left.value);
+    }
+}
+
+/// What the expression gives on the value of a hit.
+pub(crate) fn applied(
+    alloc: Global,
+    expression: &Expr,
+    inner: Option<Hit>,
+) -> Result<Option<Hit>, AllocError>
+    requires { IsTypedOnHit (plain_of expression.now) inner }
+    ensures { IfOk result (IsApplied (plain_of expression.now) inner) }
+{
+    match inner {
+        Some(hit) => {
+            let value = expression.eval(alloc, &[], Some(&hit.value), None)?;
+            Ok(Some(Hit {
+                start: hit.start,
+                value,
+            }))
+        }
+        None => Ok(None),
+    }
+}
+
+/// The hit of the whole whose left value was just found.
+pub(crate) fn joined(
+    alloc: Global,
+    expression: &Expr,
+    left: &Hit,
+    right: Option<Hit>,
+) -> Result<Option<Hit>, AllocError>
+    requires { IsTypedWith (plain_of expression.now) left.now.value right }
+    ensures { IfOk result (IsJoined (plain_of expression.now) left.now.start left.now.value right) }
+{
+    with_left(alloc, expression, left.start, &left.value, right)
+}
+
+/// The hit of the whole whose left value waited.
+pub(crate) fn ended(
+    alloc: Global,
+    expression: &Expr,
+    held: &Pending<Value>,
+    right: Option<Hit>,
+) -> Result<Option<Hit>, AllocError>
+    requires { AreTypedWith (plain_of expression.now) held.now.entries right }
+    ensures { IfOk result (IsEnded (plain_of expression.now) held.now.entries right) }
+{
+    match right {
+        Some(hit) => match held.find(hit.start) {
+            Some(entry) => with_left(alloc, expression, entry.outer, &entry.value, Some(hit)),
+            None => Ok(None),
+        },
+        None => Ok(None),
+    }
+}
+
+fn with_left(
+    alloc: Global,
+    expression: &Expr,
+    start: u64,
+    left: &Value,
+    right: Option<Hit>,
+) -> Result<Option<Hit>, AllocError>
+    requires { IsTypedWith (plain_of expression.now) left.now right }
+    ensures { IfOk result (IsJoined (plain_of expression.now) start left.now right) }
+{
+    match right {
+        Some(hit) => {
+            let value = expression.eval(alloc, &[], Some(left), Some(&hit.value))?;
+            Ok(Some(Hit { start, value }))
+        }
+        None => Ok(None),
+    }
+}

@@ -1,0 +1,25 @@
+//! The value of a query on a word, found item by item from starts and values that stand for all of
+//! its readings.
+#![tactic(auto)]
+
+mod copies;
+mod counts;
+mod follow;
+mod hit;
+mod lefts;
+mod live;
+mod make;
+mod node;
+mod progress;
+mod runner;
+mod steps;
+#[cfg(test)]
+mod tests;
+
+pub use hit::Hit;
+pub use live::is_live;
+pub use make::can_run;
+pub use node::{Node, State};
+pub use progress::Progress;
+pub use runner::Runner;
+pub use steps::{start, step};

@@ -1,0 +1,27 @@
+//! What is kept for a query while its word goes by.
+
+use split_eval::Pending;
+use value_ops::Value;
+
+/// The readings of a query, from all starts at once.
+#[derive(Drop)]
+#[cycle(node)]
+pub struct Node {
+    pub state: State,
+}
+
+/// What is kept, by the shape of the query.
+#[derive(Drop)]
+#[cycle(node)]
+pub enum State {
+    /// For an atom: the start at the end of the word, if there is one.
+    Item(Option<u64>),
+    /// For the empty word: nothing.
+    Empty,
+    /// For either of two: both.
+    Both(Box<Node>, Box<Node>),
+    /// For an expression on a value: the operand.
+    Operand(Box<Node>),
+    /// For a split: the operands, and the left values behind which a right piece may go on.
+    Sequence(Box<Node>, Box<Node>, Pending<Value>),
+}

@@ -1,0 +1,73 @@
+//! A query and how far a word of it has come.
+ghost use Rattle.std.specs.Prelude.{◌≡◌};
+ghost use Rattle.std.specs.Option.{option_map};
+ghost use Rattle.query_model.specs.Queries.{plain_of};
+ghost use Rattle.eval_tree.specs.declared.hit.Hit.{Hit};
+
+use crate::{Hit, Node, Progress, start};
+use query_model::Checked;
+use std::alloc::{AllocError, Global};
+use value_ops::Value;
+
+/// It follows a word item by item. What it keeps does not grow with the word.
+#[derive(Drop)]
+pub struct Runner<'q> {
+    pub(crate) checked: &'q Checked,
+    pub(crate) progress: Progress,
+    pub(crate) failed: bool,
+}
+
+impl<'q> Runner<'q> {
+    ghost use Rattle.std.specs.Prelude.{[], false, IfOk};
+    ghost use Rattle.eval_tree.specs.Following.{columns_of, Follows, is_lost, position_of, query_of};
+    ghost use Rattle.eval_tree.specs.Shapes.{CanRun};
+
+    /// It follows the empty word.
+    pub fn new(alloc: Global, checked: &'q Checked) -> Result<Runner<'q>, AllocError>
+        requires { CanRun (plain_of checked.now.main.shape) }
+        ensures word { IfOk result (λ runner. Follows runner []) }
+        ensures position { IfOk result (λ runner. position_of runner ≡ 0) }
+        ensures found { IfOk result (λ runner. is_lost runner ≡ false) }
+        ensures query { IfOk result (λ runner. query_of runner ≡ plain_of checked.now.main.shape) }
+        ensures columns { IfOk result (λ runner. columns_of runner ≡ checked.now.layout.columns) }
+    {
+        let progress = Progress::new(alloc, checked)?;
+        Ok(Runner {
+            checked,
+            progress,
+            failed: false,
+        })
+    }
+}
+
+impl Progress {
+    ghost use Rattle.std.specs.Prelude.{[], IfOk};
+    ghost use Rattle.eval_tree.specs.Following.{IsAt};
+    ghost use Rattle.eval_tree.specs.Shapes.{CanRun};
+
+    /// Before the first item.
+    pub(crate) fn new(alloc: Global, checked: &Checked) -> Result<Progress, AllocError>
+        requires { CanRun (plain_of checked.now.main.shape) }
+        ensures { IfOk result (IsAt checked.now.layout.columns
+            (plain_of checked.now.main.shape) []) }
+    {
+        let query = checked.main();
+        let mut node = Node::new(alloc, query)?;
+        let hit = start(query, &mut node, alloc, 0)?;
+        Ok(Progress {
+            node,
+            position: 0,
+            answer: value_of(hit),
+        })
+    }
+}
+
+/// The value of a hit.
+pub(crate) fn value_of(hit: Option<Hit>) -> Option<Value>
+    ensures { result ≡ option_map (λ (found : Hit). found.value) hit }
+{
+    match hit {
+        Some(hit) => Some(hit.value),
+        None => None,
+    }
+}

@@ -1,0 +1,118 @@
+// What nodes and the runner answer item by item, with ample memory.
+ghost use Rattle.std.specs.Prelude.{◌≡◌, [], ◌∷◌, IfOk};
+ghost use Rattle.value_ops.specs.Expressions.{binary, read};
+ghost use Rattle.predicate_cells.specs.Predicates.{any};
+ghost use Rattle.query_model.specs.Queries.{atom, plain_of, split};
+
+use crate::{Hit, Node, Runner, can_run, is_live, start, step};
+use item_schema::{Column, Item, Kind, Schema};
+use predicate_cells::Pred;
+use query_model::{Checked, Follower, Query, Shape, Span};
+use std::alloc::{AllocError, Global};
+use std::test::Fail;
+use value_ops::{BinaryOp, Bytes, Expr, Field, Scalar, Value, Var};
+
+fn query(shape: Shape) -> Query
+    ensures { result.shape ≡ shape }
+{
+    let span = Span { from: 0, to: 1 };
+    Query { shape, span }
+}
+
+// atom(any, a)
+fn any_item() -> Query
+    ensures { plain_of result.shape ≡ atom any (read (Var.Field 0)) }
+{
+    query(Shape::Atom(Pred::Any, Expr::Read(Var::Field(0))))
+}
+
+// split(atom(any, a), atom(any, a), sub(x, y))
+fn difference(alloc: Global) -> Result<Query, AllocError>
+    ensures { IfOk result (λ query. plain_of query.shape
+        ≡ split (atom any (read (Var.Field 0))) (atom any (read (Var.Field 0)))
+        (binary BinaryOp.Sub (read Var.Left) (read Var.Right))) }
+{
+    let left = Box::new(alloc, Expr::Read(Var::Left))?;
+    let right = Box::new(alloc, Expr::Read(Var::Right))?;
+    let first = Box::new(alloc, any_item())?;
+    let second = Box::new(alloc, any_item())?;
+    let expression = Expr::Binary(BinaryOp::Sub, left, right);
+    Ok(query(Shape::Split(first, second, expression)))
+}
+
+fn item(alloc: Global, number: i64) -> Result<Item, AllocError>
+    ensures { IfOk result (λ item. item ≡ Field.Int number ∷ []) }
+{
+    let mut fields = Vec::new(alloc);
+    fields.push(Field::Int(number))?;
+    Ok(Item::from_fields(fields))
+}
+
+fn number_of(hit: &Option<Hit>) -> Option<(u64, i64)> {
+    match hit {
+        Some(
+            Hit {
+                start,
+                value: Value::Scalar(Scalar::Number(number)),
+            },
+        ) => Some((*start, *number)),
+        _ => None,
+    }
+}
+
+#[test]
+fn a_split_joins_the_values_of_two_items(rt: HostRuntime) -> Result<(), Fail> {
+    let alloc = rt.alloc();
+    let query = difference(alloc)?;
+    assert!(rt; can_run(&query));
+    let mut node = Node::new(alloc, &query)?;
+    let begun = start(&query, &mut node, alloc, 0)?;
+    assert_eq!(rt; number_of(&begun), None);
+    let nine = item(alloc, 9)?;
+    let left = step(&query, &mut node, alloc, 1, &nine)?;
+    assert_eq!(rt; number_of(&left), None);
+    assert!(rt; is_live(&query, &node, 0));
+    let copy = node.try_copy(alloc)?;
+    assert_eq!(rt; (node.stored(), copy.stored()), (4, 4));
+    let four = item(alloc, 4)?;
+    let right = step(&query, &mut node, alloc, 2, &four)?;
+    assert_eq!(rt; number_of(&right), Some((0, 5)));
+    assert!(rt; !is_live(&query, &node, 0));
+    Ok(())
+}
+
+fn number_in(answer: Option<&Value>) -> Option<i64> {
+    match answer {
+        Some(Value::Scalar(Scalar::Number(number))) => Some(*number),
+        _ => None,
+    }
+}
+
+#[test]
+fn a_runner_has_the_value_of_each_word(rt: HostRuntime) -> Result<(), Fail> {
+    let alloc = rt.alloc();
+    let name = Bytes::from_slice(alloc, b"a")?;
+    let mut columns = Vec::new(alloc);
+    columns.push(Column {
+        name,
+        kind: Kind::Int,
+    })?;
+    let query = difference(alloc)?;
+    let checked = Checked::new(Schema::new(false, columns), query);
+    let mut runner = Runner::new(alloc, &checked)?;
+    assert_eq!(rt; number_in(runner.answer()), None);
+    let nine = item(alloc, 9)?;
+    runner.step(alloc, &nine)?;
+    let mut copy = runner.try_copy(alloc)?;
+    let four = item(alloc, 4)?;
+    runner.step(alloc, &four)?;
+    assert_eq!(rt;
+        (number_in(runner.answer()), number_in(copy.answer())),
+        (Some(5), None)
+    );
+    runner.reset(alloc)?;
+    assert_eq!(rt; (number_in(runner.answer()), runner.stored()), (None, 2));
+    copy.step(alloc, &nine)?;
+    assert_eq!(rt; (number_in(copy.answer()), copy.failed()), (Some(0), false));
+    Ok(())
+}
