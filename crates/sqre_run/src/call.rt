@@ -6,7 +6,7 @@ ghost use Rattle.type_checker.specs.Judged.{Verdict};
 ghost use Rattle.sqre_run.specs.Words.{is_run};
 ghost use Rattle.query_model.specs.Monitors.{monitor_of};
 ghost use Rattle.query_model.specs.Queries.{plain_of};
-ghost use Rattle.query_model.specs.Shapes.{HasPlainShapes};
+ghost use Rattle.eval_tree.specs.Shapes.{CanRun};
 ghost use Rattle.sqre_run.specs.Outside.{Ended, outside};
 ghost use Rattle.sqre_run.specs.QueryRead.{ReadsQuery};
 ghost use Rattle.sqre_run.specs.Call.{Completes, FirstFault, Outcome, Refuses, Untouched};
@@ -16,6 +16,7 @@ use crate::handing::{end, hand_over};
 use crate::query::{QueryStop, compile};
 use crate::run::run;
 use crate::words::is_run;
+use eval_tree::{Runner, can_run};
 use io_edge::{Sink, Source};
 use language_base::Refusal;
 use query_model::Checked;
@@ -56,10 +57,56 @@ pub fn sqre<Q: Source, S: Source, W: Sink>(
         return Status::Usage;
     }
     match compile(alloc, query) {
-        Ok(checked) => run_slow(alloc, &checked, items, out),
+        Ok(checked) => run_query(alloc, &checked, items, out),
         Err(QueryStop::Failed) => Status::QueryFault,
         Err(QueryStop::Refused(refusal)) => refuse(alloc, refusal, out),
         Err(QueryStop::Memory) => Status::Memory,
+    }
+}
+
+// Runs the query item by item, where there are nodes for all of its shapes.
+fn run_query<S: Source, W: Sink>(
+    alloc: Global,
+    checked: &Checked,
+    items: &mut S,
+    out: &mut W,
+) -> Status
+    ensures ended { let at = outside S.left S.ends W.taken in
+        Ended (monitor_of checked.now) result (at items.old out.old) (at items.new out.new) }
+    ensures handed_on { W.held out.old ≡ 0 → (result ≡ Status.SinkFault → ⊥)
+        → W.held out.new ≡ 0 }
+    ensures item_faults { FailsBy (S.faults items.old) (S.faults items.new)
+        (result ≡ Status.ItemFault) }
+    ensures sink_faults { FailsBy (W.faults out.old) (W.faults out.new)
+        (result ≡ Status.SinkFault) }
+{
+    if can_run(checked.main()) {
+        run_item_by_item(alloc, checked, items, out)
+    } else {
+        run_slow(alloc, checked, items, out)
+    }
+}
+
+// Runs the query with the engine that goes on from item to item.
+fn run_item_by_item<S: Source, W: Sink>(
+    alloc: Global,
+    checked: &Checked,
+    items: &mut S,
+    out: &mut W,
+) -> Status
+    requires { CanRun (plain_of checked.now.main.shape) }
+    ensures ended { let at = outside S.left S.ends W.taken in
+        Ended (monitor_of checked.now) result (at items.old out.old) (at items.new out.new) }
+    ensures handed_on { W.held out.old ≡ 0 → (result ≡ Status.SinkFault → ⊥)
+        → W.held out.new ≡ 0 }
+    ensures item_faults { FailsBy (S.faults items.old) (S.faults items.new)
+        (result ≡ Status.ItemFault) }
+    ensures sink_faults { FailsBy (W.faults out.old) (W.faults out.new)
+        (result ≡ Status.SinkFault) }
+{
+    match Runner::new(alloc, checked) {
+        Ok(runner) => run(alloc, checked, runner, items, out),
+        Err(AllocError) => Status::Memory,
     }
 }
 
@@ -70,7 +117,6 @@ fn run_slow<S: Source, W: Sink>(
     items: &mut S,
     out: &mut W,
 ) -> Status
-    requires { HasPlainShapes (plain_of checked.now.main.shape) }
     ensures ended { let at = outside S.left S.ends W.taken in
         Ended (monitor_of checked.now) result (at items.old out.old) (at items.new out.new) }
     ensures handed_on { W.held out.old ≡ 0 → (result ≡ Status.SinkFault → ⊥)

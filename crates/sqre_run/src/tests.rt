@@ -1,5 +1,6 @@
 // What no clause says: that runs come to their end, and the very bytes that they write. The program
 // `query_cases` shows more lines, queries and refusals.
+mod engines;
 mod handing;
 mod sessions;
 
