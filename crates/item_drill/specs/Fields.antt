@@ -1,0 +1,40 @@
+-- Statement. The field of a column for what was drawn.
+use Rattle.std.specs.Prelude.{ℕ, ◌+◌, ◌-◌, ◌/◌, ◌%◌, ◌^◌, ℤ, pos, ◌-ℤ◌, List, [], ◌∷◌, ◌++◌, length, codes, replicate, unsigned_abs}
+use Rattle.std.specs.Fmt.{decimal, sign_text, signed_decimal}
+use Rattle.std.specs.Int.{is_negative}
+use Rattle.value_ops.specs.declared.field.Field.{Field}
+use Rattle.value_ops.specs.declared.field.Field.TheVariants as field
+use Rattle.item_schema.specs.declared.column.Kind.{Kind}
+use Rattle.item_schema.specs.declared.column.Kind.TheVariants.{Int, Fixed, Text, Number, Table}
+
+-- the number for what was drawn, from -1000 to 1000
+abbrev pub number_of : ℕ → ℤ
+number_of draw = pos (draw % 2001) -ℤ pos 1000
+
+-- the text for what was drawn: `k` and a digit from 0 to 7
+abbrev pub word_of : ℕ → List ℕ
+word_of draw = codes "k" ++ (48 + draw % 8) ∷ []
+
+-- the number in at least so many digits, with zeros in front where it has fewer
+abbrev pub in_digits : ℕ → ℕ → List ℕ
+in_digits least number = replicate (least - length (decimal number)) 48 ++ decimal number
+
+-- a number of so many places behind the point, counted in the smallest unit: its sign, the whole
+-- ones, a point, and the rest in all places
+abbrev pub fixed_text : ℕ → ℤ → List ℕ
+fixed_text places number =
+    sign_text (is_negative number) ++ decimal (unsigned_abs number / 10 ^ places) ++ codes "."
+    ++ in_digits places (unsigned_abs number % 10 ^ places)
+
+-- the text of the field. Columns of values have no texts.
+abbrev pub field_text : Kind → ℕ → List ℕ
+field_text Int draw = signed_decimal (number_of draw)
+field_text (Fixed places) draw = fixed_text places (number_of draw)
+field_text Text draw = word_of draw
+field_text Number draw = []
+field_text Table draw = []
+
+-- the field that this text is read to
+abbrev pub field_of : Kind → ℕ → Field
+field_of Text draw = field.Text (word_of draw)
+field_of kind draw = field.Int (number_of draw)

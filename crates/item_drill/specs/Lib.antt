@@ -1,0 +1,4 @@
+pub mod Commas
+pub mod Draws
+pub mod Fields
+pub mod Lines

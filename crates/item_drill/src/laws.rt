@@ -1,0 +1,24 @@
+//! What holds of all drills.
+ghost use Rattle.std.specs.Prelude.{◌≡◌, ◌<◌, ◌≤◌, ◌++◌, ℕ, true, IsTrue, List, Ok, length, map};
+ghost use Rattle.std.specs.List.{AllByRecursion};
+ghost use Rattle.io_edge.specs.Lines.{NoLf, ended_by_lf, lines, text};
+ghost use Rattle.language_base.specs.Limits.{max_columns};
+ghost use Rattle.item_schema.specs.Layout.{Layout};
+ghost use Rattle.item_schema.specs.Reading.{item_of};
+ghost use Rattle.item_schema.specs.declared.column.Column.{Column};
+ghost use Rattle.item_drill.specs.Lines.{are_read, drill_bytes, header_of, item_from, line_from};
+ghost use Rattle.item_drill.specs.Lines.{lines_from, names_of};
+
+/// Each line is read to the item of its draws: none is skipped, and none is empty.
+pub fn drilled_lines_have_items()
+    ensures { (columns : List Column) (state : ℕ) → 0 < length columns → IsTrue (are_read columns)
+        → item_of columns (line_from columns state) ≡ Ok (item_from columns state) }
+{}
+
+/// The bytes of a drill have its lines, where no name of a column ends one.
+pub fn drilled_bytes_have_lines()
+    ensures { (layout : Layout) (count seed : ℕ) → length layout.columns ≤ max_columns
+        → IsTrue (are_read layout.columns) → AllByRecursion NoLf (names_of layout.columns)
+        → lines (drill_bytes layout count seed) true
+        ≡ map ended_by_lf (header_of layout) ++ map text (lines_from layout.columns count seed) }
+{}
