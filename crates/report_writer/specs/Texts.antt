@@ -1,5 +1,5 @@
 -- Statement. The texts that are written. Each is one line and ends with an LF.
-use Rattle.std.specs.Prelude.{ℕ, ◌+◌, ◌/◌, ◌%◌, ◌==◌, ◌&&◌, ◌||◌, not, nat_le, nat_lt, List, [], ◌∷◌, ◌++◌, codes, decimal, Option, Some, None, if◌then◌else◌}
+use Rattle.std.specs.Prelude.{ℕ, zero, suc, ◌+◌, ◌/◌, ◌%◌, ◌==◌, ◌&&◌, ◌||◌, not, nat_le, nat_lt, List, [], ◌∷◌, ◌++◌, codes, decimal, Option, Some, None, if◌then◌else◌}
 use Rattle.std.specs.Fmt.{signed_decimal}
 use Rattle.std.specs.List.{flat_map}
 use Rattle.value_ops.specs.declared.scalar.Scalar.{Scalar}
@@ -98,3 +98,24 @@ abbrev pub refusal_text : Refusal → List ℕ
 refusal_text refusal =
     codes "refused " ++ rule_name refusal.rule ++ codes " " ++ decimal refusal.span.from
     ++ codes ".." ++ decimal refusal.span.to ++ codes "\n"
+
+-- a query that is accepted
+abbrev pub check_text : List ℕ
+check_text = codes "ok\n"
+
+-- a bound: how many starts of a query may live at one time, and how much is kept for them
+abbrev pub bound_text : ℕ → ℕ → List ℕ
+bound_text places slots =
+    codes "places " ++ decimal places ++ codes " slots " ++ decimal slots ++ codes "\n"
+
+-- the last of so many answers, without its LF, if there is one
+abbrev pub last_text : ℕ → Option Value → List ℕ
+last_text zero value = codes "none"
+last_text (suc answers) (Some value) = value_text value
+last_text (suc answers) None = codes "undefined"
+
+-- a drill: how many items there were, behind how many of them there was a value, and the last answer
+abbrev pub drill_text : ℕ → ℕ → Option Value → List ℕ
+drill_text items defined last =
+    codes "items " ++ decimal items ++ codes " defined " ++ decimal defined
+    ++ codes " last " ++ last_text items last ++ codes "\n"

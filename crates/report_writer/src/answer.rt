@@ -24,7 +24,7 @@ pub fn answer_text(alloc: Global, answer: Option<&Value>) -> Result<Bytes, Alloc
     Ok(Bytes::from_vec(text))
 }
 
-fn push_value(value: &Value, text: &mut Vec<u8>) -> Result<(), AllocError>
+pub(crate) fn push_value(value: &Value, text: &mut Vec<u8>) -> Result<(), AllocError>
     ensures { OnOk result (text.new.items ≡ text.old.items ++ value_text value.now) }
 {
     match value {

@@ -2,6 +2,7 @@
 #![tactic(auto)]
 
 mod answer;
+mod command;
 mod key_text;
 mod refusal;
 mod skip;
@@ -10,5 +11,6 @@ mod table_text;
 mod tests;
 
 pub use answer::answer_text;
+pub use command::{bound_text, check_text, drill_text};
 pub use refusal::refusal_text;
 pub use skip::skip_text;

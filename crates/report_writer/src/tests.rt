@@ -1,5 +1,5 @@
 // What no clause says: that texts are made at all, and how they look, written out.
-use crate::{answer_text, refusal_text, skip_text};
+use crate::{answer_text, bound_text, check_text, drill_text, refusal_text, skip_text};
 use item_schema::{Cause, Skip};
 use language_base::{Refusal, Rule, Span};
 use std::alloc::{AllocError, Global};
@@ -88,6 +88,24 @@ fn a_refusal_names_its_rule_and_place(rt: HostRuntime) -> Result<(), Fail> {
     ] {
         let span = Span { from, to };
         let text = refusal_text(rt.alloc(), Refusal { rule, span })?;
+        assert_eq!(rt; text.as_slice(), wanted.as_bytes());
+    }
+    Ok(())
+}
+
+#[test]
+fn commands_write_one_line(rt: HostRuntime) -> Result<(), Fail> {
+    assert_eq!(rt; check_text(rt.alloc())?.as_slice(), b"ok\n".as_slice());
+    let text = bound_text(rt.alloc(), 3, 29)?;
+    assert_eq!(rt; text.as_slice(), b"places 3 slots 29\n".as_slice());
+    let last = Value::Scalar(Scalar::Number(309));
+    for (items, last, wanted) in [
+        (2, Some(&last), "items 2 defined 1 last 309\n"),
+        (2, None, "items 2 defined 1 last undefined\n"),
+        (0, None, "items 0 defined 0 last none\n"),
+        (0, Some(&last), "items 0 defined 0 last none\n"),
+    ] {
+        let text = drill_text(rt.alloc(), items, items / 2, last)?;
         assert_eq!(rt; text.as_slice(), wanted.as_bytes());
     }
     Ok(())

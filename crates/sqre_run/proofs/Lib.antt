@@ -1,6 +1,9 @@
 pub mod ByteLines
 pub mod Checks
+pub mod Commands
 pub mod Compilations
+pub mod Drills
+pub mod Drillable
 pub mod Nodes
 pub mod OneAnswer
 pub mod OneOutput
@@ -11,5 +14,7 @@ pub mod Sessions
 pub mod Showing
 pub mod SomeMeaning
 pub mod Takes
+pub mod Taking
 pub mod Turns
 pub mod WholeLines
+pub mod Words

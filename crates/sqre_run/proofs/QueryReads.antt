@@ -5,9 +5,12 @@ use Rattle.io_edge.specs.Taken.{TakesFirst}
 use Rattle.language_base.specs.Limits.{max_text}
 use Rattle.language_base.specs.declared.refusal.Refusal.{Refusal}
 use Rattle.sqre_run.specs.Call.{Refuses}
+use Rattle.sqre_run.specs.Carried.{Carried, LineCarried}
 use Rattle.sqre_run.specs.Outside.{Outside, Ended}
 use Rattle.query_model.specs.Monitors.{Monitor}
 use Rattle.sqre_run.specs.QueryRead.{max_read, ReadsText, ReadsQuery}
+use Rattle.sqre_run.specs.declared.command.Command.{Command}
+use Rattle.sqre_run.specs.declared.command.Command.TheVariants.{Run, Check, Bound, Drill}
 use Rattle.sqre_run.specs.declared.status.Status.{Status}
 use Rattle.sqre_run.specs.declared.status.Status.TheVariants.{Done, Refused, Usage, QueryFault, ItemFault, SinkFault, Memory, Limit}
 
@@ -29,6 +32,22 @@ module _ (left left' : Option (List ℕ)) (ends ends' : ℕ) where
     reads_run monitor SinkFault old new ended = reads
     reads_run monitor Memory old new ended = inr reads
     reads_run monitor Limit old new ended = reads
+
+    -- so does each command
+    reads_line : (command : Command) (monitor : Monitor) (status : Status) (old new : Option (List ℕ))
+        → LineCarried command monitor status old new → ReadsQuery left left' ends ends' status
+    reads_line command monitor Done old new carried = reads
+    reads_line command monitor SinkFault old new carried = reads
+    reads_line command monitor Memory old new carried = inr reads
+    reads_line command monitor status old new carried = absurd carried
+
+    pub reads_carried : (command : Command) (monitor : Monitor) (status : Status) (old new : Outside)
+        → Carried command monitor status old new → ReadsQuery left left' ends ends' status
+    reads_carried Run monitor status old new carried = reads_run monitor status old new carried
+    reads_carried Check monitor status old new carried = reads_line Check monitor status old.taken new.taken carried
+    reads_carried Bound monitor status old new carried = reads_line Bound monitor status old.taken new.taken carried
+    reads_carried (Drill count seed) monitor status old new carried =
+        reads_line (Drill count seed) monitor status old.taken new.taken carried
 
     -- and so does a refusal
     pub reads_refusal : (refusal : Refusal) (status : Status) (old new : Option (List ℕ))

@@ -62,7 +62,7 @@ and-false true = refl
 and-false false = refl
 
 -- some line has come behind another
-is_begun-push : (before : List Shown) (line : Shown) → is_begun (before ++ line ∷ []) ≡ true
+pub is_begun-push : (before : List Shown) (line : Shown) → is_begun (before ++ line ∷ []) ≡ true
 is_begun-push [] line = refl
 is_begun-push (first ∷ before) line = refl
 

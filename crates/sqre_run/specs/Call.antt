@@ -1,5 +1,5 @@
 -- Statement. What a call of `sqre` did, by its status.
-use Rattle.std.specs.Prelude.{◌≡◌, ◌⊎◌, ℕ, List, [], length, Option, IfSome}
+use Rattle.std.specs.Prelude.{◌≡◌, ◌⊎◌, ℕ, List, [], length, Option, Some, None, IfSome}
 use Rattle.std.specs.Io.KnownBytes.{Appends, Consumes}
 use Rattle.io_edge.specs.Counts.{FailsBy, Rose}
 use Rattle.io_edge.specs.Limits.{max_count}
@@ -11,7 +11,10 @@ use Rattle.type_checker.specs.Judged.{Verdict, accepted, refused}
 use Rattle.query_model.specs.Monitors.{Monitor}
 use Rattle.sqre_run.specs.Meanings.{IsMeaning, Meaning}
 use Rattle.sqre_run.specs.Output.{Spoken, Tells, answering, output, refusing, whole_output}
+use Rattle.sqre_run.specs.OneLine.{CompletesLine, WritesLine}
 use Rattle.sqre_run.specs.Outside.{Outside, Wrote, WroteLines}
+use Rattle.sqre_run.specs.declared.command.Command.{Command}
+use Rattle.sqre_run.specs.declared.command.Command.TheVariants.{Run, Check, Bound, Drill}
 use Rattle.sqre_run.specs.declared.status.Status.{Status}
 use Rattle.sqre_run.specs.declared.status.Status.TheVariants.{Done, Refused, Usage, QueryFault, ItemFault, SinkFault, Memory, Limit}
 
@@ -23,7 +26,7 @@ pub record FirstFault (status : Status) (queries queries' items items' sinks sin
   pub of_items : FailsBy items items' (status ≡ ItemFault)
   pub of_sink : FailsBy sinks sinks' (status ≡ SinkFault)
 
--- What stayed as it was: all three for other words than those of a run, items and sink where the
+-- What stayed as it was: all three for words that have no form, items and sink where the
 -- query source failed, the items where the query was refused.
 abbrev pub Untouched : {Q S W : Type 0} → Status → Q → Q → S → S → W → W → Type 0
 Untouched Usage query query' items items' out out' =
@@ -43,7 +46,7 @@ Refuses refusal _ old new = ⊥
 abbrev pub Runs : List ℕ → (Monitor → Type 0) → Type 0
 Runs text goes_on = (monitor : Monitor) × Compiles text (accepted monitor) × goes_on monitor
 
--- What was read of the items and written for a query text, by the status.
+-- What `run` read of the items and wrote for a query text, by the status.
 abbrev pub Outcome : List ℕ → Status → Outside → Outside → Type 0
 Outcome text Done old new = Runs text (λ monitor. Rose old.ends new.ends
     × ((meaning : Meaning) → IsMeaning monitor meaning → IfSome old.left (λ bytes.
@@ -62,7 +65,7 @@ Outcome text Memory old new = (new ≡ old)
 Outcome text Limit old new = Runs text (λ monitor. (got : List ℕ) × (length got ≡ max_count)
     × Wrote monitor old new got (λ meaning. whole_output (answering meaning) got))
 
--- How a call ends where no count of faults rose: a query at the end of its items or after 2^63-1
+-- How `run` ends where no count of faults rose: a query at the end of its items or after 2^63-1
 -- bytes of them, and any other text with its refusal. Usage and Memory may come with both.
 abbrev pub Completes : Verdict → Status → Type 0
 Completes query Usage = Unit {0}
@@ -71,3 +74,24 @@ Completes (accepted monitor) Done = Unit {0}
 Completes (accepted monitor) Limit = Unit {0}
 Completes (refused refusal) Refused = Unit {0}
 Completes query _ = ⊥
+
+-- `run` alone reads items
+abbrev pub LeavesItems : {S : Type 0} → Option Command → S → S → Type 0
+LeavesItems (Some Run) items items' = Unit {0}
+LeavesItems command items items' = items' ≡ items
+
+-- and is done at their end alone
+abbrev pub EndsItems : Option Command → ℕ → ℕ → Type 0
+EndsItems (Some Run) ends ends' = Rose ends ends'
+EndsItems command ends ends' = Unit {0}
+
+-- What was read of the items and written for a query text, by what the words ask for.
+abbrev pub OutcomeOf : Option Command → List ℕ → Status → Outside → Outside → Type 0
+OutcomeOf (Some Run) text status old new = Outcome text status old new
+OutcomeOf (Some command) text status old new = WritesLine command text status old.taken new.taken
+OutcomeOf None text status old new = new ≡ old
+
+-- How a call ends where no count of faults rose, by what the words ask for.
+abbrev pub CompletesOf : Option Command → Verdict → Status → Type 0
+CompletesOf (Some Run) query status = Completes query status
+CompletesOf command query status = CompletesLine query status

@@ -4,7 +4,7 @@ use Rattle.std.specs.declared.alloc.AllocError.{AllocError}
 use Rattle.std.specs.Io.KnownBytes.{Appends}
 use Rattle.io_edge.specs.Written.{AppendsSome}
 use Rattle.sqre_run.specs.declared.status.Status.{Status}
-use Rattle.sqre_run.specs.declared.status.Status.TheVariants.{SinkFault, Memory}
+use Rattle.sqre_run.specs.declared.status.Status.TheVariants.{Done, SinkFault, Memory}
 
 -- nothing is answered where the text was written whole, SinkFault where a part of it was written, and
 -- where there is no text Memory, or SinkFault where the sink does not hand on what it holds back
@@ -15,3 +15,12 @@ HandedOver (Some SinkFault) (Ok text) old new = AppendsSome old new text
 HandedOver (Some Memory) (Err error) old new = new ≡ old
 HandedOver (Some SinkFault) (Err error) old new = new ≡ old
 HandedOver _ _ old new = ⊥
+
+-- the one line of a call was written whole and handed on, or a part of it; where there is none, memory was
+-- wanting, and nothing was written
+abbrev pub Told : Status → Result (List ℕ) AllocError → Option (List ℕ) → Option (List ℕ) → Type 0
+Told Done (Ok line) old new = Appends old new line
+Told SinkFault (Ok line) old new = AppendsSome old new line
+Told Memory (Err error) old new = new ≡ old
+Told SinkFault (Err error) old new = new ≡ old
+Told _ _ old new = ⊥

@@ -1,11 +1,15 @@
 pub mod Call
+pub mod Carried
+pub mod Commands
 pub mod Compiled
+pub mod Drilled
+pub mod Drilling
 pub mod Handed
 pub mod Meanings
 pub mod Output
+pub mod OneLine
 pub mod Outside
 pub mod QueryRead
 pub mod Running
 pub mod Sessions
 pub mod Stops
-pub mod Words

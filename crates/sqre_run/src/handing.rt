@@ -2,7 +2,7 @@
 ghost use Rattle.std.specs.Prelude.{◌≡◌, ◌⊎◌, IfSome, OnOk};
 ghost use Rattle.io_edge.specs.Counts.{FailsBy, FailsByFault};
 ghost use Rattle.io_edge.specs.Told.{IsQuiet};
-ghost use Rattle.sqre_run.specs.Handed.{HandedOver};
+ghost use Rattle.sqre_run.specs.Handed.{HandedOver, Told};
 
 use crate::Status;
 use io_edge::{Failed, Lines, Sink, write_all};
@@ -23,6 +23,19 @@ pub fn hand_over<W: Sink>(reply: Result<Bytes, AllocError>, out: &mut W) -> Opti
     match write_all(out, reply.as_slice()) {
         Ok(()) => None,
         Err(Failed) => Some(Status::SinkFault),
+    }
+}
+
+/// Writes the one line of a call and hands it on, or says why not.
+pub fn tell<W: Sink>(line: Result<Bytes, AllocError>, out: &mut W) -> Status
+    ensures told { Told result line (W.taken out.old) (W.taken out.new) }
+    ensures handed_on { (result ≡ Status.SinkFault → ⊥) → W.held out.new ≡ 0 }
+    ensures sink_faults { FailsBy (W.faults out.old) (W.faults out.new)
+        (result ≡ Status.SinkFault) }
+{
+    match hand_over(line, out) {
+        Some(status) => status,
+        None => end(Status::Done, out),
     }
 }
 

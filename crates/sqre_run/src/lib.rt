@@ -2,17 +2,21 @@
 #![tactic(auto)]
 
 mod call;
+mod command;
+mod drill_engine;
+mod drilling;
+mod engine;
 mod handing;
 mod laws;
 mod line_texts;
 mod query;
 mod room;
 mod run;
+mod run_engine;
 mod session;
 mod status;
 #[cfg(test)]
 mod tests;
-mod words;
 
 pub use call::sqre;
 pub use laws::{one_query_per_text, queries_have_meanings, whole_lines_come_first};

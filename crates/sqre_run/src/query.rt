@@ -2,6 +2,7 @@
 ghost use Rattle.std.specs.Prelude.{◌≡◌, Err, IfOk, IfErr, IfSome, OnOk};
 ghost use Rattle.io_edge.specs.Counts.{FailsBy, Rose};
 ghost use Rattle.sqre_run.specs.Compiled.{Compiles};
+ghost use Rattle.sqre_run.specs.Drilling.{IsDrillable};
 ghost use Rattle.sqre_run.specs.QueryRead.{ReadsFor};
 ghost use Rattle.sqre_run.specs.Stops.{IsStopAt, IsStopOf};
 ghost use Rattle.query_model.specs.Monitors.{monitor_of};
@@ -30,6 +31,7 @@ pub enum QueryStop {
 pub fn compile<Q: Source>(alloc: Global, query: &mut Q) -> Result<Checked, QueryStop>
     ensures accepted { IfOk result (λ compiled.
         IfSome (Q.left query.old) (λ text. Compiles text (accepted (monitor_of compiled)))) }
+    ensures drillable { IfOk result (λ compiled. IsDrillable compiled.layout) }
     ensures refused { IfErr result (IsStopOf (Q.left query.old)) }
     ensures end { OnOk result (Rose (Q.ends query.old) (Q.ends query.new)) }
     ensures read { ReadsFor (Q.left query.old) (Q.left query.new)
@@ -53,6 +55,7 @@ pub fn compile<Q: Source>(alloc: Global, query: &mut Q) -> Result<Checked, Query
 fn compile_text(alloc: Global, text: &[u8]) -> Result<Checked, CheckStop>
     ensures accepted { IfOk result (λ compiled.
         Compiles text.now (accepted (monitor_of compiled))) }
+    ensures drillable { IfOk result (λ compiled. IsDrillable compiled.layout) }
     ensures refused { IfErr result (IsStopAt text.now) }
 {
     let program = match read_syntax(alloc, text) {

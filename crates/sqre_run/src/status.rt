@@ -3,7 +3,7 @@
 /// How a run ended. Its number is the exit status of the program.
 #[derive(Clone, Copy, Debug, PartialEq, Eq)]
 pub enum Status {
-    /// All items were answered.
+    /// All items were answered, or the one line of a command was written.
     Done = 0,
     /// The query was refused, and its refusal was written.
     Refused = 1,

@@ -1,5 +1,6 @@
 // What no clause says: that runs come to their end, and the very bytes that they write. The program
 // `query_cases` shows more lines, queries and refusals.
+mod commands;
 mod engines;
 mod handing;
 mod sessions;
@@ -103,10 +104,11 @@ fn a_run_needs_no_source_that_fails(rt: HostRuntime) -> Result<(), Fail> {
 // Where it is read at all, the source fails at once.
 #[test]
 fn a_run_that_is_not_begun_reads_nothing(rt: HostRuntime) -> Result<(), Fail> {
-    let table: [(&str, &[u8], &[u64], Status, &[u8]); 5] = [
+    let table: [(&str, &[u8], &[u64], Status, &[u8]); 6] = [
         ("run q", SUM, &[1], Status::Usage, b""),
         ("run q - x", SUM, &[1], Status::Usage, b""),
         ("check q -", SUM, &[1], Status::Usage, b""),
+        ("slow q -", SUM, &[1], Status::Usage, b""),
         ("run q -", SUM, &[1], Status::QueryFault, b""),
         ("run q -", b"", &[], Status::Refused, b"refused form 0..0\n"),
     ];

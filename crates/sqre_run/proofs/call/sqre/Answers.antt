@@ -1,30 +1,38 @@
-use Rattle.sqre_run.specs.Outside.{outside}
+use Rattle.std.proofs.Common.{sym, ◌∙◌}
 use Rattle.query_model.specs.Monitors.{monitor_of}
-use Rattle.sqre_run.proofs.Outcomes.{told_complete, told_ended, told_refused, told_refused_complete}
-use Rattle.sqre_run.proofs.QueryReads.{reads_refusal, reads_run}
+use Rattle.sqre_run.specs.Outside.{outside}
+use Rattle.sqre_run.proofs.Commands.{told_complete, told_outcome, told_refused, told_refused_complete}
+use Rattle.sqre_run.proofs.QueryReads.{reads_carried, reads_refusal}
 use Rattle.sqre_run.proofs.call.sqre.Goals as goal
 
 pub returns-in-Ok-clause-read : goal.returns-in-Ok-clause-read
 returns-in-Ok-clause-read g c =
     let at = outside g.S.Source.left g.S.Source.ends g.W.Sink.taken in
-    reads_run _ _ _ _ c.in-Ok.ensures.read (monitor_of c.in-Ok.checked) _
-    (at c.args.items.now c.args.out.now) (at c.run_query.new.items c.run_query.new.out) c.run_query.ensures.ended
+    reads_carried _ _ _ _ c.in-Ok.ensures.read c.in-Some.command (monitor_of c.in-Ok.checked) _
+    (at c.args.items.now c.args.out.now) (at c.carry_out.new.items c.carry_out.new.out) c.carry_out.ensures.carried
 
 pub returns-in-Err-Refused-clause-read : goal.returns-in-Err-Refused-clause-read
 returns-in-Err-Refused-clause-read g c =
     reads_refusal _ _ _ _ (rw c.in-Err-Refused.field-0-is at c.in-Err-Refused.ensures.read) _ _ _ _ c.refuse.ensures.refuses
 
 pub returns-in-Ok-clause-outcome : goal.returns-in-Ok-clause-outcome
-returns-in-Ok-clause-outcome g c = told_ended _ _ _ _ c.run_query.ensures.ended _ c.in-Ok.ensures.accepted
+returns-in-Ok-clause-outcome g c =
+    told_outcome c.in-Some.command _ (sym c.in-Some.is ∙ c.command_of.ensures) _ _ _ _ c.carry_out.ensures.carried _
+    c.in-Ok.ensures.accepted
 
 pub returns-in-Err-Refused-clause-outcome : goal.returns-in-Err-Refused-clause-outcome
-returns-in-Err-Refused-clause-outcome g c = told_refused _ _ _ _ _
-    (rw c.in-Err-Refused.field-0-is at c.in-Err-Refused.ensures.refused) c.refuse.ensures.refuses
+returns-in-Err-Refused-clause-outcome g c =
+    told_refused c.in-Some.command _ (sym c.in-Some.is ∙ c.command_of.ensures) _ _ _ _ _
+    (rw c.in-Err-Refused.field-0-is at c.in-Err-Refused.ensures.refused) (rw c.in-Err-Refused.refusal-is at c.refuse.ensures.refuses)
 
 pub returns-in-Ok-clause-complete : goal.returns-in-Ok-clause-complete
-returns-in-Ok-clause-complete g c no_query no_items no_sink = told_complete _ _ _ _ c.run_query.ensures.ended _ c.in-Ok.ensures.accepted
-    (λ e. no_items (c.run_query.ensures.item_faults.rose e)) (λ e. no_sink (c.run_query.ensures.sink_faults.rose e))
+returns-in-Ok-clause-complete g c no_query no_items no_sink =
+    told_complete c.in-Some.command _ (sym c.in-Some.is ∙ c.command_of.ensures) _ _ _ _ c.carry_out.ensures.carried _
+    c.in-Ok.ensures.accepted (λ e. no_items (c.carry_out.ensures.item_faults.rose e))
+    (λ e. no_sink (c.carry_out.ensures.sink_faults.rose e))
 
 pub returns-in-Err-Refused-clause-complete : goal.returns-in-Err-Refused-clause-complete
-returns-in-Err-Refused-clause-complete g c no_query no_items no_sink = told_refused_complete _ _ _ _ _
-    (rw c.in-Err-Refused.field-0-is at c.in-Err-Refused.ensures.refused) c.refuse.ensures.refuses (λ e. no_sink (c.refuse.ensures.cause.rose e))
+returns-in-Err-Refused-clause-complete g c no_query no_items no_sink =
+    told_refused_complete c.in-Some.command _ (sym c.in-Some.is ∙ c.command_of.ensures) _ _ _ _ _
+    (rw c.in-Err-Refused.field-0-is at c.in-Err-Refused.ensures.refused) (rw c.in-Err-Refused.refusal-is at c.refuse.ensures.refuses)
+    (λ e. no_sink (c.refuse.ensures.cause.rose e))

@@ -1,0 +1,234 @@
+-- What came of a command, for a query text that may be told.
+use Rattle.std.proofs.Common.{◌≡◌, ◌≤◌, ◌+◌, ◌*◌, ◌-◌, ◌^◌, ℕ, min, List, [], Option, Some, None, Result, Ok, Err, IfSome, IfOk, refl, sym, subst, arith}
+use Rattle.std.specs.declared.alloc.AllocError.{AllocError}
+use Rattle.std.specs.Io.KnownBytes.{Appends}
+use Rattle.std.proofs.KnownBytes.{Appends-nil}
+use Rattle.std.proofs.lemmas.Nat.{mul-le}
+use Rattle.io_edge.specs.Written.{AppendsSome}
+use Rattle.language_base.specs.declared.refusal.Refusal.{Refusal}
+use Rattle.query_model.specs.Bounds.{inner_of, places_of, slots_of}
+use Rattle.query_model.specs.Monitors.{Monitor}
+use Rattle.query_model.specs.Queries.{Qre, atom, eps, choice, split, iter, combine, apply, compose, collect}
+use Rattle.query_model.specs.Sizes.{max_slots}
+use Rattle.rate_expr.specs.Rates.{size_of}
+use Rattle.report_writer.specs.Texts.{bound_text, check_text}
+use Rattle.type_checker.specs.Judged.{Verdict, accepted, refused}
+use Rattle.sqre_run.specs.Call.{CompletesOf, OutcomeOf, Refuses}
+use Rattle.sqre_run.specs.Carried.{Carried, LineCarried}
+use Rattle.sqre_run.specs.Compiled.{Compiles}
+use Rattle.sqre_run.specs.Drilled.{drilled}
+use Rattle.sqre_run.specs.Handed.{Told}
+use Rattle.sqre_run.specs.Meanings.{IsMeaning, Meaning}
+use Rattle.sqre_run.specs.OneLine.{CompletesLine, HoldsOfLine, WritesLine}
+use Rattle.sqre_run.specs.Outside.{Outside}
+use Rattle.sqre_run.specs.Stops.{IsStopOf}
+use Rattle.sqre_run.specs.declared.command.Command.{Command}
+use Rattle.sqre_run.specs.declared.command.Command.TheVariants.{Run, Check, Bound, Drill}
+use Rattle.sqre_run.specs.declared.query.QueryStop.TheVariants.{Refused as Refusing}
+use Rattle.sqre_run.specs.declared.status.Status.{Status}
+use Rattle.sqre_run.specs.declared.status.Status.TheVariants.{Done, Refused, ItemFault, SinkFault, Memory, Limit}
+use Rattle.sqre_run.proofs.Compilations.{one_query}
+use Rattle.sqre_run.proofs.Outcomes.{Completes-ended, Completes-refused, Outcome-ended, Outcome-refused}
+
+-- nothing was appended
+none_appended : (old new : Option (List ℕ)) (line : List ℕ) → new ≡ old → AppendsSome old new line
+none_appended old new line same =
+    ([], line, refl, subst (λ (taken : Option (List ℕ)). Appends old taken []) (sym same) (Appends-nil old))
+
+-- a line that was told is carried, where what holds of it holds of the command's line
+pub told_line : (command : Command) (monitor : Monitor) (reply : Result (List ℕ) AllocError)
+    → ((P : List ℕ → Type 0) → ((line : List ℕ) → P line) → HoldsOfLine command monitor P)
+    → ((line : List ℕ) → reply ≡ Ok line → (P : List ℕ → Type 0) → P line → HoldsOfLine command monitor P)
+    → (status : Status) (old new : Option (List ℕ)) → Told status reply old new → LineCarried command monitor status old new
+told_line command monitor (Ok line) each given Done old new told = given line refl (λ l. Appends old new l) told
+told_line command monitor (Ok line) each given SinkFault old new told = given line refl (λ l. AppendsSome old new l) told
+told_line command monitor (Err error) each given SinkFault old new told =
+    each (λ l. AppendsSome old new l) (λ l. none_appended old new l told)
+told_line command monitor (Err error) each given Memory old new told = told
+told_line command monitor reply each given status old new told = absurd told
+
+-- so that of a check
+pub told_check : (monitor : Monitor) (reply : Result (List ℕ) AllocError) → IfOk reply (λ line. line ≡ check_text)
+    → (status : Status) (old new : Option (List ℕ)) → Told status reply old new → LineCarried Check monitor status old new
+told_check monitor reply is = told_line Check monitor reply (λ P each. each check_text) (given reply is)
+  where
+    given : (reply : Result (List ℕ) AllocError) → IfOk reply (λ line. line ≡ check_text) → (line : List ℕ) → reply ≡ Ok line
+        → (P : List ℕ → Type 0) → P line → P check_text
+    given (Ok text) is line same P holds = let here : line ≡ check_text = cc in subst P here holds
+    given (Err error) is line same P holds = absurd (cc)
+
+-- that of a bound
+pub told_bound : (monitor : Monitor) (reply : Result (List ℕ) AllocError)
+    → IfOk reply (λ line. line ≡ bound_text (places_of monitor.query) (slots_of monitor.query))
+    → (status : Status) (old new : Option (List ℕ)) → Told status reply old new → LineCarried Bound monitor status old new
+told_bound monitor reply is = told_line Bound monitor reply (λ P each. each text) (given reply is)
+  where
+    text : List ℕ
+    text = bound_text (places_of monitor.query) (slots_of monitor.query)
+
+    given : (reply : Result (List ℕ) AllocError) → IfOk reply (λ line. line ≡ text) → (line : List ℕ) → reply ≡ Ok line
+        → (P : List ℕ → Type 0) → P line → P text
+    given (Ok made) is line same P holds = let here : line ≡ text = cc in subst P here holds
+    given (Err error) is line same P holds = absurd (cc)
+
+-- and that of a drill
+pub told_drill : (count seed : ℕ) (monitor : Monitor) (reply : Result (List ℕ) AllocError)
+    → IfOk reply (λ line. (meaning : Meaning) → IsMeaning monitor meaning → line ≡ drilled meaning count seed)
+    → (status : Status) (old new : Option (List ℕ)) → Told status reply old new
+    → LineCarried (Drill count seed) monitor status old new
+told_drill count seed monitor reply is =
+    told_line (Drill count seed) monitor reply (λ P each meaning means. each (drilled meaning count seed)) (given reply is)
+  where
+    given : (reply : Result (List ℕ) AllocError)
+        → IfOk reply (λ line. (meaning : Meaning) → IsMeaning monitor meaning → line ≡ drilled meaning count seed)
+        → (line : List ℕ) → reply ≡ Ok line → (P : List ℕ → Type 0) → P line
+        → (meaning : Meaning) → IsMeaning monitor meaning → P (drilled meaning count seed)
+    given (Ok made) is line same P holds meaning means =
+        let made_is : made ≡ drilled meaning count seed = is meaning means in
+        let here : line ≡ drilled meaning count seed = cc in
+        subst P here holds
+    given (Err error) is line same P holds meaning means = absurd (cc)
+
+-- what was carried is what a command of one line writes
+line_writes : (command : Command) (text : List ℕ) (monitor : Monitor) → Compiles text (accepted monitor)
+    → (status : Status) (old new : Option (List ℕ)) → LineCarried command monitor status old new
+    → WritesLine command text status old new
+line_writes command text monitor compiles Done old new carried = (monitor, compiles, carried)
+line_writes command text monitor compiles SinkFault old new carried = (accepted monitor, compiles, carried)
+line_writes command text monitor compiles Memory old new carried = carried
+line_writes command text monitor compiles status old new carried = absurd carried
+
+line_refused : (command : Command) (text : List ℕ) (refusal : Refusal) → Compiles text (refused refusal)
+    → (status : Status) (old new : Option (List ℕ)) → Refuses refusal status old new → WritesLine command text status old new
+line_refused command text refusal compiles Refused old new refuses = (refusal, compiles, refuses)
+line_refused command text refusal compiles SinkFault old new refuses = (refused refusal, compiles, refuses)
+line_refused command text refusal compiles Memory old new refuses = refuses
+line_refused command text refusal compiles status old new refuses = absurd refuses
+
+-- and is complete where the sink did not fail
+line_completes : (command : Command) (monitor : Monitor) (status : Status) (old new : Option (List ℕ))
+    → LineCarried command monitor status old new → (status ≡ SinkFault → ⊥) → CompletesLine (accepted monitor) status
+line_completes command monitor Done old new carried no_sink = tt
+line_completes command monitor SinkFault old new carried no_sink = absurd (no_sink refl)
+line_completes command monitor Memory old new carried no_sink = tt
+line_completes command monitor status old new carried no_sink = absurd carried
+
+refusal_completes : (refusal : Refusal) (status : Status) (old new : Option (List ℕ)) → Refuses refusal status old new
+    → (status ≡ SinkFault → ⊥) → CompletesLine (refused refusal) status
+refusal_completes refusal Refused old new refuses no_sink = tt
+refusal_completes refusal SinkFault old new refuses no_sink = absurd (no_sink refl)
+refusal_completes refusal Memory old new refuses no_sink = tt
+refusal_completes refusal status old new refuses no_sink = absurd refuses
+
+-- the outcome of the text, by the command
+outcome_carried : (command : Command) (text : List ℕ) (monitor : Monitor) → Compiles text (accepted monitor)
+    → (status : Status) (old new : Outside) → Carried command monitor status old new → OutcomeOf (Some command) text status old new
+outcome_carried Run text monitor compiles status old new carried = Outcome-ended text monitor compiles status old new carried
+outcome_carried Check text monitor compiles status old new carried =
+    line_writes Check text monitor compiles status old.taken new.taken carried
+outcome_carried Bound text monitor compiles status old new carried =
+    line_writes Bound text monitor compiles status old.taken new.taken carried
+outcome_carried (Drill count seed) text monitor compiles status old new carried =
+    line_writes (Drill count seed) text monitor compiles status old.taken new.taken carried
+
+outcome_refused : (command : Command) (text : List ℕ) (refusal : Refusal) → Compiles text (refused refusal)
+    → (status : Status) (old : Outside) (taken : Option (List ℕ)) → Refuses refusal status old.taken taken
+    → OutcomeOf (Some command) text status old (record old { taken = taken })
+outcome_refused Run text refusal compiles status old taken refuses = Outcome-refused text refusal compiles status old taken refuses
+outcome_refused Check text refusal compiles status old taken refuses =
+    line_refused Check text refusal compiles status old.taken taken refuses
+outcome_refused Bound text refusal compiles status old taken refuses =
+    line_refused Bound text refusal compiles status old.taken taken refuses
+outcome_refused (Drill count seed) text refusal compiles status old taken refuses =
+    line_refused (Drill count seed) text refusal compiles status old.taken taken refuses
+
+-- and its end
+completes_carried : (command : Command) (monitor : Monitor) (status : Status) (old new : Outside)
+    → Carried command monitor status old new → (status ≡ ItemFault → ⊥) → (status ≡ SinkFault → ⊥)
+    → CompletesOf (Some command) (accepted monitor) status
+completes_carried Run monitor status old new carried no_items no_sink =
+    Completes-ended monitor status old new carried no_items no_sink
+completes_carried Check monitor status old new carried no_items no_sink =
+    line_completes Check monitor status old.taken new.taken carried no_sink
+completes_carried Bound monitor status old new carried no_items no_sink =
+    line_completes Bound monitor status old.taken new.taken carried no_sink
+completes_carried (Drill count seed) monitor status old new carried no_items no_sink =
+    line_completes (Drill count seed) monitor status old.taken new.taken carried no_sink
+
+completes_refused : (command : Command) (refusal : Refusal) (status : Status) (old new : Option (List ℕ))
+    → Refuses refusal status old new → (status ≡ SinkFault → ⊥) → CompletesOf (Some command) (refused refusal) status
+completes_refused Run refusal status old new refuses no_sink = Completes-refused refusal status old new refuses no_sink
+completes_refused Check refusal status old new refuses no_sink = refusal_completes refusal status old new refuses no_sink
+completes_refused Bound refusal status old new refuses no_sink = refusal_completes refusal status old new refuses no_sink
+completes_refused (Drill count seed) refusal status old new refuses no_sink =
+    refusal_completes refusal status old new refuses no_sink
+
+-- what completes a text's query completes each query that the text is compiled to
+only_query : (command : Command) (text : List ℕ) (query : Verdict) (status : Status) → Compiles text query
+    → CompletesOf (Some command) query status → (other : Verdict) → Compiles text other → CompletesOf (Some command) other status
+only_query command text query status compiles completes other compiles' =
+    subst (λ (q : Verdict). CompletesOf (Some command) q status) (sym (one_query text query other compiles compiles')) completes
+
+module _ (command : Command) (asked : Option Command) (is : Some command ≡ asked) where
+  -- the same of what was asked for, and for a query source that may tell its text
+  outcome_asked : (text : List ℕ) (status : Status) (old new : Outside) → OutcomeOf (Some command) text status old new
+      → OutcomeOf asked text status old new
+  outcome_asked text status old new outcome = subst (λ (a : Option Command). OutcomeOf a text status old new) is outcome
+
+  completes_asked : (query : Verdict) (status : Status) → CompletesOf (Some command) query status → CompletesOf asked query status
+  completes_asked query status completes = subst (λ (a : Option Command). CompletesOf a query status) is completes
+
+  pub told_outcome : (monitor : Monitor) (status : Status) (old new : Outside) → Carried command monitor status old new
+      → (query : Option (List ℕ)) → IfSome query (λ text. Compiles text (accepted monitor))
+      → IfSome query (λ text. OutcomeOf asked text status old new)
+  told_outcome monitor status old new carried None compiles = tt
+  told_outcome monitor status old new carried (Some text) compiles =
+      outcome_asked text status old new (outcome_carried command text monitor compiles status old new carried)
+
+  pub told_complete : (monitor : Monitor) (status : Status) (old new : Outside) → Carried command monitor status old new
+      → (query : Option (List ℕ)) → IfSome query (λ text. Compiles text (accepted monitor))
+      → (status ≡ ItemFault → ⊥) → (status ≡ SinkFault → ⊥)
+      → IfSome query (λ text. (compiled : Verdict) → Compiles text compiled → CompletesOf asked compiled status)
+  told_complete monitor status old new carried None compiles no_items no_sink = tt
+  told_complete monitor status old new carried (Some text) compiles no_items no_sink = λ other compiles'.
+      completes_asked other status (only_query command text (accepted monitor) status compiles
+      (completes_carried command monitor status old new carried no_items no_sink) other compiles')
+
+  -- the same for a refusal
+  pub told_refused : (query : Option (List ℕ)) (refusal : Refusal) (status : Status) (old : Outside) (taken : Option (List ℕ))
+      → IsStopOf query (Refusing refusal) → Refuses refusal status old.taken taken
+      → IfSome query (λ text. OutcomeOf asked text status old (record old { taken = taken }))
+  told_refused None refusal status old taken stop refuses = tt
+  told_refused (Some text) refusal status old taken stop refuses =
+      outcome_asked text status old (record old { taken = taken })
+      (outcome_refused command text refusal stop status old taken refuses)
+
+  pub told_refused_complete : (query : Option (List ℕ)) (refusal : Refusal) (status : Status) (old new : Option (List ℕ))
+      → IsStopOf query (Refusing refusal) → Refuses refusal status old new → (status ≡ SinkFault → ⊥)
+      → IfSome query (λ text. (compiled : Verdict) → Compiles text compiled → CompletesOf asked compiled status)
+  told_refused_complete None refusal status old new stop refuses no_sink = tt
+  told_refused_complete (Some text) refusal status old new stop refuses no_sink = λ other compiles'.
+      completes_asked other status (only_query command text (refused refusal) status stop
+      (completes_refused command refusal status old new refuses no_sink) other compiles')
+
+-- a factor of one or more
+at_least : (a b : ℕ) → 1 ≤ b → a ≤ a * b
+at_least a b some = omega (arith, mul-le a 1 a b (omega arith) some)
+
+-- no more starts live than are kept
+places_are_kept : (q : Qre) → places_of q ≤ inner_of q
+places_are_kept (atom pred expression) = omega arith
+places_are_kept (eps number) = omega arith
+places_are_kept (choice f g) = let a = places_are_kept f in let b = places_are_kept g in omega arith
+places_are_kept (split f g expression) = let a = places_are_kept f in let b = places_are_kept g in omega arith
+places_are_kept (iter f number expression) = let a = places_are_kept f in omega arith
+places_are_kept (combine f g expression) = let a = places_are_kept f in let b = places_are_kept g in omega arith
+places_are_kept (apply f expression) = let a = places_are_kept f in omega arith
+places_are_kept (compose f g) = let a = places_are_kept f in omega arith
+places_are_kept (collect column sync rate f) =
+    omega (arith, at_least (size_of rate + 1) (1 + size_of rate + (inner_of f + 2)) (omega arith))
+
+-- the bounds of a small query are told as they are
+pub bounds_are_small : (q : Qre) → slots_of q ≤ max_slots
+    → (min (places_of q) (2 ^ 32 - 1) ≡ places_of q) × (min (slots_of q) (2 ^ 32 - 1) ≡ slots_of q)
+bounds_are_small q small = let kept = places_are_kept q in (omega arith, omega arith)

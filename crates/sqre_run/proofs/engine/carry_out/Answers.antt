@@ -1,0 +1,16 @@
+use Rattle.query_model.specs.Monitors.{monitor_of}
+use Rattle.sqre_run.proofs.Commands.{told_bound, told_check, told_drill}
+use Rattle.sqre_run.proofs.engine.carry_out.Goals as goal
+
+pub returns-in-Check-clause-carried : goal.returns-in-Check-clause-carried
+returns-in-Check-clause-carried g c =
+    rw c.in-Check.is (told_check (monitor_of c.args.checked.now) _ c.check_text.ensures _ _ _ c.tell.ensures.told)
+
+pub returns-in-Bound-clause-carried : goal.returns-in-Bound-clause-carried
+returns-in-Bound-clause-carried g c =
+    rw c.in-Bound.is (told_bound (monitor_of c.args.checked.now) _ c.bound_line.ensures _ _ _ c.tell-in-Bound.ensures.told)
+
+pub returns-in-Drill-clause-carried : goal.returns-in-Drill-clause-carried
+returns-in-Drill-clause-carried g c =
+    rw c.in-Drill.is
+    (told_drill c.in-Drill.count c.in-Drill.seed (monitor_of c.args.checked.now) _ c.drill_query.ensures _ _ _ c.tell-in-Drill.ensures.told)

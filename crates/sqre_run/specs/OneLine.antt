@@ -1,0 +1,53 @@
+-- Statement. What a command that writes one line did, by its status.
+use Rattle.std.specs.Prelude.{◌≡◌, ℕ, List, Option}
+use Rattle.std.specs.Io.KnownBytes.{Appends}
+use Rattle.io_edge.specs.Written.{AppendsSome}
+use Rattle.language_base.specs.declared.refusal.Refusal.{Refusal}
+use Rattle.query_model.specs.Bounds.{places_of, slots_of}
+use Rattle.query_model.specs.Monitors.{Monitor}
+use Rattle.report_writer.specs.Texts.{bound_text, check_text, refusal_text}
+use Rattle.type_checker.specs.Judged.{Verdict, accepted, refused}
+use Rattle.sqre_run.specs.Compiled.{Compiles}
+use Rattle.sqre_run.specs.Drilled.{drilled}
+use Rattle.sqre_run.specs.Meanings.{IsMeaning, Meaning}
+use Rattle.sqre_run.specs.declared.command.Command.{Command}
+use Rattle.sqre_run.specs.declared.command.Command.TheVariants.{Run, Check, Bound, Drill}
+use Rattle.sqre_run.specs.declared.status.Status.{Status}
+use Rattle.sqre_run.specs.declared.status.Status.TheVariants.{Done, Refused, Usage, QueryFault, ItemFault, SinkFault, Memory, Limit}
+
+-- This holds of the line for a query that is accepted: that it is, its bounds, or what a drill tells of
+-- it, whatever function gives its values. `run` has no such line.
+abbrev pub HoldsOfLine : Command → Monitor → (List ℕ → Type 0) → Type 0
+HoldsOfLine Run monitor P = ⊥
+HoldsOfLine Check monitor P = P check_text
+HoldsOfLine Bound monitor P = P (bound_text (places_of monitor.query) (slots_of monitor.query))
+HoldsOfLine (Drill count seed) monitor P =
+    (meaning : Meaning) → IsMeaning monitor meaning → P (drilled meaning count seed)
+
+-- this holds of the line for a query, or of that of its refusal
+abbrev pub HoldsOfReply : Command → Verdict → (List ℕ → Type 0) → Type 0
+HoldsOfReply command (accepted monitor) P = HoldsOfLine command monitor P
+HoldsOfReply command (refused why) P = P (refusal_text why)
+
+-- What was written for a query text, by the status.
+abbrev pub WritesLine : Command → List ℕ → Status → Option (List ℕ) → Option (List ℕ) → Type 0
+WritesLine command text Done old new = (monitor : Monitor) × Compiles text (accepted monitor)
+    × HoldsOfLine command monitor (λ line. Appends old new line)
+WritesLine command text Refused old new = (why : Refusal) × Compiles text (refused why)
+    × Appends old new (refusal_text why)
+WritesLine command text SinkFault old new = (query : Verdict) × Compiles text query
+    × HoldsOfReply command query (λ line. AppendsSome old new line)
+WritesLine command text Usage old new = new ≡ old
+WritesLine command text QueryFault old new = new ≡ old
+WritesLine command text Memory old new = new ≡ old
+WritesLine command text ItemFault old new = ⊥
+WritesLine command text Limit old new = ⊥
+
+-- How a call ends where no count of faults rose: a query with its line, and any other text with its
+-- refusal. Usage and Memory may come with both.
+abbrev pub CompletesLine : Verdict → Status → Type 0
+CompletesLine query Usage = Unit {0}
+CompletesLine query Memory = Unit {0}
+CompletesLine (accepted monitor) Done = Unit {0}
+CompletesLine (refused why) Refused = Unit {0}
+CompletesLine query _ = ⊥

@@ -1,0 +1,58 @@
+//! What is done with a query that is accepted.
+ghost use Rattle.std.specs.Prelude.{◌≡◌, Some, IfOk};
+ghost use Rattle.io_edge.specs.Counts.{FailsBy};
+ghost use Rattle.query_model.specs.Bounds.{places_of, slots_of};
+ghost use Rattle.query_model.specs.Monitors.{monitor_of};
+ghost use Rattle.query_model.specs.Queries.{plain_of};
+ghost use Rattle.report_writer.specs.Texts.{bound_text};
+ghost use Rattle.sqre_run.specs.Call.{LeavesItems};
+ghost use Rattle.sqre_run.specs.Carried.{Carried};
+ghost use Rattle.sqre_run.specs.Drilling.{IsDrillable};
+ghost use Rattle.sqre_run.specs.Outside.{outside};
+
+use crate::Status;
+use crate::command::Command;
+use crate::drill_engine::drill_query;
+use crate::handing::tell;
+use crate::run_engine::run_query;
+use io_edge::{Sink, Source};
+use language_base::Bytes;
+use memory_bound::{places, slots};
+use query_model::Checked;
+use report_writer::{bound_text, check_text};
+use std::alloc::{AllocError, Global};
+
+/// Carries a command out. `run` alone reads the items.
+pub fn carry_out<S: Source, W: Sink>(
+    alloc: Global,
+    command: Command,
+    checked: &Checked,
+    items: &mut S,
+    out: &mut W,
+) -> Status
+    requires { IsDrillable checked.now.layout }
+    ensures carried { let at = outside S.left S.ends W.taken in
+        Carried command (monitor_of checked.now) result (at items.old out.old) (at items.new out.new) }
+    ensures items { LeavesItems (Some command) items.old items.new }
+    ensures handed_on { W.held out.old ≡ 0 → (result ≡ Status.SinkFault → ⊥)
+        → W.held out.new ≡ 0 }
+    ensures item_faults { FailsBy (S.faults items.old) (S.faults items.new)
+        (result ≡ Status.ItemFault) }
+    ensures sink_faults { FailsBy (W.faults out.old) (W.faults out.new)
+        (result ≡ Status.SinkFault) }
+{
+    match command {
+        Command::Run => run_query(alloc, checked, items, out),
+        Command::Check => tell(check_text(alloc), out),
+        Command::Bound => tell(bound_line(alloc, checked), out),
+        Command::Drill { count, seed } => tell(drill_query(alloc, checked, count, seed), out),
+    }
+}
+
+fn bound_line(alloc: Global, checked: &Checked) -> Result<Bytes, AllocError>
+    ensures { let query = plain_of checked.now.main.shape in
+        IfOk result (λ line. line ≡ bound_text (places_of query) (slots_of query)) }
+{
+    let main = checked.main();
+    bound_text(alloc, places(main), slots(main))
+}

@@ -1,0 +1,84 @@
+//! The engine of a run, by the shapes of its query.
+ghost use Rattle.std.specs.Prelude.{◌≡◌};
+ghost use Rattle.eval_tree.specs.Shapes.{CanRun};
+ghost use Rattle.io_edge.specs.Counts.{FailsBy};
+ghost use Rattle.query_model.specs.Monitors.{monitor_of};
+ghost use Rattle.query_model.specs.Queries.{plain_of};
+ghost use Rattle.sqre_run.specs.Outside.{Ended, outside};
+
+use crate::Status;
+use crate::run::run;
+use eval_tree::{Runner, can_run};
+use io_edge::{Sink, Source};
+use query_model::Checked;
+use slow_eval::Slow;
+use std::alloc::{AllocError, Global};
+
+/// Runs the query item by item where there are nodes for all of its shapes, and else by the engine
+/// that keeps the whole word.
+pub fn run_query<S: Source, W: Sink>(
+    alloc: Global,
+    checked: &Checked,
+    items: &mut S,
+    out: &mut W,
+) -> Status
+    ensures ended { let at = outside S.left S.ends W.taken in
+        Ended (monitor_of checked.now) result (at items.old out.old) (at items.new out.new) }
+    ensures handed_on { W.held out.old ≡ 0 → (result ≡ Status.SinkFault → ⊥)
+        → W.held out.new ≡ 0 }
+    ensures item_faults { FailsBy (S.faults items.old) (S.faults items.new)
+        (result ≡ Status.ItemFault) }
+    ensures sink_faults { FailsBy (W.faults out.old) (W.faults out.new)
+        (result ≡ Status.SinkFault) }
+{
+    if can_run(checked.main()) {
+        run_item_by_item(alloc, checked, items, out)
+    } else {
+        run_slow(alloc, checked, items, out)
+    }
+}
+
+// Runs the query with the engine that goes on from item to item.
+fn run_item_by_item<S: Source, W: Sink>(
+    alloc: Global,
+    checked: &Checked,
+    items: &mut S,
+    out: &mut W,
+) -> Status
+    requires { CanRun (plain_of checked.now.main.shape) }
+    ensures ended { let at = outside S.left S.ends W.taken in
+        Ended (monitor_of checked.now) result (at items.old out.old) (at items.new out.new) }
+    ensures handed_on { W.held out.old ≡ 0 → (result ≡ Status.SinkFault → ⊥)
+        → W.held out.new ≡ 0 }
+    ensures item_faults { FailsBy (S.faults items.old) (S.faults items.new)
+        (result ≡ Status.ItemFault) }
+    ensures sink_faults { FailsBy (W.faults out.old) (W.faults out.new)
+        (result ≡ Status.SinkFault) }
+{
+    match Runner::new(alloc, checked) {
+        Ok(runner) => run(alloc, checked, runner, items, out),
+        Err(AllocError) => Status::Memory,
+    }
+}
+
+// Runs the query with the engine that keeps the whole word.
+fn run_slow<S: Source, W: Sink>(
+    alloc: Global,
+    checked: &Checked,
+    items: &mut S,
+    out: &mut W,
+) -> Status
+    ensures ended { let at = outside S.left S.ends W.taken in
+        Ended (monitor_of checked.now) result (at items.old out.old) (at items.new out.new) }
+    ensures handed_on { W.held out.old ≡ 0 → (result ≡ Status.SinkFault → ⊥)
+        → W.held out.new ≡ 0 }
+    ensures item_faults { FailsBy (S.faults items.old) (S.faults items.new)
+        (result ≡ Status.ItemFault) }
+    ensures sink_faults { FailsBy (W.faults out.old) (W.faults out.new)
+        (result ≡ Status.SinkFault) }
+{
+    match Slow::new(alloc, checked) {
+        Ok(slow) => run(alloc, checked, slow, items, out),
+        Err(AllocError) => Status::Memory,
+    }
+}
