@@ -5,7 +5,7 @@ ghost use Rattle.query_syntax.specs.Files.{program_terms};
 ghost use Rattle.query_syntax.specs.Plain.{plain_program};
 ghost use Rattle.explain_run.specs.Explained.{Explains, IsAccepted};
 
-use explanation::{culprit_of, explanation_text};
+use explanation::{program_explanation, text_explanation};
 use language_base::Bytes;
 use query_parser::ReadStop;
 use query_syntax::{Program, read_syntax};
@@ -20,7 +20,7 @@ pub fn explanation_of(alloc: Global, name: &str, text: &[u8]) -> Result<Option<B
     match read_syntax(alloc, text) {
         Ok(program) => explanation_in(alloc, name, text, &program),
         Err(ReadStop::Refused(refusal)) => {
-            Ok(Some(explanation_text(alloc, name, text, refusal, None)?))
+            Ok(Some(text_explanation(alloc, name, text, refusal)?))
         }
         Err(ReadStop::Memory) => Err(AllocError),
     }
@@ -40,8 +40,7 @@ fn explanation_in(
     match check(alloc, program) {
         Ok(_checked) => Ok(None),
         Err(CheckStop::Refused(refusal)) => {
-            let culprit = culprit_of(text, program, refusal);
-            Ok(Some(explanation_text(alloc, name, text, refusal, culprit)?))
+            Ok(Some(program_explanation(alloc, name, text, program, refusal)?))
         }
         Err(CheckStop::Memory) => Err(AllocError),
     }

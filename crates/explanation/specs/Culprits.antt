@@ -1,56 +1,122 @@
--- Statement. The name for which a program breaks the rule `name` or the rule `type`: as these rules are asked,
--- operands come before the node that they are of, and at one node names before kinds.
-use Rattle.std.specs.Prelude.{ℕ, ◌==◌, List, length, Option, None, Some, if◌then◌else◌}
+-- Statement. The name that a refusal is about, in the node that is refused: of the rule `name` the first that is not known
+-- there, and of the rule `type` the first column whose kind does not fit. A node of a let may be asked over items
+-- or over values: where nothing is wrong with it over items, it was over values.
+use Rattle.std.specs.Prelude.{ℕ, Bool, List, Option, None, Some, find, if◌then◌else◌}
+use Rattle.std.specs.List.{list_any}
 use Rattle.language_base.specs.declared.refusal.Refusal.{Refusal}
 use Rattle.language_base.specs.declared.rule.Rule.{Rule}
 use Rattle.language_base.specs.declared.rule.Rule.TheVariants as rule
+use Rattle.language_base.specs.declared.span.Span.{Span}
 use Rattle.query_syntax.specs.Expressions.{Expression}
 use Rattle.query_syntax.specs.Predicates.{Predicate}
-use Rattle.query_syntax.specs.Programs.{Program}
+use Rattle.query_syntax.specs.Programs.{Let, Program}
 use Rattle.query_syntax.specs.Queries as q
 use Rattle.query_syntax.specs.Queries.{Query}
-use Rattle.query_syntax.specs.declared.stream.Column.{Column}
-use Rattle.explanation.specs.Hints.{head_of, term_at}
-use Rattle.explanation.specs.Misfits.{misfit_read, misfit_test}
-use Rattle.explanation.specs.Scopes.{of_item, of_one, of_two}
-use Rattle.explanation.specs.Unknown.{first_of, unknown_column, unknown_name}
+use Rattle.query_syntax.specs.Rates.{Rate}
+use Rattle.query_syntax.specs.declared.leaf.Name.{Name}
+use Rattle.explanation.specs.Misfits.{misfit_item, misfit_read, misfit_test, unless_key}
+use Rattle.explanation.specs.Scopes.{Scope, of_item, of_mistyped, of_one, of_two, of_value, unless_known}
+use Rattle.explanation.specs.Spots.{has_in, is_at}
+use Rattle.explanation.specs.Unknown.{first_of, unknown_column, unknown_item, unknown_name}
 use Rattle.explanation.specs.declared.culprit.Culprit.{Culprit}
+use Rattle.explanation.specs.declared.culprit.Culprit.TheVariants.{NoLet, TwiceColumn, TwiceLet}
+
+-- in the name of a query
+abbrev pub in_name : Rule → Span → Option Culprit
+in_name rule.Name span = Some (NoLet span)
+in_name _ span = None
+
+-- in the kinds of an atom: on values each name is one of them
+abbrev pub kinds_in_atom : Scope → Predicate → Expression → Option Culprit
+kinds_in_atom (of_item columns) predicate value =
+    first_of (misfit_test columns predicate) (misfit_read columns value)
+kinds_in_atom _ predicate value =
+    first_of (unknown_column of_mistyped predicate) (unknown_name of_mistyped value)
 
 -- in an atom
-abbrev pub culprit_at : List Column → Predicate → Expression → Option Culprit
-culprit_at columns predicate value =
-    first_of (first_of (unknown_column columns predicate) (unknown_name (of_item columns) value))
-    (first_of (misfit_test columns predicate) (misfit_read columns value))
+abbrev pub in_atom : Rule → Scope → Predicate → Expression → Option Culprit
+in_atom rule.Name scope predicate value =
+    first_of (unknown_column scope predicate) (unknown_name scope value)
+in_atom rule.Type_ scope predicate value = kinds_in_atom scope predicate value
+in_atom _ scope predicate value = None
 
--- In a query: its values are numbers. Those forms that are not built yet have none, since they are refused before
--- names are asked.
-abbrev pub culprit_in : List Column → Query → Option Culprit
-culprit_in columns (q.name name) = None
-culprit_in columns (q.atom predicate value span) = culprit_at columns predicate value
-culprit_in columns (q.eps number span) = None
-culprit_in columns (q.or left right span) =
-    first_of (culprit_in columns left) (culprit_in columns right)
-culprit_in columns (q.split left right value span) =
-    first_of (first_of (culprit_in columns left) (culprit_in columns right))
-    (unknown_name of_two value)
-culprit_in columns (q.iter operand first step span) =
-    first_of (culprit_in columns operand) (unknown_name of_two step)
-culprit_in columns (q.combine left right value span) =
-    first_of (first_of (culprit_in columns left) (culprit_in columns right))
-    (unknown_name of_two value)
-culprit_in columns (q.apply operand value span) =
-    first_of (culprit_in columns operand) (unknown_name of_one value)
-culprit_in columns (q.compose left right span) = None
-culprit_in columns (q.collect key sync rate operand span) = None
+-- in an expression over values of operands
+abbrev pub in_fold : Rule → Scope → Expression → Option Culprit
+in_fold rule.Name scope value = unknown_name scope value
+in_fold _ scope value = None
 
--- The name that a refusal is about. The place of a node is a call; the place where a column is declared twice is its
--- name, and there is no other name to tell.
-abbrev pub culprit_for : Rule → List ℕ → Program → Option Culprit
-culprit_for rule.Name head program =
-    if length head == 0 then None else culprit_in program.stream.columns program.main.query
-culprit_for rule.Type_ head program = culprit_in program.stream.columns program.main.query
-culprit_for _ head program = None
+-- in the kinds of a collection's key, its items for every key and its rate
+abbrev pub kinds_in_keys : Scope → Name → Predicate → Rate → Option Culprit
+kinds_in_keys (of_item columns) key sync rate =
+    first_of (unless_key columns key)
+    (first_of (misfit_test columns sync) (misfit_item columns rate))
+kinds_in_keys _ key sync rate = None
 
--- the same of the refusal of this program, which this text writes
-abbrev pub culprit_of : List ℕ → Program → Refusal → Option Culprit
-culprit_of text program refusal = culprit_for refusal.rule (head_of (term_at text refusal.span)) program
+-- in these
+abbrev pub in_keys : Rule → Scope → Name → Predicate → Rate → Option Culprit
+in_keys rule.Name scope key sync rate =
+    first_of (unless_known scope key)
+    (first_of (unknown_column scope sync) (unknown_item scope rate))
+in_keys rule.Type_ scope key sync rate = kinds_in_keys scope key sync rate
+in_keys _ scope key sync rate = None
+
+-- of the node that is refused, and of no other
+abbrev pub if_at : Span → Refusal → Option Culprit → Option Culprit
+if_at span refusal culprit = if is_at span refusal.span then culprit else None
+
+-- in a query over these columns
+abbrev pub culprit_in : Refusal → Scope → Query → Option Culprit
+culprit_in refusal scope (q.name name) = if_at name.span refusal (in_name refusal.rule name.span)
+culprit_in refusal scope (q.atom predicate value span) =
+    if_at span refusal (in_atom refusal.rule scope predicate value)
+culprit_in refusal scope (q.eps number span) = None
+culprit_in refusal scope (q.or left right span) =
+    first_of (culprit_in refusal scope left) (culprit_in refusal scope right)
+culprit_in refusal scope (q.split left right value span) =
+    first_of (first_of (culprit_in refusal scope left) (culprit_in refusal scope right))
+    (if_at span refusal (in_fold refusal.rule of_two value))
+culprit_in refusal scope (q.iter operand first step span) =
+    first_of (culprit_in refusal scope operand)
+    (if_at span refusal (in_fold refusal.rule of_two step))
+culprit_in refusal scope (q.combine left right value span) =
+    first_of (first_of (culprit_in refusal scope left) (culprit_in refusal scope right))
+    (if_at span refusal (in_fold refusal.rule of_two value))
+culprit_in refusal scope (q.apply operand value span) =
+    first_of (culprit_in refusal scope operand)
+    (if_at span refusal (in_fold refusal.rule of_one value))
+culprit_in refusal scope (q.compose left right span) =
+    first_of (culprit_in refusal scope left) (culprit_in refusal of_value right)
+culprit_in refusal scope (q.collect key sync rate operand span) =
+    first_of (culprit_in refusal scope operand)
+    (if_at span refusal (in_keys refusal.rule scope key sync rate))
+
+-- the query of a let, or of what is no let
+abbrev pub query_or : Option Let → Query → Query
+query_or (Some one) other = one.query
+query_or None other = other
+
+-- the query in which the place lies
+abbrev pub query_at : Program → Span → Query
+query_at program place =
+    query_or (find (λ one. has_in one.span place) program.lets) program.main.query
+
+-- a column or a let that has the name of an earlier one: no other name is a place that is refused
+abbrev pub declared_at : Program → Span → Option Culprit
+declared_at program place =
+    if list_any (λ c. is_at c.name.span place) program.stream.columns then Some (TwiceColumn place)
+    else (if list_any (λ one. is_at one.name.span place) program.lets then Some (TwiceLet place)
+    else None)
+
+-- over the columns of the stream
+abbrev pub culprit_on_items : Program → Refusal → Option Culprit
+culprit_on_items program refusal =
+    culprit_in refusal (of_item program.stream.columns) (query_at program refusal.span)
+
+-- over values
+abbrev pub culprit_on_values : Program → Refusal → Option Culprit
+culprit_on_values program refusal = culprit_in refusal of_value (query_at program refusal.span)
+
+-- the name that the refusal of this program is about, if it is about one
+abbrev pub culprit_of : Program → Refusal → Option Culprit
+culprit_of program refusal = first_of (declared_at program refusal.span)
+    (first_of (culprit_on_items program refusal) (culprit_on_values program refusal))

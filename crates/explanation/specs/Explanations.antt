@@ -5,10 +5,14 @@ use Rattle.language_base.specs.declared.rule.Rule.{Rule}
 use Rattle.place_in_text.specs.Places.{column_of, line_of}
 use Rattle.place_in_text.specs.Windows.{marked_line}
 use Rattle.report_writer.specs.Texts.{refusal_text}
+use Rattle.query_syntax.specs.Programs.{Program}
+use Rattle.explanation.specs.Asides.{aside_of, place_aside, said_of_place}
 use Rattle.explanation.specs.CulpritLines.{culprit_line}
+use Rattle.explanation.specs.Culprits.{culprit_of}
 use Rattle.explanation.specs.HintSentences.{hint_sentence}
 use Rattle.explanation.specs.Hints.{hint_of}
 use Rattle.explanation.specs.Sentences.{broken_where, mended_by}
+use Rattle.explanation.specs.declared.aside.Aside.{Aside}
 use Rattle.explanation.specs.declared.culprit.Culprit.{Culprit}
 use Rattle.explanation.specs.declared.hint.Hint.{Hint}
 
@@ -37,9 +41,28 @@ abbrev pub hint_line : Option Hint → List ℕ
 hint_line (Some hint) = line (hint_sentence hint)
 hint_line None = []
 
--- the explanation of a refusal of this text, which is called by this name and about that of the query
-unfoldable pub explanation : List ℕ → List ℕ → Refusal → Option Culprit → List ℕ
-explanation name text refusal culprit =
+-- a second place, where there is one
+unfoldable pub aside_lines : List ℕ → List ℕ → Option Aside → List ℕ
+aside_lines name text (Some aside) =
+    place_text name
+    (line_of text (place_aside aside).from) (column_of text (place_aside aside).from)
+    ++ column_unit ++ said_of_place aside
+    ++ marked_line text (place_aside aside).from (place_aside aside).to
+aside_lines name text None = []
+
+-- the explanation of a refusal of this text, which is called by this name, about that of the query, beside that place
+unfoldable pub explanation : List ℕ → List ℕ → Refusal → Option Culprit → Option Aside → List ℕ
+explanation name text refusal culprit aside =
     heading name (line_of text refusal.span.from) (column_of text refusal.span.from) refusal
     ++ marked_line text refusal.span.from refusal.span.to
     ++ advice refusal.rule ++ hint_line (hint_of text refusal) ++ culprit_line text culprit
+    ++ aside_lines name text aside
+
+-- that of a text that writes no program
+abbrev pub text_explanation : List ℕ → List ℕ → Refusal → List ℕ
+text_explanation name text refusal = explanation name text refusal None None
+
+-- that of a text that writes this program
+abbrev pub program_explanation : List ℕ → List ℕ → Program → Refusal → List ℕ
+program_explanation name text program refusal =
+    explanation name text refusal (culprit_of program refusal) (aside_of program refusal)

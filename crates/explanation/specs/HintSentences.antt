@@ -1,7 +1,7 @@
 -- Statement. Each hint in a sentence.
 use Rattle.std.specs.Prelude.{ℕ, List, codes}
 use Rattle.explanation.specs.declared.hint.Hint.{Hint}
-use Rattle.explanation.specs.declared.hint.Hint.TheVariants.{Point, SingleQuote, BadString, Comparison, Arithmetic, Connective, Mark, NotAscii, OpenBracket, MissingComma, MissingTerm, NoHead, MissingTop, TwoOperands, WhichComparison, LoneWord, NotBuilt, ColumnNames, OneValue, TwoValues, Twice}
+use Rattle.explanation.specs.declared.hint.Hint.TheVariants.{Point, SingleQuote, BadString, Comparison, Arithmetic, Connective, Mark, NotAscii, OpenBracket, MissingComma, MissingTerm, NoHead, MissingTop, TwoOperands, WhichComparison, LoneWord, AnyItem, LetForm, ComposeForm, CollectForm, TableForm, TwoKinds, TableOrNumber, ValueCells, RateItem}
 
 -- what is often meant
 unfoldable pub hint_sentence : Hint → List ℕ
@@ -27,15 +27,22 @@ hint_sentence MissingTop =
 hint_sentence TwoOperands =
     codes "It takes two queries or predicates: of three, or(F, or(G, H)); an if has no and or or."
 hint_sentence WhichComparison =
-    codes "A predicate has gt(NAME, NUM), a column and a number; an if has gt(EXPR, EXPR)."
+    codes "A predicate has gt(NAME, NUM), an if gt(EXPR, EXPR); a rate has item(PRED)."
 hint_sentence LoneWord =
     codes "This word can not stand here; a predicate compares a column with a number or a string."
-hint_sentence NotBuilt =
-    codes "let, compose, collect and the forms of tables are read, and not built yet."
-hint_sentence ColumnNames =
-    codes "The names in an atom are columns: one is not declared as it is spelled here."
-hint_sentence OneValue =
-    codes "Here only x is known, the value of the operand; columns are read in an atom."
-hint_sentence TwoValues =
-    codes "Here only x and y are known, the two values; columns are read in an atom."
-hint_sentence Twice = codes "An earlier col has this name; each column has its own."
+hint_sentence AnyItem = codes "In a rate one item that meets P is item(P), as in star(item(any))."
+hint_sentence LetForm =
+    codes "A let is let(NAME, QUERY), and stands between the stream and the main."
+hint_sentence ComposeForm =
+    codes "compose(F, G) takes two queries: G reads the values of F, in one column called value."
+hint_sentence CollectForm =
+    codes "collect(NAME, PRED, RATE, F) is a query: as in apply(T, tsum(x)) its table is read."
+hint_sentence TableForm =
+    codes "Expressions have tsum(x), tcount(x), tmax(x, 0), tmin(x, 0) and tget(x, \"KEY\", 0)."
+hint_sentence TwoKinds = codes "One of the two queries gives a table, and the other one a number."
+hint_sentence TableOrNumber =
+    codes "tsum, tcount, tmax, tmin and tget take a table, and all operators take numbers."
+hint_sentence ValueCells =
+    codes "The tests on its right side tell too many values of its left side apart."
+hint_sentence RateItem =
+    codes "A predicate stands in each item(P) of its rate; some item is to meet it."

@@ -9,7 +9,7 @@ use Rattle.language_base.specs.declared.rule.Rule.TheVariants as rule
 use Rattle.language_base.specs.declared.span.Span.{Span}
 use Rattle.query_tokens.specs.Raw.{is_word_byte, is_word_start}
 use Rattle.explanation.specs.declared.hint.Hint.{Hint}
-use Rattle.explanation.specs.declared.hint.Hint.TheVariants.{Point, SingleQuote, BadString, Comparison, Arithmetic, Connective, Mark, NotAscii, OpenBracket, MissingComma, MissingTerm, NoHead, MissingTop, TwoOperands, WhichComparison, LoneWord, NotBuilt, ColumnNames, OneValue, TwoValues, Twice}
+use Rattle.explanation.specs.declared.hint.Hint.TheVariants.{Point, SingleQuote, BadString, Comparison, Arithmetic, Connective, Mark, NotAscii, OpenBracket, MissingComma, MissingTerm, NoHead, MissingTop, TwoOperands, WhichComparison, LoneWord, AnyItem, LetForm, ComposeForm, CollectForm, TableForm, TwoKinds, TableOrNumber, ValueCells, RateItem}
 
 -- the bytes of a term
 abbrev pub term_at : List ℕ → Span → List ℕ
@@ -65,39 +65,54 @@ is_comparison head =
     bytes_eq head (codes "lt") || bytes_eq head (codes "le") || bytes_eq head (codes "gt")
     || bytes_eq head (codes "ge") || bytes_eq head (codes "eq") || bytes_eq head (codes "ne")
 
--- calls with this head are read, and not built yet
-abbrev pub is_unbuilt : List ℕ → Bool
-is_unbuilt head =
-    bytes_eq head (codes "let") || bytes_eq head (codes "compose")
-    || bytes_eq head (codes "collect") || bytes_eq head (codes "tsum")
-    || bytes_eq head (codes "tcount") || bytes_eq head (codes "tmax")
+-- the word is one of a form of tables
+abbrev pub is_table_form : List ℕ → Bool
+is_table_form head =
+    bytes_eq head (codes "tsum") || bytes_eq head (codes "tcount") || bytes_eq head (codes "tmax")
     || bytes_eq head (codes "tmin") || bytes_eq head (codes "tget")
 
--- the term begins with this byte, has no head, and is a word
-abbrev pub is_lone_word : ℕ → List ℕ → Bool
-is_lone_word byte head = length head == 0 && is_word_start byte
+-- the form that the word begins, if it is one of these
+abbrev pub named_form : List ℕ → Option Hint
+named_form head =
+    if bytes_eq head (codes "let") then Some LetForm
+    else (if bytes_eq head (codes "compose") then Some ComposeForm
+    else (if bytes_eq head (codes "collect") then Some CollectForm
+    else (if is_table_form head then Some TableForm else None)))
 
--- the term, which begins with this byte and may have a head, has none of the forms of its place
-abbrev pub form_hint : ℕ → List ℕ → Option Hint
-form_hint byte head =
+-- the term, which begins with this byte and is no call, has none of the forms of its place
+abbrev pub leaf_hint : ℕ → List ℕ → Option Hint
+leaf_hint byte term =
+    if bytes_eq term (codes "any") then Some AnyItem
+    else (if is_word_start byte then Some LoneWord else None)
+
+-- the same of a call
+abbrev pub call_hint : List ℕ → Option Hint
+call_hint head =
     if is_connective head then Some TwoOperands
-    else (if is_comparison head then Some WhichComparison
-    else (if is_unbuilt head then Some NotBuilt
-    else (if is_lone_word byte head then Some LoneWord else None)))
+    else (if is_comparison head then Some WhichComparison else named_form head)
 
--- a name is not known in the call, or, where the term is no call, it is declared twice
-abbrev pub name_hint : List ℕ → Hint
-name_hint head =
-    if bytes_eq head (codes "atom") then ColumnNames
-    else (if bytes_eq head (codes "apply") then OneValue
-    else (if length head == 0 then Twice else TwoValues))
+-- the same of a term, which may have a head
+abbrev pub form_hint : ℕ → List ℕ → List ℕ → Option Hint
+form_hint byte term head = if length head == 0 then leaf_hint byte term else call_hint head
+
+-- the operands of the call, or the values of its expression, are of the wrong types
+abbrev pub type_hint : List ℕ → Option Hint
+type_hint head =
+    if bytes_eq head (codes "or") then Some TwoKinds
+    else (if bytes_eq head (codes "split") || bytes_eq head (codes "iter")
+    || bytes_eq head (codes "combine") || bytes_eq head (codes "apply")
+    then Some TableOrNumber else None)
 
 -- the hint for a rule that is broken at a place which begins with this byte
 abbrev pub hint_at : Rule → List ℕ → Span → ℕ → Option Hint
 hint_at rule.Token text span byte = token_hint (slice_get text (span.from - 1)) byte
 hint_at rule.Term text span byte = piece_hint byte
-hint_at rule.Form text span byte = form_hint byte (head_of (term_at text span))
-hint_at rule.Name text span byte = Some (name_hint (head_of (term_at text span)))
+hint_at rule.Form text span byte = form_hint byte (term_at text span) (head_of (term_at text span))
+hint_at rule.Type_ text span byte = type_hint (head_of (term_at text span))
+hint_at rule.Cells text span byte =
+    if bytes_eq (head_of (term_at text span)) (codes "compose") then Some ValueCells else None
+hint_at rule.Empty text span byte =
+    if bytes_eq (head_of (term_at text span)) (codes "collect") then Some RateItem else None
 hint_at _ text span byte = None
 
 -- the hint at a byte, or at the end of the text

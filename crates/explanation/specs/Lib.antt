@@ -1,9 +1,13 @@
+pub mod Asides
 pub mod CulpritLines
 pub mod Culprits
 pub mod Explanations
 pub mod HintSentences
 pub mod Hints
+pub mod Leads
 pub mod Misfits
 pub mod Scopes
 pub mod Sentences
+pub mod Spots
 pub mod Unknown
+pub mod Uses

@@ -1,5 +1,6 @@
--- Statement. The first column of an atom, in the order of the text, whose kind does not fit where its name stands: a
--- column of texts is tested for one alone, and tests with numbers and expressions take columns of numbers.
+-- Statement. The first column of an atom or a collection of items, in the order of the text, whose kind does not fit where
+-- its name stands: a column of texts is tested for one alone, tests with numbers and expressions take columns of
+-- numbers, a key is a text, and no column has tables.
 use Rattle.std.specs.Prelude.{ℕ, Bool, true, false, not, ◌&&◌, List, Option, None, Some, if◌then◌else◌}
 use Rattle.std.specs.List.{list_any}
 use Rattle.std.specs.Str.{bytes_eq}
@@ -7,6 +8,8 @@ use Rattle.query_syntax.specs.Expressions as e
 use Rattle.query_syntax.specs.Expressions.{Expression}
 use Rattle.query_syntax.specs.Predicates as p
 use Rattle.query_syntax.specs.Predicates.{Predicate}
+use Rattle.query_syntax.specs.Rates as r
+use Rattle.query_syntax.specs.Rates.{Rate}
 use Rattle.query_syntax.specs.declared.leaf.Literal.{Literal}
 use Rattle.query_syntax.specs.declared.leaf.Literal.TheVariants as literal
 use Rattle.query_syntax.specs.declared.leaf.Name.{Name}
@@ -15,7 +18,7 @@ use Rattle.query_syntax.specs.declared.stream.Kind.{Kind}
 use Rattle.query_syntax.specs.declared.stream.Kind.TheVariants as kind
 use Rattle.explanation.specs.Unknown.{first_of}
 use Rattle.explanation.specs.declared.culprit.Culprit.{Culprit}
-use Rattle.explanation.specs.declared.culprit.Culprit.TheVariants.{Texts, Numbers}
+use Rattle.explanation.specs.declared.culprit.Culprit.TheVariants.{Texts, Numbers, Key, NoTable}
 
 -- a text stands in a column of this kind, and no number
 abbrev pub is_text : Kind → Bool
@@ -39,6 +42,10 @@ unless_number columns name = if has_texts columns name.bytes then Some (Texts na
 abbrev pub unless_text : List Column → Name → Option Culprit
 unless_text columns name = if has_numbers columns name.bytes then Some (Numbers name.span) else None
 
+-- it is the name, where a key is taken and the column has numbers
+abbrev pub unless_key : List Column → Name → Option Culprit
+unless_key columns name = if has_numbers columns name.bytes then Some (Key name.span) else None
+
 -- it is the name, where the column is compared with this
 abbrev pub misfit_with : List Column → Name → Literal → Option Culprit
 misfit_with columns name (literal.Number number) = unless_number columns name
@@ -55,6 +62,14 @@ misfit_test columns (p.joined operator left right span) =
     first_of (misfit_test columns left) (misfit_test columns right)
 misfit_test columns (p.negated operand span) = misfit_test columns operand
 
+-- in a rate
+abbrev pub misfit_item : List Column → Rate → Option Culprit
+misfit_item columns (r.eps span) = None
+misfit_item columns (r.item predicate span) = misfit_test columns predicate
+misfit_item columns (r.joined join left right span) =
+    first_of (misfit_item columns left) (misfit_item columns right)
+misfit_item columns (r.star operand span) = misfit_item columns operand
+
 -- in an expression
 abbrev pub misfit_read : List Column → Expression → Option Culprit
 misfit_read columns (e.number number) = None
@@ -65,6 +80,6 @@ misfit_read columns (e.binary operator left right span) =
 misfit_read columns (e.choice operator left right at holds fails span) =
     first_of (first_of (misfit_read columns left) (misfit_read columns right))
     (first_of (misfit_read columns holds) (misfit_read columns fails))
-misfit_read columns (e.summary operator table span) = None
-misfit_read columns (e.extremum operator table first span) = misfit_read columns first
-misfit_read columns (e.get table key absent span) = misfit_read columns absent
+misfit_read columns (e.summary operator table span) = Some (NoTable table.span)
+misfit_read columns (e.extremum operator table first span) = Some (NoTable table.span)
+misfit_read columns (e.get table key absent span) = Some (NoTable table.span)

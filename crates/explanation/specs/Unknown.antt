@@ -1,11 +1,12 @@
--- Statement. The first name of a predicate or of an expression, in the order of the text, that is not known there.
-use Rattle.std.specs.Prelude.{List, Option, None, Some}
+-- Statement. The first name of a predicate, a rate or an expression, in the text's order, that is not known there.
+use Rattle.std.specs.Prelude.{Option, None, Some}
 use Rattle.query_syntax.specs.Expressions as e
 use Rattle.query_syntax.specs.Expressions.{Expression}
 use Rattle.query_syntax.specs.Predicates as p
 use Rattle.query_syntax.specs.Predicates.{Predicate}
-use Rattle.query_syntax.specs.declared.stream.Column.{Column}
-use Rattle.explanation.specs.Scopes.{Scope, of_item, unless_known}
+use Rattle.query_syntax.specs.Rates as r
+use Rattle.query_syntax.specs.Rates.{Rate}
+use Rattle.explanation.specs.Scopes.{Scope, unless_known}
 use Rattle.explanation.specs.declared.culprit.Culprit.{Culprit}
 
 -- the first, if there is one, or else the second
@@ -13,21 +14,28 @@ abbrev pub first_of : Option Culprit → Option Culprit → Option Culprit
 first_of (Some culprit) other = Some culprit
 first_of None other = other
 
--- in a predicate over these columns
-abbrev pub unknown_column : List Column → Predicate → Option Culprit
-unknown_column columns (p.any span) = None
-unknown_column columns (p.equality operator column literal span) =
-    unless_known (of_item columns) column
-unknown_column columns (p.order operator column bound span) = unless_known (of_item columns) column
-unknown_column columns (p.between column low high span) = unless_known (of_item columns) column
-unknown_column columns (p.is_num column span) = unless_known (of_item columns) column
-unknown_column columns (p.joined operator left right span) =
-    first_of (unknown_column columns left) (unknown_column columns right)
-unknown_column columns (p.negated operand span) = unknown_column columns operand
+-- in a predicate
+abbrev pub unknown_column : Scope → Predicate → Option Culprit
+unknown_column scope (p.any span) = None
+unknown_column scope (p.equality operator column literal span) = unless_known scope column
+unknown_column scope (p.order operator column bound span) = unless_known scope column
+unknown_column scope (p.between column low high span) = unless_known scope column
+unknown_column scope (p.is_num column span) = unless_known scope column
+unknown_column scope (p.joined operator left right span) =
+    first_of (unknown_column scope left) (unknown_column scope right)
+unknown_column scope (p.negated operand span) = unknown_column scope operand
+
+-- in a rate
+abbrev pub unknown_item : Scope → Rate → Option Culprit
+unknown_item scope (r.eps span) = None
+unknown_item scope (r.item predicate span) = unknown_column scope predicate
+unknown_item scope (r.joined join left right span) =
+    first_of (unknown_item scope left) (unknown_item scope right)
+unknown_item scope (r.star operand span) = unknown_item scope operand
 
 -- in an expression
 abbrev pub unknown_name : Scope → Expression → Option Culprit
-unknown_name scope (e.number number) = None
+unknown_name scope (e.number n) = None
 unknown_name scope (e.name name) = unless_known scope name
 unknown_name scope (e.unary operator operand span) = unknown_name scope operand
 unknown_name scope (e.binary operator left right span) =

@@ -35,14 +35,22 @@ pub(crate) enum Hint {
     WhichComparison,
     /// A word where another term is taken.
     LoneWord,
-    /// A form that is not built yet.
-    NotBuilt,
-    /// The names of an atom.
-    ColumnNames,
-    /// The name of one value.
-    OneValue,
-    /// The names of two values.
-    TwoValues,
-    /// A column that is declared twice.
-    Twice,
+    /// `any`, where another term is taken.
+    AnyItem,
+    /// A `let` that is none, or does not stand where it may.
+    LetForm,
+    /// The same of a `compose`.
+    ComposeForm,
+    /// The same of a `collect`.
+    CollectForm,
+    /// The same of a form of tables.
+    TableForm,
+    /// A table and a number, of which one is to be taken.
+    TwoKinds,
+    /// A table where a number is taken, or a number where a table is.
+    TableOrNumber,
+    /// The cells of values.
+    ValueCells,
+    /// The items of a written rate.
+    RateItem,
 }

@@ -38,23 +38,31 @@ pub(crate) fn hint_sentence(hint: Hint) -> &'static str
             "It takes two queries or predicates: of three, or(F, or(G, H)); an if has no and or or."
         }
         Hint::WhichComparison => {
-            "A predicate has gt(NAME, NUM), a column and a number; an if has gt(EXPR, EXPR)."
+            "A predicate has gt(NAME, NUM), an if gt(EXPR, EXPR); a rate has item(PRED)."
         }
         Hint::LoneWord => {
             "This word can not stand here; a predicate compares a column with a number or a string."
         }
-        Hint::NotBuilt => {
-            "let, compose, collect and the forms of tables are read, and not built yet."
+        Hint::AnyItem => "In a rate one item that meets P is item(P), as in star(item(any)).",
+        Hint::LetForm => "A let is let(NAME, QUERY), and stands between the stream and the main.",
+        Hint::ComposeForm => {
+            "compose(F, G) takes two queries: G reads the values of F, in one column called value."
         }
-        Hint::ColumnNames => {
-            "The names in an atom are columns: one is not declared as it is spelled here."
+        Hint::CollectForm => {
+            "collect(NAME, PRED, RATE, F) is a query: as in apply(T, tsum(x)) its table is read."
         }
-        Hint::OneValue => {
-            "Here only x is known, the value of the operand; columns are read in an atom."
+        Hint::TableForm => {
+            "Expressions have tsum(x), tcount(x), tmax(x, 0), tmin(x, 0) and tget(x, \"KEY\", 0)."
         }
-        Hint::TwoValues => {
-            "Here only x and y are known, the two values; columns are read in an atom."
+        Hint::TwoKinds => "One of the two queries gives a table, and the other one a number.",
+        Hint::TableOrNumber => {
+            "tsum, tcount, tmax, tmin and tget take a table, and all operators take numbers."
         }
-        Hint::Twice => "An earlier col has this name; each column has its own.",
+        Hint::ValueCells => {
+            "The tests on its right side tell too many values of its left side apart."
+        }
+        Hint::RateItem => {
+            "A predicate stands in each item(P) of its rate; some item is to meet it."
+        }
     }
 }

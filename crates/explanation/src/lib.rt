@@ -1,21 +1,24 @@
 //! Why a query is refused, as a person reads it: the place, the rule, how it is mended, what is often meant.
 #![tactic(auto)]
 
+mod aside;
 mod culprit;
 mod culprit_line;
 mod finding;
+mod form_hint;
 mod hint;
 mod hint_sentence;
 mod mending;
 mod misfit;
+mod node;
 mod parts;
 mod recognizers;
 mod rule_sentence;
 mod scope;
+mod spots;
 #[cfg(test)]
 mod tests;
 mod unknown;
+mod uses;
 
-pub use culprit::Culprit;
-pub use finding::culprit_of;
-pub use parts::explanation_text;
+pub use parts::{program_explanation, text_explanation};

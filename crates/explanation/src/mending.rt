@@ -23,9 +23,11 @@ pub(crate) fn mended_by(rule: Rule) -> &'static str
         Rule::Name => {
             "An atom's names are those in col; apply has x, and split, iter and combine x and y."
         }
-        Rule::Nested => "Take it out of there; several keys are joined in one column.",
+        Rule::Nested => {
+            "Join several keys in one column of the items; a compose may collect on its left side."
+        }
         Rule::Size => {
-            "Split tests off into fewer, coarser predicates, or repeat a part less often."
+            "Repeat a part less often, written out or by the name of a let, and nest fewer queries."
         }
         Rule::Literal => "Write a number that is: the greatest of all is 9223372036854775807.",
         Rule::Type_ => {
@@ -33,7 +35,7 @@ pub(crate) fn mended_by(rule: Rule) -> &'static str
         }
         Rule::Cells => "Split tests off into fewer, coarser predicates, or test fewer columns.",
         Rule::Empty => {
-            "Drop the atom, or correct it: its tests contradict each other, or no number is so large."
+            "Drop it, or correct it: its tests contradict each other, or no number is so large."
         }
         Rule::Choice => {
             "Let one operand have fewer words: leave out of its tests what the other one takes."
@@ -50,6 +52,8 @@ pub(crate) fn mended_by(rule: Rule) -> &'static str
         Rule::Rates => {
             "Give both operands the same predicates in the same places; expressions may differ."
         }
-        Rule::Compose => "Give the right side a value on them too, by an or.",
+        Rule::Compose => {
+            "Give its right side a value on all lists of values, by an or; alone it may have none."
+        }
     }
 }

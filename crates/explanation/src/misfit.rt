@@ -1,10 +1,10 @@
-//! The first column of an atom whose kind does not fit where its name stands.
+//! The first column of an atom or a collection whose kind does not fit where its name stands.
 ghost use Rattle.std.specs.Prelude.{◌≡◌};
-ghost use Rattle.query_syntax.specs.Plain.{plain_expression, plain_predicate};
-ghost use Rattle.explanation.specs.Misfits.{has_numbers, has_texts, is_text, misfit_read, misfit_test, misfit_with, unless_number, unless_text};
+ghost use Rattle.query_syntax.specs.Plain.{plain_expression, plain_predicate, plain_rate};
+ghost use Rattle.explanation.specs.Misfits.{has_numbers, has_texts, is_text, misfit_item, misfit_read, misfit_test, misfit_with, unless_key, unless_number, unless_text};
 
-use crate::Culprit;
-use query_syntax::{Column, Expression, Kind, Literal, Name, Predicate};
+use crate::culprit::Culprit;
+use query_syntax::{Column, Expression, Kind, Literal, Name, Predicate, Rate};
 
 /// The first column in a predicate that is tested as one of the other kind.
 pub(crate) fn misfit_test(columns: &[Column], predicate: &Predicate) -> Option<Culprit>
@@ -27,12 +27,26 @@ pub(crate) fn misfit_test(columns: &[Column], predicate: &Predicate) -> Option<C
     }
 }
 
-/// The first column in an expression that has no numbers.
+/// The same in a rate.
+pub(crate) fn misfit_item(columns: &[Column], rate: &Rate) -> Option<Culprit>
+    ensures { result ≡ misfit_item columns.now (plain_rate rate.now) }
+{
+    match rate {
+        Rate::Eps(_) => None,
+        Rate::Item { predicate, .. } => misfit_test(columns, predicate),
+        Rate::Joined { left, right, .. } => {
+            misfit_item(columns, left).or(misfit_item(columns, right))
+        }
+        Rate::Star { operand, .. } => misfit_item(columns, operand),
+    }
+}
+
+/// The first column in an expression that has not what is taken there.
 pub(crate) fn misfit_read(columns: &[Column], expression: &Expression) -> Option<Culprit>
     ensures { result ≡ misfit_read columns.now (plain_expression expression.now) }
 {
     match expression {
-        Expression::Number(_) | Expression::Summary { .. } => None,
+        Expression::Number(_) => None,
         Expression::Name(name) => unless_number(columns, name),
         Expression::Unary { operand, .. } => misfit_read(columns, operand),
         Expression::Binary { left, right, .. } => {
@@ -47,8 +61,9 @@ pub(crate) fn misfit_read(columns: &[Column], expression: &Expression) -> Option
             let compared = misfit_read(columns, &test.left).or(misfit_read(columns, &test.right));
             compared.or(misfit_read(columns, holds).or(misfit_read(columns, fails)))
         }
-        Expression::Extremum { first, .. } => misfit_read(columns, first),
-        Expression::Get { absent, .. } => misfit_read(columns, absent),
+        Expression::Summary { table, .. }
+        | Expression::Extremum { table, .. }
+        | Expression::Get { table, .. } => Some(Culprit::NoTable(table.span)),
     }
 }
 
@@ -71,6 +86,13 @@ fn unless_text(columns: &[Column], name: &Name) -> Option<Culprit>
     ensures { result ≡ unless_text columns.now name.now }
 {
     has_numbers(columns, name.bytes.as_slice()).then_some(Culprit::Numbers(name.span))
+}
+
+/// The name of a key column, where it has numbers.
+pub(crate) fn unless_key(columns: &[Column], name: &Name) -> Option<Culprit>
+    ensures { result ≡ unless_key columns.now name.now }
+{
+    has_numbers(columns, name.bytes.as_slice()).then_some(Culprit::Key(name.span))
 }
 
 fn has_texts(columns: &[Column], name: &[u8]) -> bool

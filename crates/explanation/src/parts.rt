@@ -1,9 +1,13 @@
 //! The text of an explanation.
 ghost use Rattle.std.specs.Prelude.{◌≡◌, ◌++◌, IfOk, OnOk};
-ghost use Rattle.explanation.specs.Explanations.{advice, column_unit, explanation, heading, hint_line, line, place_text};
+ghost use Rattle.query_syntax.specs.Plain.{plain_program};
+ghost use Rattle.explanation.specs.Asides.{place_aside, said_of_place};
+ghost use Rattle.explanation.specs.Explanations.{advice, aside_lines, column_unit, explanation, heading, hint_line, line, place_text, program_explanation, text_explanation};
 
-use crate::Culprit;
+use crate::aside::{Aside, aside_of};
+use crate::culprit::Culprit;
 use crate::culprit_line::push_culprit;
+use crate::finding::culprit_of;
 use crate::hint::Hint;
 use crate::hint_sentence::hint_sentence;
 use crate::mending::mended_by;
@@ -11,20 +15,57 @@ use crate::recognizers::hint_of;
 use crate::rule_sentence::broken_where;
 use language_base::{Bytes, Refusal, Rule, Span};
 use place_in_text::{Position, locate, push_marked_line};
+use query_syntax::Program;
 use report_writer::refusal_text;
 use std::alloc::{AllocError, Global};
 
-/// The explanation of a refusal: what is refused where, its line, the rule, how it is mended, a
-/// hint where there is one, and the name that it is about where it is one.
+/// The explanation of the refusal of a text that writes no program: what is refused where, its
+/// line, the rule, how it is mended, and a hint where there is one.
+pub fn text_explanation(
+    alloc: Global,
+    name: &str,
+    text: &[u8],
+    refusal: Refusal,
+) -> Result<Bytes, AllocError>
+    ensures { IfOk result (λ shown. shown ≡ text_explanation name.now text.now refusal) }
+{
+    explanation(alloc, name, text, refusal, None, None)
+}
+
+/// The same of a text that writes this program, with the name that it is about where it is about
+/// one, and a second place where there is one.
+pub fn program_explanation(
+    alloc: Global,
+    name: &str,
+    text: &[u8],
+    program: &Program,
+    refusal: Refusal,
+) -> Result<Bytes, AllocError>
+    ensures { IfOk result (λ shown.
+        shown ≡ program_explanation name.now text.now (plain_program program.now) refusal) }
+{
+    let aside = aside_of(alloc, program, refusal)?;
+    explanation(
+        alloc,
+        name,
+        text,
+        refusal,
+        culprit_of(program, refusal),
+        aside,
+    )
+}
+
 #[tactic(auto, unfolding(crate::specs::Explanations::explanation))]
-pub fn explanation_text(
+fn explanation(
     alloc: Global,
     name: &str,
     text: &[u8],
     refusal: Refusal,
     culprit: Option<Culprit>,
+    aside: Option<Aside>,
 ) -> Result<Bytes, AllocError>
-    ensures { IfOk result (λ shown. shown ≡ explanation name.now text.now refusal culprit) }
+    ensures { IfOk result (λ shown.
+        shown ≡ explanation name.now text.now refusal culprit aside) }
 {
     let Span { from, to } = refusal.span;
     let mut shown = heading(alloc, name, locate(text, from as usize), refusal)?;
@@ -32,6 +73,7 @@ pub fn explanation_text(
     push_advice(refusal.rule, &mut shown)?;
     push_hint(hint_of(text, refusal), &mut shown)?;
     push_culprit(text, culprit, &mut shown)?;
+    push_aside(alloc, name, text, aside, &mut shown)?;
     Ok(Bytes::from_vec(shown))
 }
 
@@ -89,5 +131,46 @@ fn push_hint(hint: Option<Hint>, shown: &mut Vec<u8>) -> Result<(), AllocError>
     match hint {
         Some(hint) => push_line(hint_sentence(hint), shown),
         None => Ok(()),
+    }
+}
+
+#[tactic(auto, unfolding(crate::specs::Explanations::aside_lines))]
+fn push_aside(
+    alloc: Global,
+    name: &str,
+    text: &[u8],
+    aside: Option<Aside>,
+    shown: &mut Vec<u8>,
+) -> Result<(), AllocError>
+    ensures { OnOk result (shown.new.items
+        ≡ shown.old.items ++ aside_lines name.now text.now aside) }
+{
+    let Some(aside) = aside else {
+        return Ok(());
+    };
+    let Span { from, to } = place_aside(aside);
+    let place = place_text(alloc, name, locate(text, from as usize))?;
+    shown.extend_from_slice(place.as_slice())?;
+    shown.extend_from_slice(column_unit().as_bytes())?;
+    shown.extend_from_slice(said_of_place(aside).as_bytes())?;
+    push_marked_line(alloc, text, from as usize, to as usize, shown)
+}
+
+#[tactic(auto, unfolding(crate::specs::Asides::said_of_place))]
+fn said_of_place(aside: Aside) -> &'static str
+    ensures { result.now ≡ said_of_place aside }
+{
+    match aside {
+        Aside::Use(_) => "the let is used here, inside of another query\n",
+        Aside::Test(_) => "the right side has no value once a value does not meet this\n",
+        Aside::Single(_) => "the right side has a value on one value alone\n",
+    }
+}
+
+fn place_aside(aside: Aside) -> Span
+    ensures { result ≡ place_aside aside }
+{
+    match aside {
+        Aside::Use(span) | Aside::Test(span) | Aside::Single(span) => span,
     }
 }

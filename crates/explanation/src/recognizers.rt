@@ -1,9 +1,10 @@
 //! Which hint fits the place of a refusal, by the bytes that stand there.
 ghost use Rattle.std.specs.Prelude.{◌≡◌, ◌≤◌, length, slice_get};
 ghost use Rattle.std.specs.List.{prefix_len};
-ghost use Rattle.query_tokens.specs.Raw.{is_word_byte, is_word_start};
-ghost use Rattle.explanation.specs.Hints.{beyond_hint, form_hint, head_of, hint_at, hint_of, is_comparison, is_connective, is_digit, is_lone_word, is_unbuilt, mark_hint, name_hint, piece_hint, term_at, token_hint};
+ghost use Rattle.query_tokens.specs.Raw.{is_word_byte};
+ghost use Rattle.explanation.specs.Hints.{beyond_hint, head_of, hint_at, hint_of, is_digit, mark_hint, piece_hint, term_at, token_hint};
 
+use crate::form_hint::{form_hint, type_hint};
 use crate::hint::Hint;
 use language_base::{Refusal, Rule, Span};
 use place_in_text::bytes_between;
@@ -26,8 +27,14 @@ fn hint_at(rule: Rule, text: &[u8], span: Span, byte: u8) -> Option<Hint>
     match rule {
         Rule::Token => token_hint(byte_at(text, (span.from as usize).saturating_sub(1)), byte),
         Rule::Term => piece_hint(byte),
-        Rule::Form => form_hint(byte, head_of(term_at(text, span))),
-        Rule::Name => Some(name_hint(head_of(term_at(text, span)))),
+        Rule::Form => form_hint(byte, term_at(text, span), head_of(term_at(text, span))),
+        Rule::Type_ => type_hint(head_of(term_at(text, span))),
+        Rule::Cells => {
+            (head_of(term_at(text, span)) == b"compose".as_slice()).then_some(Hint::ValueCells)
+        }
+        Rule::Empty => {
+            (head_of(term_at(text, span)) == b"collect".as_slice()).then_some(Hint::RateItem)
+        }
         _ => None,
     }
 }
@@ -123,77 +130,5 @@ fn piece_hint(byte: u8) -> Option<Hint>
         b')' | b',' => Some(Hint::MissingTerm),
         b'+' | b'-' => Some(Hint::Arithmetic),
         _ => Some(Hint::MissingComma),
-    }
-}
-
-// The term that begins with the byte has none of the forms of its place; no head: it is no call.
-fn form_hint(byte: u8, head: &[u8]) -> Option<Hint>
-    ensures { result ≡ form_hint byte head.now }
-{
-    if is_connective(head) {
-        Some(Hint::TwoOperands)
-    } else if is_comparison(head) {
-        Some(Hint::WhichComparison)
-    } else if is_unbuilt(head) {
-        Some(Hint::NotBuilt)
-    } else {
-        is_lone_word(byte, head).then_some(Hint::LoneWord)
-    }
-}
-
-fn is_lone_word(byte: u8, head: &[u8]) -> bool
-    ensures { result ≡ is_lone_word byte head.now }
-{
-    head.is_empty() && is_word_start(byte)
-}
-
-fn is_word_start(byte: u8) -> bool
-    ensures { result ≡ is_word_start byte }
-{
-    byte.is_ascii_alphabetic() || byte == b'_'
-}
-
-fn is_connective(head: &[u8]) -> bool
-    ensures { result ≡ is_connective head.now }
-{
-    head == b"and".as_slice() || head == b"or".as_slice()
-}
-
-fn is_comparison(head: &[u8]) -> bool
-    ensures { result ≡ is_comparison head.now }
-{
-    head == b"lt".as_slice()
-        || head == b"le".as_slice()
-        || head == b"gt".as_slice()
-        || head == b"ge".as_slice()
-        || head == b"eq".as_slice()
-        || head == b"ne".as_slice()
-}
-
-fn is_unbuilt(head: &[u8]) -> bool
-    ensures { result ≡ is_unbuilt head.now }
-{
-    head == b"let".as_slice()
-        || head == b"compose".as_slice()
-        || head == b"collect".as_slice()
-        || head == b"tsum".as_slice()
-        || head == b"tcount".as_slice()
-        || head == b"tmax".as_slice()
-        || head == b"tmin".as_slice()
-        || head == b"tget".as_slice()
-}
-
-// A name is not known in the call with this head; no head: a column is declared twice.
-fn name_hint(head: &[u8]) -> Hint
-    ensures { result ≡ name_hint head.now }
-{
-    if head == b"atom".as_slice() {
-        Hint::ColumnNames
-    } else if head == b"apply".as_slice() {
-        Hint::OneValue
-    } else if head.is_empty() {
-        Hint::Twice
-    } else {
-        Hint::TwoValues
     }
 }

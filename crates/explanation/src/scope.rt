@@ -1,15 +1,20 @@
 //! Which names are known where.
 ghost use Rattle.std.specs.Prelude.{◌≡◌};
-ghost use Rattle.explanation.specs.Scopes.{has_name, is_known, plain_scope, unless_known};
+ghost use Rattle.explanation.specs.Scopes.{has_name, is_known, plain_scope, unknown_in, unless_known};
 
-use crate::Culprit;
+use crate::culprit::Culprit;
+use language_base::Span;
 use query_syntax::{Column, Name};
 
-/// What the names of an expression stand for.
+/// What names stand for.
 #[derive(Clone, Copy)]
 pub(crate) enum Scope<'s> {
     /// The columns of an item.
     Item(&'s [Column]),
+    /// The one column of values, `value`.
+    Value,
+    /// Values of another kind than is taken.
+    Mistyped,
     /// One value, `x`.
     One,
     /// Two values, `x` and `y`.
@@ -22,7 +27,7 @@ pub(crate) fn unless_known(scope: Scope<'_>, name: &Name) -> Option<Culprit>
     if is_known(scope, name.bytes.as_slice()) {
         None
     } else {
-        Some(Culprit::Unknown(name.span))
+        Some(unknown_in(scope, name.span))
     }
 }
 
@@ -31,6 +36,8 @@ fn is_known(scope: Scope<'_>, name: &[u8]) -> bool
 {
     match scope {
         Scope::Item(columns) => has_name(columns, name),
+        Scope::Value => name == b"value".as_slice(),
+        Scope::Mistyped => false,
         Scope::One => name == b"x".as_slice(),
         Scope::Two => name == b"x".as_slice() || name == b"y".as_slice(),
     }
@@ -42,4 +49,16 @@ fn has_name(columns: &[Column], name: &[u8]) -> bool
     columns
         .iter()
         .any(|column| name == column.name.bytes.as_slice())
+}
+
+fn unknown_in(scope: Scope<'_>, span: Span) -> Culprit
+    ensures { result ≡ unknown_in (plain_scope scope.entry) span }
+{
+    match scope {
+        Scope::Item(_) => Culprit::NoColumn(span),
+        Scope::Value => Culprit::NoValue(span),
+        Scope::Mistyped => Culprit::OfValue(span),
+        Scope::One => Culprit::NotOne(span),
+        Scope::Two => Culprit::NotTwo(span),
+    }
 }

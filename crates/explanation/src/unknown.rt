@@ -1,27 +1,41 @@
 //! The first name that is not known where it stands.
 ghost use Rattle.std.specs.Prelude.{◌≡◌};
-ghost use Rattle.query_syntax.specs.Plain.{plain_expression, plain_predicate};
+ghost use Rattle.query_syntax.specs.Plain.{plain_expression, plain_predicate, plain_rate};
 ghost use Rattle.explanation.specs.Scopes.{plain_scope};
-ghost use Rattle.explanation.specs.Unknown.{unknown_column, unknown_name};
+ghost use Rattle.explanation.specs.Unknown.{unknown_column, unknown_item, unknown_name};
 
-use crate::Culprit;
+use crate::culprit::Culprit;
 use crate::scope::{Scope, unless_known};
-use query_syntax::{Column, Expression, Predicate};
+use query_syntax::{Expression, Predicate, Rate};
 
-/// The first name in a predicate that is none of the columns.
-pub(crate) fn unknown_column(columns: &[Column], predicate: &Predicate) -> Option<Culprit>
-    ensures { result ≡ unknown_column columns.now (plain_predicate predicate.now) }
+/// The first name in a predicate that is not known there.
+pub(crate) fn unknown_column(scope: Scope<'_>, predicate: &Predicate) -> Option<Culprit>
+    ensures { result ≡ unknown_column (plain_scope scope.entry) (plain_predicate predicate.now) }
 {
     match predicate {
         Predicate::Any(_) => None,
         Predicate::Equality { column, .. }
         | Predicate::Order { column, .. }
         | Predicate::Between { column, .. }
-        | Predicate::IsNum { column, .. } => unless_known(Scope::Item(columns), column),
+        | Predicate::IsNum { column, .. } => unless_known(scope, column),
         Predicate::Joined { left, right, .. } => {
-            unknown_column(columns, left).or(unknown_column(columns, right))
+            unknown_column(scope, left).or(unknown_column(scope, right))
         }
-        Predicate::Not { operand, .. } => unknown_column(columns, operand),
+        Predicate::Not { operand, .. } => unknown_column(scope, operand),
+    }
+}
+
+/// The first name in a rate that is not known there.
+pub(crate) fn unknown_item(scope: Scope<'_>, rate: &Rate) -> Option<Culprit>
+    ensures { result ≡ unknown_item (plain_scope scope.entry) (plain_rate rate.now) }
+{
+    match rate {
+        Rate::Eps(_) => None,
+        Rate::Item { predicate, .. } => unknown_column(scope, predicate),
+        Rate::Joined { left, right, .. } => {
+            unknown_item(scope, left).or(unknown_item(scope, right))
+        }
+        Rate::Star { operand, .. } => unknown_item(scope, operand),
     }
 }
 

@@ -1,0 +1,95 @@
+-- Statement. A second place that helps to understand a refusal: the use of a let by which its query stands inside of
+-- another, or what on the right side of a composition leaves lists of values without a value.
+use Rattle.std.specs.Prelude.{ℕ, List, codes, Option, None, Some, option_map, if◌then◌else◌}
+use Rattle.language_base.specs.declared.refusal.Refusal.{Refusal}
+use Rattle.language_base.specs.declared.rule.Rule.{Rule}
+use Rattle.language_base.specs.declared.rule.Rule.TheVariants as rule
+use Rattle.language_base.specs.declared.span.Span.{Span}
+use Rattle.query_syntax.specs.Predicates as p
+use Rattle.query_syntax.specs.Predicates.{Predicate}
+use Rattle.query_syntax.specs.Programs.{Program}
+use Rattle.query_syntax.specs.Queries as q
+use Rattle.query_syntax.specs.Queries.{Query}
+use Rattle.query_syntax.specs.Spans.{predicate_span}
+use Rattle.explanation.specs.Culprits.{culprit_on_items, culprit_on_values, query_at}
+use Rattle.explanation.specs.Spots.{is_at}
+use Rattle.explanation.specs.Uses.{first_use}
+use Rattle.explanation.specs.declared.aside.Aside.{Aside}
+use Rattle.explanation.specs.declared.aside.Aside.TheVariants.{Use, Test, Single}
+use Rattle.explanation.specs.declared.culprit.Culprit.{Culprit}
+use Rattle.explanation.specs.declared.uses.Inside.{Inside}
+use Rattle.explanation.specs.declared.uses.Inside.TheVariants.{Compositions, Collections}
+
+-- what is said of the place
+unfoldable pub said_of_place : Aside → List ℕ
+said_of_place (Use span) = codes "the let is used here, inside of another query\n"
+said_of_place (Test span) = codes "the right side has no value once a value does not meet this\n"
+said_of_place (Single span) = codes "the right side has a value on one value alone\n"
+
+-- the place
+abbrev pub place_aside : Aside → Span
+place_aside (Use span) = span
+place_aside (Test span) = span
+place_aside (Single span) = span
+
+-- a predicate that some value may not meet
+abbrev pub test_in : Predicate → Option Aside
+test_in (p.any span) = None
+test_in predicate = Some (Test (predicate_span predicate))
+
+-- what is iterated takes only values that meet this
+abbrev pub test_of : Query → Option Aside
+test_of (q.atom predicate value span) = test_in predicate
+test_of _ = None
+
+-- the right side of a composition has a value on few lists of values, since it has this
+abbrev pub lack_of : Query → Option Aside
+lack_of (q.atom predicate value span) = Some (Single span)
+lack_of (q.iter operand first step span) = test_of operand
+lack_of (q.apply operand value span) = lack_of operand
+lack_of _ = None
+
+-- the first, if there is one, or else the second
+abbrev pub aside_or : Option Aside → Option Aside → Option Aside
+aside_or (Some aside) other = Some aside
+aside_or None other = other
+
+-- what the composition at the place lacks
+abbrev pub lack_at : Span → Query → Option Aside
+lack_at place (q.name name) = None
+lack_at place (q.atom predicate value span) = None
+lack_at place (q.eps number span) = None
+lack_at place (q.or f g span) = aside_or (lack_at place f) (lack_at place g)
+lack_at place (q.split f g value span) = aside_or (lack_at place f) (lack_at place g)
+lack_at place (q.iter f first step span) = lack_at place f
+lack_at place (q.combine f g value span) = aside_or (lack_at place f) (lack_at place g)
+lack_at place (q.apply f value span) = lack_at place f
+lack_at place (q.compose f g span) =
+    if is_at span place then lack_of g else aside_or (lack_at place f) (lack_at place g)
+lack_at place (q.collect key sync rate f span) = lack_at place f
+
+-- Inside of what a let is used wrongly: of compositions, where it is refused on values and not on items.
+abbrev pub values_for : Option Culprit → Option Culprit → Option Inside
+values_for None (Some culprit) = Some Compositions
+values_for _ _ = None
+
+-- the use of a let inside of these
+abbrev pub use_inside : Option Inside → Program → Span → Option Aside
+use_inside (Some inside) program place = option_map Use (first_use inside place program)
+use_inside None program place = None
+
+-- the place that helps to understand a refusal by this rule
+abbrev pub aside_for : Rule → Program → Refusal → Option Aside
+aside_for rule.Name program refusal = use_inside
+    (values_for (culprit_on_items program refusal) (culprit_on_values program refusal))
+    program refusal.span
+aside_for rule.Type_ program refusal = use_inside
+    (values_for (culprit_on_items program refusal) (culprit_on_values program refusal))
+    program refusal.span
+aside_for rule.Nested program refusal = use_inside (Some Collections) program refusal.span
+aside_for rule.Compose program refusal = lack_at refusal.span (query_at program refusal.span)
+aside_for _ program refusal = None
+
+-- the place that helps to understand the refusal of this program, if there is one
+abbrev pub aside_of : Program → Refusal → Option Aside
+aside_of program refusal = aside_for refusal.rule program refusal

@@ -1,0 +1,11 @@
+-- Statement. How a place lies to a part of the text.
+use Rattle.std.specs.Prelude.{ℕ, Bool, ◌==◌, ◌&&◌, nat_le}
+use Rattle.language_base.specs.declared.span.Span.{Span}
+
+-- the part is the place
+abbrev pub is_at : Span → Span → Bool
+is_at part place = part.from == place.from && part.to == place.to
+
+-- the place lies in the part
+abbrev pub has_in : Span → Span → Bool
+has_in part place = nat_le part.from place.from && nat_le place.to part.to

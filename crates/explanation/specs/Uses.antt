@@ -1,0 +1,85 @@
+-- Statement. The first use, as the main query comes to it, by which the query of a let stands inside of another: on the
+-- right side of a composition, or there or in a collection.
+use Rattle.std.specs.Prelude.{ℕ, false, ◌||◌, is_some, List, [], ◌∷◌, Option, None, Some, if◌then◌else◌, unwrap_or}
+use Rattle.std.specs.Str.{bytes_eq}
+use Rattle.language_base.specs.declared.span.Span.{Span}
+use Rattle.query_syntax.specs.Programs.{Let, Program}
+use Rattle.query_syntax.specs.Queries as q
+use Rattle.query_syntax.specs.Queries.{Query}
+use Rattle.explanation.specs.Spots.{has_in}
+use Rattle.explanation.specs.declared.uses.Inside.{Inside}
+use Rattle.explanation.specs.declared.uses.Inside.TheVariants.{Compositions, Collections}
+use Rattle.explanation.specs.declared.uses.Lead.{Lead}
+
+-- a let by its name, and whether it leads to a place
+pub record Known : Type 0 where
+  pub name : List ℕ
+  pub lead : Lead
+
+-- what is known of a name: the first decides
+abbrev pub lead_named : List Known → List ℕ → Option Lead
+lead_named [] name = None
+lead_named (first ∷ known) name =
+    if bytes_eq name first.name then Some first.lead else lead_named known name
+
+-- a name of no let leads nowhere
+abbrev pub no_lead : Lead
+no_lead = record { leads = false; used = None }
+
+-- whether a name leads to the place
+abbrev pub lead_of : List Known → List ℕ → Lead
+lead_of known name = unwrap_or (lead_named known name) no_lead
+
+-- the first place, if there is one, or else the second
+abbrev pub earlier_of : Option Span → Option Span → Option Span
+earlier_of (Some span) other = Some span
+earlier_of None other = other
+
+-- the first name in a query that leads to the place
+abbrev pub first_lead : List Known → Query → Option Span
+first_lead known (q.name name) = if (lead_of known name.bytes).leads then Some name.span else None
+first_lead known (q.atom predicate value span) = None
+first_lead known (q.eps number span) = None
+first_lead known (q.or f g span) = earlier_of (first_lead known f) (first_lead known g)
+first_lead known (q.split f g value span) = earlier_of (first_lead known f) (first_lead known g)
+first_lead known (q.iter f first step span) = first_lead known f
+first_lead known (q.combine f g value span) = earlier_of (first_lead known f) (first_lead known g)
+first_lead known (q.apply f value span) = first_lead known f
+first_lead known (q.compose f g span) = earlier_of (first_lead known f) (first_lead known g)
+first_lead known (q.collect key sync rate f span) = first_lead known f
+
+-- the same of those names alone that stand inside
+abbrev pub first_inside : Inside → List Known → Query → Option Span
+first_inside inside known (q.name name) = (lead_of known name.bytes).used
+first_inside inside known (q.atom predicate value span) = None
+first_inside inside known (q.eps number span) = None
+first_inside inside known (q.or f g span) =
+    earlier_of (first_inside inside known f) (first_inside inside known g)
+first_inside inside known (q.split f g value span) =
+    earlier_of (first_inside inside known f) (first_inside inside known g)
+first_inside inside known (q.iter f first step span) = first_inside inside known f
+first_inside inside known (q.combine f g value span) =
+    earlier_of (first_inside inside known f) (first_inside inside known g)
+first_inside inside known (q.apply f value span) = first_inside inside known f
+first_inside inside known (q.compose f g span) =
+    earlier_of (first_inside inside known f) (first_lead known g)
+first_inside Compositions known (q.collect key sync rate f span) = first_inside Compositions known f
+first_inside Collections known (q.collect key sync rate f span) = first_lead known f
+
+-- a let leads to the places in it, and where its query leads
+abbrev pub lead_to : Inside → Span → List Known → Let → Lead
+lead_to inside place known one = record {
+  leads = has_in one.span place || is_some (first_lead known one.query);
+  used = first_inside inside known one.query;
+}
+
+-- what is known behind lets, the latest first, where this is known before
+abbrev pub known_behind : Inside → Span → List Known → List Let → List Known
+known_behind inside place known [] = known
+known_behind inside place known (one ∷ lets) = known_behind inside place
+    ((record { name = one.name.bytes; lead = lead_to inside place known one }) ∷ known) lets
+
+-- the first use of a let with the place in it
+abbrev pub first_use : Inside → Span → Program → Option Span
+first_use inside place program =
+    first_inside inside (known_behind inside place [] program.lets) program.main.query

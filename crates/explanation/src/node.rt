@@ -1,0 +1,93 @@
+//! The name in a node for which it breaks the rule `name` or the rule `type`.
+ghost use Rattle.std.specs.Prelude.{◌≡◌};
+ghost use Rattle.query_syntax.specs.Plain.{plain_expression, plain_predicate, plain_rate};
+ghost use Rattle.explanation.specs.Culprits.{in_atom, in_fold, in_keys, in_name, kinds_in_atom, kinds_in_keys};
+ghost use Rattle.explanation.specs.Scopes.{plain_scope};
+
+use crate::culprit::Culprit;
+use crate::misfit::{misfit_item, misfit_read, misfit_test, unless_key};
+use crate::scope::{Scope, unless_known};
+use crate::unknown::{unknown_column, unknown_item, unknown_name};
+use language_base::{Rule, Span};
+use query_syntax::{Expression, Name, Predicate, Rate};
+
+/// In the name of a query.
+pub(crate) fn in_name(rule: Rule, span: Span) -> Option<Culprit>
+    ensures { result ≡ in_name rule span }
+{
+    match rule {
+        Rule::Name => Some(Culprit::NoLet(span)),
+        _ => None,
+    }
+}
+
+/// In an atom.
+pub(crate) fn in_atom(
+    rule: Rule,
+    scope: Scope<'_>,
+    predicate: &Predicate,
+    value: &Expression,
+) -> Option<Culprit>
+    ensures { result ≡ in_atom rule (plain_scope scope.entry)
+        (plain_predicate predicate.now) (plain_expression value.now) }
+{
+    match rule {
+        Rule::Name => unknown_column(scope, predicate).or(unknown_name(scope, value)),
+        Rule::Type_ => kinds_in_atom(scope, predicate, value),
+        _ => None,
+    }
+}
+
+fn kinds_in_atom(scope: Scope<'_>, predicate: &Predicate, value: &Expression) -> Option<Culprit>
+    ensures { result ≡ kinds_in_atom (plain_scope scope.entry)
+        (plain_predicate predicate.now) (plain_expression value.now) }
+{
+    match scope {
+        Scope::Item(columns) => misfit_test(columns, predicate).or(misfit_read(columns, value)),
+        _ => unknown_column(Scope::Mistyped, predicate).or(unknown_name(Scope::Mistyped, value)),
+    }
+}
+
+/// In an expression over values of operands.
+pub(crate) fn in_fold(rule: Rule, scope: Scope<'_>, value: &Expression) -> Option<Culprit>
+    ensures { result ≡ in_fold rule (plain_scope scope.entry) (plain_expression value.now) }
+{
+    match rule {
+        Rule::Name => unknown_name(scope, value),
+        _ => None,
+    }
+}
+
+/// In the key, the items for every key and the rate of a collection.
+pub(crate) fn in_keys(
+    rule: Rule,
+    scope: Scope<'_>,
+    key: &Name,
+    sync: &Predicate,
+    rate: &Rate,
+) -> Option<Culprit>
+    ensures { result ≡ in_keys rule (plain_scope scope.entry) key.now
+        (plain_predicate sync.now) (plain_rate rate.now) }
+{
+    match rule {
+        Rule::Name => {
+            let tests = unknown_column(scope, sync).or(unknown_item(scope, rate));
+            unless_known(scope, key).or(tests)
+        }
+        Rule::Type_ => kinds_in_keys(scope, key, sync, rate),
+        _ => None,
+    }
+}
+
+fn kinds_in_keys(scope: Scope<'_>, key: &Name, sync: &Predicate, rate: &Rate) -> Option<Culprit>
+    ensures { result ≡ kinds_in_keys (plain_scope scope.entry) key.now
+        (plain_predicate sync.now) (plain_rate rate.now) }
+{
+    match scope {
+        Scope::Item(columns) => {
+            let tests = misfit_test(columns, sync).or(misfit_item(columns, rate));
+            unless_key(columns, key).or(tests)
+        }
+        _ => None,
+    }
+}
