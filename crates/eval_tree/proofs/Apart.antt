@@ -5,7 +5,7 @@ use Rattle.value_ops.specs.Expressions.{Expression}
 use Rattle.item_schema.specs.declared.column.Column.{Column}
 use Rattle.rate_expr.specs.Language.{In}
 use Rattle.rate_expr.specs.Words.{Word, IsWordOf}
-use Rattle.query_model.specs.Queries.{Qre, choice, split}
+use Rattle.query_model.specs.Queries.{Qre, choice, split, combine}
 use Rattle.query_model.specs.Rates.{rate_of}
 use Rattle.query_model.specs.Rules.{bound, IsClear}
 use Rattle.eval_tree.specs.Starts.{AreApart, IsPiece}
@@ -26,6 +26,15 @@ pub apart_second : (columns : List Column) (f g : Qre) (word : Word) (starts : L
     → AreApart columns (choice f g) word starts → AreApart columns g word starts
 apart_second columns f g word starts apart = λ i j more is first second a b.
     apart i j more is first second (inr a) (inr b)
+
+-- the operands of a combine have the same words
+pub apart_same : (columns : List Column) (f g : Qre) (e : Expression) (word : Word) (starts : List ℕ)
+    → IsClear bound columns (combine f g e) → IsWordOf columns word
+    → AreApart columns (combine f g e) word starts → AreApart columns g word starts
+apart_same columns f g e word starts clear is apart = λ i j more more_is first second a b.
+    apart i j more more_is first second
+    ((clear.3 (drop i word ++ more) (word_join columns (drop i word) more (word_behind columns word i is) more_is)).1 a)
+    ((clear.3 (drop j word ++ more) (word_join columns (drop j word) more (word_behind columns word j is) more_is)).1 b)
 
 -- a word of the right rate carries a clash of left pieces on
 pub apart_left : (columns : List Column) (f g : Qre) (e : Expression) (word : Word) (starts : List ℕ)

@@ -1,13 +1,19 @@
 -- The same calls of the same nodes.
-use Rattle.std.proofs.Common.{◌≡◌, ◌∙◌, ℕ, Bool, List, Option, Result, Ok, Err, ap, sym, subst}
-use Rattle.std.specs.Prelude.{IfOk}
+use Rattle.std.proofs.Common.{◌≡◌, ◌∙◌, ℕ, Bool, List, Option, Result, Ok, Err, ap, sym, subst, arith, of_z, to_z, to_z-of_z, w64}
+use Rattle.std.specs.Prelude.{ℤ, FitsSigned, IfOk}
 use Rattle.value_ops.specs.declared.field.Field.{Field}
+use Rattle.value_ops.specs.declared.scalar.Scalar.TheVariants.{Number}
+use Rattle.value_ops.specs.declared.value.Value.{Value}
+use Rattle.value_ops.specs.declared.value.Value.TheVariants as value
+use Rattle.value_ops.specs.Expressions.{Expression}
 use Rattle.query_model.specs.declared.query.Query.{Query}
 use Rattle.query_model.specs.Queries.{Qre, plain_of}
+use Rattle.split_eval.specs.Entries.{Contents}
 use Rattle.eval_tree.specs.declared.hit.Hit.{Hit}
 use Rattle.eval_tree.specs.declared.node.Node.{Node}
 use Rattle.eval_tree.specs.declared.progress.Progress.{Progress}
 use Rattle.eval_tree.specs.Holdings.{Holding}
+use Rattle.eval_tree.specs.Lefts.{IsEnded}
 use Rattle.eval_tree.specs.Live.{live_of}
 use Rattle.eval_tree.specs.Plain.{holding_of, seen_of}
 use Rattle.eval_tree.specs.Steps.{CanStart, CanStep, Starts, StartsSoundly, Steps, StepsSoundly}
@@ -73,3 +79,17 @@ pub can_step_as : (q q' : Qre) (h h' : Holding Progress) (now : ℕ) (item : Lis
 can_step_as q q' h h' now item query before is =
     subst (λ (x : Qre). CanStep seen_of x h' now item) (sym query)
     (subst (λ (x : Holding Progress). CanStep seen_of q x now item) (sym before) is)
+
+pub ended_as : (e : Expression) (held so_far : Contents Value) (right hit hit' : Option Hit) → held ≡ so_far
+    → hit ≡ hit' → IsEnded e held.entries right hit → IsEnded e so_far.entries right hit'
+ended_as e held so_far right hit hit' same hits is =
+    subst (IsEnded e so_far.entries right) hits
+    (subst (λ (x : Contents Value). IsEnded e x.entries right hit) same is)
+
+-- a number that was passed on
+pub number_hit : (hit : Hit) (at : ℕ) (number : ℤ) → FitsSigned w64 number
+    → hit ≡ record { start = at; value = value.Scalar (Number (to_z w64 (of_z w64 number))) }
+    → hit ≡ record { start = at; value = value.Scalar (Number number) }
+number_hit hit at number fits is =
+    let same : to_z w64 (of_z w64 number) ≡ number = grind (arith, to_z-of_z) in
+    is ∙ ap (λ (n : ℤ). record { start = at; value = value.Scalar (Number n) }) same

@@ -1,23 +1,21 @@
 -- Live starts are at most as many as there are places for them.
-use Rattle.std.proofs.Common.{◌≡◌, ◌≤◌, ℕ, ◌+◌, ◌∙◌, List, [], ◌∷◌, ◌++◌, drop, length, refl, sym, ap, subst, arith, append-nil, ◌⊎◌, inl, inr}
+use Rattle.std.proofs.Common.{◌≡◌, ◌≤◌, ℕ, ◌+◌, ◌∙◌, List, [], ◌∷◌, ◌++◌, drop, length, refl, sym, subst, arith, ◌⊎◌, inl, inr}
 use Rattle.std.specs.Prelude.{ℤ}
 use Rattle.std.specs.List.{Contains}
 use Rattle.value_ops.specs.Expressions.{Expression}
 use Rattle.predicate_cells.specs.Predicates.{Predicate}
 use Rattle.item_schema.specs.declared.column.Column.{Column}
-use Rattle.rate_expr.specs.Language.{In}
-use Rattle.rate_expr.specs.Readings.{HasExtension}
 use Rattle.rate_expr.specs.Words.{Word, IsWordOf}
-use Rattle.rate_expr.proofs.Wording.{comparable, word_parts}
 use Rattle.query_model.specs.Bounds.{places_of}
 use Rattle.query_model.specs.Queries.{Qre, atom, eps, choice, split, iter, combine, apply, compose, collect}
-use Rattle.query_model.specs.Rates.{rate_of}
 use Rattle.query_model.specs.Rules.{Standing, bound, IsClear}
 use Rattle.eval_tree.specs.Shapes.{CanRun}
-use Rattle.eval_tree.specs.Starts.{AreApart, AreDifferent, ArePositions, IsLive, IsPiece}
+use Rattle.eval_tree.specs.Starts.{AreApart, AreDifferent, ArePositions, IsLive}
 use Rattle.eval_tree.proofs.Apart.{apart_first, apart_second, apart_left, apart_right}
+use Rattle.eval_tree.proofs.Chains.{chain_apart, chain_clear}
+use Rattle.eval_tree.proofs.GoingOn.{GoesOnAt, GoesOnRight, live_iter, live_split}
 use Rattle.eval_tree.proofs.Members.{first_member, later_member, member_cases, no_member}
-use Rattle.eval_tree.proofs.Pieces.{at_end, none_before, piece_goes_on, some_item, split_piece}
+use Rattle.eval_tree.proofs.Pieces.{at_end, none_before, piece_goes_on, some_item}
 
 -- of different numbers that are each of one kind or another
 pub record AreParted (P Q : ℕ → Type 0) (all : List ℕ) : Type 0 where
@@ -111,54 +109,6 @@ few_eps columns number word starts [] each = omega arith
 few_eps columns number word starts (x ∷ live) each =
     absurd (no_live columns number word starts x (each x (first_member x live)))
 
--- a right piece goes on from a position behind a left piece of the start
-abbrev pub GoesOnAt : List Column → Qre → Qre → Word → List ℕ → ℕ → ℕ → Type 0
-GoesOnAt columns f g word starts start at = (piece : Word) × Contains starts start × IsPiece word start piece at
-    × In (rate_of f) piece × HasExtension columns (rate_of g) (drop at word)
-
-abbrev pub GoesOnRight : List Column → Qre → Qre → Word → List ℕ → ℕ → Type 0
-GoesOnRight columns f g word starts start = (at : ℕ) × GoesOnAt columns f g word starts start at
-
--- a split goes on in its left piece or in its right one
-pub live_split : (columns : List Column) (f g : Qre) (e : Expression) (word : Word) (starts : List ℕ) (start : ℕ)
-    → IsWordOf columns word → ArePositions word starts → IsLive columns (split f g e) word starts start
-    → IsLive columns f word starts start ⊎ GoesOnRight columns f g word starts start
-live_split columns f g e word starts start is positions (there, (item, more, more_is, (u, v, whole, in_f, in_g))) =
-    elim (comparable (drop start word) (item ∷ more) u v whole) [
-      | inl (t, longer, rest) ↦ left t longer rest
-      | inr (t, longer, rest) ↦
-          let cut = split_piece word start u t (positions start there) longer in
-          inr (
-            start + length u,
-            (
-              u,
-              there,
-              cut.0,
-              in_f,
-              (item, more, more_is, subst (In (rate_of g)) (rest ∙ ap (λ w. w ++ item ∷ more) (sym cut.1)) in_g),
-            ),
-          )
-    ]
-  where
-    left : (t : Word) → u ≡ drop start word ++ t → item ∷ more ≡ t ++ v
-        → IsLive columns f word starts start ⊎ GoesOnRight columns f g word starts start
-    left [] longer rest =
-        let same : u ≡ drop start word = longer ∙ append-nil (drop start word) in
-        let cut = split_piece word start u [] (positions start there) (sym same ∙ sym (append-nil u)) in
-        inr (
-          start + length u,
-          (
-            u,
-            there,
-            cut.0,
-            in_f,
-            (item, more, more_is, subst (In (rate_of g)) (sym rest ∙ ap (λ w. w ++ item ∷ more) (sym cut.1)) in_g),
-          ),
-        )
-    left (x ∷ t) longer rest =
-        let parts = word_parts columns (x ∷ t) v (subst (IsWordOf columns) rest more_is) in
-        inl (there, (x, t, parts.0, subst (In (rate_of f)) longer in_f))
-
 -- positions at which the starts go on on the right, one for each
 pub record AreThrough (columns : List Column) (f g : Qre) (word : Word) (starts all : List ℕ) : Type 0 where
   pub ends : List ℕ
@@ -238,8 +188,24 @@ few_live standing columns (split f g e) word starts live run clear is positions 
     right.different
     (λ at there. let (start, among, (piece, from, is_piece, in_f, more)) = right.each at there in (there, more)) in
     omega (arith, count, same, first, second)
-few_live standing columns (iter f number e) word starts live run clear is positions apart different each = absurd run
-few_live standing columns (combine f g e) word starts live run clear is positions apart different each = absurd run
+few_live standing columns (iter f number e) word starts live run clear is positions apart different each =
+    let q = iter f number e in
+    let two = chain_clear columns f number e clear in
+    let apart_two = chain_apart columns f number e word starts apart in
+    let next = through columns q f e word starts live two is apart_two different
+    (λ i there. live_iter columns f number e word starts i positions (each i there)) in
+    let same = next.count in
+    let few = few_live bound columns f word next.ends next.ends run clear.0 is
+    (λ at there. let (start, among, (piece, from, is_piece, in_q, more)) = next.each at there in is_piece.inside)
+    (apart_right columns q f e word starts next.ends two is apart_two
+    (λ at there. let (start, among, (piece, from, is_piece, in_q, more)) = next.each at there in
+    (start, piece, from, is_piece, in_q)))
+    next.different
+    (λ at there. let (start, among, (piece, from, is_piece, in_q, more)) = next.each at there in (there, more)) in
+    omega (arith, same, few)
+few_live standing columns (combine f g e) word starts live run clear is positions apart different each =
+    let first = few_live bound columns f word starts live run.0 clear.0 is positions apart different each in
+    omega (arith, first)
 few_live standing columns (apply f e) word starts live run clear is positions apart different each =
     few_live bound columns f word starts live run clear.0 is positions apart different each
 few_live standing columns (compose f g) word starts live run clear is positions apart different each = absurd run

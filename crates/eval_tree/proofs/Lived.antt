@@ -1,15 +1,12 @@
 -- What a node in memory says of its starts.
 use Rattle.std.proofs.Common.{◌≡◌, ◌↔◌, ℕ, Bool, false, IsTrue, refl, sym, subst}
-use Rattle.std.specs.Prelude.{ℤ}
-use Rattle.value_ops.specs.Expressions.{Expression}
-use Rattle.value_ops.specs.Expressions as values
 use Rattle.predicate_cells.specs.Plain as predicates
 use Rattle.predicate_cells.specs.Predicates.{Predicate}
 use Rattle.rate_expr.specs.Plain as rated
 use Rattle.rate_expr.specs.Rates as rates
 use Rattle.query_model.specs.declared.query.Shape.{Shape}
 use Rattle.query_model.specs.declared.query.Shape.TheVariants.{Atom, Eps, Or', Split', Iter', Combine', Apply', Compose', Collect'}
-use Rattle.query_model.specs.Queries.{Qre, iter, combine, compose, collect, plain_of}
+use Rattle.query_model.specs.Queries.{Qre, compose, collect, plain_of}
 use Rattle.eval_tree.specs.declared.node.State.{State}
 use Rattle.eval_tree.specs.declared.node.State.TheVariants.{Item}
 use Rattle.eval_tree.specs.Live.{live_of}
@@ -27,16 +24,6 @@ lives_read q state start live read = λ standing columns word starts clear is po
     clear is positions rep)
 
 -- of shapes for which there is no node, none is live
-pub iter_none : (f : Qre) (number : ℤ) (e : Expression) (state : State) (start : ℕ)
-    → live_of (iter f number e) (holding_of state) start ≡ false
-iter_none f number e (Item found) start = refl
-iter_none f number e state start = refl
-
-pub combine_none : (f g : Qre) (e : Expression) (state : State) (start : ℕ)
-    → live_of (combine f g e) (holding_of state) start ≡ false
-combine_none f g e (Item found) start = refl
-combine_none f g e state start = refl
-
 pub compose_none : (f g : Qre) (state : State) (start : ℕ) → live_of (compose f g) (holding_of state) start ≡ false
 compose_none f g (Item found) start = refl
 compose_none f g state start = refl
@@ -52,8 +39,8 @@ IsOther (Atom pred value) = ⊥
 IsOther (Eps number) = Unit {0}
 IsOther (Or' p f a q g b) = ⊥
 IsOther (Split' p f a q g b value) = ⊥
-IsOther (Iter' p f a number value) = Unit {0}
-IsOther (Combine' p f a q g b value) = Unit {0}
+IsOther (Iter' p f a number value) = ⊥
+IsOther (Combine' p f a q g b value) = ⊥
 IsOther (Apply' p f a value) = ⊥
 IsOther (Compose' p f a q g b) = Unit {0}
 IsOther (Collect' key sync rate p f a) = Unit {0}
@@ -65,10 +52,8 @@ other_none (Eps number) (Item found) start other = refl
 other_none (Eps number) state start other = refl
 other_none (Or' p f a q g b) state start other = absurd other
 other_none (Split' p f a q g b value) state start other = absurd other
-other_none (Iter' p f a number value) state start other = iter_none (plain_of f) number
-    (values.plain_of value) state start
-other_none (Combine' p f a q g b value) state start other =
-    combine_none (plain_of f) (plain_of g) (values.plain_of value) state start
+other_none (Iter' p f a number value) state start other = absurd other
+other_none (Combine' p f a q g b value) state start other = absurd other
 other_none (Apply' p f a value) state start other = absurd other
 other_none (Compose' p f a q g b) state start other = compose_none (plain_of f) (plain_of g) state start
 other_none (Collect' key sync rate p f a) state start other =

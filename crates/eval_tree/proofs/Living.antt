@@ -6,20 +6,25 @@ use Rattle.value_ops.specs.declared.value.Value.{Value}
 use Rattle.value_ops.specs.Expressions.{Expression}
 use Rattle.predicate_cells.specs.Predicates.{Predicate}
 use Rattle.item_schema.specs.declared.column.Column.{Column}
+use Rattle.rate_expr.specs.Language.{In}
+use Rattle.rate_expr.specs.Rates as rate
 use Rattle.rate_expr.specs.Words.{Word, IsWordOf}
 use Rattle.query_model.specs.Queries.{Qre, atom, eps, choice, split, iter, combine, apply, compose, collect}
+use Rattle.query_model.specs.Rates.{rate_of}
 use Rattle.query_model.specs.Rules.{Standing, bound, IsClear}
 use Rattle.query_model.proofs.Defined.{in_den}
 use Rattle.query_model.proofs.InRates.{den_in}
 use Rattle.split_eval.specs.Entries.{entry_at, AreDistinct}
 use Rattle.split_eval.specs.declared.entry.Entry.{Entry}
 use Rattle.split_eval.proofs.Found.{found_behind, found_first}
-use Rattle.eval_tree.specs.Holdings.{Holding, waiting, nothing, both, operand, pending, Seen}
+use Rattle.eval_tree.specs.Holdings.{Holding, waiting, nothing, both, paired, operand, pending, chained, Seen}
 use Rattle.eval_tree.specs.Live.{is_outer, is_waiting, live_of}
 use Rattle.eval_tree.specs.Represents.{Represents}
 use Rattle.eval_tree.specs.Shapes.{CanRun}
 use Rattle.eval_tree.specs.Starts.{ArePositions, IsLive}
-use Rattle.eval_tree.proofs.Few.{live_atom, live_split, no_live}
+use Rattle.eval_tree.proofs.Chains.{star_push}
+use Rattle.eval_tree.proofs.Few.{live_atom, no_live}
+use Rattle.eval_tree.proofs.GoingOn.{live_iter, live_split}
 use Rattle.eval_tree.proofs.Pieces.{behind_end, piece_goes_on, word_join, word_piece}
 use Rattle.eval_tree.proofs.SomeWords.{some_word}
 use Rattle.eval_tree.proofs.Waits.{is_entry}
@@ -172,10 +177,36 @@ module _ {R : Type 0} (seen : R → Seen R) where
               ((rep.2.each at start den.0).1 (from, (piece, cut, den.1), more)))
         ],
       )
+  living standing columns (iter f number e) (chained a so_far) word starts start run clear is positions rep = (
+    λ live.
+        let (entry, found, outer) = outer_found so_far.entries start rep.1.distinct live in
+        let (from, (piece, cut, den), (item, more, more_is, in_f)) =
+        (rep.1.each entry.inner entry.outer entry.value).0 (is_entry so_far.entries entry.inner entry found) in
+        let in_pieces = den_in bound columns (iter f number e) piece entry.value clear
+        (word_piece columns word entry.outer entry.inner piece is cut) den in
+        let whole = piece_goes_on word entry.outer entry.inner piece (item ∷ more) cut in
+        subst (IsLive columns (iter f number e) word starts) outer (
+          from,
+          (
+            item,
+            more,
+            more_is,
+            subst (In (rate.star (rate_of f))) (sym whole)
+                (star_push (rate_of f) piece (drop entry.inner word ++ item ∷ more) in_pieces in_f),
+          ),
+        ),
+    λ live.
+        let (at, (piece, from, cut, in_pieces, more)) =
+        live_iter columns f number e word starts start positions live in
+        let den = in_den columns (iter f number e) piece clear (word_piece columns word start at piece is cut)
+        in_pieces in
+        outer_is so_far.entries at (record { inner = at; outer = start; value = den.0 })
+        ((rep.1.each at start den.0).1 (from, (piece, cut, den.1), more)),
+  )
+  living standing columns (combine f g e) (paired a b) word starts start run clear is positions rep =
+      living bound columns f a word starts start run.0 clear.0 is positions rep.0
   living standing columns (apply f e) (operand a) word starts start run clear is positions rep =
       living bound columns f a word starts start run clear.0 is positions rep
-  living standing columns (iter f number e) holding word starts start run clear is positions rep = absurd run
-  living standing columns (combine f g e) holding word starts start run clear is positions rep = absurd run
   living standing columns (compose f g) holding word starts start run clear is positions rep = absurd run
   living standing columns (collect column sync rate f) holding word starts start run clear is positions rep = absurd run
   living standing columns q holding word starts start run clear is positions rep = absurd rep

@@ -1,9 +1,12 @@
 -- New nodes.
 use Rattle.std.proofs.Common.{◌≡◌, ◌≤◌, ℕ, ◌+◌, ◌-◌, ◌*◌, ◌^◌, min, List, [], sym, subst, arith}
+use Rattle.std.specs.Prelude.{ℤ}
 use Rattle.std.proofs.lemmas.Option.{none-some}
 use Rattle.value_ops.specs.declared.value.Value.{Value}
+use Rattle.value_ops.specs.Expressions.{Expression}
 use Rattle.item_schema.specs.declared.column.Column.{Column}
 use Rattle.rate_expr.specs.Language.{In}
+use Rattle.rate_expr.specs.Rates as rate
 use Rattle.rate_expr.specs.Readings.{HasExtension}
 use Rattle.rate_expr.specs.Words.{Word}
 use Rattle.query_model.specs.Bounds.{inner_of, nodes_of, places_of}
@@ -48,6 +51,13 @@ room_fits f g room small is =
     let slots : inner_of f + inner_of g + 3 * places_of g + 2 ≤ 2 ^ 20 = small in
     omega (arith, few, slots, is)
 
+-- the room for values so far is too
+pub room_suits : (f : Qre) (room : ℕ) → inner_of f + 3 * places_of f + 2 ≤ max_slots
+    → room ≡ min (places_of f) (2 ^ 32 - 1) → room ≡ places_of f
+room_suits f room small is =
+    let slots : inner_of f + 3 * places_of f + 2 ≤ 2 ^ 20 = small in
+    omega (arith, slots, is)
+
 -- nothing is reached and nothing waits without a start
 pub none_reached : (A : Word → Type 0) → AreReached A [] [] []
 none_reached A = λ end. (
@@ -79,6 +89,20 @@ module _ {R : Type 0} (seen : R → Seen R) where
     first,
     ([], none_reached (In (rate_of f)), second),
     none_waits (Den f) (HasExtension columns (rate_of g)),
+    places,
+  )
+
+  -- an iteration whose operand is new, and which has its room
+  abbrev pub IsNewChain : List Column → Qre → ℤ → Expression → Holding R → ℕ → Type 0
+  IsNewChain columns f number e a room =
+      ((ends : List ℕ) × AreReached (In (rate.star (rate_of f))) [] [] ends × Represents seen columns f a [] ends)
+      × AreWaiting (Den (iter f number e)) (HasExtension columns (rate_of f)) [] [] [] × (room ≡ places_of f)
+
+  pub new_chain : (columns : List Column) (f : Qre) (number : ℤ) (e : Expression) (a : Holding R) (room : ℕ)
+      → Represents seen columns f a [] [] → room ≡ places_of f → IsNewChain columns f number e a room
+  new_chain columns f number e a room first places = (
+    ([], none_reached (In (rate.star (rate_of f))), first),
+    none_waits (Den (iter f number e)) (HasExtension columns (rate_of f)),
     places,
   )
 

@@ -4,7 +4,7 @@ use Rattle.item_schema.specs.declared.column.Column.{Column}
 use Rattle.rate_expr.specs.Words.{Word}
 use Rattle.query_model.specs.Queries.{Qre, atom, eps, choice, split, iter, combine, apply, compose, collect}
 use Rattle.eval_tree.specs.declared.node.State.{State}
-use Rattle.eval_tree.specs.declared.node.State.TheVariants.{Item, Both', Operand', Sequence'}
+use Rattle.eval_tree.specs.declared.node.State.TheVariants.{Item, Both', Operand', Sequence', Pair', Repeated'}
 use Rattle.eval_tree.specs.Plain.{holding_of, seen_of}
 use Rattle.eval_tree.specs.Represents.{Represents}
 use Rattle.eval_tree.specs.Shapes.{CanRun}
@@ -19,8 +19,9 @@ shaped columns (choice f g) (Both' p a q b) word starts rep =
 shaped columns (split f g e) (Sequence' p a q b left) word starts rep =
     (shaped columns f a word starts rep.0, shaped columns g b word rep.1.0 rep.1.2)
 shaped columns (apply f e) (Operand' p a) word starts rep = shaped columns f a word starts rep
-shaped columns (iter f number e) (Item found) word starts rep = absurd rep
-shaped columns (combine f g e) (Item found) word starts rep = absurd rep
+shaped columns (iter f number e) (Repeated' p a so_far) word starts rep = shaped columns f a word rep.0.0 rep.0.2
+shaped columns (combine f g e) (Pair' p a q b) word starts rep =
+    (shaped columns f a word starts rep.0, shaped columns g b word starts rep.1)
 shaped columns (compose f g) (Item found) word starts rep = absurd rep
 shaped columns (collect column sync rate f) (Item found) word starts rep = absurd rep
 shaped columns q state word starts rep = absurd rep
@@ -34,8 +35,10 @@ soundly_shaped columns (choice f g) (Both' p a q b) position sound =
 soundly_shaped columns (split f g e) (Sequence' p a q b left) position sound =
     (soundly_shaped columns f a position sound.0, soundly_shaped columns g b position sound.1)
 soundly_shaped columns (apply f e) (Operand' p a) position sound = soundly_shaped columns f a position sound
-soundly_shaped columns (iter f number e) (Item found) position sound = absurd sound
-soundly_shaped columns (combine f g e) (Item found) position sound = absurd sound
+soundly_shaped columns (iter f number e) (Repeated' p a so_far) position sound =
+    soundly_shaped columns f a position sound.0
+soundly_shaped columns (combine f g e) (Pair' p a q b) position sound =
+    (soundly_shaped columns f a position sound.0, soundly_shaped columns g b position sound.1)
 soundly_shaped columns (compose f g) (Item found) position sound = absurd sound
 soundly_shaped columns (collect column sync rate f) (Item found) position sound = absurd sound
 soundly_shaped columns q state position sound = absurd sound

@@ -15,11 +15,12 @@ use Rattle.eval_tree.specs.Lefts.{IsEnded, IsJoined, IsPut}
 use Rattle.eval_tree.specs.Live.{live_of}
 use Rattle.eval_tree.specs.Plain.{holding_of, seen_of}
 use Rattle.eval_tree.specs.Steps.{Starts, Steps}
+use Rattle.eval_tree.proofs.Elsewhere.{elsewhere}
 use Rattle.eval_tree.proofs.Shaped.{shaped}
 use Rattle.eval_tree.proofs.SplitStarts.{start_split_some}
 use Rattle.eval_tree.proofs.SplitSteps.{step_split_none, step_split_some}
 
-put_room : (live : Bool) (old new : Contents Value) (entry : Entry Value) → IsPut live old entry new
+pub put_room : (live : Bool) (old new : Contents Value) (entry : Entry Value) → IsPut live old entry new
     → new.room ≡ old.room
 put_room live old new entry put = elim put [
   | inl (can, entries, room) ↦ room
@@ -45,7 +46,7 @@ module _ (f g : Qre) (e : Expression) where
   pub split_steps_none : (a b a' b' : State) (held kept : Contents Value) (now : ℕ) (item : List Field)
       (right hit : Option Hit) → Steps seen_of f (holding_of a) now item (holding_of a') None
       → Steps seen_of g (holding_of b) now item (holding_of b') right → IsEnded e held.entries right hit
-      → kept.entries ≡ live_entries (live_of g (holding_of b')) held.entries → kept.room ≡ held.room
+      → kept.entries ≡ live_entries (elsewhere now (live_of g (holding_of b'))) held.entries → kept.room ≡ held.room
       → Steps seen_of (split f g e) (pending (holding_of a) (holding_of b) held) now item
       (pending (holding_of a') (holding_of b') kept) hit
   split_steps_none a b a' b' held kept now item right hit first second ended keeps room =
@@ -58,7 +59,7 @@ module _ (f g : Qre) (e : Expression) where
       (left : Hit) (right begun hit second_hit : Option Hit) (live : Bool)
       → Steps seen_of f (holding_of a) now item (holding_of a') (Some left)
       → Steps seen_of g (holding_of b) now item (holding_of b') right → IsEnded e held.entries right hit
-      → kept.entries ≡ live_entries (live_of g (holding_of b')) held.entries → kept.room ≡ held.room
+      → kept.entries ≡ live_entries (elsewhere now (live_of g (holding_of b'))) held.entries → kept.room ≡ held.room
       → Starts seen_of g (holding_of b') now (holding_of b'') begun → IsJoined e left.start left.value begun second_hit
       → live ≡ live_of g (holding_of b'') now
       → IsPut live kept (record { inner = now; outer = left.start; value = left.value }) new

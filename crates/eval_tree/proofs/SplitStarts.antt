@@ -100,19 +100,20 @@ module _ {R : Type 0} (seen : R → Seen R) where
       (apart_right columns f g e word all (ends ++ at ∷ []) clear is apart
       (λ k there. (after k).0 (subst (λ n. Contains (ends ++ n ∷ []) k) end there))) in
       let inner : left.start ≡ at = x.hit.0 in
+      let handed_on = handed seen columns f g e clear word all ends b' held new at left.value live run is
+      (λ start there. elim (Contains-push_cases starts at start there) [
+        | inl old ↦ positions start old
+        | inr same ↦ subst (λ k. k ≤ length word) same inside
+      ]) apart before
+      rep.2.distinct
+      (waiting_new (Den f) (HasExtension columns (rate_of g)) word starts held.entries at end no_value rep.2)
+      rep.3 (Contains-push starts at) den
+      (subst (λ n. Represents seen columns g b' word (ends ++ n ∷ [])) end y.after)
+      (is_live ∙ ap (live_of g b') end)
+      (subst (λ n. IsPut live held (record { inner = n; outer = at; value = left.value }) new) end
+      (subst (λ s. IsPut live held (record { inner = at; outer = s; value = left.value }) new) inner put))
+      room in
       record {
-        after = handed seen columns f g e clear word all ends a' b' held new at left.value live run is
-            (λ start there. elim (Contains-push_cases starts at start there) [
-              | inl old ↦ positions start old
-              | inr same ↦ subst (λ k. k ≤ length word) same inside
-            ]) apart x.after before
-            rep.2.distinct
-            (waiting_new (Den f) (HasExtension columns (rate_of g)) word starts held.entries at end no_value rep.2)
-            rep.3 (Contains-push starts at) den
-            (subst (λ n. Represents seen columns g b' word (ends ++ n ∷ [])) end y.after)
-            (is_live ∙ ap (live_of g b') end)
-            (subst (λ n. IsPut live held (record { inner = n; outer = at; value = left.value }) new) end
-            (subst (λ s. IsPut live held (record { inner = at; outer = s; value = left.value }) new) inner put))
-            room;
+        after = (x.after, handed_on.0, handed_on.1, handed_on.2);
         hit = joined_first f g e at left.start left.value right hit inner x.hit.1 y.hit joined;
       }

@@ -27,6 +27,7 @@ use Rattle.eval_tree.specs.Shapes.{CanRun}
 use Rattle.eval_tree.specs.Starts.{ArePositions}
 use Rattle.eval_tree.specs.Steps.{IsHit, Starts, Steps}
 use Rattle.eval_tree.proofs.Apart.{apart_left, apart_right}
+use Rattle.eval_tree.proofs.Elsewhere.{elsewhere, elsewhere_lives}
 use Rattle.eval_tree.proofs.Ends.{AreReachedBefore, reached_all, reached_end, reached_more}
 use Rattle.eval_tree.proofs.Living.{living}
 use Rattle.eval_tree.proofs.Pieces.{length_more, word_behind, word_piece}
@@ -34,27 +35,29 @@ use Rattle.eval_tree.proofs.Splits.{extension_less, handed, none_in}
 use Rattle.eval_tree.proofs.Waits.{AreWaitingBefore, waiting_all, waiting_more}
 use Rattle.eval_tree.proofs.SplitHits.{either_end, ended_before, last_joined, no_last}
 
-module _ {R : Type 0} (seen : R → Seen R) where
-  more_positions : (word : Word) (item : List Field) (starts : List ℕ) → ArePositions word starts
-      → ArePositions (word ++ item ∷ []) starts
-  more_positions word item starts positions start there =
-      let inside = positions start there in
-      let more = length_more word item in
-      omega (arith, inside, more)
+pub more_positions : (word : Word) (item : List Field) (starts : List ℕ) → ArePositions word starts
+    → ArePositions (word ++ item ∷ []) starts
+more_positions word item starts positions start there =
+    let inside = positions start there in
+    let more = length_more word item in
+    omega (arith, inside, more)
 
+module _ {R : Type 0} (seen : R → Seen R) where
   -- those that wait where the right piece can still go on
-  still_waiting : (columns : List Column) (f g : Qre) (e : Expression) → IsClear bound columns (split f g e)
-      → (word : Word) (item : List Field) (starts ends : List ℕ) (b' : Holding R) (entries : List (Entry Value))
-      → CanRun g → IsWordOf columns (word ++ item ∷ [])
+  pub still_waiting : (columns : List Column) (f g : Qre) (e : Expression) → IsClear bound columns (split f g e)
+      → (word : Word) (item : List Field) (starts ends : List ℕ) (b' : Holding R) (now : ℕ)
+      (entries : List (Entry Value))
+      → CanRun g → IsWordOf columns (word ++ item ∷ []) → now ≡ length (word ++ item ∷ [])
       → AreReachedBefore (In (rate_of f)) (word ++ item ∷ []) starts ends
       → AreReached (In (rate_of f)) word starts ends
       → AreWaiting (Den f) (HasExtension columns (rate_of g)) word starts entries
       → Represents seen columns g b' (word ++ item ∷ []) ends
       → AreWaitingBefore (Den f) (HasExtension columns (rate_of g)) (word ++ item ∷ []) starts
-      (live_entries (live_of g b') entries)
-  still_waiting columns f g e clear word item starts ends b' entries run is before reached waiting right =
+      (live_entries (elsewhere now (live_of g b')) entries)
+  still_waiting columns f g e clear word item starts ends b' now entries run is last before reached waiting right =
       let old = word_parts columns word (item ∷ []) is in
-      waiting_more (Den f) (HasExtension columns (rate_of g)) word item starts ends entries (live_of g b')
+      waiting_more (Den f) (HasExtension columns (rate_of g)) word item starts ends entries
+      (elsewhere now (live_of g b'))
       (λ u. extension_less columns f g e clear item u old.1) waiting
       (λ outer inner piece v from cut den. (reached inner).1 (
         outer,
@@ -63,13 +66,16 @@ module _ {R : Type 0} (seen : R → Seen R) where
         cut,
         den_in bound columns f piece v clear.0 (word_piece columns word outer inner piece old.0 cut) den,
       ))
+      (elsewhere_lives now (live_of g b')
+      (λ inner. Contains ends inner × HasExtension columns (rate_of g) (drop inner (word ++ item ∷ [])))
+      (λ there. let (start, piece, begins, cut, below, in_piece) = (before now).0 there.0 in omega (arith, below, last))
       (λ inner. living seen bound columns g b' (word ++ item ∷ []) ends inner run clear.1 is
-      (λ k there. let (start, piece, begins, cut, below, in_piece) = (before k).0 there in cut.inside) right)
+      (λ k there. let (start, piece, begins, cut, below, in_piece) = (before k).0 there in cut.inside) right))
 
   pub step_split_none : (f g : Qre) (e : Expression) (a b a' b' : Holding R) (held kept : Contents Value) (now : ℕ)
       (item : List Field) (right hit : Option Hit) → CanRun g
       → Steps seen f a now item a' None → Steps seen g b now item b' right → IsEnded e held.entries right hit
-      → kept.entries ≡ live_entries (live_of g b') held.entries → kept.room ≡ held.room
+      → kept.entries ≡ live_entries (elsewhere now (live_of g b')) held.entries → kept.room ≡ held.room
       → Steps seen (split f g e) (pending a b held) now item (pending a' b' kept) hit
   step_split_none f g e a b a' b' held kept now item right hit run first second ended keeps room =
       λ standing columns word starts clear is positions rep end apart.
@@ -77,6 +83,7 @@ module _ {R : Type 0} (seen : R → Seen R) where
       let (ends, reached, right_rep) = rep.1 in
       let before = reached_more (In (rate_of f)) word item starts ends reached in
       let all = more_positions word item starts positions in
+      let last : now ≡ length longer = end ∙ sym (length_more word item) in
       let x = first bound columns word starts clear.0 is positions rep.0 end
       (apart_left columns f g e longer starts clear.1 apart) in
       let y = second bound columns word ends clear.1 is
@@ -84,8 +91,8 @@ module _ {R : Type 0} (seen : R → Seen R) where
       (apart_right columns f g e longer starts ends clear is apart
       (λ k there. let (start, piece, from, cut, below, in_f) = (before k).0 there in (start, piece, from, cut, in_f)))
       in
-      let waits = still_waiting columns f g e clear word item starts ends b' held.entries run is before reached
-      rep.2 y.after in
+      let waits = still_waiting columns f g e clear word item starts ends b' now held.entries run is last before
+      reached rep.2 y.after in
       record {
         after = (
           x.after,
@@ -97,8 +104,8 @@ module _ {R : Type 0} (seen : R → Seen R) where
           ),
           subst (AreWaiting (Den f) (HasExtension columns (rate_of g)) longer starts) (sym keeps)
               (waiting_all (Den f) (HasExtension columns (rate_of g)) longer starts
-              (live_entries (live_of g b') held.entries)
-              (AreDistinct-live held.entries (live_of g b') rep.2.distinct) waits x.hit.complete),
+              (live_entries (elsewhere now (live_of g b')) held.entries)
+              (AreDistinct-live held.entries (elsewhere now (live_of g b')) rep.2.distinct) waits x.hit.complete),
           room ∙ rep.3,
         );
         hit = subst (IsHit (Den (split f g e)) longer starts) (or_none hit)
@@ -116,7 +123,7 @@ module _ {R : Type 0} (seen : R → Seen R) where
       (held kept new : Contents Value) (now : ℕ)
       (item : List Field) (left : Hit) (right begun hit second_hit : Option Hit) (live : Bool) → CanRun g
       → Steps seen f a now item a' (Some left) → Steps seen g b now item b' right → IsEnded e held.entries right hit
-      → kept.entries ≡ live_entries (live_of g b') held.entries → kept.room ≡ held.room
+      → kept.entries ≡ live_entries (elsewhere now (live_of g b')) held.entries → kept.room ≡ held.room
       → Starts seen g b' now b'' begun → IsJoined e left.start left.value begun second_hit
       → live ≡ live_of g b'' now
       → IsPut live kept (record { inner = now; outer = left.start; value = left.value }) new → new.room ≡ kept.room
@@ -136,8 +143,8 @@ module _ {R : Type 0} (seen : R → Seen R) where
       (apart_right columns f g e longer starts ends clear is apart
       (λ k there. let (start, piece, from, cut, below, in_f) = (before k).0 there in (start, piece, from, cut, in_f)))
       in
-      let waits = still_waiting columns f g e clear word item starts ends b' held.entries run is before reached
-      rep.2 y.after in
+      let waits = still_waiting columns f g e clear word item starts ends b' now held.entries run is last before
+      reached rep.2 y.after in
       let from = x.hit.sound.0 in
       let den = x.hit.sound.1 in
       let in_f = den_in bound columns f (drop left.start longer) left.value clear.0
@@ -149,16 +156,17 @@ module _ {R : Type 0} (seen : R → Seen R) where
       last
       (apart_right columns f g e longer starts (ends ++ now ∷ []) clear is apart
       (λ k there. (after k).0 (subst (λ n. Contains (ends ++ n ∷ []) k) last there))) in
+      let handed_on = handed seen columns f g e clear longer starts ends b'' kept new left.start left.value live run
+      is all apart before
+      (subst AreDistinct (sym keeps) (AreDistinct-live held.entries (elsewhere now (live_of g b')) rep.2.distinct))
+      (subst (AreWaitingBefore (Den f) (HasExtension columns (rate_of g)) longer starts) (sym keeps) waits)
+      (room ∙ rep.3) from den
+      (subst (λ n. Represents seen columns g b'' longer (ends ++ n ∷ [])) last z.after)
+      (is_live ∙ ap (live_of g b'') last)
+      (subst (λ n. IsPut live kept (record { inner = n; outer = left.start; value = left.value }) new) last put)
+      same_room in
       record {
-        after = handed seen columns f g e clear longer starts ends a' b'' kept new left.start left.value live run is all
-            apart x.after before
-            (subst AreDistinct (sym keeps) (AreDistinct-live held.entries (live_of g b') rep.2.distinct))
-            (subst (AreWaitingBefore (Den f) (HasExtension columns (rate_of g)) longer starts) (sym keeps) waits)
-            (room ∙ rep.3) from den
-            (subst (λ n. Represents seen columns g b'' longer (ends ++ n ∷ [])) last z.after)
-            (is_live ∙ ap (live_of g b'') last)
-            (subst (λ n. IsPut live kept (record { inner = n; outer = left.start; value = left.value }) new) last put)
-            same_room;
+        after = (x.after, handed_on.0, handed_on.1, handed_on.2);
         hit = either_end f g e longer starts hit second_hit all
             (ended_before columns f g e clear word item starts ends held.entries is reached rep.2 right hit
             y.hit ended before)

@@ -21,10 +21,10 @@ use Rattle.query_model.proofs.Unique.{one_value}
 use Rattle.split_eval.specs.Entries.{Contents, entry_at, AreDistinct}
 use Rattle.split_eval.specs.declared.entry.Entry.{Entry}
 use Rattle.split_eval.proofs.Found.{found_behind, found_first}
-use Rattle.eval_tree.specs.Holdings.{Holding, pending, Seen}
+use Rattle.eval_tree.specs.Holdings.{Holding, Seen}
 use Rattle.eval_tree.specs.Lefts.{IsPut}
 use Rattle.eval_tree.specs.Live.{live_of}
-use Rattle.eval_tree.specs.Represents.{AreReached, Represents}
+use Rattle.eval_tree.specs.Represents.{AreReached, AreWaiting, Represents}
 use Rattle.eval_tree.specs.Shapes.{CanRun}
 use Rattle.eval_tree.specs.Starts.{AreApart, AreDifferent, ArePositions}
 use Rattle.eval_tree.proofs.Apart.{apart_left, apart_right}
@@ -119,24 +119,30 @@ module _ (columns : List Column) (f g : Qre) (e : Expression) (clear : IsClear b
 
 module _ {R : Type 0} (seen : R → Seen R) (columns : List Column) (f g : Qre) (e : Expression)
     (clear : IsClear bound columns (split f g e)) where
+  -- the right operand of a split and its left values stand for the word
+  abbrev pub IsRight : Word → List ℕ → Holding R → Contents Value → Type 0
+  IsRight word starts b left =
+      ((ends : List ℕ) × AreReached (In (rate_of f)) word starts ends × Represents seen columns g b word ends)
+      × AreWaiting (Den f) (HasExtension columns (rate_of g)) word starts left.entries
+      × (left.room ≡ places_of g)
+
   -- A left value of a piece to the end is handed over: the right operand is started there, and the value waits.
-  pub handed : (word : Word) (starts ends : List ℕ) (a b : Holding R) (old new : Contents Value) (begun : ℕ) (x : Value)
+  pub handed : (word : Word) (starts ends : List ℕ) (b : Holding R) (old new : Contents Value) (begun : ℕ) (x : Value)
       (live : Bool) → CanRun g → IsWordOf columns word → ArePositions word starts
-      → AreApart columns (split f g e) word starts → Represents seen columns f a word starts
+      → AreApart columns (split f g e) word starts
       → AreReachedBefore (In (rate_of f)) word starts ends → AreDistinct old.entries
       → AreWaitingBefore (Den f) (HasExtension columns (rate_of g)) word starts old.entries
       → old.room ≡ places_of g → Contains starts begun → Den f (drop begun word) x
       → Represents seen columns g b word (ends ++ length word ∷ []) → live ≡ live_of g b (length word)
       → IsPut live old (record { inner = length word; outer = begun; value = x }) new → new.room ≡ old.room
-      → Represents seen columns (split f g e) (pending a b new) word starts
-  handed word starts ends a b old new begun x live run is positions apart rep before distinct waiting room there den
+      → IsRight word starts b new
+  handed word starts ends b old new begun x live run is positions apart before distinct waiting room there den
       right live_is put same_room =
       let in_f = den_in bound columns f (drop begun word) x clear.0 (word_behind columns word begun is) den in
       let reached = reached_end (In (rate_of f)) word starts ends begun before there (positions begun there) in_f in
       let lives = living seen bound columns g b word (ends ++ length word ∷ []) (length word) run clear.1 is
       (λ at among. let (start, piece, from, cut, in_piece) = (reached at).0 among in cut.inside) right in
       let apart_f = apart_left columns f g e word starts clear.1 apart in (
-        rep,
         (ends ++ length word ∷ [], reached, right),
         waiting_end (Den f) (HasExtension columns (rate_of g)) word starts old new begun x live distinct waiting there
             (positions begun there) den

@@ -39,7 +39,7 @@ difference = split (atom any (read (var.Field 0))) (atom any (read (var.Field 0)
 five : FitsSigned w64 (pos 5)
 five = search rules
 
-met : CanBeMet numbers any
+pub met : CanBeMet numbers any
 met = record { fit = refl; item = field.Int (pos 5) ∷ []; is_item = (five, tt); meets = refl }
 
 -- each part is one item
@@ -64,15 +64,19 @@ small = record {
   derived = (tt, tt);
 }
 
-pub checked : (on : OnStream) → on.layout.columns ≡ numbers → plain_of on.main.shape ≡ difference → IsChecked on
-checked on columns query = record {
+pub checked_as : (q : Qre) → IsClear free numbers q → IsSmall numbers q → (on : OnStream)
+    → on.layout.columns ≡ numbers → plain_of on.main.shape ≡ q → IsChecked on
+checked_as q is_clear is_small on columns query = record {
   read = subst (λ (cs : List Column). IsTrue (list_all (λ (c : Column). is_read c.kind) cs)) (sym columns)
       (search rules);
   clear = subst (λ (cs : List Column). IsClear free cs (plain_of on.main.shape)) (sym columns)
-      (subst (IsClear free numbers) (sym query) (clear free));
+      (subst (IsClear free numbers) (sym query) is_clear);
   small = subst (λ (cs : List Column). IsSmall cs (plain_of on.main.shape)) (sym columns)
-      (subst (IsSmall numbers) (sym query) small);
+      (subst (IsSmall numbers) (sym query) is_small);
 }
+
+pub checked : (on : OnStream) → on.layout.columns ≡ numbers → plain_of on.main.shape ≡ difference → IsChecked on
+checked on columns query = checked_as difference (clear free) small on columns query
 
 pub can_run : (q : Qre) → q ≡ difference → CanRun q
 can_run q is = subst CanRun (sym is) (tt, tt)

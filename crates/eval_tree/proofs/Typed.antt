@@ -14,7 +14,7 @@ use Rattle.split_eval.specs.Entries.{Contents, entry_at, live_entries, AreDistin
 use Rattle.split_eval.specs.declared.entry.Entry.{Entry}
 use Rattle.split_eval.proofs.Distinct.{AreDistinct-live, AreDistinct-put}
 use Rattle.eval_tree.specs.declared.hit.Hit.{Hit}
-use Rattle.eval_tree.specs.Lefts.{AreTypedWith, IsApplied, IsEnded, IsJoined, IsJoinedWith, IsPut, IsTypedOnBoth, IsTypedOnHit, IsTypedOnOne, IsTypedWith}
+use Rattle.eval_tree.specs.Lefts.{AreCombined, AreTypedOnHits, AreTypedWith, IsApplied, IsEnded, IsJoined, IsJoinedWith, IsPut, IsTypedOnBoth, IsTypedOnHit, IsTypedOnOne, IsTypedWith}
 use Rattle.eval_tree.specs.Sound.{AreEntriesOf}
 use Rattle.eval_tree.specs.Steps.{IsHitAt, IsHitOf}
 
@@ -170,3 +170,26 @@ ended_of type other result e entries None hit all is typed ended = subst (IsHitO
 ended_of type other result e entries (Some right) hit all is typed ended =
     ended_with type other result e (entry_at entries right.start) right hit
     (waits_typed type entries right.start (entry_at entries right.start) all refl) is typed ended
+
+-- two hits
+pub typed_on_hits : (type other result : ValueType) (e : Expression) (left right : Option Hit) → IsHitOf type left
+    → IsHitOf other right → HasType (of_two type other) e result → AreTypedOnHits e left right
+typed_on_hits type other result e None right is is' typed = tt
+typed_on_hits type other result e (Some found) right is is' typed =
+    typed_with type other result e found.value right is is' typed
+
+pub combined_at : (type other result : ValueType) (e : Expression) (at : ℕ) (left right hit : Option Hit)
+    → IsHitAt type at left → IsHitOf other right → HasType (of_two type other) e result
+    → AreCombined e left right hit → IsHitAt result at hit
+combined_at type other result e at None right hit is is' typed combined = subst (IsHitAt result at) (sym combined) tt
+combined_at type other result e at (Some found) right hit is is' typed combined =
+    subst (λ s. IsHitAt result s hit) is.0
+    (joined_of type other result e found.start found.value right hit is.1 is' typed combined)
+
+pub combined_of : (type other result : ValueType) (e : Expression) (left right hit : Option Hit)
+    → IsHitOf type left → IsHitOf other right → HasType (of_two type other) e result
+    → AreCombined e left right hit → IsHitOf result hit
+combined_of type other result e None right hit is is' typed combined = subst (IsHitOf result) (sym combined) tt
+combined_of type other result e (Some found) right hit is is' typed combined =
+    hit_of result found.start hit
+    (joined_of type other result e found.start found.value right hit is is' typed combined)

@@ -41,6 +41,12 @@ abbrev pub IsEnded : Expression → List (Entry Value) → Option Hit → Option
 IsEnded expression entries right joined = MatchOption right (joined ≡ None) (λ found.
     IsJoinedWith expression (entry_at entries found.start) right joined)
 
+-- a hit where both have one, with the start of the left one and what the expression gives on both
+-- values, and none where either has none
+abbrev pub AreCombined : Expression → Option Hit → Option Hit → Option Hit → Type 0
+AreCombined expression left right combined = MatchOption left (combined ≡ None) (λ found.
+    IsJoined expression found.start found.value right combined)
+
 -- what the expression gives on the value of a hit
 abbrev pub IsApplied : Expression → Option Hit → Option Hit → Type 0
 IsApplied expression inner applied = MatchOption inner (applied ≡ None) (λ found.
@@ -56,8 +62,8 @@ abbrev pub IsTypedOnBoth : Expression → Value → Value → Type 0
 IsTypedOnBoth expression left right =
     (type : ValueType) × HasType (types_of (given [] (Some left) (Some right))) expression type
 
--- it is well typed on the value of a hit, on a left value and that of a right hit, and on the one
--- that waits and it
+-- it is well typed on the value of a hit, on a left value and that of a right hit, on the values of
+-- two hits, and on the one that waits and that of a right hit
 abbrev pub IsTypedOnHit : Expression → Option Hit → Type 0
 IsTypedOnHit expression inner = MatchOption inner (Unit {0})
     (λ found. IsTypedOnOne expression found.value)
@@ -65,6 +71,10 @@ IsTypedOnHit expression inner = MatchOption inner (Unit {0})
 abbrev pub IsTypedWith : Expression → Value → Option Hit → Type 0
 IsTypedWith expression left right =
     MatchOption right (Unit {0}) (λ found. IsTypedOnBoth expression left found.value)
+
+abbrev pub AreTypedOnHits : Expression → Option Hit → Option Hit → Type 0
+AreTypedOnHits expression left right =
+    MatchOption left (Unit {0}) (λ found. IsTypedWith expression found.value right)
 
 abbrev pub AreTypedWith : Expression → List (Entry Value) → Option Hit → Type 0
 AreTypedWith expression entries right = MatchOption right (Unit {0}) (λ found. (entry : Entry Value)

@@ -3,6 +3,7 @@ ghost use Rattle.std.specs.Prelude.{◌≡◌, IfOk};
 ghost use Rattle.eval_tree.specs.Plain.{holding_of};
 
 use crate::{Node, State};
+use iter_eval::Chain;
 use split_eval::Pending;
 use std::alloc::{AllocError, Global};
 use value_ops::Value;
@@ -25,6 +26,14 @@ impl Node {
                 let held = copied(alloc, held)?;
                 let first = first.boxed_copy(alloc)?;
                 State::Sequence(first, second.boxed_copy(alloc)?, held)
+            }
+            State::Pair(first, second) => {
+                let first = first.boxed_copy(alloc)?;
+                State::Pair(first, second.boxed_copy(alloc)?)
+            }
+            State::Repeated(inner, so_far) => {
+                let so_far = Chain::from_pending(copied(alloc, so_far.as_pending())?);
+                State::Repeated(inner.boxed_copy(alloc)?, so_far)
             }
         };
         Ok(Node { state })

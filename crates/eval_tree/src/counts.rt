@@ -22,6 +22,12 @@ impl Node {
                 let operands = first.stored().saturating_add(second.stored());
                 operands.saturating_add(size_of_entries(held))
             }
+            State::Pair(first, second) => first.stored().saturating_add(second.stored()),
+            State::Repeated(inner, so_far) => {
+                inner
+                    .stored()
+                    .saturating_add(size_of_entries(so_far.as_pending()))
+            }
         }
     }
 }

@@ -1,10 +1,23 @@
 //! Where a piece of the word has a value.
+ghost use Rattle.std.specs.Prelude.{◌≡◌};
+ghost use Rattle.value_ops.specs.declared.scalar.Scalar.TheVariants as scalar;
+ghost use Rattle.value_ops.specs.declared.value.Value.TheVariants as value;
 
-use value_ops::Value;
+use value_ops::{Scalar, Value};
 
 /// The piece from a start to the end of the word has this value.
 #[derive(Drop)]
 pub struct Hit {
     pub start: u64,
     pub value: Value,
+}
+
+impl Hit {
+    pub(crate) fn of_number(start: u64, number: i64) -> Hit
+        ensures { result
+            ≡ record { start = start; value = value.Scalar (scalar.Number number) } }
+    {
+        let value = Value::Scalar(Scalar::Number(number));
+        Hit { start, value }
+    }
 }

@@ -1,8 +1,9 @@
 //! Left values of a split: they wait, and are joined with the right values behind them.
-ghost use Rattle.std.specs.Prelude.{◌≡◌, ◌<◌, ◌++◌, ◌∷◌, [], ℕ, Bool, length, IfOk};
+ghost use Rattle.std.specs.Prelude.{◌≡◌, ◌<◌, ◌++◌, ◌∷◌, [], ℕ, Bool, None, length, IfOk};
 ghost use Rattle.std.specs.Option.{option_copied};
 ghost use Rattle.value_ops.specs.Expressions.{plain_of};
-ghost use Rattle.eval_tree.specs.Lefts.{AreTypedWith, IsApplied, IsEnded, IsJoined, IsPut, IsTypedOnHit, IsTypedWith};
+ghost use Rattle.split_eval.specs.Entries.{entry_at};
+ghost use Rattle.eval_tree.specs.Lefts.{AreCombined, AreTypedOnHits, AreTypedWith, IsApplied, IsEnded, IsJoined, IsPut, IsTypedOnHit, IsTypedWith};
 ghost use Rattle.eval_tree.specs.Live.{is_outer};
 
 use crate::Hit;
@@ -25,11 +26,22 @@ pub(crate) fn has_outer(held: &Pending<Value>, start: u64) -> bool
 /// The left value waits behind its piece, where more may go on. Where the starts are apart there is
 /// always room.
 pub(crate) fn wait(held: &mut Pending<Value>, live: bool, at: u64, left: Hit)
+    requires { entry_at held.old.entries at ≡ None }
     ensures { IsPut live held.old
         (record { inner = at; outer = left.start; value = left.value }) held.new }
 {
-    if live && held.find(at).is_none() && held.len() < held.room() as usize {
+    if live && held.len() < held.room() as usize {
         held.put(at, left.start, left.value);
+    }
+}
+
+/// The same where one may wait there already, which stays.
+pub(crate) fn wait_if_new(held: &mut Pending<Value>, live: bool, at: u64, left: Hit)
+    ensures { IsPut live held.old
+        (record { inner = at; outer = left.start; value = left.value }) held.new }
+{
+    if live && held.find(at).is_none() {
+        wait(held, live, at, left);
     }
 }
 
@@ -50,6 +62,22 @@ pub(crate) fn applied(
                 value,
             }))
         }
+        None => Ok(None),
+    }
+}
+
+/// The hit where both operands have one, from the same start.
+pub(crate) fn combined(
+    alloc: Global,
+    expression: &Expr,
+    left: Option<Hit>,
+    right: Option<Hit>,
+) -> Result<Option<Hit>, AllocError>
+    requires { AreTypedOnHits (plain_of expression.now) left right }
+    ensures { IfOk result (AreCombined (plain_of expression.now) left right) }
+{
+    match left {
+        Some(left) => joined(alloc, expression, &left, right),
         None => Ok(None),
     }
 }

@@ -4,6 +4,7 @@
 
 mod copies;
 mod counts;
+mod folds;
 mod follow;
 mod hit;
 mod lefts;

@@ -24,6 +24,8 @@ pub fn is_live(query: &Query, node: &Node, start: u64) -> bool
         (Shape::Split(first, ..), State::Sequence(a, _, held)) => {
             is_live(first, a, start) || has_outer(held, start)
         }
+        (Shape::Combine(first, ..), State::Pair(a, _)) => is_live(first, a, start),
+        (Shape::Iter(..), State::Repeated(_, so_far)) => has_outer(so_far.as_pending(), start),
         _ => false,
     }
 }

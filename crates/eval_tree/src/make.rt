@@ -10,6 +10,7 @@ ghost use Rattle.eval_tree.specs.Shapes.{CanRun};
 ghost use Rattle.eval_tree.specs.Sound.{IsSound};
 
 use crate::{Node, State};
+use iter_eval::Chain;
 use memory_bound::places;
 use query_model::{Query, Shape};
 use split_eval::Pending;
@@ -25,6 +26,8 @@ pub fn can_run(query: &Query) -> bool
         Shape::Or(first, second) => can_run(first) && can_run(second),
         Shape::Split(first, second, _) => can_run(first) && can_run(second),
         Shape::Apply(inner, _) => can_run(inner),
+        Shape::Combine(first, second, _) => can_run(first) && can_run(second),
+        Shape::Iter(inner, ..) => can_run(inner),
         _ => false,
     }
 }
@@ -52,6 +55,14 @@ impl Node {
                 let held = Pending::new(alloc, places(second))?;
                 let first = Node::boxed(alloc, first)?;
                 State::Sequence(first, Node::boxed(alloc, second)?, held)
+            }
+            Shape::Combine(first, second, _) => {
+                let first = Node::boxed(alloc, first)?;
+                State::Pair(first, Node::boxed(alloc, second)?)
+            }
+            Shape::Iter(inner, ..) => {
+                let so_far = Chain::new(alloc, places(inner))?;
+                State::Repeated(Node::boxed(alloc, inner)?, so_far)
             }
             _ => unreachable!(),
         };

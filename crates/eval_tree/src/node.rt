@@ -1,5 +1,6 @@
 //! What is kept for a query while its word goes by.
 
+use iter_eval::Chain;
 use split_eval::Pending;
 use value_ops::Value;
 
@@ -24,4 +25,8 @@ pub enum State {
     Operand(Box<Node>),
     /// For a split: the operands, and the left values behind which a right piece may go on.
     Sequence(Box<Node>, Box<Node>, Pending<Value>),
+    /// For a combine: the operands.
+    Pair(Box<Node>, Box<Node>),
+    /// For an iter: the operand, and the values so far behind which a further piece may go on.
+    Repeated(Box<Node>, Chain<Value>),
 }

@@ -4,14 +4,14 @@ ghost use Rattle.query_model.specs.Queries.{plain_of};
 ghost use Rattle.eval_tree.specs.Plain.{holding_of, seen_of};
 ghost use Rattle.eval_tree.specs.Steps.{CanStart, CanStep, Starts, StartsSoundly, Steps, StepsSoundly};
 
-use crate::lefts::{applied, ended, joined, wait};
+use crate::folds::{go_on, go_on_if_new};
+use crate::lefts::{applied, combined, ended, joined, wait, wait_if_new};
 use crate::live::is_live;
 use crate::{Hit, Node, State};
 use item_schema::Item;
 use predicate_cells::holds;
 use query_model::{Query, Shape};
 use std::alloc::{AllocError, Global};
-use value_ops::{Scalar, Value};
 
 /// Adds the start at the end of the word, behind `at` items.
 #[cycle(start)]
@@ -32,10 +32,7 @@ pub fn start(
             *found = Some(at);
             Ok(None)
         }
-        (Shape::Eps(number), State::Empty) => {
-            let value = Value::Scalar(Scalar::Number(*number));
-            Ok(Some(Hit { start: at, value }))
-        }
+        (Shape::Eps(number), State::Empty) => Ok(Some(Hit::of_number(at, *number))),
         (Shape::Or(first, second), State::Both(a, b)) => {
             let left = start(first, a, alloc, at)?;
             let right = start(second, b, alloc, at)?;
@@ -50,11 +47,23 @@ pub fn start(
                 Some(left) => {
                     let right = start(second, b, alloc, at)?;
                     let hit = joined(alloc, expression, &left, right)?;
-                    wait(held, is_live(second, b, at), at, left);
+                    wait_if_new(held, is_live(second, b, at), at, left);
                     Ok(hit)
                 }
                 None => Ok(None),
             }
+        }
+        (Shape::Combine(first, second, expression), State::Pair(a, b)) => {
+            let left = start(first, a, alloc, at)?;
+            let right = start(second, b, alloc, at)?;
+            combined(alloc, expression, left, right)
+        }
+        (Shape::Iter(inner, number, _), State::Repeated(a, so_far)) => {
+            // No piece is empty, so the operand has no hit here.
+            start(inner, a, alloc, at)?;
+            let hit = Hit::of_number(at, *number);
+            go_on_if_new(alloc, so_far, is_live(inner, a, at), at, &hit)?;
+            Ok(Some(hit))
         }
         _ => Ok(None),
     }
@@ -96,10 +105,11 @@ pub fn step(
         (Shape::Split(first, second, expression), State::Sequence(a, b, held)) => {
             let left = step(first, a, alloc, now, item)?;
             let right = step(second, b, alloc, now, item)?;
-            // What waits for a right value is looked up before what can't go on is given up.
+            // What waits for a right value is looked up before what can't go on is given up. None
+            // waits at the end yet, so what is put there needs no look.
             let hit = ended(alloc, expression, held, right)?;
             let node = &**b;
-            held.keep(|start| is_live(second, node, start));
+            held.keep(|start| start != now && is_live(second, node, start));
             match left {
                 Some(left) => {
                     let right = start(second, b, alloc, now)?;
@@ -108,6 +118,26 @@ pub fn step(
                     Ok(hit.or(begun))
                 }
                 None => Ok(hit),
+            }
+        }
+        (Shape::Combine(first, second, expression), State::Pair(a, b)) => {
+            let left = step(first, a, alloc, now, item)?;
+            let right = step(second, b, alloc, now, item)?;
+            combined(alloc, expression, left, right)
+        }
+        (Shape::Iter(inner, _, expression), State::Repeated(a, so_far)) => {
+            let piece = step(inner, a, alloc, now, item)?;
+            // The value before the piece is looked up before what can't go on is given up.
+            let hit = ended(alloc, expression, so_far.as_pending(), piece)?;
+            let node = &**a;
+            so_far.keep(|start| start != now && is_live(inner, node, start));
+            match hit {
+                Some(hit) => {
+                    start(inner, a, alloc, now)?;
+                    go_on(alloc, so_far, is_live(inner, a, now), now, &hit)?;
+                    Ok(Some(hit))
+                }
+                None => Ok(None),
             }
         }
         _ => Ok(None),

@@ -1,8 +1,9 @@
 // What nodes and the runner answer item by item, with ample memory.
-ghost use Rattle.std.specs.Prelude.{◌≡◌, [], ◌∷◌, IfOk};
-ghost use Rattle.value_ops.specs.Expressions.{binary, read};
+ghost use Rattle.std.specs.Prelude.{◌≡◌, [], ◌∷◌, pos, IfOk};
+ghost use Rattle.value_ops.specs.Expressions as values;
+ghost use Rattle.value_ops.specs.Expressions.{binary, literal, read};
 ghost use Rattle.predicate_cells.specs.Predicates.{any};
-ghost use Rattle.query_model.specs.Queries.{atom, plain_of, split};
+ghost use Rattle.query_model.specs.Queries.{atom, combine, iter, plain_of, split};
 
 use crate::{Hit, Node, Runner, can_run, is_live, start, step};
 use item_schema::{Column, Item, Kind, Schema};
@@ -38,6 +39,36 @@ fn difference(alloc: Global) -> Result<Query, AllocError>
     let second = Box::new(alloc, any_item())?;
     let expression = Expr::Binary(BinaryOp::Sub, left, right);
     Ok(query(Shape::Split(first, second, expression)))
+}
+
+// iter(atom(any, EXPRESSION), 0, add(x, y))
+fn total(alloc: Global, expression: Expr) -> Result<Query, AllocError>
+    ensures { IfOk result (λ query. plain_of query.shape
+        ≡ iter (atom any (values.plain_of expression)) (pos 0)
+        (binary BinaryOp.Add (read Var.Left) (read Var.Right))) }
+{
+    let left = Box::new(alloc, Expr::Read(Var::Left))?;
+    let right = Box::new(alloc, Expr::Read(Var::Right))?;
+    let inner = Box::new(alloc, query(Shape::Atom(Pred::Any, expression)))?;
+    let sum = Expr::Binary(BinaryOp::Add, left, right);
+    Ok(query(Shape::Iter(inner, 0, sum)))
+}
+
+// combine(iter(atom(any, a), 0, add(x, y)), iter(atom(any, 1), 0, add(x, y)), sub(x, y))
+fn excess(alloc: Global) -> Result<Query, AllocError>
+    ensures { IfOk result (λ query. plain_of query.shape ≡ combine
+        (iter (atom any (read (Var.Field 0))) (pos 0)
+        (binary BinaryOp.Add (read Var.Left) (read Var.Right)))
+        (iter (atom any (literal (pos 1))) (pos 0)
+        (binary BinaryOp.Add (read Var.Left) (read Var.Right)))
+        (binary BinaryOp.Sub (read Var.Left) (read Var.Right))) }
+{
+    let left = Box::new(alloc, Expr::Read(Var::Left))?;
+    let right = Box::new(alloc, Expr::Read(Var::Right))?;
+    let first = Box::new(alloc, total(alloc, Expr::Read(Var::Field(0)))?)?;
+    let second = Box::new(alloc, total(alloc, Expr::Literal(1))?)?;
+    let expression = Expr::Binary(BinaryOp::Sub, left, right);
+    Ok(query(Shape::Combine(first, second, expression)))
 }
 
 fn item(alloc: Global, number: i64) -> Result<Item, AllocError>
@@ -114,5 +145,36 @@ fn a_runner_has_the_value_of_each_word(rt: HostRuntime) -> Result<(), Fail> {
     assert_eq!(rt; (number_in(runner.answer()), runner.stored()), (None, 2));
     copy.step(alloc, &nine)?;
     assert_eq!(rt; (number_in(copy.answer()), copy.failed()), (Some(0), false));
+    Ok(())
+}
+
+#[test]
+fn a_runner_folds_items_in_two_ways(rt: HostRuntime) -> Result<(), Fail> {
+    let alloc = rt.alloc();
+    let name = Bytes::from_slice(alloc, b"a")?;
+    let mut columns = Vec::new(alloc);
+    columns.push(Column {
+        name,
+        kind: Kind::Int,
+    })?;
+    let query = excess(alloc)?;
+    let checked = Checked::new(Schema::new(false, columns), query);
+    let mut runner = Runner::new(alloc, &checked)?;
+    assert_eq!(rt;
+        (number_in(runner.answer()), runner.stored()),
+        (Some(0), 10)
+    );
+    let nine = item(alloc, 9)?;
+    runner.step(alloc, &nine)?;
+    assert_eq!(rt; number_in(runner.answer()), Some(8));
+    let mut copy = runner.try_copy(alloc)?;
+    let four = item(alloc, 4)?;
+    runner.step(alloc, &four)?;
+    assert_eq!(rt;
+        (number_in(runner.answer()), number_in(copy.answer())),
+        (Some(11), Some(8))
+    );
+    copy.step(alloc, &nine)?;
+    assert_eq!(rt; (number_in(copy.answer()), copy.stored()), (Some(16), 10));
     Ok(())
 }

@@ -24,6 +24,20 @@ impl<V> Model for Chain<V> {
 }
 
 impl<V: Drop> Chain<V> {
+    /// The same entries in the same room.
+    pub fn from_pending(so_far: Pending<V>) -> Chain<V>
+        ensures { result ≡ so_far }
+    {
+        Chain { so_far }
+    }
+
+    /// The same entries, to be read.
+    pub fn as_pending(&self) -> &Pending<V>
+        ensures { result.now ≡ self.now }
+    {
+        &self.so_far
+    }
+
     /// No later call takes memory.
     pub fn new(alloc: Global, room: u32) -> Result<Chain<V>, AllocError>
         ensures { IfOk result (λ chain. chain ≡ record { entries = []; room = room }) }

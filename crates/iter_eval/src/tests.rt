@@ -1,5 +1,6 @@
 // What an iteration does with its values so far, with ample memory.
 use crate::Chain;
+use split_eval::Pending;
 use std::alloc::{AllocError, Global};
 use std::test::Fail;
 
@@ -96,5 +97,17 @@ fn values_may_own_memory(rt: HostRuntime) -> Result<(), Fail> {
     chain.put(10, 1, value);
     let taken = chain.take(10).map(|entry| entry.value);
     assert!(rt; taken.is_some_and(|value| value.as_slice() == b"so far".as_slice()));
+    Ok(())
+}
+
+#[test]
+fn left_values_are_values_so_far(rt: HostRuntime) -> Result<(), Fail> {
+    let mut left = Pending::new(rt.alloc(), 2)?;
+    left.put(10, 1, 100);
+    let mut chain = Chain::from_pending(left);
+    chain.put(20, 2, 200);
+    let outer = chain.as_pending().find(20).map(|entry| entry.outer);
+    assert_eq!(rt; outer, Some(2));
+    assert_eq!(rt; chain.as_pending().room(), 2);
     Ok(())
 }

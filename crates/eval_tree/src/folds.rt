@@ -1,0 +1,45 @@
+//! Values of an iteration so far: each goes on with the next piece.
+ghost use Rattle.std.specs.Prelude.{◌≡◌, None, IfOk};
+ghost use Rattle.split_eval.specs.Entries.{entry_at};
+ghost use Rattle.eval_tree.specs.Lefts.{IsPut};
+
+use crate::Hit;
+use iter_eval::Chain;
+use std::alloc::{AllocError, Global};
+use value_ops::Value;
+
+/// The value so far waits at the end of its pieces, where a further piece may go on. Where the starts
+/// are apart there is always room.
+pub(crate) fn go_on(
+    alloc: Global,
+    so_far: &mut Chain<Value>,
+    live: bool,
+    at: u64,
+    hit: &Hit,
+) -> Result<(), AllocError>
+    requires { entry_at so_far.old.entries at ≡ None }
+    ensures { IfOk result (λ done. IsPut live so_far.old
+        (record { inner = at; outer = hit.now.start; value = hit.now.value }) so_far.new) }
+{
+    if live && so_far.len() < so_far.room() as usize {
+        so_far.put(at, hit.start, hit.value.try_copy(alloc)?);
+    }
+    Ok(())
+}
+
+/// The same where one may wait there already, which stays.
+pub(crate) fn go_on_if_new(
+    alloc: Global,
+    so_far: &mut Chain<Value>,
+    live: bool,
+    at: u64,
+    hit: &Hit,
+) -> Result<(), AllocError>
+    ensures { IfOk result (λ done. IsPut live so_far.old
+        (record { inner = at; outer = hit.now.start; value = hit.now.value }) so_far.new) }
+{
+    if live && so_far.find(at).is_none() {
+        return go_on(alloc, so_far, live, at, hit);
+    }
+    Ok(())
+}
