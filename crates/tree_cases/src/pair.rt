@@ -1,0 +1,56 @@
+//! Both engines on one word.
+
+use crate::stop::Stop;
+use crate::told::{Told, told_by};
+use eval_tree::{Runner, can_run};
+use memory_bound::slots;
+use query_model::Checked;
+use slow_eval::Slow;
+use std::alloc::Global;
+
+/// What was seen on a word.
+#[derive(Clone, Copy)]
+pub(crate) struct Seen {
+    pub(crate) answers: u32,
+    pub(crate) values: u32,
+    /// How often the engines answered in two ways, or more was kept than the bound allows.
+    pub(crate) faults: u32,
+}
+
+/// Answers after each item, the empty word included.
+pub(crate) fn side_by_side(alloc: Global, checked: &Checked, items: &str) -> Result<Seen, Stop> {
+    if !can_run(checked.main()) {
+        return Err(Stop::Line);
+    }
+    let slow = Slow::new(alloc, checked)?;
+    let wanted = told_by(alloc, checked, slow, items)?;
+    let runner = Runner::new(alloc, checked)?;
+    let told = told_by(alloc, checked, runner, items)?;
+    let mut seen = compared(&told, &wanted);
+    if told.kept > u64::from(slots(checked.main())) {
+        seen.faults = seen.faults.saturating_add(1);
+    }
+    Ok(seen)
+}
+
+fn compared(told: &Told, wanted: &Told) -> Seen {
+    let mut seen = Seen {
+        answers: 0,
+        values: 0,
+        faults: 0,
+    };
+    if told.answers.len() != wanted.answers.len() {
+        seen.faults = 1;
+    }
+    'answers: for (i, answer) in told.answers.iter().enumerate() {
+        seen.answers = seen.answers.saturating_add(1);
+        if answer.is_some() {
+            seen.values = seen.values.saturating_add(1);
+        }
+        match wanted.answers.get(i) {
+            Some(other) if *other == *answer => {}
+            _ => seen.faults = seen.faults.saturating_add(1),
+        }
+    }
+    seen
+}

@@ -1,0 +1,33 @@
+//! Why a table is not run.
+
+use std::alloc::{AllocError, AllocFailed};
+use std::fmt;
+
+#[derive(Clone, Copy)]
+pub(crate) enum Stop {
+    /// A line is not a query that is accepted and has a node for each shape, or its items are not
+    /// numbers.
+    Line,
+    Memory,
+}
+
+impl fmt::Display for Stop {
+    fn fmt<W: fmt::Write>(&self, f: &mut fmt::Formatter<W>) -> fmt::Result {
+        f.write_str(match self {
+            Stop::Line => "a line is not a query with items",
+            Stop::Memory => "memory is wanting",
+        })
+    }
+}
+
+impl From<AllocError> for Stop {
+    fn from(_error: AllocError) -> Stop {
+        Stop::Memory
+    }
+}
+
+impl<T: Drop> From<AllocFailed<T>> for Stop {
+    fn from(_failed: AllocFailed<T>) -> Stop {
+        Stop::Memory
+    }
+}
