@@ -1,6 +1,6 @@
 // Places and counts were found by hand. The program query_cases goes through a table of more lets.
-use crate::*;
 use language_base::Span;
+use query_lets::{Outline, unfold, unfolded_outline, wrong_name};
 use query_parser::ReadStop;
 use query_syntax::{Program, Query, read_syntax};
 use std::alloc::Global;

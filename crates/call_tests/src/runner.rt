@@ -5,7 +5,7 @@ ghost use Rattle.value_ops.specs.Expressions.{binary, literal, read};
 ghost use Rattle.predicate_cells.specs.Predicates.{any};
 ghost use Rattle.query_model.specs.Queries.{atom, combine, iter, plain_of, split};
 
-use crate::{Hit, Node, Runner, can_run, is_live, start, step};
+use eval_tree::{Hit, Node, Runner, can_run, is_live, start, step};
 use item_schema::{Column, Item, Kind, Schema};
 use predicate_cells::Pred;
 use query_model::{Checked, Follower, Query, Shape, Span};

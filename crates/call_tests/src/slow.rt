@@ -5,11 +5,11 @@ ghost use Rattle.predicate_cells.specs.Predicates.{any, eq_text};
 ghost use Rattle.rate_expr.specs.Rates.{one, star};
 ghost use Rattle.query_model.specs.Queries.{atom, collect, compose, eps, plain_of, split};
 
-use crate::{answer_on, answers_on_fronts};
 use item_schema::Item;
 use predicate_cells::Pred;
 use query_model::{Query, Shape, Span};
 use rate_expr::Rate;
+use slow_eval::{answer_on, answers_on_fronts};
 use std::alloc::{AllocError, Global};
 use std::test::Fail;
 use value_ops::{BinaryOp, Bytes, Expr, Field, Scalar, Value, Var};

@@ -1,7 +1,7 @@
 // A file is read where memory suffices, and its parts stand where they are written. The program
 // `query_cases` shows the constructor of each form.
-use crate::*;
 use language_base::Span;
+use query_syntax::{Digits, Kind, Mode, Query, read_syntax};
 use std::test::Fail;
 
 #[test]

@@ -31,7 +31,5 @@ pub mod SplitHits
 pub mod SplitStarts
 pub mod SplitSteps
 pub mod Splits
-pub mod Tested
-pub mod TestedFolds
 pub mod Typed
 pub mod Waits

@@ -14,8 +14,6 @@ mod node;
 mod progress;
 mod runner;
 mod steps;
-#[cfg(test)]
-mod tests;
 
 pub use hit::Hit;
 pub use live::is_live;

@@ -10,8 +10,6 @@ mod laws;
 mod names;
 mod outline;
 mod scope;
-#[cfg(test)]
-mod tests;
 mod unfolding;
 
 pub use laws::right_names_are_replaced;

@@ -23,8 +23,6 @@ mod spans;
 mod stream;
 mod stream_reading;
 mod syntax;
-#[cfg(test)]
-mod tests;
 
 pub use expression::{Comparison, Expression};
 pub use laws::{one_program, streams_are_within_the_limits};

@@ -10,8 +10,6 @@ mod rates;
 mod search;
 mod single;
 mod slow;
-#[cfg(test)]
-mod tests;
 
 pub use search::{answer_on, answers_on_fronts};
 pub use slow::Slow;

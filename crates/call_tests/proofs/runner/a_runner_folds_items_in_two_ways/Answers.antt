@@ -2,9 +2,9 @@ use Rattle.std.proofs.Common.{◌≡◌, ℕ, ◌∙◌, List, [], ◌∷◌, �
 use Rattle.item_schema.specs.declared.column.Column.{Column}
 use Rattle.item_schema.specs.declared.column.Kind.TheVariants as kind
 use Rattle.item_schema.specs.Layout.{Layout}
-use Rattle.eval_tree.proofs.Tested.{numbers}
-use Rattle.eval_tree.proofs.TestedFolds.{excess_checked}
-use Rattle.eval_tree.proofs.tests.a_runner_folds_items_in_two_ways.Goals as goal
+use Rattle.call_tests.proofs.Tested.{numbers}
+use Rattle.call_tests.proofs.TestedFolds.{excess_checked}
+use Rattle.call_tests.proofs.runner.a_runner_folds_items_in_two_ways.Goals as goal
 
 pub new-checked-requires : goal.new-checked-requires
 new-checked-requires g c =

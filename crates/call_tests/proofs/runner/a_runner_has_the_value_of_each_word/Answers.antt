@@ -2,8 +2,8 @@ use Rattle.std.proofs.Common.{◌≡◌, ℕ, ◌∙◌, List, [], ◌∷◌, �
 use Rattle.item_schema.specs.declared.column.Column.{Column}
 use Rattle.item_schema.specs.declared.column.Kind.TheVariants as kind
 use Rattle.item_schema.specs.Layout.{Layout}
-use Rattle.eval_tree.proofs.Tested.{checked, numbers}
-use Rattle.eval_tree.proofs.tests.a_runner_has_the_value_of_each_word.Goals as goal
+use Rattle.call_tests.proofs.Tested.{checked, numbers}
+use Rattle.call_tests.proofs.runner.a_runner_has_the_value_of_each_word.Goals as goal
 
 pub new-checked-requires : goal.new-checked-requires
 new-checked-requires g c =
