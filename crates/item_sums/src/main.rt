@@ -5,7 +5,7 @@
 use io_edge::{LazyFile, Line, Lines, Sink, Source, StdoutSink, write_all};
 use item_schema::{Column, Item, ItemStop, Kind, Schema, are_columns, read_item};
 use language_base::Bytes;
-use report_writer::{answer_text, skip_text};
+use report_writer::{push_answer, push_skip};
 use std::alloc::{AllocError, Global};
 use std::{env, io};
 use value_ops::{Scalar, Value};
@@ -35,6 +35,7 @@ fn sum_lines<S: Source, W: Sink>(
 ) -> Result<(), AllocError> {
     let mut lines = Lines::new(alloc)?;
     let mut sum = Scalar::Number(0);
+    let mut text = Vec::new(alloc);
     for _ in 0..u64::MAX {
         if !lines.is_ready() && out.flush().is_err() {
             return Ok(());
@@ -42,7 +43,8 @@ fn sum_lines<S: Source, W: Sink>(
         let Ok(Line::Whole(line)) = lines.next(source) else {
             return Ok(());
         };
-        let text = reply_to(alloc, schema, line, &mut sum)?;
+        text.clear();
+        push_reply(alloc, schema, line, &mut sum, &mut text)?;
         if write_all(out, text.as_slice()).is_err() {
             return Ok(());
         }
@@ -70,19 +72,20 @@ fn kind_of(word: &str) -> Kind {
     }
 }
 
-/// What is written for a line: the sum behind it, or why it is no item.
-fn reply_to(
+/// Appends what is written for a line: the sum behind it, or why it is no item.
+fn push_reply(
     alloc: Global,
     schema: &Schema,
     line: &[u8],
     sum: &mut Scalar,
-) -> Result<Bytes, AllocError> {
+    text: &mut Vec<u8>,
+) -> Result<(), AllocError> {
     match read_item(alloc, schema, line) {
         Ok(item) => {
             *sum = sum_with(*sum, &item);
-            answer_text(alloc, Some(&Value::Scalar(*sum)))
+            push_answer(Some(&Value::Scalar(*sum)), text)
         }
-        Err(ItemStop::Skip(skip)) => skip_text(alloc, skip),
+        Err(ItemStop::Skip(skip)) => push_skip(skip, text),
         Err(ItemStop::Memory) => Err(AllocError),
     }
 }

@@ -1,31 +1,31 @@
 //! The text of an answer.
+ghost use Rattle.std.specs.Io.{StartsWith};
 ghost use Rattle.std.specs.Option.{option_copied};
-ghost use Rattle.std.specs.Prelude.{◌≡◌, ◌++◌, IfOk, OnOk};
+ghost use Rattle.std.specs.Prelude.{◌≡◌, ◌++◌, OnOk, OnErr};
 ghost use Rattle.report_writer.specs.Texts.{answer_text, scalar_text, value_text};
 
 use crate::table_text::push_table;
 use itoa::Buffer;
-use std::alloc::{AllocError, Global};
-use value_ops::{Bytes, Scalar, Value};
+use std::alloc::AllocError;
+use value_ops::{Scalar, Value};
 
-/// The bytes of the longest number and of an LF.
-const NUMBER_LINE: usize = 21;
-
-/// The text of a value, or of none.
-pub fn answer_text(alloc: Global, answer: Option<&Value>) -> Result<Bytes, AllocError>
-    ensures { IfOk result (λ text. text ≡ answer_text (option_copied answer.entry)) }
+/// Appends the text of a value, or of none.
+#[tactic(auto, using(crate::proofs::Begins::begins))]
+pub fn push_answer(answer: Option<&Value>, text: &mut Vec<u8>) -> Result<(), AllocError>
+    ensures ok { OnOk result (
+        text.new.items ≡ text.old.items ++ answer_text (option_copied answer.entry)) }
+    ensures err { OnErr result (StartsWith text.new.items text.old.items) }
 {
     let Some(value) = answer else {
-        return Bytes::from_slice(alloc, b"undefined\n");
+        return text.extend_from_slice(b"undefined\n");
     };
-    let mut text = Vec::with_capacity(alloc, NUMBER_LINE)?;
-    push_value(value, &mut text)?;
-    text.push(b'\n')?;
-    Ok(Bytes::from_vec(text))
+    push_value(value, text)?;
+    text.extend_from_slice(b"\n")
 }
 
 pub(crate) fn push_value(value: &Value, text: &mut Vec<u8>) -> Result<(), AllocError>
-    ensures { OnOk result (text.new.items ≡ text.old.items ++ value_text value.now) }
+    ensures ok { OnOk result (text.new.items ≡ text.old.items ++ value_text value.now) }
+    ensures err { OnErr result (StartsWith text.new.items text.old.items) }
 {
     match value {
         Value::Scalar(scalar) => push_scalar(*scalar, text),
@@ -34,7 +34,8 @@ pub(crate) fn push_value(value: &Value, text: &mut Vec<u8>) -> Result<(), AllocE
 }
 
 pub(crate) fn push_scalar(scalar: Scalar, text: &mut Vec<u8>) -> Result<(), AllocError>
-    ensures { OnOk result (text.new.items ≡ text.old.items ++ scalar_text scalar) }
+    ensures ok { OnOk result (text.new.items ≡ text.old.items ++ scalar_text scalar) }
+    ensures err { OnErr result (StartsWith text.new.items text.old.items) }
 {
     match scalar {
         Scalar::Number(number) => {

@@ -1,12 +1,15 @@
 //! The text of a key.
-ghost use Rattle.std.specs.Prelude.{◌≡◌, ◌++◌, ◌<◌, OnOk};
+ghost use Rattle.std.specs.Io.{StartsWith};
+ghost use Rattle.std.specs.Prelude.{◌≡◌, ◌++◌, ◌<◌, OnOk, OnErr};
 ghost use Rattle.report_writer.specs.Texts.{byte_text, hex_digit, key_text};
 
 use std::alloc::AllocError;
 
 /// Appends the key with its quotes.
+#[tactic(auto, using(crate::proofs::Begins::begins))]
 pub(crate) fn push_key(key: &[u8], text: &mut Vec<u8>) -> Result<(), AllocError>
-    ensures { OnOk result (text.new.items ≡ text.old.items ++ key_text key.now) }
+    ensures ok { OnOk result (text.new.items ≡ text.old.items ++ key_text key.now) }
+    ensures err { OnErr result (StartsWith text.new.items text.old.items) }
 {
     text.extend_from_slice(b"\"")?;
     'bytes: for &byte in key {
@@ -16,7 +19,8 @@ pub(crate) fn push_key(key: &[u8], text: &mut Vec<u8>) -> Result<(), AllocError>
 }
 
 fn push_byte(byte: u8, text: &mut Vec<u8>) -> Result<(), AllocError>
-    ensures { OnOk result (text.new.items ≡ text.old.items ++ byte_text byte) }
+    ensures ok { OnOk result (text.new.items ≡ text.old.items ++ byte_text byte) }
+    ensures err { OnErr result (StartsWith text.new.items text.old.items) }
 {
     if matches!(byte, b' '..=b'~') && byte != b'"' && byte != b'\\' {
         text.extend_from_slice(&[byte])

@@ -10,7 +10,7 @@ mod table_text;
 #[cfg(test)]
 mod tests;
 
-pub use answer::answer_text;
+pub use answer::push_answer;
 pub use command::{bound_text, check_text, drill_text};
 pub use refusal::refusal_text;
-pub use skip::skip_text;
+pub use skip::push_skip;

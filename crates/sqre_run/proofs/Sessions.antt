@@ -1,5 +1,5 @@
 -- What a session follows, from one line to the next.
-use Rattle.std.proofs.Common.{◌≡◌, ◌==◌, ℕ, ◌&&◌, not, Bool, true, false, cond, List, [], ◌∷◌, ◌++◌, Option, None, Some, Result, Ok, Err, IfOk, length, refl, sym, ap, subst, ◌∙◌, append_assoc, append-nil}
+use Rattle.std.proofs.Common.{◌≡◌, ◌==◌, ℕ, ◌&&◌, not, Bool, true, false, cond, List, [], ◌∷◌, ◌++◌, Option, None, Some, Result, Ok, Err, IfOk, Bor, length, refl, sym, ap, subst, ◌∙◌, append_assoc, append-nil}
 use Rattle.std.specs.declared.alloc.AllocError.{AllocError}
 use Rattle.std.specs.List.{flat_map}
 use Rattle.io_edge.specs.Lines.{Shown, long, text}
@@ -199,9 +199,9 @@ module _ {F : Type 0} (follows : F → Word → Type 0) (query : F → Qre) wher
       no_item false item found = cc
 
 -- what was made of a line is the text that replies to it
-pub told : {F : Type 0} (follows : F → Word → Type 0) (result : Result (List ℕ) AllocError) (said : List ℕ) (line : Shown)
-    (old new : Session F) → IfOk result (λ t. t ≡ said) → RepliesTo follows line said old new
-    → IfOk result (λ reply. RepliesTo follows line reply old new)
+pub told : {F : Type 0} (follows : F → Word → Type 0) (result : Result (Bor (List ℕ)) AllocError) (said : List ℕ) (line : Shown)
+    (old new : Session F) → IfOk result (λ t. t.now ≡ said) → RepliesTo follows line said old new
+    → IfOk result (λ reply. RepliesTo follows line reply.now old new)
 told follows (Ok reply) said line old new is said_so =
     subst (λ (t : List ℕ). RepliesTo follows line t old new) (sym is) said_so
 told follows (Err error) said line old new is said_so = tt

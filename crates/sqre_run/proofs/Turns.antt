@@ -1,5 +1,5 @@
 -- One turn of the run: how it goes on, and how it ends.
-use Rattle.std.proofs.Common.{◌≡◌, ◌⊎◌, inl, inr, ◌≤◌, ℕ, true, false, List, [], ◌∷◌, ◌++◌, length, Option, Some, None, Result, Ok, Err, IfOk, IfNone, IfSome, refl, sym, ap, subst, ◌∙◌, append_assoc, append-nil, arith}
+use Rattle.std.proofs.Common.{◌≡◌, ◌⊎◌, inl, inr, ◌≤◌, ℕ, true, false, List, [], ◌∷◌, ◌++◌, length, Option, Some, None, Result, Ok, Err, IfOk, IfNone, IfSome, Bor, refl, sym, ap, subst, ◌∙◌, append_assoc, append-nil, arith}
 use Rattle.std.proofs.KnownBytes.{Appends-trans, Consumes-trans, Consumes-whole, Appends-nil, Consumes-nil}
 use Rattle.std.proofs.lemmas.List.{nil_from_length}
 use Rattle.std.specs.declared.alloc.AllocError.{AllocError}
@@ -289,27 +289,27 @@ module _ {F : Type 0} (follows : F → Word → Type 0) (on : OnStream) (old now
 
 module _ {F : Type 0} (follows : F → Word → Type 0) (now new : Outside) (reading next : Reading) (kept kept' : Session F) (line : Shown) where
   -- where the text was written, whatever run there is goes on
-  pub Handed-goes_on : (status : Option Status) (reply : Result (List ℕ) AllocError)
+  pub Handed-goes_on : (status : Option Status) (reply : Result (Bor (List ℕ)) AllocError)
       → TakesLine now.left new.left now.ends new.ends reading next line
-      → IfOk reply (λ said. RepliesTo follows line said kept kept')
+      → IfOk reply (λ said. RepliesTo follows line said.now kept kept')
       → HandedOver status reply now.taken new.taken
       → IfNone status ((on : OnStream) (old : Outside)
       → Running follows on old now reading kept → Running follows on old new next kept')
   Handed-goes_on None (Ok said) takes replies handed = λ on old run.
-      Running-line follows on old now new reading next kept kept' line said takes replies handed run
+      Running-line follows on old now new reading next kept kept' line said.now takes replies handed run
   Handed-goes_on None (Err error) takes replies handed = absurd handed
   Handed-goes_on (Some status) reply takes replies handed = tt
 
   -- and ends where it was not
-  pub Handed-stops : (status : Option Status) (reply : Result (List ℕ) AllocError)
+  pub Handed-stops : (status : Option Status) (reply : Result (Bor (List ℕ)) AllocError)
       → TakesLine now.left new.left now.ends new.ends reading next line
-      → IfOk reply (λ said. RepliesTo follows line said kept kept')
+      → IfOk reply (λ said. RepliesTo follows line said.now kept kept')
       → HandedOver status reply now.taken new.taken
       → IfSome status (λ status. (on : OnStream) (old : Outside)
       → Running follows on old now reading kept → Ended (monitor_of on) status old new)
   Handed-stops None reply takes replies handed = tt
   Handed-stops (Some SinkFault) (Ok said) takes replies handed = λ on old run.
-      Ended-cut_short follows on old now new reading next kept kept' line said takes replies handed run
+      Ended-cut_short follows on old now new reading next kept kept' line said.now takes replies handed run
   Handed-stops (Some Memory) (Err error) takes replies handed = λ on old run.
       Ended-no_memory follows on old now new reading next kept line takes handed run
   Handed-stops (Some SinkFault) (Err error) takes replies handed = λ on old run.

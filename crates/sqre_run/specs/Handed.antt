@@ -1,6 +1,7 @@
 -- For the prover. What came of handing a text to the sink.
 use Rattle.std.specs.Prelude.{◌≡◌, ℕ, List, Option, Some, None, Result, Ok, Err}
 use Rattle.std.specs.declared.alloc.AllocError.{AllocError}
+use Rattle.std.specs.Borrow.{Bor}
 use Rattle.std.specs.Io.KnownBytes.{Appends}
 use Rattle.io_edge.specs.Written.{AppendsSome}
 use Rattle.sqre_run.specs.declared.status.Status.{Status}
@@ -8,10 +9,10 @@ use Rattle.sqre_run.specs.declared.status.Status.TheVariants.{Done, SinkFault, M
 
 -- nothing is answered where the text was written whole, SinkFault where a part of it was written, and
 -- where there is no text Memory, or SinkFault where the sink does not hand on what it holds back
-abbrev pub HandedOver : Option Status → Result (List ℕ) AllocError
+abbrev pub HandedOver : Option Status → Result (Bor (List ℕ)) AllocError
     → Option (List ℕ) → Option (List ℕ) → Type 0
-HandedOver None (Ok text) old new = Appends old new text
-HandedOver (Some SinkFault) (Ok text) old new = AppendsSome old new text
+HandedOver None (Ok text) old new = Appends old new text.now
+HandedOver (Some SinkFault) (Ok text) old new = AppendsSome old new text.now
 HandedOver (Some Memory) (Err error) old new = new ≡ old
 HandedOver (Some SinkFault) (Err error) old new = new ≡ old
 HandedOver _ _ old new = ⊥

@@ -12,7 +12,7 @@ ghost use Rattle.sqre_run.specs.Call.{OutcomeOf, Refuses, Untouched};
 use crate::Status;
 use crate::command::command_of;
 use crate::engine::carry_out;
-use crate::handing::{end, hand_over};
+use crate::handing::tell;
 use crate::query::{QueryStop, compile};
 use io_edge::{Sink, Source};
 use language_base::Refusal;
@@ -68,8 +68,8 @@ fn refuse<W: Sink>(alloc: Global, refusal: Refusal, out: &mut W) -> Status
     ensures handed_on { (result ≡ Status.SinkFault → ⊥) → W.held out.new ≡ 0 }
     ensures cause { FailsBy (W.faults out.old) (W.faults out.new) (result ≡ Status.SinkFault) }
 {
-    match hand_over(refusal_text(alloc, refusal), out) {
-        Some(status) => status,
-        None => end(Status::Refused, out),
+    match tell(refusal_text(alloc, refusal), out) {
+        Status::Done => Status::Refused,
+        status => status,
     }
 }

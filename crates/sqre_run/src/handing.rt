@@ -10,8 +10,8 @@ use language_base::Bytes;
 use std::alloc::AllocError;
 
 /// Writes a text whole, or says why not.
-pub fn hand_over<W: Sink>(reply: Result<Bytes, AllocError>, out: &mut W) -> Option<Status>
-    ensures handed { HandedOver result reply (W.taken out.old) (W.taken out.new) }
+pub fn hand_over<W: Sink>(reply: Result<&[u8], AllocError>, out: &mut W) -> Option<Status>
+    ensures handed { HandedOver result reply.entry (W.taken out.old) (W.taken out.new) }
     ensures handed_on { IfSome result (λ status.
         (status ≡ Status.SinkFault → ⊥) → W.held out.new ≡ 0) }
     ensures sink_faults { FailsBy (W.faults out.old) (W.faults out.new)
@@ -20,7 +20,7 @@ pub fn hand_over<W: Sink>(reply: Result<Bytes, AllocError>, out: &mut W) -> Opti
     let Ok(reply) = reply else {
         return Some(end(Status::Memory, out));
     };
-    match write_all(out, reply.as_slice()) {
+    match write_all(out, reply) {
         Ok(()) => None,
         Err(Failed) => Some(Status::SinkFault),
     }
@@ -33,9 +33,12 @@ pub fn tell<W: Sink>(line: Result<Bytes, AllocError>, out: &mut W) -> Status
     ensures sink_faults { FailsBy (W.faults out.old) (W.faults out.new)
         (result ≡ Status.SinkFault) }
 {
-    match hand_over(line, out) {
-        Some(status) => status,
-        None => end(Status::Done, out),
+    let Ok(line) = line else {
+        return end(Status::Memory, out);
+    };
+    match write_all(out, line.as_slice()) {
+        Ok(()) => end(Status::Done, out),
+        Err(Failed) => Status::SinkFault,
     }
 }
 

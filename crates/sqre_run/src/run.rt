@@ -19,7 +19,7 @@ use query_model::{Checked, Follower};
 use std::alloc::{AllocError, Global};
 
 /// Answers every line of the items, from the empty word on. All answers are handed on before a read
-/// and at the end.
+/// and at the end. One buffer holds the text for each line in turn.
 pub fn run<F: Follower + Drop, S: Source, W: Sink>(
     alloc: Global,
     checked: &Checked,
@@ -44,21 +44,23 @@ pub fn run<F: Follower + Drop, S: Source, W: Sink>(
         Err(AllocError) => return Status::Memory,
     };
     let mut session = Session::begin(checked, follower);
+    let mut buffer = Vec::new(alloc);
     'lines: loop {
         if let Err(Failed) = hand_on_before_read(&lines, out) {
             return Status::SinkFault;
         }
-        if let Some(status) = turn(alloc, &mut lines, &mut session, items, out) {
+        if let Some(status) = turn(alloc, &mut lines, &mut session, &mut buffer, items, out) {
             return status;
         }
     }
 }
 
-// Answers one line: whatever run has come to here goes on, or ends.
+// Answers one line, by way of the buffer: whatever run has come to here goes on, or ends.
 fn turn<F: Follower, S: Source, W: Sink>(
     alloc: Global,
     lines: &mut Lines,
     session: &mut Session<'_, F>,
+    buffer: &mut Vec<u8>,
     items: &mut S,
     out: &mut W,
 ) -> Option<Status>
@@ -87,8 +89,8 @@ fn turn<F: Follower, S: Source, W: Sink>(
         (result ≡ Some Status.SinkFault) }
 {
     match lines.next(items) {
-        Ok(Line::Whole(line)) => hand_over(line_text(alloc, session, line), out),
-        Ok(Line::Long) => hand_over(long_text(alloc, session), out),
+        Ok(Line::Whole(line)) => hand_over(line_text(alloc, session, line, buffer), out),
+        Ok(Line::Long) => hand_over(long_text(session, buffer), out),
         Ok(Line::End) => Some(end(Status::Done, out)),
         Err(LineStop::Failed) => Some(Status::ItemFault),
         Err(LineStop::Limit) => Some(end(Status::Limit, out)),
