@@ -5,10 +5,10 @@ use Rattle.query_model.specs.Monitors.{Monitor}
 use Rattle.query_parser.specs.Reading.{IsFileOf, IsRefused}
 use Rattle.query_syntax.specs.Files.{program_terms}
 use Rattle.query_syntax.specs.Programs.{Program}
-use Rattle.explanation.specs.Explanations.{program_explanation, text_explanation}
+use Rattle.explanation.specs.Explanations.{text_explanation}
 use Rattle.sqre_run.specs.Compiled.{judged, unread}
 use Rattle.type_checker.specs.Judged.{IsJudged, accepted, refused}
-use Rattle.explain_run.specs.Explained.{Explains, IsAccepted}
+use Rattle.explain_run.specs.Explained.{Explains, ExplainsProgram, IsAccepted}
 
 -- a text that writes no program
 pub explains_unread : (name text shown : List ℕ) (refusal : Refusal) → IsRefused text refusal
@@ -18,9 +18,9 @@ explains_unread name text shown refusal is same = (refusal, unread refusal is, i
 -- a text that writes a program which is refused
 pub explains_judged : (name text shown : List ℕ) (program : Program) (refusal : Refusal)
     → IsFileOf text (program_terms program) → IsJudged program (refused refusal)
-    → shown ≡ program_explanation name text program refusal → Explains name text shown
-explains_judged name text shown program refusal file is same =
-    (refusal, judged program (refused refusal) file is, inr (program, file, same))
+    → ExplainsProgram name text program refusal shown → Explains name text shown
+explains_judged name text shown program refusal file is explains =
+    (refusal, judged program (refused refusal) file is, inr (program, file, explains))
 
 -- a text that writes a program which is accepted
 pub accepts_judged : (text : List ℕ) (program : Program) (monitor : Monitor)

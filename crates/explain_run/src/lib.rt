@@ -1,6 +1,8 @@
 //! A query read and judged as a run of it does, and its refusal explained.
 #![tactic(auto)]
 
+mod alone;
+mod apart;
 mod call;
 mod query;
 mod status;

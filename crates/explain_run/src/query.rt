@@ -3,10 +3,11 @@ ghost use Rattle.std.specs.Prelude.{IfOk, MatchOption};
 ghost use Rattle.query_parser.specs.Reading.{IsFileOf};
 ghost use Rattle.query_syntax.specs.Files.{program_terms};
 ghost use Rattle.query_syntax.specs.Plain.{plain_program};
-ghost use Rattle.explain_run.specs.Explained.{Explains, IsAccepted};
+ghost use Rattle.explain_run.specs.Explained.{Explains, ExplainsProgram, IsAccepted};
 
+use crate::apart::{found_apart, push_found};
 use explanation::{program_explanation, text_explanation};
-use language_base::Bytes;
+use language_base::{Bytes, Refusal};
 use query_parser::ReadStop;
 use query_syntax::{Program, read_syntax};
 use std::alloc::{AllocError, Global};
@@ -40,8 +41,26 @@ fn explanation_in(
     match check(alloc, program) {
         Ok(_checked) => Ok(None),
         Err(CheckStop::Refused(refusal)) => {
-            Ok(Some(program_explanation(alloc, name, text, program, refusal)?))
+            Ok(Some(explained(alloc, name, text, program, refusal)?))
         }
         Err(CheckStop::Memory) => Err(AllocError),
     }
+}
+
+// The explanation of the refusal of a program, and the lines that tell the operands of a
+// combination apart.
+fn explained(
+    alloc: Global,
+    name: &str,
+    text: &[u8],
+    program: &Program,
+    refusal: Refusal,
+) -> Result<Bytes, AllocError>
+    ensures { IfOk result (ExplainsProgram name.now text.now (plain_program program.now) refusal) }
+{
+    let explanation = program_explanation(alloc, name, text, program, refusal)?;
+    let found = found_apart(alloc, text, program, refusal)?;
+    let mut shown = Vec::from_slice(alloc, explanation.as_slice())?;
+    push_found(found, &mut shown)?;
+    Ok(Bytes::from_vec(shown))
 }

@@ -12,8 +12,8 @@ returns-in-Ok c =
     accepts_judged _ (plain_program c.args.program.now) (monitor_of c.in-Ok._checked) c.requires
     c.in-Ok.ensures.accepted
 
-pub returns-in_ok-program_explanation-in-Err-Refused : goal.returns-in_ok-program_explanation-in-Err-Refused
-returns-in_ok-program_explanation-in-Err-Refused c =
+pub returns-in_ok-explained-in-Err-Refused : goal.returns-in_ok-explained-in-Err-Refused
+returns-in_ok-explained-in-Err-Refused c =
     explains_judged _ _ _ (plain_program c.args.program.now) c.in-Err-Refused.refusal c.requires
     (rw c.in-Err-Refused.refusal-is (rw c.in-Err-Refused.field-0-is at c.in-Err-Refused.ensures.refused))
-    c.in_ok-program_explanation-in-Err-Refused.ensures
+    c.in_ok-explained-in-Err-Refused.ensures

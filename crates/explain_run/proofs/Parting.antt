@@ -1,0 +1,21 @@
+-- From what tells two parts of a text apart to what tells the operands of its main query apart.
+use Rattle.std.proofs.Common.{◌≡◌, ℕ, List, Option, None, Some, IfSome, sym, subst}
+use Rattle.language_base.specs.declared.span.Span.{Span}
+use Rattle.query_parser.specs.Reading.{IsFileOf}
+use Rattle.query_syntax.specs.Expressions.{Expression}
+use Rattle.query_syntax.specs.Files.{program_terms}
+use Rattle.query_syntax.specs.Programs.{Program}
+use Rattle.query_syntax.specs.Queries as q
+use Rattle.query_syntax.specs.Queries.{Query}
+use Rattle.query_syntax.specs.Spans.{query_span}
+use Rattle.separating_word.specs.declared.separation.Separation.{Separation}
+use Rattle.explain_run.specs.Apart.{SeparatesMain, SeparatesOperands, SeparatesParts}
+
+-- where these are the operands
+pub main_of : (text : List ℕ) (program : Program) (f g : Query) (value : Expression) (span : Span)
+    (found : Option Separation) → IsFileOf text (program_terms program)
+    → program.main.query ≡ q.combine f g value span
+    → IfSome found (SeparatesParts text program (query_span f) (query_span g)) → IfSome found (SeparatesMain text)
+main_of text program f g value span None file is apart = tt
+main_of text program f g value span (Some found) file is apart =
+    (program, file, subst (λ (query : Query). SeparatesOperands text program query found) (sym is) apart)

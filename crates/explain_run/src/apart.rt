@@ -1,0 +1,137 @@
+//! Lines that tell the operands of a refused combination apart.
+ghost use Rattle.std.specs.Prelude.{◌≡◌, ◌++◌, IfOk, IfSome, OnOk};
+ghost use Rattle.query_model.specs.Monitors.{monitor_of};
+ghost use Rattle.query_parser.specs.Reading.{IsFileOf};
+ghost use Rattle.query_syntax.specs.Files.{program_terms};
+ghost use Rattle.query_syntax.specs.Plain.{plain_program};
+ghost use Rattle.sqre_run.specs.Compiled.{Compiles};
+ghost use Rattle.type_checker.specs.Judged.{accepted};
+ghost use Rattle.explain_run.specs.Apart.{IsApart, SeparatesFrom, SeparatesMain, SeparatesParts, SeparatesTexts, found_text};
+
+use crate::alone::alone;
+use language_base::{Refusal, Rule, Span};
+use query_model::Checked;
+use query_parser::ReadStop;
+use query_syntax::{Program, Query, read_syntax};
+use separating_word::{Separation, push_separation, tell_apart};
+use std::alloc::{AllocError, Global};
+use type_checker::{CheckStop, check};
+
+/// What tells the operands of a combination apart that is refused since these have not the same
+/// words.
+pub(crate) fn found_apart(
+    alloc: Global,
+    text: &[u8],
+    program: &Program,
+    refusal: Refusal,
+) -> Result<Option<Separation>, AllocError>
+    ensures { IfOk result (IsApart text.now (plain_program program.now) refusal) }
+{
+    match refusal.rule {
+        Rule::Rates => {
+            let whole = alone(alloc, text, program, refusal.span)?;
+            text_apart(alloc, whole.as_slice())
+        }
+        _ => Ok(None),
+    }
+}
+
+/// Appends the lines, where some are found.
+pub(crate) fn push_found(found: Option<Separation>, shown: &mut Vec<u8>) -> Result<(), AllocError>
+    ensures { OnOk result (shown.new.items ≡ shown.old.items ++ found_text found) }
+{
+    match found {
+        Some(found) => push_separation(&found, shown),
+        None => Ok(()),
+    }
+}
+
+// What tells the operands of a text's main query apart.
+fn text_apart(alloc: Global, text: &[u8]) -> Result<Option<Separation>, AllocError>
+    ensures { IfOk result (λ found. IfSome found (SeparatesMain text.now)) }
+{
+    match read_syntax(alloc, text) {
+        Ok(program) => program_apart(alloc, text, &program),
+        Err(ReadStop::Refused(_)) => Ok(None),
+        Err(ReadStop::Memory) => Err(AllocError),
+    }
+}
+
+// The same where the text writes this program.
+fn program_apart(
+    alloc: Global,
+    text: &[u8],
+    program: &Program,
+) -> Result<Option<Separation>, AllocError>
+    requires { IsFileOf text.now (program_terms (plain_program program.now)) }
+    ensures { IfOk result (λ found. IfSome found (SeparatesMain text.now)) }
+{
+    match &program.main.query {
+        Query::Combine { left, right, .. } => {
+            parts_apart(alloc, text, program, left.span(), right.span())
+        }
+        _ => Ok(None),
+    }
+}
+
+// What tells two parts of the text apart, each as the main query.
+fn parts_apart(
+    alloc: Global,
+    text: &[u8],
+    program: &Program,
+    left: Span,
+    right: Span,
+) -> Result<Option<Separation>, AllocError>
+    ensures { IfOk result (λ found. IfSome found
+        (SeparatesParts text.now (plain_program program.now) left right)) }
+{
+    let left_text = alone(alloc, text, program, left)?;
+    let right_text = alone(alloc, text, program, right)?;
+    texts_apart(alloc, left_text.as_slice(), right_text.as_slice())
+}
+
+// What tells the queries of two texts apart.
+fn texts_apart(alloc: Global, left: &[u8], right: &[u8]) -> Result<Option<Separation>, AllocError>
+    ensures { IfOk result (λ found. IfSome found (SeparatesTexts left.now right.now)) }
+{
+    match compiled(alloc, left)? {
+        Some(query) => apart_from(alloc, &query, right),
+        None => Ok(None),
+    }
+}
+
+// What tells a query on the left and that of a text on the right apart.
+fn apart_from(alloc: Global, left: &Checked, right: &[u8]) -> Result<Option<Separation>, AllocError>
+    ensures { IfOk result (λ found.
+        IfSome found (SeparatesFrom (monitor_of left.now) right.now)) }
+{
+    match compiled(alloc, right)? {
+        Some(query) => tell_apart(alloc, left, &query),
+        None => Ok(None),
+    }
+}
+
+// The query of a text, if a run takes it.
+fn compiled(alloc: Global, text: &[u8]) -> Result<Option<Checked>, AllocError>
+    ensures { IfOk result (λ found. IfSome found
+        (λ checked. Compiles text.now (accepted (monitor_of checked)))) }
+{
+    match read_syntax(alloc, text) {
+        Ok(program) => judged(alloc, text, &program),
+        Err(ReadStop::Refused(_)) => Ok(None),
+        Err(ReadStop::Memory) => Err(AllocError),
+    }
+}
+
+// The same where the text writes this program.
+fn judged(alloc: Global, text: &[u8], program: &Program) -> Result<Option<Checked>, AllocError>
+    requires { IsFileOf text.now (program_terms (plain_program program.now)) }
+    ensures { IfOk result (λ found. IfSome found
+        (λ checked. Compiles text.now (accepted (monitor_of checked)))) }
+{
+    match check(alloc, program) {
+        Ok(checked) => Ok(Some(checked)),
+        Err(CheckStop::Refused(_)) => Ok(None),
+        Err(CheckStop::Memory) => Err(AllocError),
+    }
+}

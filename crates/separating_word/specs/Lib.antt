@@ -1,0 +1,4 @@
+pub mod Findings
+pub mod Pairs
+pub mod Separations
+pub mod Telling

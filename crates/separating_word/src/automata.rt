@@ -1,0 +1,89 @@
+//! The automata of two queries over the same cells.
+ghost use Rattle.std.specs.Prelude.{IfOk, IfSome};
+ghost use Rattle.separating_word.specs.Pairs.{ShareCells};
+
+use item_schema::Schema;
+use predicate_cells::{CellStop, Cells, Preds};
+use query_model::{Checked, Query};
+use rate_expr::{MAX_POSITIONS, Positions};
+use std::alloc::{AllocError, Global};
+use std::rc::Rc;
+use symbolic_nfa::Nfa;
+
+/// Two automata over the same cells.
+#[derive(Drop)]
+pub(crate) struct Automata {
+    pub(crate) left: Nfa,
+    pub(crate) right: Nfa,
+}
+
+/// The automata of the queries' rates, over the cells of both.
+pub(crate) fn automata_of(
+    alloc: Global,
+    left: &Checked,
+    right: &Checked,
+) -> Result<Option<Automata>, AllocError>
+    ensures { IfOk result (λ found. IfSome found ShareCells) }
+{
+    let Some(first) = positions_of(alloc, left.main())? else {
+        return Ok(None);
+    };
+    let Some(second) = positions_of(alloc, right.main())? else {
+        return Ok(None);
+    };
+    match cells_of(alloc, left.schema(), &first, &second)? {
+        Some(cells) => over(alloc, &cells, first, second),
+        None => Ok(None),
+    }
+}
+
+fn positions_of(alloc: Global, query: &Query) -> Result<Option<Positions>, AllocError> {
+    let rate = query.rate(alloc)?;
+    if rate.positions() > MAX_POSITIONS {
+        return Ok(None);
+    }
+    Ok(Some(Positions::of(alloc, &rate)?))
+}
+
+// The cells that the predicates of both tell apart.
+fn cells_of(
+    alloc: Global,
+    schema: &Schema,
+    first: &Positions,
+    second: &Positions,
+) -> Result<Option<Rc<Cells>>, AllocError> {
+    let mut preds = Preds::new(alloc);
+    add_all(first.preds().distinct(), &mut preds)?;
+    add_all(second.preds().distinct(), &mut preds)?;
+    if !preds.fit(schema) {
+        return Ok(None);
+    }
+    match Cells::new(alloc, schema, &preds) {
+        Ok(cells) => Ok(Some(Rc::new(alloc, cells)?)),
+        Err(CellStop::TooMany) => Ok(None),
+        Err(CellStop::Memory) => Err(AllocError),
+    }
+}
+
+fn add_all(added: &Preds, preds: &mut Preds) -> Result<(), AllocError> {
+    for pred in added.as_slice() {
+        preds.add(pred)?;
+    }
+    Ok(())
+}
+
+fn over(
+    alloc: Global,
+    cells: &Rc<Cells>,
+    first: Positions,
+    second: Positions,
+) -> Result<Option<Automata>, AllocError>
+    ensures { IfOk result (λ found. IfSome found ShareCells) }
+{
+    if !Nfa::can_read(&first, cells.as_ref()) || !Nfa::can_read(&second, cells.as_ref()) {
+        return Ok(None);
+    }
+    let left = Nfa::new(alloc, first, cells)?;
+    let right = Nfa::new(alloc, second, cells)?;
+    Ok(Some(Automata { left, right }))
+}
