@@ -3,12 +3,12 @@
 ghost use Rattle.std.specs.Prelude.{◌≡◌, IfOk, IsTrue};
 ghost use Rattle.item_schema.specs.Layout.{has_digits, is_read};
 
-use super::*;
-use crate::{
-    Column, Kind, are_columns, lines_are_cut_outside_quotes, lines_are_skipped_for_their_texts,
-    lines_have_items_of_their_columns, lines_write_their_items,
+use item_schema::{
+    Column, ItemStop, Kind, Schema, are_columns, lines_are_cut_outside_quotes,
+    lines_are_skipped_for_their_texts, lines_have_items_of_their_columns, lines_write_their_items,
+    read_item,
 };
-use std::alloc::AllocError;
+use std::alloc::{AllocError, Global};
 use std::fmt::Write;
 use std::test::Fail;
 use value_ops::{Bytes, Field};

@@ -1,7 +1,9 @@
 // What no clause says: that cells, masks, samples and copies are made at all, and how many cells there may be. The
 // program cell_cases goes through a table of tests and the cells that they make.
-use crate::{CellStop, Cells, Pred, Preds, cells_part_items, holds, predicates_are_met_or_not};
 use item_schema::{Column, Item, Kind, Schema};
+use predicate_cells::{
+    CellStop, Cells, Pred, Preds, cells_part_items, holds, predicates_are_met_or_not,
+};
 use std::alloc::{AllocError, Global};
 use std::test::Fail;
 use value_ops::{Bytes, Field};

@@ -1,11 +1,11 @@
 // What expressions give, by the rules of the language: names, choices and tables at their edges.
-use crate::Scalar::{DivZero, Number, Overflow};
-use crate::{
+use std::alloc::{AllocError, Global};
+use std::test::Fail;
+use value_ops::Scalar::{DivZero, Number, Overflow};
+use value_ops::{
     BinaryOp, Bytes, Compare, Expr, Field, Scalar, Table, Types, UnaryOp, Value, ValueType, Var,
     typed_expressions_have_values,
 };
-use std::alloc::{AllocError, Global};
-use std::test::Fail;
 
 fn boxed(alloc: Global, expr: Expr) -> Result<Box<Expr>, AllocError> {
     Ok(Box::new(alloc, expr)?)
