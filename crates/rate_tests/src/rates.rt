@@ -1,11 +1,11 @@
 // What no clause says: that positions, masks and copies are made at all. The masks were found by hand. The program
 // rate_cases goes through a table of rates and their sets.
-use crate::masks::{end_of, has, lowest, only, overlap, without_lowest};
-use crate::{
+use predicate_cells::Pred;
+use rate_expr::masks::{end_of, has, lowest, only, overlap, without_lowest};
+use rate_expr::{
     MAX_POSITIONS, Positions, Rate, State, each_word_is_in_or_not, one_automaton_of_a_rate,
     one_state_behind_a_word, sets_spell_their_rate,
 };
-use predicate_cells::Pred;
 use std::alloc::{AllocError, Global};
 use std::process::Abort;
 use std::test::Fail;

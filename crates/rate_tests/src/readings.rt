@@ -1,50 +1,12 @@
 // What no clause says: that answers and levels are found at all. The program rate_cases goes through tables of rates and
 // the answers on them.
-ghost use Rattle.std.specs.Prelude.{◌≡◌, IfOk};
-
-use crate::{Pairs, Phase, Search, Splits, disjoint, one_factoring, one_split};
-use item_schema::{Column, Kind, Schema};
-use predicate_cells::{CellStop, Cells, Pred, Preds};
-use rate_expr::{MAX_POSITIONS, Positions, Rate};
+use crate::one_number::{cells, nfa_of};
+use ambiguity_check::{Pairs, Phase, Search, Splits, disjoint, one_factoring, one_split};
+use predicate_cells::{CellStop, Pred};
+use rate_expr::Rate;
 use std::alloc::{AllocError, Global};
 use std::process::Abort;
-use std::rc::Rc;
 use std::test::Fail;
-use symbolic_nfa::Nfa;
-use value_ops::Bytes;
-
-// A stream of items of one number.
-fn numbers(alloc: Global) -> Result<Schema, AllocError> {
-    let name = Bytes::from_slice(alloc, b"a")?;
-    let mut columns = Vec::new(alloc);
-    columns.push(Column {
-        name,
-        kind: Kind::Int,
-    })?;
-    Ok(Schema::new(false, columns))
-}
-
-fn shared(alloc: Global, cells: Cells) -> Result<Rc<Cells>, AllocError> {
-    Ok(Rc::new(alloc, cells)?)
-}
-
-// The cells of such a stream: one of all items.
-fn cells(rt: &impl Abort, alloc: Global) -> Result<Rc<Cells>, CellStop> {
-    let schema = numbers(alloc)?;
-    let mut preds = Preds::new(alloc);
-    preds.add(&Pred::Any)?;
-    assert!(rt; preds.fit(&schema));
-    Ok(shared(alloc, Cells::new(alloc, &schema, &preds)?)?)
-}
-
-fn nfa_of(rt: &impl Abort, alloc: Global, cells: &Rc<Cells>, rate: &Rate) -> Result<Nfa, AllocError>
-    ensures { IfOk result (λ nfa. nfa.cells ≡ cells.now.value) }
-{
-    assert!(rt; rate.positions() <= MAX_POSITIONS);
-    let positions = Positions::of(alloc, rate)?;
-    assert!(rt; Nfa::can_read(&positions, cells.as_ref()));
-    Nfa::new(alloc, positions, cells)
-}
 
 // An item, again and again.
 fn items(alloc: Global) -> Result<Rate, AllocError> {

@@ -1,33 +1,19 @@
 // What no clause says: that automata and copies are made at all, and what they answer behind a word. The program
 // rate_cases goes through a table of rates and words.
-use crate::{
-    Nfa, State, acceptance_is_membership, extending_is_having_an_extension, steps_lead_on,
-};
-use item_schema::{Column, Item, Kind, Schema};
+use crate::one_number::{numbers, shared};
+use item_schema::Item;
 use predicate_cells::{CellStop, Cells, Pred, Preds};
 use rate_expr::{MAX_POSITIONS, Positions, Rate};
 use std::alloc::{AllocError, Global};
 use std::process::Abort;
 use std::rc::Rc;
 use std::test::Fail;
-use value_ops::{Bytes, Field};
+use symbolic_nfa::{
+    Nfa, State, acceptance_is_membership, extending_is_having_an_extension, steps_lead_on,
+};
+use value_ops::Field;
 
-// A stream of items of one number.
-fn numbers(alloc: Global) -> Result<Schema, AllocError> {
-    let name = Bytes::from_slice(alloc, b"a")?;
-    let mut columns = Vec::new(alloc);
-    columns.push(Column {
-        name,
-        kind: Kind::Int,
-    })?;
-    Ok(Schema::new(false, columns))
-}
-
-fn shared(alloc: Global, cells: Cells) -> Result<Rc<Cells>, AllocError> {
-    Ok(Rc::new(alloc, cells)?)
-}
-
-// The cells of such a stream, made with the predicate and another.
+// The cells of a stream of numbers, made with the predicate and another.
 fn cells_with(rt: &impl Abort, alloc: Global, pred: &Pred) -> Result<Rc<Cells>, CellStop> {
     let schema = numbers(alloc)?;
     let mut preds = Preds::new(alloc);
