@@ -1,6 +1,6 @@
 use Rattle.std.proofs.Common.{[], ◌∷◌, inl, refl, arith}
 use Rattle.query_tokens.specs.Raw.IsPart.{plain, quote, backslash, code}
-use Rattle.query_tokens.proofs.tests.a_string_stands_for_its_bytes.Goals as goal
+use Rattle.text_tests.proofs.tokens.a_string_stands_for_its_bytes.Goals as goal
 
 -- the parts of the string
 pub text_bytes-requires : goal.text_bytes-requires

@@ -3,9 +3,9 @@ ghost use Rattle.std.specs.Prelude.{◌≡◌};
 ghost use Rattle.query_tokens.specs.declared.token.TokenKind.TheVariants.{Word};
 ghost use Rattle.query_trees.specs.Trees.{Trees, call, tree_before, trees_of};
 
-use super::*;
-use crate::place::Place::*;
 use language_base::Span;
+use query_forms::Place::*;
+use query_forms::{Place, first_large, fits_number, fits_text, fits_word, places_of, unfit_file};
 use query_tokens::{Token, TokenKind};
 use query_trees::Tree;
 use std::test::Fail;

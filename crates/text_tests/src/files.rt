@@ -1,7 +1,7 @@
 // The longest texts, and the canonical text. The program `query_cases` shows the other rules of reading at
 // their edges.
-use crate::{ReadStop, print_file, read_file};
 use language_base::Bytes;
+use query_parser::{ReadStop, print_file, read_file};
 use std::alloc::{AllocError, Global};
 use std::test::Fail;
 

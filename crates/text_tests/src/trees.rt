@@ -1,7 +1,7 @@
 // A token is one byte of the text, and its place is that of the byte.
-use crate::{Tree, TreeStop, read_trees};
 use language_base::Span;
 use query_tokens::{Token, TokenKind};
+use query_trees::{Tree, TreeStop, read_trees};
 use std::alloc::{AllocError, Global};
 use std::test::Fail;
 

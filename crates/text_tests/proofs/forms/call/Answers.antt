@@ -1,6 +1,6 @@
 use Rattle.std.proofs.Common.{refl}
 use Rattle.query_forms.proofs.Trees.{call_before}
-use Rattle.query_forms.proofs.tests.call.Goals as goal
+use Rattle.text_tests.proofs.forms.call.Goals as goal
 
 pub returns : goal.returns
 returns c others =

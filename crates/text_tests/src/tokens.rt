@@ -1,8 +1,8 @@
 // What no clause says: that a text of tokens is read where memory suffices, and a few of them by name.
-use super::*;
-use TokenKind::{Close, Comma, Number, Open, Text, Word};
 use language_base::Span;
-use std::alloc::{AllocError, Global};
+use query_tokens::TokenKind::{Close, Comma, Number, Open, Text, Word};
+use query_tokens::{Token, TokenKind, TokenStop, number_value, read_tokens, text_bytes};
+use std::alloc::Global;
 use std::test::Fail;
 
 fn is_at(token: Token, kind: TokenKind, from: u32, to: u32) -> bool {
