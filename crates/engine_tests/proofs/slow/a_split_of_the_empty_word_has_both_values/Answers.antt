@@ -7,7 +7,7 @@ use Rattle.operators.specs.declared.binary.BinaryOp.TheVariants as op
 use Rattle.query_model.specs.Queries.{Qre, eps, plain_of, split}
 use Rattle.query_model.specs.Rules.{bound}
 use Rattle.slow_eval.specs.Answers.{CanBeRead}
-use Rattle.call_tests.proofs.slow.a_split_of_the_empty_word_has_both_values.Goals as goal
+use Rattle.engine_tests.proofs.slow.a_split_of_the_empty_word_has_both_values.Goals as goal
 
 three : FitsSigned w64 (pos 3)
 three = search rules

@@ -11,7 +11,7 @@ use Rattle.rate_expr.specs.Rates.{one, star}
 use Rattle.query_model.specs.Queries.{atom, collect}
 use Rattle.query_model.specs.Rules.{CanBeMet, bound}
 use Rattle.slow_eval.specs.Answers.{CanBeRead}
-use Rattle.call_tests.proofs.slow.keys_stand_in_the_order_in_which_they_appear.Goals as goal
+use Rattle.engine_tests.proofs.slow.keys_stand_in_the_order_in_which_they_appear.Goals as goal
 
 one_number : FitsSigned w64 (pos 1)
 one_number = search rules

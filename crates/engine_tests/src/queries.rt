@@ -1,11 +1,11 @@
 // The rates of queries of every shape, by the rules of the language, and copies.
 ghost use Rattle.std.specs.Prelude.{◌<◌};
 
-use crate::{
+use predicate_cells::Pred;
+use query_model::{
     Query, Shape, Span, a_word_has_at_most_one_value, each_word_has_a_value_or_none,
     queries_have_values_on_their_rates, values_have_the_types_of_their_queries,
 };
-use predicate_cells::Pred;
 use rate_expr::Rate;
 use std::alloc::{AllocError, Global};
 use std::test::Fail;

@@ -1,7 +1,7 @@
 // The starts after each call. Words of the rate have two items, of which the first is 1 and the
 // second 2: positions 0 and 1.
-use crate::{Keys, Tracks};
 use item_schema::{Column, Item, Kind, Schema};
+use map_collect::{Keys, Tracks};
 use predicate_cells::{CellStop, Cells, Pred, Preds};
 use rate_expr::{MAX_POSITIONS, Positions, Rate};
 use std::alloc::{AllocError, Global};

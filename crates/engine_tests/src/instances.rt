@@ -1,6 +1,6 @@
 // The lists of followers after each call, at their edges, with ample memory. A follower is a number
 // here.
-use crate::Instances;
+use compose_eval::Instances;
 use std::alloc::{AllocError, Global};
 use std::test::Fail;
 

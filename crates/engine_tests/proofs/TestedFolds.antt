@@ -17,7 +17,7 @@ use Rattle.query_model.specs.Queries.{Qre, atom, combine, iter, plain_of}
 use Rattle.query_model.specs.Rules.{IsClear, Standing, free}
 use Rattle.query_model.specs.Sizes.{IsSmall}
 use Rattle.eval_tree.specs.Shapes.{CanRun}
-use Rattle.call_tests.proofs.Tested.{checked_as, met, numbers}
+use Rattle.engine_tests.proofs.Tested.{checked_as, met, numbers}
 
 abbrev pub total : Expression → Qre
 total value = iter (atom any value) (pos 0) (binary op.Add (read var.Left) (read var.Right))

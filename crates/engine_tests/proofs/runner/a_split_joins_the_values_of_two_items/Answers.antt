@@ -3,8 +3,8 @@ use Rattle.std.specs.Prelude.{pos, FitsSigned}
 use Rattle.std.specs.Int.{w64}
 use Rattle.query_model.specs.Queries.{plain_of}
 use Rattle.eval_tree.specs.Plain.{holding_of}
-use Rattle.call_tests.proofs.Tested.{can_run, can_start, can_step, numbers, started, stepped}
-use Rattle.call_tests.proofs.runner.a_split_joins_the_values_of_two_items.Goals as goal
+use Rattle.engine_tests.proofs.Tested.{can_run, can_start, can_step, numbers, started, stepped}
+use Rattle.engine_tests.proofs.runner.a_split_joins_the_values_of_two_items.Goals as goal
 
 nine : FitsSigned w64 (pos 9)
 nine = search rules

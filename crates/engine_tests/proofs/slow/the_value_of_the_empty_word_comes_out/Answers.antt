@@ -12,7 +12,7 @@ use Rattle.query_model.specs.Queries.{atom, compose, eps, plain_of}
 use Rattle.query_model.specs.QueryTypes.{derived_columns}
 use Rattle.query_model.specs.Rules.{CanBeMet, free}
 use Rattle.slow_eval.specs.Answers.{CanBeRead}
-use Rattle.call_tests.proofs.slow.the_value_of_the_empty_word_comes_out.Goals as goal
+use Rattle.engine_tests.proofs.slow.the_value_of_the_empty_word_comes_out.Goals as goal
 
 three : FitsSigned w64 (pos 3)
 three = search rules

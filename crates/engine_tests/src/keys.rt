@@ -1,5 +1,5 @@
 // The keys and followers after each call, with ample memory. A follower is a number here.
-use crate::Keys;
+use map_collect::Keys;
 use std::alloc::{AllocError, Global};
 use std::test::Fail;
 

@@ -1,6 +1,6 @@
 // What no clause says: that a bound is found as it was by hand. The program bound_cases goes through a table of queries
 // and their bounds.
-use crate::{places, slots};
+use memory_bound::{places, slots};
 use predicate_cells::Pred;
 use query_model::{Query, Shape, Span};
 use std::alloc::{AllocError, Global};

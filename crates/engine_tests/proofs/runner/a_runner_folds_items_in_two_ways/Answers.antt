@@ -1,9 +1,10 @@
-use Rattle.std.proofs.Common.{◌≡◌, ℕ, ◌∙◌, List, [], ◌∷◌, ◌++◌, ap, rules}
+use Rattle.std.proofs.Common.{◌≡◌, ℕ, ◌∙◌, List, [], ◌∷◌, ◌++◌, ap}
 use Rattle.item_schema.specs.declared.column.Column.{Column}
 use Rattle.item_schema.specs.declared.column.Kind.TheVariants as kind
 use Rattle.item_schema.specs.Layout.{Layout}
-use Rattle.call_tests.proofs.Tested.{checked, numbers}
-use Rattle.call_tests.proofs.runner.a_runner_has_the_value_of_each_word.Goals as goal
+use Rattle.engine_tests.proofs.Tested.{numbers}
+use Rattle.engine_tests.proofs.TestedFolds.{excess_checked}
+use Rattle.engine_tests.proofs.runner.a_runner_folds_items_in_two_ways.Goals as goal
 
 pub new-checked-requires : goal.new-checked-requires
 new-checked-requires g c =
@@ -12,4 +13,4 @@ new-checked-requires g c =
     ∙ ap (λ (cs : List Column). cs ++ record { name = c.in_ok-name.name; kind = kind.Int } ∷ [])
     c.new-columns.ensures.items
     ∙ ap (λ (bytes : List ℕ). record { name = bytes; kind = kind.Int } ∷ []) c.in_ok-name.ensures in
-    checked (record { layout = c.new.result; main = c.in_ok-query.query }) columns c.in_ok-query.ensures
+    excess_checked (record { layout = c.new.result; main = c.in_ok-query.query }) columns c.in_ok-query.ensures
