@@ -12,8 +12,6 @@ mod reach;
 mod readings;
 mod search;
 mod splits;
-#[cfg(test)]
-mod tests;
 
 pub use factorings::{Factorings, one_factoring};
 pub use graph::{Graph, Move, Moves, Node, Phase};

@@ -3,8 +3,6 @@
 
 mod instance;
 mod instances;
-#[cfg(test)]
-mod tests;
 
 pub use instance::Instance;
 pub use instances::Instances;

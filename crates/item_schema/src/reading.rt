@@ -49,6 +49,3 @@ fn broken_fields(alloc: Global, schema: &Schema, line: &[u8]) -> Result<Vec<Fiel
     }
     row_fields(alloc, schema, &row)
 }
-
-#[cfg(test)]
-mod tests;

@@ -5,8 +5,6 @@
 mod keyed;
 mod keys;
 mod states;
-#[cfg(test)]
-mod tests;
 mod track;
 mod tracks;
 

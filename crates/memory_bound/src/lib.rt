@@ -3,7 +3,5 @@
 
 mod bounds;
 mod demand;
-#[cfg(test)]
-mod tests;
 
 pub use bounds::{places, slots};

@@ -15,8 +15,6 @@ mod preds;
 mod row;
 mod starts;
 mod stop;
-#[cfg(test)]
-mod tests;
 mod texts;
 mod truth;
 mod truths;

@@ -10,8 +10,6 @@ mod laws;
 mod part;
 mod place;
 mod table;
-#[cfg(test)]
-mod tests;
 mod tops;
 mod unfit;
 

@@ -5,8 +5,6 @@ mod checked;
 mod follower;
 mod laws;
 mod query;
-#[cfg(test)]
-mod tests;
 
 pub use checked::Checked;
 pub use follower::Follower;

@@ -17,6 +17,3 @@ pub use print::print_file;
 pub use read::read_file;
 pub use stop::ReadStop;
 pub use term::{Term, Terms};
-
-#[cfg(test)]
-mod tests;

@@ -15,6 +15,3 @@ pub use reading::read_tokens;
 pub use stop::TokenStop;
 pub use token::{Token, TokenKind};
 pub use value::{number_value, text_bytes};
-
-#[cfg(test)]
-mod tests;

@@ -9,8 +9,6 @@ mod place;
 mod read;
 mod reader;
 mod stop;
-#[cfg(test)]
-mod tests;
 mod tree;
 
 pub use law::one_list_of_terms;

@@ -6,8 +6,6 @@ mod letters;
 mod pair;
 mod search;
 mod stop;
-#[cfg(test)]
-mod tests;
 
 pub use equal::{all_but_empty, same};
 pub use stop::EqualStop;

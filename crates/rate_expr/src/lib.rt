@@ -11,8 +11,6 @@ mod positions;
 mod rate;
 mod shared_preds;
 mod state;
-#[cfg(test)]
-mod tests;
 
 pub use laws::{
     each_word_is_in_or_not, one_automaton_of_a_rate, one_state_behind_a_word, sets_spell_their_rate,

@@ -5,8 +5,6 @@ mod ends;
 mod laws;
 mod met;
 mod nfa;
-#[cfg(test)]
-mod tests;
 mod ways_on;
 
 pub use laws::{acceptance_is_membership, extending_is_having_an_extension, steps_lead_on};

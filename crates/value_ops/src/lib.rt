@@ -9,8 +9,6 @@ mod laws;
 mod operator;
 mod scalar;
 mod table;
-#[cfg(test)]
-mod tests;
 mod total;
 mod typing;
 mod value;

@@ -49,26 +49,3 @@ pub fn sums_fit_or_overflow()
     ensures fits { (sum : ℤ) → FitsSigned w64 sum → in_range sum ≡ Scalar.Number sum }
     ensures beyond { (sum : ℤ) → ¬ (FitsSigned w64 sum) → in_range sum ≡ Scalar.Overflow }
 {}
-
-#[cfg(test)]
-mod tests {
-    use super::Scalar::{DivZero, Number, Overflow};
-    use super::*;
-
-    #[test]
-    fn adds_exactly_or_says_why_not(rt: HostRuntime) {
-        let cases = [
-            (Number(2), Number(-5), Number(-3)),
-            (Number(i64::MAX), Number(1), Overflow),
-            (Number(i64::MIN), Number(-1), Overflow),
-            (Number(i64::MIN), Number(i64::MAX), Number(-1)),
-            (Overflow, Number(1), Overflow),
-            (Number(1), DivZero, DivZero),
-            (DivZero, Overflow, DivZero),
-            (Overflow, DivZero, Overflow),
-        ];
-        for (first, second, sum) in cases {
-            assert_eq!(rt; first + second, sum, "{first:?} and {second:?}");
-        }
-    }
-}
