@@ -1,6 +1,6 @@
 -- What is kept in its room, where a follower comes, begins or comes to rest.
 use Rattle.std.proofs.Common.{◌==◌, get_or, set, ◌≡◌, ◌+◌, ◌<◌, ◌++◌, ℕ, List, [], ◌∷◌, None, length, sym, subst, arith}
-use Rattle.std.proofs.lemmas.List.{length-append}
+use Rattle.std.proofs.lemmas.List.{length-append, length-set}
 use Rattle.compose_eval.specs.Followers.{instance_at, IsKept}
 use Rattle.compose_eval.specs.declared.instance.Instance.{Instance}
 use Rattle.std.specs.List.{IsDistinct}
@@ -66,3 +66,16 @@ module _ {R : Type 0} where
         few = omega (arith, before, after, count, few);
         distinct = distinct_without front back x was.distinct;
       }))
+
+  -- an idle follower is another one
+  pub IsKept-rested : (live : List (Instance R)) (idle : List R) (room c d i : ℕ) (w : R)
+      → IsKept live idle room c d → IsKept live (set idle i w) room c d
+  IsKept-rested live idle room c d i w was =
+      let few = was.few in
+      let many : length (set idle i w) ≡ length idle = length-set idle i w in
+      record {
+        live_reserved = was.live_reserved;
+        idle_reserved = was.idle_reserved;
+        few = omega (arith, few, many);
+        distinct = was.distinct;
+      }

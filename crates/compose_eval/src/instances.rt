@@ -3,7 +3,7 @@ ghost use Rattle.std.specs.Prelude.{◌≡◌, ◌<◌, ◌≤◌, ◌+◌, ◌+
 ghost use Rattle.std.specs.Borrow.{sem};
 ghost use Rattle.std.specs.List.{position_from};
 ghost use Rattle.compose_eval.specs.Followers.{instance_at, is_at, outers_of, followers_of, live_instances, retired, AnswersAs, IsAt, AreDistinct, Wakes};
-ghost use Rattle.compose_eval.specs.Lending.{LendsFollower};
+ghost use Rattle.compose_eval.specs.Lending.{LendsFollower, LendsResting};
 
 use crate::Instance;
 use std::alloc::{AllocError, Global};
@@ -112,6 +112,14 @@ impl<R: Drop> Instances<R> {
         ensures { slice_get self.now.idle i ≡ Some result.now }
     {
         &self.idle[i]
+    }
+
+    pub fn resting_mut(&mut self, i: usize) -> &mut R
+        requires { i < length self.old.idle }
+        ensures* lends { sem 𝓛 (LendsResting R.row self.entry i result) }
+        ensures value { slice_get self.old.idle i ≡ Some result.now }
+    {
+        &mut self.idle[i]
     }
 
     /// Followers whose start is not live come to rest, in their order.

@@ -97,6 +97,17 @@ fn a_follower_is_found_by_its_start_and_written_to(rt: HostRuntime) -> Result<()
 }
 
 #[test]
+fn an_idle_one_is_written_to(rt: HostRuntime) -> Result<(), Fail> {
+    let mut instances = resting(rt.alloc())?;
+    if instances.idle() > 1 {
+        *instances.resting_mut(1) = 20;
+    }
+    let all = followers(rt.alloc(), &instances)?;
+    assert_eq!(rt; all.as_slice(), [1, 20, 3].as_slice());
+    Ok(())
+}
+
+#[test]
 fn the_others_keep_their_order_where_one_is_not_live(rt: HostRuntime) -> Result<(), Fail> {
     let mut instances = fed(rt.alloc())?;
     instances.keep(|start| start != 20);
