@@ -7,6 +7,7 @@ use Rattle.operators.specs.declared.binary.BinaryOp.TheVariants as op
 use Rattle.value_ops.specs.declared.expr.Var.TheVariants as var
 use Rattle.value_ops.specs.declared.field.Field.{Field}
 use Rattle.value_ops.specs.Expressions.{binary, literal, read, Expression}
+use Rattle.item_schema.specs.declared.column.Column.{Column}
 use Rattle.predicate_cells.specs.Predicates.{any}
 use Rattle.rate_expr.specs.Language.{In}
 use Rattle.rate_expr.specs.Rates.{one}
@@ -26,7 +27,7 @@ abbrev pub excess : Qre
 excess = combine (total (read (var.Field 0))) (total (literal (pos 1)))
     (binary op.Sub (read var.Left) (read var.Right))
 
-zero_fits : FitsSigned w64 (pos 0)
+pub zero_fits : FitsSigned w64 (pos 0)
 zero_fits = search rules
 
 one_fits : FitsSigned w64 (pos 1)
@@ -48,13 +49,13 @@ same_pieces (u ∷ us) (v ∷ vs) ((x, is, meets), all) ((y, is', meets'), other
     let firsts : u ≡ v = is ∙ ap (λ (item : List Field). item ∷ []) heads ∙ sym is' in
     ap (λ (w : Word). w ∷ us) firsts ∙ ap (λ (ws : List Word). v ∷ ws) (same_pieces us vs all others tails)
 
-one_factoring : HasOneFactoring numbers (one any)
-one_factoring us vs is all others same = same_pieces us vs all others same
+pub one_factoring : (columns : List Column) → HasOneFactoring columns (one any)
+one_factoring columns us vs is all others same = same_pieces us vs all others same
 
 clear : (standing : Standing) → IsClear standing numbers excess
 clear standing = (
-  ((met, refl), zero_fits, (refl, refl), one_factoring),
-  ((met, one_fits), zero_fits, (refl, refl), one_factoring),
+  ((met, refl), zero_fits, (refl, refl), one_factoring numbers),
+  ((met, one_fits), zero_fits, (refl, refl), one_factoring numbers),
   (refl, refl),
   λ word is. (λ there. there, λ there. there),
 )

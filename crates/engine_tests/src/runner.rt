@@ -3,9 +3,9 @@ ghost use Rattle.std.specs.Prelude.{◌≡◌, [], ◌∷◌, pos, IfOk};
 ghost use Rattle.value_ops.specs.Expressions as values;
 ghost use Rattle.value_ops.specs.Expressions.{binary, literal, read};
 ghost use Rattle.predicate_cells.specs.Predicates.{any};
-ghost use Rattle.query_model.specs.Queries.{atom, combine, iter, plain_of, split};
+ghost use Rattle.query_model.specs.Queries.{atom, combine, compose, iter, plain_of, split};
 
-use eval_tree::{Hit, Node, Runner, can_run, is_live, start, step};
+use eval_tree::{Hit, Node, Runner, can_run, copy, is_live, start, step, stored};
 use item_schema::{Column, Item, Kind, Schema};
 use predicate_cells::Pred;
 use query_model::{Checked, Follower, Query, Shape, Span};
@@ -71,6 +71,19 @@ fn excess(alloc: Global) -> Result<Query, AllocError>
     Ok(query(Shape::Combine(first, second, expression)))
 }
 
+// compose(iter(atom(any, a), 0, add(x, y)), iter(atom(any, value), 0, add(x, y)))
+fn total_of_totals(alloc: Global) -> Result<Query, AllocError>
+    ensures { IfOk result (λ query. plain_of query.shape ≡ compose
+        (iter (atom any (read (Var.Field 0))) (pos 0)
+        (binary BinaryOp.Add (read Var.Left) (read Var.Right)))
+        (iter (atom any (read (Var.Field 0))) (pos 0)
+        (binary BinaryOp.Add (read Var.Left) (read Var.Right)))) }
+{
+    let first = Box::new(alloc, total(alloc, Expr::Read(Var::Field(0)))?)?;
+    let second = Box::new(alloc, total(alloc, Expr::Read(Var::Field(0)))?)?;
+    Ok(query(Shape::Compose(first, second)))
+}
+
 fn item(alloc: Global, number: i64) -> Result<Item, AllocError>
     ensures { IfOk result (λ item. item ≡ Field.Int number ∷ []) }
 {
@@ -103,8 +116,8 @@ fn a_split_joins_the_values_of_two_items(rt: HostRuntime) -> Result<(), Fail> {
     let left = step(&query, &mut node, alloc, 1, &nine)?;
     assert_eq!(rt; number_of(&left), None);
     assert!(rt; is_live(&query, &node, 0));
-    let copy = node.try_copy(alloc)?;
-    assert_eq!(rt; (node.stored(), copy.stored()), (4, 4));
+    let other = copy(&query, &node, alloc)?;
+    assert_eq!(rt; (stored(&query, &node), stored(&query, &other)), (4, 4));
     let four = item(alloc, 4)?;
     let right = step(&query, &mut node, alloc, 2, &four)?;
     assert_eq!(rt; number_of(&right), Some((0, 5)));
@@ -176,5 +189,38 @@ fn a_runner_folds_items_in_two_ways(rt: HostRuntime) -> Result<(), Fail> {
     );
     copy.step(alloc, &nine)?;
     assert_eq!(rt; (number_in(copy.answer()), copy.stored()), (Some(16), 10));
+    Ok(())
+}
+
+#[test]
+fn a_runner_sums_the_sums_of_the_prefixes(rt: HostRuntime) -> Result<(), Fail> {
+    let alloc = rt.alloc();
+    let name = Bytes::from_slice(alloc, b"a")?;
+    let mut columns = Vec::new(alloc);
+    columns.push(Column {
+        name,
+        kind: Kind::Int,
+    })?;
+    let query = total_of_totals(alloc)?;
+    let checked = Checked::new(Schema::new(false, columns), query);
+    let mut runner = Runner::new(alloc, &checked)?;
+    assert_eq!(rt; number_in(runner.answer()), Some(0));
+    let nine = item(alloc, 9)?;
+    runner.step(alloc, &nine)?;
+    let mut copy = runner.try_copy(alloc)?;
+    let four = item(alloc, 4)?;
+    runner.step(alloc, &four)?;
+    assert_eq!(rt;
+        (number_in(runner.answer()), number_in(copy.answer())),
+        (Some(22), Some(9))
+    );
+    copy.step(alloc, &nine)?;
+    assert_eq!(rt; (number_in(copy.answer()), copy.stored()), (Some(27), 15));
+    runner.reset(alloc)?;
+    runner.step(alloc, &four)?;
+    assert_eq!(rt;
+        (number_in(runner.answer()), runner.failed()),
+        (Some(4), false)
+    );
     Ok(())
 }

@@ -1,18 +1,21 @@
--- A runner follows the empty word when it is new, and a word with one more item behind a step.
-use Rattle.std.proofs.Common.{◌≡◌, ℕ, ◌+◌, ◌∙◌, List, [], ◌∷◌, ◌++◌, Option, Some, None, option_map, length, refl, sym, ap, subst}
+-- A runner takes one more item, or begins anew: what it follows then, and that it stays sound.
+use Rattle.std.proofs.Common.{◌≡◌, ℕ, ◌+◌, ◌∙◌, true, false, List, [], ◌∷◌, ◌++◌, Option, Some, None, option_map, length, refl, sym, ap, subst, arith, inl, inr}
+use Rattle.std.proofs.lemmas.Bool.{false≢true}
 use Rattle.value_ops.specs.declared.field.Field.{Field}
 use Rattle.value_ops.specs.declared.value.ValueType.{ValueType}
 use Rattle.item_schema.specs.declared.column.Column.{Column}
 use Rattle.item_schema.specs.Items.{IsItemOf}
 use Rattle.rate_expr.specs.Words.{Word}
-use Rattle.query_model.specs.Following.{IsAnswer}
+use Rattle.query_model.specs.Following.{FitsNext, IsAnswer}
 use Rattle.query_model.specs.Queries.{Qre}
 use Rattle.query_model.specs.QueryTypes.{type_of}
-use Rattle.query_model.specs.Rules.{Standing, IsClear}
+use Rattle.query_model.specs.Rules.{Standing, free, IsClear}
 use Rattle.eval_tree.specs.declared.hit.Hit.{Hit}
 use Rattle.eval_tree.specs.declared.progress.Progress.{Progress}
-use Rattle.eval_tree.specs.Following.{IsAt}
-use Rattle.eval_tree.specs.Holdings.{Holding}
+use Rattle.eval_tree.specs.declared.runner.Runner.{Runner}
+use Rattle.eval_tree.specs.Feeds.{CanCarry, IsCarried, IsCleared, IsRenewed, IsSoundOf}
+use Rattle.eval_tree.specs.Following.{columns_of, IsAt, IsSoundly, query_of}
+use Rattle.eval_tree.specs.Holdings.{Holding, Seen}
 use Rattle.eval_tree.specs.Plain.{holding_of, seen_of}
 use Rattle.eval_tree.specs.Represents.{Represents}
 use Rattle.eval_tree.specs.Sound.{IsSound, IsTyped}
@@ -27,31 +30,68 @@ typed_answer : (type : ValueType) (hit : Option Hit) → IsHitOf type hit
 typed_answer type None is = tt
 typed_answer type (Some found) is = is
 
+module _ {R : Type 0} (seen : R → Seen R) where
+  pub carried_on : (q : Qre) (old new : R) (item : List Field) (hit : Option Hit)
+      → Steps seen q (seen old).node ((seen old).position + 1) item (seen new).node hit
+      → StepsSoundly seen q (seen old).node ((seen old).position + 1) item (seen new).node hit
+      → (seen new).position ≡ (seen old).position + 1
+      → (seen new).answer ≡ option_map (λ (found : Hit). found.value) hit → IsCarried seen q old item new
+  carried_on q old new item hit steps soundly position answer = record {
+    word = λ standing columns word clear longer follows.
+        let end : (seen old).position ≡ length word = follows.position in
+        let stepped = steps standing columns word (0 ∷ []) clear longer (one_position word) follows.node
+        (ap (λ (n : ℕ). n + 1) end) (one_apart columns q (word ++ item ∷ [])) in
+        record {
+          position = position ∙ ap (λ (n : ℕ). n + 1) end ∙ sym (length_more word item);
+          node = stepped.after;
+          answer = subst (IsAnswer q (word ++ item ∷ [])) (sym answer)
+              (hit_answers q (word ++ item ∷ []) hit stepped.hit);
+        };
+    sound = λ standing columns clear is_item is.
+        let after = soundly standing columns (seen old).position refl clear is_item is.node in
+        record {
+          node = subst (λ (n : ℕ). IsSound seen columns q n (seen new).node) (sym position) after.node;
+          answer = subst (IsTyped (type_of columns q)) (sym answer) (typed_answer (type_of columns q) hit after.hit);
+        };
+    position = position;
+  }
+
+  -- the node was cleared, for some columns and so for all
+  pub begun_anew : (q : Qre) (old new : R) (cleared : Holding R) (hit : Option Hit) (columns : List Column)
+      → IsSoundOf seen columns q old → IsCleared seen q (seen old).node cleared
+      → Starts seen q cleared 0 (seen new).node hit → StartsSoundly seen q cleared 0 (seen new).node hit
+      → (seen new).position ≡ 0 → (seen new).answer ≡ option_map (λ (found : Hit). found.value) hit
+      → IsRenewed seen q old new
+  begun_anew q old new cleared hit some is_sound is_cleared starts soundly position answer = record {
+    word = λ standing columns clear.
+        let rep = (is_cleared some (seen old).position is_sound.node).0 columns in
+        let started = starts standing columns [] [] clear tt (λ start there. absurd (no_member start there)) rep
+        (λ there. no_member 0 there) refl (one_apart columns q []) in
+        record {
+          position = position;
+          node = started.after;
+          answer = subst (IsAnswer q []) (sym answer) (first_answers q hit started.hit);
+        };
+    sound = λ standing columns clear is.
+        let sound = soundly standing columns clear ((is_cleared columns (seen old).position is.node).1 0) in
+        record {
+          node = subst (λ (n : ℕ). IsSound seen columns q n (seen new).node) (sym position) sound.node;
+          answer = subst (IsTyped (type_of columns q)) (sym answer)
+              (typed_answer (type_of columns q) hit (hit_of (type_of columns q) 0 hit sound.hit));
+        };
+    position = position;
+  }
+
+-- the runner of a query and its schema
 pub carried : (standing : Standing) (columns : List Column) (q : Qre) (word : Word) (item : List Field)
-    (old new : Progress) (hit : Option Hit) → IsClear standing columns q → IsItemOf columns item
-    → IsAt columns q word old
-    → Steps seen_of q (holding_of old.node.state) (old.position + 1) item (holding_of new.node.state) hit
-    → StepsSoundly seen_of q (holding_of old.node.state) (old.position + 1) item (holding_of new.node.state) hit
-    → new.position ≡ old.position + 1 → new.answer ≡ option_map (λ (found : Hit). found.value) hit
-    → IsAt columns q (word ++ item ∷ []) new
-carried standing columns q word item old new hit clear is_item at steps soundly position answer =
-    let end : old.position ≡ length word = at.follows.position in
+    (old new : Progress) → IsClear standing columns q → IsItemOf columns item
+    → IsAt columns q word old → IsCarried seen_of q old item new → IsAt columns q (word ++ item ∷ []) new
+carried standing columns q word item old new clear is_item at one_more =
     let longer = word_join columns word (item ∷ []) at.is_word (is_item, tt) in
-    let stepped = steps standing columns word (0 ∷ []) clear longer (one_position word) at.follows.node
-    (ap (λ (n : ℕ). n + 1) end) (one_apart columns q (word ++ item ∷ [])) in
-    let sound = soundly standing columns old.position refl clear is_item at.sound.node in
     record {
       is_word = longer;
-      sound = record {
-        node = subst (λ (n : ℕ). IsSound seen_of columns q n (holding_of new.node.state)) (sym position) sound.node;
-        answer = subst (IsTyped (type_of columns q)) (sym answer) (typed_answer (type_of columns q) hit sound.hit);
-      };
-      follows = record {
-        position = position ∙ ap (λ (n : ℕ). n + 1) end ∙ sym (length_more word item);
-        node = stepped.after;
-        answer = subst (IsAnswer q (word ++ item ∷ [])) (sym answer)
-            (hit_answers q (word ++ item ∷ []) hit stepped.hit);
-      };
+      sound = one_more.sound standing columns clear is_item at.sound;
+      follows = one_more.word standing columns word clear longer at.follows;
     }
 
 pub begun : (standing : Standing) (columns : List Column) (q : Qre) (old : Holding Progress) (new : Progress)
@@ -75,4 +115,27 @@ begun standing columns q old new hit clear rep is_sound starts soundly position 
         node = started.after;
         answer = subst (IsAnswer q []) (sym answer) (first_answers q hit started.hit);
       };
+    }
+
+-- a runner that is not lost is sound
+pub found_sound : (runner : Runner) → IsSoundly runner → runner.failed ≡ false
+    → IsSoundOf seen_of (columns_of runner) (query_of runner) runner.progress
+found_sound runner is found = elim is.sound [
+  | inl lost ↦ let wrong : false ≡ true = sym found ∙ lost in absurd (false≢true wrong)
+  | inr sound ↦ sound
+]
+
+-- and may take the next item
+pub carry_next : (columns : List Column) (q : Qre) (progress : Progress) (item : List Field) → IsClear free columns q
+    → IsSoundOf seen_of columns q progress → FitsNext columns q progress.position item
+    → CanCarry seen_of q progress item
+carry_next columns q progress item clear sound fits =
+    let room = fits.room in
+    record {
+      standing = free;
+      columns = columns;
+      clear = clear;
+      sound = sound;
+      is_item = fits.is_item;
+      room = omega (arith, room);
     }

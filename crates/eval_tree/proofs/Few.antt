@@ -9,13 +9,13 @@ use Rattle.rate_expr.specs.Words.{Word, IsWordOf}
 use Rattle.query_model.specs.Bounds.{places_of}
 use Rattle.query_model.specs.Queries.{Qre, atom, eps, choice, split, iter, combine, apply, compose, collect}
 use Rattle.query_model.specs.Rules.{Standing, bound, IsClear}
-use Rattle.eval_tree.specs.Shapes.{CanRun}
 use Rattle.eval_tree.specs.Starts.{AreApart, AreDifferent, ArePositions, IsLive}
 use Rattle.eval_tree.proofs.Apart.{apart_first, apart_second, apart_left, apart_right}
 use Rattle.eval_tree.proofs.Chains.{chain_apart, chain_clear}
 use Rattle.eval_tree.proofs.GoingOn.{GoesOnAt, GoesOnRight, live_iter, live_split}
 use Rattle.eval_tree.proofs.Members.{first_member, later_member, member_cases, no_member}
 use Rattle.eval_tree.proofs.Pieces.{at_end, none_before, piece_goes_on, some_item}
+use Rattle.eval_tree.proofs.Shaped.{HasNodes}
 
 -- of different numbers that are each of one kind or another
 pub record AreParted (P Q : ℕ → Type 0) (all : List ℕ) : Type 0 where
@@ -151,7 +151,7 @@ through columns f g e word starts (x ∷ all) clear is apart different each =
       ];
     }
 
-pub few_live : (standing : Standing) (columns : List Column) (q : Qre) (word : Word) (starts live : List ℕ) → CanRun q
+pub few_live : (standing : Standing) (columns : List Column) (q : Qre) (word : Word) (starts live : List ℕ) → HasNodes q
     → IsClear standing columns q → IsWordOf columns word → ArePositions word starts
     → AreApart columns q word starts → AreDifferent live
     → ((i : ℕ) → Contains live i → IsLive columns q word starts i) → length live ≤ places_of q
@@ -208,6 +208,7 @@ few_live standing columns (combine f g e) word starts live run clear is position
     omega (arith, first)
 few_live standing columns (apply f e) word starts live run clear is positions apart different each =
     few_live bound columns f word starts live run clear.0 is positions apart different each
-few_live standing columns (compose f g) word starts live run clear is positions apart different each = absurd run
+few_live standing columns (compose f g) word starts live run clear is positions apart different each =
+    few_live standing columns f word starts live run clear.0 is positions apart different each
 few_live standing columns (collect column sync rate f) word starts live run clear is positions apart different each =
     absurd run

@@ -20,13 +20,13 @@ use Rattle.eval_tree.specs.Holdings.{Holding, chained, Seen}
 use Rattle.eval_tree.specs.Lefts.{IsPut}
 use Rattle.eval_tree.specs.Live.{live_of}
 use Rattle.eval_tree.specs.Represents.{Represents}
-use Rattle.eval_tree.specs.Shapes.{CanRun}
 use Rattle.eval_tree.specs.Starts.{ArePositions}
 use Rattle.eval_tree.specs.Steps.{Starts}
 use Rattle.eval_tree.proofs.Apart.{apart_right}
 use Rattle.eval_tree.proofs.Chains.{chain_apart, chain_clear}
 use Rattle.eval_tree.proofs.Ends.{NoneAtEnd, reached_end, reached_new}
 use Rattle.eval_tree.proofs.Pieces.{behind_end, end_is, word_behind}
+use Rattle.eval_tree.proofs.Shaped.{HasNodes}
 use Rattle.eval_tree.proofs.Splits.{handed}
 use Rattle.eval_tree.proofs.Waits.{waiting_new}
 
@@ -35,7 +35,7 @@ first_value number = value.Scalar (Number number)
 
 module _ {R : Type 0} (seen : R → Seen R) (f : Qre) (number : ℤ) (e : Expression) where
   pub start_iter : (a a' : Holding R) (so_far new : Contents Value) (at : ℕ) (operand : Option Hit) (live : Bool)
-      → CanRun f → Starts seen f a at a' operand → live ≡ live_of f a' at
+      → HasNodes f → Starts seen f a at a' operand → live ≡ live_of f a' at
       → IsPut live so_far (record { inner = at; outer = at; value = value.Scalar (Number number) }) new
       → new.room ≡ so_far.room
       → Starts seen (iter f number e) (chained a so_far) at (chained a' new)

@@ -22,7 +22,6 @@ use Rattle.eval_tree.specs.Holdings.{Holding, chained, Seen}
 use Rattle.eval_tree.specs.Lefts.{IsEnded, IsPut}
 use Rattle.eval_tree.specs.Live.{live_of}
 use Rattle.eval_tree.specs.Represents.{AreWaiting, Represents}
-use Rattle.eval_tree.specs.Shapes.{CanRun}
 use Rattle.eval_tree.specs.Starts.{ArePositions}
 use Rattle.eval_tree.specs.Steps.{IsHit, Starts, Steps}
 use Rattle.eval_tree.proofs.Apart.{apart_right}
@@ -30,6 +29,7 @@ use Rattle.eval_tree.proofs.Chains.{chain_apart, chain_clear, den_push, no_empty
 use Rattle.eval_tree.proofs.Elsewhere.{elsewhere}
 use Rattle.eval_tree.proofs.Ends.{before_end, reached_all, reached_end, reached_more}
 use Rattle.eval_tree.proofs.Pieces.{behind_end, drop_more, length_more, split_piece, word_behind, word_piece}
+use Rattle.eval_tree.proofs.Shaped.{HasNodes}
 use Rattle.eval_tree.proofs.SplitHits.{IsBefore, ended_before}
 use Rattle.eval_tree.proofs.SplitSteps.{more_positions, still_waiting}
 use Rattle.eval_tree.proofs.Splits.{handed, none_in}
@@ -78,7 +78,7 @@ module _ (columns : List Column) (f : Qre) (number : ℤ) (e : Expression)
 
 module _ {R : Type 0} (seen : R → Seen R) (f : Qre) (number : ℤ) (e : Expression) where
   pub step_iter_none : (a a' : Holding R) (so_far kept : Contents Value) (now : ℕ) (item : List Field)
-      (piece : Option Hit) → CanRun f → Steps seen f a now item a' piece → IsEnded e so_far.entries piece None
+      (piece : Option Hit) → HasNodes f → Steps seen f a now item a' piece → IsEnded e so_far.entries piece None
       → kept.entries ≡ live_entries (elsewhere now (live_of f a')) so_far.entries → kept.room ≡ so_far.room
       → Steps seen (iter f number e) (chained a so_far) now item (chained a' kept) None
   step_iter_none a a' so_far kept now item piece run first ended keeps room =
@@ -117,7 +117,7 @@ module _ {R : Type 0} (seen : R → Seen R) (f : Qre) (number : ℤ) (e : Expres
       }
 
   pub step_iter_some : (a a' a'' : Holding R) (so_far kept new : Contents Value) (now : ℕ) (item : List Field)
-      (piece begun : Option Hit) (hit : Hit) (live : Bool) → CanRun f → Steps seen f a now item a' piece
+      (piece begun : Option Hit) (hit : Hit) (live : Bool) → HasNodes f → Steps seen f a now item a' piece
       → IsEnded e so_far.entries piece (Some hit)
       → kept.entries ≡ live_entries (elsewhere now (live_of f a')) so_far.entries → kept.room ≡ so_far.room
       → Starts seen f a' now a'' begun → live ≡ live_of f a'' now

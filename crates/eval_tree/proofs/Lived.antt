@@ -6,7 +6,7 @@ use Rattle.rate_expr.specs.Plain as rated
 use Rattle.rate_expr.specs.Rates as rates
 use Rattle.query_model.specs.declared.query.Shape.{Shape}
 use Rattle.query_model.specs.declared.query.Shape.TheVariants.{Atom, Eps, Or', Split', Iter', Combine', Apply', Compose', Collect'}
-use Rattle.query_model.specs.Queries.{Qre, compose, collect, plain_of}
+use Rattle.query_model.specs.Queries.{Qre, collect, plain_of}
 use Rattle.eval_tree.specs.declared.node.State.{State}
 use Rattle.eval_tree.specs.declared.node.State.TheVariants.{Item}
 use Rattle.eval_tree.specs.Live.{live_of}
@@ -23,17 +23,13 @@ lives_read q state start live read = λ standing columns word starts clear is po
     (living seen_of standing columns q (holding_of state) word starts start (shaped columns q state word starts rep)
     clear is positions rep)
 
--- of shapes for which there is no node, none is live
-pub compose_none : (f g : Qre) (state : State) (start : ℕ) → live_of (compose f g) (holding_of state) start ≡ false
-compose_none f g (Item found) start = refl
-compose_none f g state start = refl
-
+-- of a shape for which there is no node, none is live
 pub collect_none : (column : ℕ) (sync : Predicate) (rate : rates.Expression) (f : Qre) (state : State) (start : ℕ)
     → live_of (collect column sync rate f) (holding_of state) start ≡ false
 collect_none column sync rate f (Item found) start = refl
 collect_none column sync rate f state start = refl
 
--- a shape whose starts are never live: the empty word, and the shapes for which there is no node
+-- a shape whose starts are never live: the empty word, and the shape for which there is no node
 abbrev pub IsOther : Shape → Type 0
 IsOther (Atom pred value) = ⊥
 IsOther (Eps number) = Unit {0}
@@ -42,7 +38,7 @@ IsOther (Split' p f a q g b value) = ⊥
 IsOther (Iter' p f a number value) = ⊥
 IsOther (Combine' p f a q g b value) = ⊥
 IsOther (Apply' p f a value) = ⊥
-IsOther (Compose' p f a q g b) = Unit {0}
+IsOther (Compose' p f a q g b) = ⊥
 IsOther (Collect' key sync rate p f a) = Unit {0}
 
 pub other_none : (shape : Shape) (state : State) (start : ℕ) → IsOther shape
@@ -55,6 +51,6 @@ other_none (Split' p f a q g b value) state start other = absurd other
 other_none (Iter' p f a number value) state start other = absurd other
 other_none (Combine' p f a q g b value) state start other = absurd other
 other_none (Apply' p f a value) state start other = absurd other
-other_none (Compose' p f a q g b) state start other = compose_none (plain_of f) (plain_of g) state start
+other_none (Compose' p f a q g b) state start other = absurd other
 other_none (Collect' key sync rate p f a) state start other =
     collect_none key (predicates.plain_of sync) (rated.plain_of rate) (plain_of f) state start

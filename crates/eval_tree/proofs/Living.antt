@@ -17,15 +17,15 @@ use Rattle.query_model.proofs.InRates.{den_in}
 use Rattle.split_eval.specs.Entries.{entry_at, AreDistinct}
 use Rattle.split_eval.specs.declared.entry.Entry.{Entry}
 use Rattle.split_eval.proofs.Found.{found_behind, found_first}
-use Rattle.eval_tree.specs.Holdings.{Holding, waiting, nothing, both, paired, operand, pending, chained, Seen}
+use Rattle.eval_tree.specs.Holdings.{Holding, waiting, nothing, both, paired, operand, pending, chained, fed, Seen}
 use Rattle.eval_tree.specs.Live.{is_outer, is_waiting, live_of}
 use Rattle.eval_tree.specs.Represents.{Represents}
-use Rattle.eval_tree.specs.Shapes.{CanRun}
 use Rattle.eval_tree.specs.Starts.{ArePositions, IsLive}
 use Rattle.eval_tree.proofs.Chains.{star_push}
 use Rattle.eval_tree.proofs.Few.{live_atom, no_live}
 use Rattle.eval_tree.proofs.GoingOn.{live_iter, live_split}
 use Rattle.eval_tree.proofs.Pieces.{behind_end, piece_goes_on, word_join, word_piece}
+use Rattle.eval_tree.proofs.Shaped.{HasNodes}
 use Rattle.eval_tree.proofs.SomeWords.{some_word}
 use Rattle.eval_tree.proofs.Waits.{is_entry}
 
@@ -101,7 +101,7 @@ module _ {R : Type 0} (seen : R → Seen R) where
   )
 
   pub living : (standing : Standing) (columns : List Column) (q : Qre) (holding : Holding R) (word : Word)
-      (starts : List ℕ) (start : ℕ) → CanRun q → IsClear standing columns q → IsWordOf columns word
+      (starts : List ℕ) (start : ℕ) → HasNodes q → IsClear standing columns q → IsWordOf columns word
       → ArePositions word starts → Represents seen columns q holding word starts
       → IsTrue (live_of q holding start) ↔ IsLive columns q word starts start
   living standing columns (atom pred e) (waiting found) word starts start run clear is positions rep =
@@ -207,6 +207,7 @@ module _ {R : Type 0} (seen : R → Seen R) where
       living bound columns f a word starts start run.0 clear.0 is positions rep.0
   living standing columns (apply f e) (operand a) word starts start run clear is positions rep =
       living bound columns f a word starts start run clear.0 is positions rep
-  living standing columns (compose f g) holding word starts start run clear is positions rep = absurd run
+  living standing columns (compose f g) (fed a held) word starts start run clear is positions rep =
+      living standing columns f a word starts start run clear.0 is positions rep.0
   living standing columns (collect column sync rate f) holding word starts start run clear is positions rep = absurd run
   living standing columns q holding word starts start run clear is positions rep = absurd rep

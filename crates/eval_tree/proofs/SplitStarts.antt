@@ -19,11 +19,11 @@ use Rattle.eval_tree.specs.Holdings.{Holding, pending, Seen}
 use Rattle.eval_tree.specs.Lefts.{IsJoined, IsPut}
 use Rattle.eval_tree.specs.Live.{live_of}
 use Rattle.eval_tree.specs.Represents.{Represents}
-use Rattle.eval_tree.specs.Shapes.{CanRun}
 use Rattle.eval_tree.specs.Steps.{IsFirstHit, Starts}
 use Rattle.eval_tree.proofs.Apart.{apart_left, apart_right}
 use Rattle.eval_tree.proofs.Ends.{reached_end, reached_new, reached_same}
 use Rattle.eval_tree.proofs.Pieces.{behind_end, end_is, word_behind}
+use Rattle.eval_tree.proofs.Shaped.{HasNodes}
 use Rattle.eval_tree.proofs.Splits.{handed}
 use Rattle.eval_tree.proofs.Waits.{waiting_new, waiting_same}
 
@@ -66,7 +66,7 @@ module _ {R : Type 0} (seen : R → Seen R) where
       }
 
   pub start_split_some : (f g : Qre) (e : Expression) (a b a' b' : Holding R) (held new : Contents Value) (at : ℕ)
-      (left : Hit) (right hit : Option Hit) (live : Bool) → CanRun g
+      (left : Hit) (right hit : Option Hit) (live : Bool) → HasNodes g
       → Starts seen f a at a' (Some left) → Starts seen g b at b' right
       → IsJoined e left.start left.value right hit → live ≡ live_of g b' at
       → IsPut live held (record { inner = at; outer = left.start; value = left.value }) new

@@ -23,7 +23,6 @@ use Rattle.eval_tree.specs.Holdings.{Holding, pending, Seen}
 use Rattle.eval_tree.specs.Lefts.{IsEnded, IsJoined, IsPut}
 use Rattle.eval_tree.specs.Live.{live_of}
 use Rattle.eval_tree.specs.Represents.{AreReached, AreWaiting, Represents}
-use Rattle.eval_tree.specs.Shapes.{CanRun}
 use Rattle.eval_tree.specs.Starts.{ArePositions}
 use Rattle.eval_tree.specs.Steps.{IsHit, Starts, Steps}
 use Rattle.eval_tree.proofs.Apart.{apart_left, apart_right}
@@ -31,6 +30,7 @@ use Rattle.eval_tree.proofs.Elsewhere.{elsewhere, elsewhere_lives}
 use Rattle.eval_tree.proofs.Ends.{AreReachedBefore, reached_all, reached_end, reached_more}
 use Rattle.eval_tree.proofs.Living.{living}
 use Rattle.eval_tree.proofs.Pieces.{length_more, word_behind, word_piece}
+use Rattle.eval_tree.proofs.Shaped.{HasNodes}
 use Rattle.eval_tree.proofs.Splits.{extension_less, handed, none_in}
 use Rattle.eval_tree.proofs.Waits.{AreWaitingBefore, waiting_all, waiting_more}
 use Rattle.eval_tree.proofs.SplitHits.{either_end, ended_before, last_joined, no_last}
@@ -47,7 +47,7 @@ module _ {R : Type 0} (seen : R → Seen R) where
   pub still_waiting : (columns : List Column) (f g : Qre) (e : Expression) → IsClear bound columns (split f g e)
       → (word : Word) (item : List Field) (starts ends : List ℕ) (b' : Holding R) (now : ℕ)
       (entries : List (Entry Value))
-      → CanRun g → IsWordOf columns (word ++ item ∷ []) → now ≡ length (word ++ item ∷ [])
+      → HasNodes g → IsWordOf columns (word ++ item ∷ []) → now ≡ length (word ++ item ∷ [])
       → AreReachedBefore (In (rate_of f)) (word ++ item ∷ []) starts ends
       → AreReached (In (rate_of f)) word starts ends
       → AreWaiting (Den f) (HasExtension columns (rate_of g)) word starts entries
@@ -73,7 +73,7 @@ module _ {R : Type 0} (seen : R → Seen R) where
       (λ k there. let (start, piece, begins, cut, below, in_piece) = (before k).0 there in cut.inside) right))
 
   pub step_split_none : (f g : Qre) (e : Expression) (a b a' b' : Holding R) (held kept : Contents Value) (now : ℕ)
-      (item : List Field) (right hit : Option Hit) → CanRun g
+      (item : List Field) (right hit : Option Hit) → HasNodes g
       → Steps seen f a now item a' None → Steps seen g b now item b' right → IsEnded e held.entries right hit
       → kept.entries ≡ live_entries (elsewhere now (live_of g b')) held.entries → kept.room ≡ held.room
       → Steps seen (split f g e) (pending a b held) now item (pending a' b' kept) hit
@@ -121,7 +121,7 @@ module _ {R : Type 0} (seen : R → Seen R) where
 
   pub step_split_some : (f g : Qre) (e : Expression) (a b a' b' b'' : Holding R)
       (held kept new : Contents Value) (now : ℕ)
-      (item : List Field) (left : Hit) (right begun hit second_hit : Option Hit) (live : Bool) → CanRun g
+      (item : List Field) (left : Hit) (right begun hit second_hit : Option Hit) (live : Bool) → HasNodes g
       → Steps seen f a now item a' (Some left) → Steps seen g b now item b' right → IsEnded e held.entries right hit
       → kept.entries ≡ live_entries (elsewhere now (live_of g b')) held.entries → kept.room ≡ held.room
       → Starts seen g b' now b'' begun → IsJoined e left.start left.value begun second_hit

@@ -25,7 +25,6 @@ use Rattle.eval_tree.specs.Holdings.{Holding, Seen}
 use Rattle.eval_tree.specs.Lefts.{IsPut}
 use Rattle.eval_tree.specs.Live.{live_of}
 use Rattle.eval_tree.specs.Represents.{AreReached, AreWaiting, Represents}
-use Rattle.eval_tree.specs.Shapes.{CanRun}
 use Rattle.eval_tree.specs.Starts.{AreApart, AreDifferent, ArePositions}
 use Rattle.eval_tree.proofs.Apart.{apart_left, apart_right}
 use Rattle.eval_tree.proofs.Ends.{AreReachedBefore, NoneAtEnd, reached_end}
@@ -33,6 +32,7 @@ use Rattle.eval_tree.proofs.Few.{few_live}
 use Rattle.eval_tree.proofs.Living.{living}
 use Rattle.eval_tree.proofs.Members.{member_cases, no_member}
 use Rattle.eval_tree.proofs.Pieces.{word_behind, word_piece}
+use Rattle.eval_tree.proofs.Shaped.{HasNodes}
 use Rattle.eval_tree.proofs.Waits.{AreWaitingBefore, fresh_end, is_entry, waiting_end}
 
 -- the inner starts of entries
@@ -81,7 +81,7 @@ module _ (columns : List Column) (f g : Qre) (e : Expression) (clear : IsClear b
       none start den.0 there den.1
 
   -- The room is enough: left values that wait, and one more, have different live starts on the right.
-  pub has_room : (word : Word) (starts ends : List ℕ) (held : Contents Value) → CanRun g → IsWordOf columns word
+  pub has_room : (word : Word) (starts ends : List ℕ) (held : Contents Value) → HasNodes g → IsWordOf columns word
       → AreApart columns (split f g e) word starts → AreDistinct held.entries
       → AreReachedBefore (In (rate_of f)) word starts ends
       → AreReached (In (rate_of f)) word starts (ends ++ length word ∷ [])
@@ -128,7 +128,7 @@ module _ {R : Type 0} (seen : R → Seen R) (columns : List Column) (f g : Qre) 
 
   -- A left value of a piece to the end is handed over: the right operand is started there, and the value waits.
   pub handed : (word : Word) (starts ends : List ℕ) (b : Holding R) (old new : Contents Value) (begun : ℕ) (x : Value)
-      (live : Bool) → CanRun g → IsWordOf columns word → ArePositions word starts
+      (live : Bool) → HasNodes g → IsWordOf columns word → ArePositions word starts
       → AreApart columns (split f g e) word starts
       → AreReachedBefore (In (rate_of f)) word starts ends → AreDistinct old.entries
       → AreWaitingBefore (Den f) (HasExtension columns (rate_of g)) word starts old.entries

@@ -1,12 +1,13 @@
--- Statement. How much is kept: one for each start that waits, and for each left value two and what
--- the value takes.
+-- Statement. How much is kept: one for each start that waits, for each left value two and what the
+-- value takes, and for each runner of a compose, idle or not, one and what the runner keeps.
 use Rattle.std.specs.Prelude.{ℕ, ◌+◌, List, Option, None, Some, length}
 use Rattle.std.specs.List.{sum_by}
 use Rattle.value_ops.specs.declared.value.Value.{Value}
 use Rattle.value_ops.specs.declared.value.Value.TheVariants as value
+use Rattle.query_model.specs.Queries.{Qre, atom, choice, split, iter, combine, apply, compose}
 use Rattle.split_eval.specs.declared.entry.Entry.{Entry}
-use Rattle.eval_tree.specs.Holdings.{Holding, waiting, nothing, both, paired, operand, pending, chained, fed, tracked}
-use Rattle.eval_tree.specs.declared.progress.Progress.{Progress}
+use Rattle.compose_eval.specs.Followers.{followers_of}
+use Rattle.eval_tree.specs.Holdings.{Holding, waiting, both, paired, operand, pending, chained, fed, Seen}
 
 -- a value: one, and one for each entry of a table
 abbrev pub size_of_value : Value → ℕ
@@ -26,14 +27,23 @@ abbrev pub size_of_start : Option ℕ → ℕ
 size_of_start None = 0
 size_of_start (Some start) = 1
 
--- what is kept for a node; there are no nodes of compose and collect yet
-abbrev pub stored_in : Holding Progress → ℕ
-stored_in (waiting found) = size_of_start found
-stored_in nothing = 0
-stored_in (both a b) = stored_in a + stored_in b
-stored_in (paired a b) = stored_in a + stored_in b
-stored_in (operand a) = stored_in a
-stored_in (pending a b left) = stored_in a + stored_in b + sizes_of left.entries
-stored_in (chained a so_far) = stored_in a + sizes_of so_far.entries
-stored_in (fed a live idle) = 0
-stored_in (tracked sets all) = 0
+module _ {R : Type 0} (seen : R → Seen R) where
+  -- a runner: its position, its answer and its node
+  abbrev pub size_of_runner : (Holding R → ℕ) → R → ℕ
+  size_of_runner size runner =
+      size (seen runner).node + size_of_answer (seen runner).answer + 1
+
+  -- what is kept for a node of the query; there are no nodes of collect yet
+  abbrev pub stored_in : Qre → Holding R → ℕ
+  stored_in (atom pred expression) (waiting found) = size_of_start found
+  stored_in (choice f g) (both a b) = stored_in f a + stored_in g b
+  stored_in (combine f g expression) (paired a b) = stored_in f a + stored_in g b
+  stored_in (apply f expression) (operand a) = stored_in f a
+  stored_in (split f g expression) (pending a b left) =
+      stored_in f a + stored_in g b + sizes_of left.entries
+  stored_in (iter f number expression) (chained a so_far) =
+      stored_in f a + sizes_of so_far.entries
+  stored_in (compose f g) (fed a held) = stored_in f a
+      + sum_by (λ runner. 1 + size_of_runner (stored_in g) runner) (followers_of held.live)
+      + sum_by (λ runner. 1 + size_of_runner (stored_in g) runner) held.idle
+  stored_in query holding = 0

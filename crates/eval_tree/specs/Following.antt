@@ -1,11 +1,11 @@
 -- Statement. What the runner follows, and what it keeps.
-use Rattle.std.specs.Prelude.{◌≡◌, ◌⊎◌, ℕ, ◌+◌, Bool, true, false, List}
+use Rattle.std.specs.Prelude.{◌≡◌, ◌⊎◌, ℕ, Bool, true, false, List}
 use Rattle.item_schema.specs.declared.column.Column.{Column}
 use Rattle.rate_expr.specs.Words.{Word, IsWordOf}
 use Rattle.query_model.specs.Queries.{Qre, plain_of}
 use Rattle.query_model.specs.QueryTypes.{type_of}
-use Rattle.eval_tree.specs.Counts.{size_of_answer, stored_in}
-use Rattle.eval_tree.specs.Plain.{holding_of, seen_of}
+use Rattle.eval_tree.specs.Counts.{size_of_runner, stored_in}
+use Rattle.eval_tree.specs.Plain.{seen_of}
 use Rattle.eval_tree.specs.Represents.{IsFollowing, Represents}
 use Rattle.eval_tree.specs.Shapes.{CanRun}
 use Rattle.eval_tree.specs.Sound.{IsSound, IsSoundRunner}
@@ -30,7 +30,7 @@ is_lost runner = runner.failed
 -- what it keeps, counted: its position, its answer, and what is kept for the query
 abbrev pub kept_of : Runner → ℕ
 kept_of runner =
-    stored_in (holding_of runner.progress.node.state) + size_of_answer runner.progress.answer + 1
+    size_of_runner seen_of (stored_in seen_of (query_of runner)) runner.progress
 
 -- it is sound for the query, and follows the word of its stream
 pub record IsAt (columns : List Column) (query : Qre) (word : Word)

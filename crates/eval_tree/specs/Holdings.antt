@@ -6,6 +6,7 @@ use Rattle.value_ops.specs.declared.value.Value.{Value}
 use Rattle.rate_expr.specs.declared.state.State.{State}
 use Rattle.rate_expr.specs.Sets.{Sets}
 use Rattle.split_eval.specs.Entries.{Contents}
+use Rattle.compose_eval.specs.Followers as instances
 
 -- a start of a collect: the state of the automaton, and a runner for each key and one for all later
 -- keys
@@ -31,8 +32,8 @@ pub data Holding (R : Type 0) : Type 0 where
   pending : Holding R → Holding R → Contents Value → Holding R
   -- an iter: the operand, and the values so far that wait for a further piece
   chained : Holding R → Contents Value → Holding R
-  -- a compose: the left operand, the starts with their runners, and the idle runners
-  fed : Holding R → List (ℕ × R) → List R → Holding R
+  -- a compose: the left operand, and the runners, those that starts feed and the idle ones
+  fed : Holding R → instances.Contents R → Holding R
   -- a collect: the sets of its rate, and the starts
   tracked : Sets → List (Track R) → Holding R
 

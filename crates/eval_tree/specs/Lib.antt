@@ -1,4 +1,6 @@
+pub mod Copies
 pub mod Counts
+pub mod Feeds
 pub mod Following
 pub mod Holdings
 pub mod Laws

@@ -24,7 +24,7 @@ module _ {R : Type 0} where
   live_of (iter f number expression) (chained a so_far) start = is_outer so_far.entries start
   live_of (combine f g expression) (paired a b) start = live_of f a start
   live_of (apply f expression) (operand a) start = live_of f a start
-  live_of (compose f g) (fed a live idle) start = live_of f a start
+  live_of (compose f g) (fed a held) start = live_of f a start
   live_of (collect column sync rate f) (tracked sets all) start =
       list_any (λ track. track.start == start) all
   live_of query holding start = false

@@ -1,8 +1,19 @@
 -- Statement. What a node in memory holds.
-use Rattle.eval_tree.specs.Holdings.{Holding, waiting, nothing, both, paired, operand, pending, chained, Seen}
-use Rattle.eval_tree.specs.declared.node.State.{State}
-use Rattle.eval_tree.specs.declared.node.State.TheVariants.{Item, Empty, Both', Operand', Sequence', Pair', Repeated'}
+use Rattle.std.specs.Prelude.{[]}
+use Rattle.value_ops.specs.declared.value.Value.{Value}
+use Rattle.split_eval.specs.Entries as entries
+use Rattle.compose_eval.specs.Followers.{Contents}
+use Rattle.eval_tree.specs.Holdings.{Holding, waiting, nothing, both, paired, operand, pending, chained, fed, Seen}
+use Rattle.eval_tree.specs.declared.node.Node.{Node}
+use Rattle.eval_tree.specs.declared.node.State.{State, out-State}
+use Rattle.eval_tree.specs.declared.node.State.TheOpen.{State-F}
+use Rattle.eval_tree.specs.declared.node.State.TheVariants.{Item, Empty, Both', Operand', Sequence', Pair', Repeated', Fed'}
 use Rattle.eval_tree.specs.declared.progress.Progress.{Progress}
+
+-- the runners of a compose; there are none of another shape
+abbrev pub runners_of : State-F State Node Progress → Contents Progress
+runners_of (State-F.Fed a held) = held
+runners_of state = record { live = []; idle = []; room = 0 }
 
 -- what is kept
 abbrev pub holding_of : State → Holding Progress
@@ -13,6 +24,8 @@ holding_of (Operand' p a) = operand (holding_of a)
 holding_of (Sequence' p a q b left) = pending (holding_of a) (holding_of b) left
 holding_of (Pair' p a q b) = paired (holding_of a) (holding_of b)
 holding_of (Repeated' p a so_far) = chained (holding_of a) so_far
+holding_of (Fed' p a held runners) =
+    fed (holding_of a) (runners_of (out-State (Fed' p a held runners)))
 
 -- what is seen of a runner
 abbrev pub seen_of : Progress → Seen Progress
@@ -21,3 +34,11 @@ seen_of progress = record {
   answer = progress.answer;
   node = holding_of progress.node.state;
 }
+
+-- what is kept for a split whose operands and left values these are
+abbrev pub pending_of : Node → Node → entries.Contents Value → Holding Progress
+pending_of a b held = pending (holding_of a.state) (holding_of b.state) held
+
+-- what is kept for an iteration whose operand and values so far these are
+abbrev pub chained_of : Node → entries.Contents Value → Holding Progress
+chained_of a so_far = chained (holding_of a.state) so_far

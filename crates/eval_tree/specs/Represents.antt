@@ -20,6 +20,7 @@ use Rattle.query_model.specs.QueryTypes.{derived_columns, type_of}
 use Rattle.query_model.specs.Rates.{rate_of}
 use Rattle.split_eval.specs.Entries.{entry_at, AreDistinct}
 use Rattle.split_eval.specs.declared.entry.Entry.{Entry}
+use Rattle.compose_eval.specs.Followers.{Contents, outers_of}
 use Rattle.eval_tree.specs.Holdings.{Holding, waiting, nothing, both, paired, operand, pending, chained, fed, tracked, Seen, Track}
 use Rattle.eval_tree.specs.Starts.{IsLive, IsPiece, AreDifferent}
 
@@ -57,12 +58,13 @@ module _ {R : Type 0} (seen : R → Seen R) where
 
   -- each start that can go on has one runner, which follows what it is to see; with the idle ones
   -- they are so many
-  pub record AreFed (lives : ℕ → Type 0) (sees : ℕ → R → Type 0) (count : ℕ) (live : List (ℕ × R))
-      (idle : List R) : Type 0 where
-    pub distinct : AreDifferent (map (λ one. one.0) live)
-    pub there : (start : ℕ) → Contains (map (λ one. one.0) live) start ↔ lives start
-    pub each : (start : ℕ) (runner : R) → Contains live (start, runner) → sees start runner
-    pub full : length live + length idle ≡ count
+  pub record AreFed (lives : ℕ → Type 0) (sees : ℕ → R → Type 0) (count : ℕ)
+      (held : Contents R) : Type 0 where
+    pub distinct : AreDifferent (outers_of held.live)
+    pub there : (start : ℕ) → Contains (outers_of held.live) start ↔ lives start
+    pub each : (start : ℕ) (runner : R)
+        → Contains held.live (record { outer = start; follower = runner }) → sees start runner
+    pub full : length held.live + length held.idle ≡ count
 
   -- the runners of a start follow what the word has for their keys, and the fallback what it has
   -- for all keys
@@ -103,13 +105,13 @@ module _ {R : Type 0} (seen : R → Seen R) where
       Represents columns f a word starts × Represents columns g b word starts
   Represents columns (apply f expression) (operand a) word starts =
       Represents columns f a word starts
-  Represents columns (compose f g) (fed a live idle) word starts =
+  Represents columns (compose f g) (fed a held) word starts =
       Represents columns f a word starts
       × AreFed (IsLive columns f word starts)
       (λ start runner. IsFed (Den f)
       (IsFollowing (Represents (derived_columns (type_of columns f)) g) g)
       (drop start word) runner)
-      (places_of f + 1) live idle
+      (places_of f + 1) held
   Represents columns (collect column sync rate f) (tracked sets all) word starts =
       AreSetsOf sets rate
       × AreTracked (IsLive columns (collect column sync rate f) word starts)

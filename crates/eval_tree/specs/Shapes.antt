@@ -9,5 +9,5 @@ CanRun (split f g expression) = CanRun f × CanRun g
 CanRun (iter f number expression) = CanRun f
 CanRun (combine f g expression) = CanRun f × CanRun g
 CanRun (apply f expression) = CanRun f
-CanRun (compose f g) = ⊥
+CanRun (compose f g) = CanRun f × CanRun g
 CanRun (collect column sync rate f) = ⊥

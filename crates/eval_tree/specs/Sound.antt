@@ -14,6 +14,7 @@ use Rattle.query_model.specs.Bounds.{places_of}
 use Rattle.query_model.specs.Queries.{Qre, atom, eps, choice, split, iter, combine, apply, compose, collect}
 use Rattle.query_model.specs.QueryTypes.{derived_columns, type_of}
 use Rattle.split_eval.specs.Entries.{Contents, AreDistinct}
+use Rattle.compose_eval.specs.Followers.{outers_of}
 use Rattle.eval_tree.specs.Holdings.{Holding, waiting, nothing, both, paired, operand, pending, chained, fed, tracked, Seen, Track}
 use Rattle.eval_tree.specs.Starts.{AreDifferent}
 
@@ -61,15 +62,16 @@ module _ {R : Type 0} (seen : R → Seen R) where
   IsSound columns (combine f g expression) position (paired a b) =
       IsSound columns f position a × IsSound columns g position b
   IsSound columns (apply f expression) position (operand a) = IsSound columns f position a
-  IsSound columns (compose f g) position (fed a live idle) =
+  IsSound columns (compose f g) position (fed a held) =
       IsSound columns f position a
-      × AreDifferent (map (λ one. one.0) live) × (length live + length idle ≡ places_of f + 1)
+      × AreDifferent (outers_of held.live)
+      × (length held.live + length held.idle ≡ places_of f + 1)
       × AllByRecursion (λ one. IsSoundWithin (IsSoundRunner
       (IsSound (derived_columns (type_of columns f)) g)
       (type_of (derived_columns (type_of columns f)) g))
-      (position + 1) one.1) live
+      (position + 1) one.follower) held.live
       × AllByRecursion (IsSoundRunner (IsSound (derived_columns (type_of columns f)) g)
-      (type_of (derived_columns (type_of columns f)) g)) idle
+      (type_of (derived_columns (type_of columns f)) g)) held.idle
   IsSound columns (collect column sync rate f) position (tracked sets all) =
       AreSets sets × AreSetsOf sets rate × AreDifferent (map (λ track. track.start) all)
       × AllByRecursion

@@ -1,50 +1,132 @@
 //! Copies of what is kept.
-ghost use Rattle.std.specs.Prelude.{◌≡◌, IfOk};
-ghost use Rattle.eval_tree.specs.Plain.{holding_of};
+ghost use Rattle.std.specs.Prelude.{◌≡◌, ◌+◌, ◌≤◌, [], length, IfOk};
+ghost use Rattle.compose_eval.specs.Followers.{followers_of, outers_of};
+ghost use Rattle.query_model.specs.Queries.{plain_of};
+ghost use Rattle.eval_tree.specs.Copies.{AreAlike, AreCopied, IsCopy, IsCopyOf};
+ghost use Rattle.eval_tree.specs.Plain.{holding_of, seen_of};
 
-use crate::{Node, State};
+use crate::{Node, Progress, State};
+use compose_eval::Instances;
 use iter_eval::Chain;
+use query_model::{Query, Shape};
 use split_eval::Pending;
 use std::alloc::{AllocError, Global};
 use value_ops::Value;
 
-impl Node {
-    /// It keeps the same.
-    #[cycle(copy)]
-    pub fn try_copy(&self, alloc: Global) -> Result<Node, AllocError>
-        ensures { IfOk result (λ copy. holding_of copy.state ≡ holding_of self.now.state) }
-    {
-        let state = match &self.state {
-            State::Item(found) => State::Item(*found),
-            State::Empty => State::Empty,
-            State::Both(first, second) => {
-                let first = first.boxed_copy(alloc)?;
-                State::Both(first, second.boxed_copy(alloc)?)
-            }
-            State::Operand(inner) => State::Operand(inner.boxed_copy(alloc)?),
-            State::Sequence(first, second, held) => {
-                let held = copied(alloc, held)?;
-                let first = first.boxed_copy(alloc)?;
-                State::Sequence(first, second.boxed_copy(alloc)?, held)
-            }
-            State::Pair(first, second) => {
-                let first = first.boxed_copy(alloc)?;
-                State::Pair(first, second.boxed_copy(alloc)?)
-            }
-            State::Repeated(inner, so_far) => {
-                let so_far = Chain::from_pending(copied(alloc, so_far.as_pending())?);
-                State::Repeated(inner.boxed_copy(alloc)?, so_far)
-            }
-        };
-        Ok(Node { state })
+/// It keeps the same for the query.
+#[cycle(copy)]
+pub fn copy(query: &Query, node: &Node, alloc: Global) -> Result<Node, AllocError>
+    ensures { IfOk result (λ copy. IsCopy seen_of (plain_of query.now.shape)
+        (holding_of node.now.state) (holding_of copy.state)) }
+{
+    match (&query.shape, &node.state) {
+        (Shape::Atom(..), State::Item(found)) => Ok(Node {
+            state: State::Item(*found),
+        }),
+        (Shape::Or(first, second), State::Both(a, b)) => {
+            let a = boxed_copy(first, a, alloc)?;
+            let state = State::Both(a, boxed_copy(second, b, alloc)?);
+            Ok(Node { state })
+        }
+        (Shape::Apply(inner, _), State::Operand(a)) => {
+            let state = State::Operand(boxed_copy(inner, a, alloc)?);
+            Ok(Node { state })
+        }
+        (Shape::Split(first, second, _), State::Sequence(a, b, held)) => {
+            let held = copied(alloc, held)?;
+            let a = boxed_copy(first, a, alloc)?;
+            let state = State::Sequence(a, boxed_copy(second, b, alloc)?, held);
+            Ok(Node { state })
+        }
+        (Shape::Combine(first, second, _), State::Pair(a, b)) => {
+            let a = boxed_copy(first, a, alloc)?;
+            let state = State::Pair(a, boxed_copy(second, b, alloc)?);
+            Ok(Node { state })
+        }
+        (Shape::Iter(inner, ..), State::Repeated(a, so_far)) => {
+            let so_far = Chain::from_pending(copied(alloc, so_far.as_pending())?);
+            let state = State::Repeated(boxed_copy(inner, a, alloc)?, so_far);
+            Ok(Node { state })
+        }
+        (Shape::Compose(first, second), State::Fed(a, runners)) => {
+            let a = boxed_copy(first, a, alloc)?;
+            let state = State::Fed(a, copied_runners(second, runners, alloc)?);
+            Ok(Node { state })
+        }
+        _ => Ok(Node {
+            state: State::Empty,
+        }),
     }
+}
 
-    #[cycle(copy)]
-    fn boxed_copy(&self, alloc: Global) -> Result<Box<Node>, AllocError>
-        ensures { IfOk result (λ copy. holding_of copy.value.state ≡ holding_of self.now.state) }
-    {
-        Ok(Box::new(alloc, self.try_copy(alloc)?)?)
+#[cycle(copy)]
+fn boxed_copy(query: &Query, node: &Node, alloc: Global) -> Result<Box<Node>, AllocError>
+    ensures { IfOk result (λ copy. IsCopy seen_of (plain_of query.now.shape)
+        (holding_of node.now.state) (holding_of copy.value.state)) }
+{
+    Ok(Box::new(alloc, copy(query, node, alloc)?)?)
+}
+
+/// The position, the answer and a copy of the node.
+#[cycle(copy)]
+pub(crate) fn copy_of_runner(
+    query: &Query,
+    runner: &Progress,
+    alloc: Global,
+) -> Result<Progress, AllocError>
+    ensures { IfOk result (IsCopyOf seen_of (IsCopy seen_of (plain_of query.now.shape))
+        runner.now) }
+{
+    let node = copy(query, &runner.node, alloc)?;
+    let answer = match &runner.answer {
+        Some(value) => Some(value.try_copy(alloc)?),
+        None => None,
+    };
+    Ok(Progress {
+        node,
+        position: runner.position,
+        answer,
+    })
+}
+
+#[cycle(copy)]
+fn copied_runners(
+    query: &Query,
+    runners: &Instances<Progress>,
+    alloc: Global,
+) -> Result<Instances<Progress>, AllocError>
+    ensures { IfOk result (AreCopied seen_of (IsCopy seen_of (plain_of query.now.shape))
+        runners.now) }
+{
+    let mut copy = copied_live(query, runners, alloc)?;
+    'idle: for i in 0..runners.idle() {
+        copy.rest(copy_of_runner(query, runners.resting(i), alloc)?);
     }
+    Ok(copy)
+}
+
+// Copies of those that are fed, from the same starts, in as much room.
+#[cycle(copy)]
+fn copied_live(
+    query: &Query,
+    runners: &Instances<Progress>,
+    alloc: Global,
+) -> Result<Instances<Progress>, AllocError>
+    ensures room { IfOk result (λ copy. copy.room ≡ runners.now.room) }
+    ensures idle { IfOk result (λ copy. copy.idle ≡ []) }
+    ensures starts { IfOk result (λ copy. outers_of copy.live ≡ outers_of runners.now.live) }
+    ensures live { IfOk result (λ copy.
+        AreAlike (IsCopyOf seen_of (IsCopy seen_of (plain_of query.now.shape)))
+        (followers_of runners.now.live) (followers_of copy.live)) }
+    ensures few { IfOk result (λ copy.
+        length copy.live + length runners.now.idle ≤ copy.room) }
+{
+    let mut copy = Instances::new(alloc, runners.room())?;
+    'live: for i in 0..runners.len() {
+        let follower = copy_of_runner(query, runners.follower(i), alloc)?;
+        copy.put(runners.outer(i), follower);
+    }
+    Ok(copy)
 }
 
 /// Equal left values, in the same order and in as much room.

@@ -1,35 +1,86 @@
 //! How much is kept.
-ghost use Rattle.std.specs.Prelude.{◌≡◌, ◌-◌, ◌^◌, min};
-ghost use Rattle.eval_tree.specs.Counts.{size_of_answer, size_of_value, sizes_of, stored_in};
-ghost use Rattle.eval_tree.specs.Plain.{holding_of};
+ghost use Rattle.std.specs.Prelude.{◌≡◌, ◌+◌, ◌-◌, ◌^◌, min};
+ghost use Rattle.std.specs.List.{sum_by};
+ghost use Rattle.compose_eval.specs.Followers.{followers_of};
+ghost use Rattle.query_model.specs.Queries.{plain_of};
+ghost use Rattle.eval_tree.specs.Counts.{size_of_answer, size_of_runner, size_of_value, sizes_of, stored_in};
+ghost use Rattle.eval_tree.specs.Plain.{holding_of, seen_of};
 
-use crate::{Node, State};
+use crate::{Node, Progress, State};
+use compose_eval::Instances;
+use query_model::{Query, Shape};
 use split_eval::Pending;
 use value_ops::Value;
 
-impl Node {
-    /// What is kept, counted; 2^64 - 1 where it is more.
-    pub fn stored(&self) -> u64
-        ensures { result ≡ min (stored_in (holding_of self.now.state)) (2 ^ 64 - 1) }
-    {
-        match &self.state {
-            State::Item(Some(_)) => 1,
-            State::Item(None) => 0,
-            State::Empty => 0,
-            State::Both(first, second) => first.stored().saturating_add(second.stored()),
-            State::Operand(inner) => inner.stored(),
-            State::Sequence(first, second, held) => {
-                let operands = first.stored().saturating_add(second.stored());
-                operands.saturating_add(size_of_entries(held))
-            }
-            State::Pair(first, second) => first.stored().saturating_add(second.stored()),
-            State::Repeated(inner, so_far) => {
-                inner
-                    .stored()
-                    .saturating_add(size_of_entries(so_far.as_pending()))
-            }
+/// What is kept for the query, counted; 2^64 - 1 where it is more.
+#[cycle(stored)]
+pub fn stored(query: &Query, node: &Node) -> u64
+    ensures { result ≡ min (stored_in seen_of (plain_of query.now.shape)
+        (holding_of node.now.state)) (2 ^ 64 - 1) }
+{
+    match (&query.shape, &node.state) {
+        (Shape::Atom(..), State::Item(Some(_))) => 1,
+        (Shape::Or(first, second), State::Both(a, b)) => {
+            stored(first, a).saturating_add(stored(second, b))
         }
+        (Shape::Apply(inner, _), State::Operand(a)) => stored(inner, a),
+        (Shape::Split(first, second, _), State::Sequence(a, b, held)) => {
+            let operands = stored(first, a).saturating_add(stored(second, b));
+            operands.saturating_add(size_of_entries(held))
+        }
+        (Shape::Combine(first, second, _), State::Pair(a, b)) => {
+            stored(first, a).saturating_add(stored(second, b))
+        }
+        (Shape::Iter(inner, ..), State::Repeated(a, so_far)) => {
+            stored(inner, a).saturating_add(size_of_entries(so_far.as_pending()))
+        }
+        (Shape::Compose(first, second), State::Fed(a, runners)) => {
+            let fed = stored(first, a).saturating_add(size_of_live(second, runners));
+            fed.saturating_add(size_of_idle(second, runners))
+        }
+        _ => 0,
     }
+}
+
+/// What is kept for a runner: its position, its answer and its node.
+#[cycle(stored)]
+pub(crate) fn size_of_runner(query: &Query, runner: &Progress) -> u64
+    ensures { result ≡ min (size_of_runner seen_of
+        (stored_in seen_of (plain_of query.now.shape)) runner.now) (2 ^ 64 - 1) }
+{
+    let answer = size_of_answer(&runner.answer);
+    stored(query, &runner.node)
+        .saturating_add(answer)
+        .saturating_add(1)
+}
+
+#[cycle(stored)]
+fn size_of_live(query: &Query, runners: &Instances<Progress>) -> u64
+    ensures { result ≡ min (sum_by (λ runner. 1 + size_of_runner seen_of
+        (stored_in seen_of (plain_of query.now.shape)) runner)
+        (followers_of runners.now.live)) (2 ^ 64 - 1) }
+{
+    let mut sum: u64 = 0;
+    'live: for i in 0..runners.len() {
+        sum = sum
+            .saturating_add(1)
+            .saturating_add(size_of_runner(query, runners.follower(i)));
+    }
+    sum
+}
+
+#[cycle(stored)]
+fn size_of_idle(query: &Query, runners: &Instances<Progress>) -> u64
+    ensures { result ≡ min (sum_by (λ runner. 1 + size_of_runner seen_of
+        (stored_in seen_of (plain_of query.now.shape)) runner) runners.now.idle) (2 ^ 64 - 1) }
+{
+    let mut sum: u64 = 0;
+    'idle: for i in 0..runners.idle() {
+        sum = sum
+            .saturating_add(1)
+            .saturating_add(size_of_runner(query, runners.resting(i)));
+    }
+    sum
 }
 
 fn size_of_entries(held: &Pending<Value>) -> u64
@@ -44,8 +95,7 @@ fn size_of_entries(held: &Pending<Value>) -> u64
     sum
 }
 
-/// How much is kept for an answer, counted; 2^64 - 1 where it is more.
-pub(crate) fn size_of_answer(answer: &Option<Value>) -> u64
+fn size_of_answer(answer: &Option<Value>) -> u64
     ensures { result ≡ min (size_of_answer answer.now) (2 ^ 64 - 1) }
 {
     match answer {

@@ -1,8 +1,9 @@
 //! How the runner follows a word.
 
-use crate::counts::size_of_answer;
-use crate::runner::value_of;
-use crate::{Progress, Runner, step};
+use crate::copies::copy_of_runner;
+use crate::counts::size_of_runner;
+use crate::feeds::carry;
+use crate::{Progress, Runner};
 use item_schema::Item;
 use query_model::Follower;
 use std::alloc::{AllocError, Global};
@@ -28,16 +29,7 @@ impl Follower for Runner<'_> {
 
     fn step(&mut self, alloc: Global, item: &Item) -> Result<(), AllocError> {
         self.failed = true;
-        let now = self.progress.position + 1;
-        let hit = step(
-            self.checked.main(),
-            &mut self.progress.node,
-            alloc,
-            now,
-            item,
-        )?;
-        self.progress.position = now;
-        self.progress.answer = value_of(hit);
+        carry(self.checked.main(), &mut self.progress, alloc, item)?;
         self.failed = false;
         Ok(())
     }
@@ -50,18 +42,10 @@ impl Follower for Runner<'_> {
     }
 
     fn try_copy(&self, alloc: Global) -> Result<Self, AllocError> {
-        let node = self.progress.node.try_copy(alloc)?;
-        let answer = match &self.progress.answer {
-            Some(value) => Some(value.try_copy(alloc)?),
-            None => None,
-        };
+        let progress = copy_of_runner(self.checked.main(), &self.progress, alloc)?;
         Ok(Runner {
             checked: self.checked,
-            progress: Progress {
-                node,
-                position: self.progress.position,
-                answer,
-            },
+            progress,
             failed: self.failed,
         })
     }
@@ -78,9 +62,7 @@ impl Follower for Runner<'_> {
     }
 
     fn stored(&self) -> u64 {
-        let node = self.progress.node.stored();
-        let answer = size_of_answer(&self.progress.answer);
-        node.saturating_add(answer).saturating_add(1)
+        size_of_runner(self.checked.main(), &self.progress)
     }
 
     ghost lost_follows = { follows_found };

@@ -2,19 +2,26 @@
 //! its readings.
 #![tactic(auto)]
 
+mod clear;
+mod composing;
 mod copies;
 mod counts;
+mod feeds;
 mod folds;
 mod follow;
 mod hit;
+mod iterating;
 mod lefts;
 mod live;
 mod make;
 mod node;
 mod progress;
 mod runner;
+mod splitting;
 mod steps;
 
+pub use copies::copy;
+pub use counts::stored;
 pub use hit::Hit;
 pub use live::is_live;
 pub use make::can_run;

@@ -1,15 +1,18 @@
 //! A node for each part of a query.
-ghost use Rattle.std.specs.Prelude.{◌≡◌, ◌≤◌, ◌↔◌, ◌-◌, ◌^◌, [], List, IfOk, IsTrue};
+ghost use Rattle.std.specs.Prelude.{◌≡◌, ◌≤◌, ◌↔◌, ◌-◌, ◌^◌, [], List, length, IfOk, IsTrue};
+ghost use Rattle.std.specs.List.{AllByRecursion};
 ghost use Rattle.item_schema.specs.declared.column.Column.{Column};
 ghost use Rattle.query_model.specs.Bounds.{slots_of};
 ghost use Rattle.query_model.specs.Queries.{plain_of};
 ghost use Rattle.query_model.specs.Sizes.{max_slots};
+ghost use Rattle.eval_tree.specs.Feeds.{IsSoundOf};
 ghost use Rattle.eval_tree.specs.Plain.{holding_of, seen_of};
 ghost use Rattle.eval_tree.specs.Represents.{Represents};
 ghost use Rattle.eval_tree.specs.Shapes.{CanRun};
 ghost use Rattle.eval_tree.specs.Sound.{IsSound};
 
-use crate::{Node, State};
+use crate::{Node, Progress, State};
+use compose_eval::Instances;
 use iter_eval::Chain;
 use memory_bound::places;
 use query_model::{Query, Shape};
@@ -28,6 +31,7 @@ pub fn can_run(query: &Query) -> bool
         Shape::Apply(inner, _) => can_run(inner),
         Shape::Combine(first, second, _) => can_run(first) && can_run(second),
         Shape::Iter(inner, ..) => can_run(inner),
+        Shape::Compose(first, second) => can_run(first) && can_run(second),
         _ => false,
     }
 }
@@ -64,6 +68,11 @@ impl Node {
                 let so_far = Chain::new(alloc, places(inner))?;
                 State::Repeated(Node::boxed(alloc, inner)?, so_far)
             }
+            Shape::Compose(first, second) => {
+                let runners = idle_runners(alloc, second, places(first).saturating_add(1))?;
+                let state = State::Fed(Node::boxed(alloc, first)?, runners);
+                return Ok(Node { state });
+            }
             _ => unreachable!(),
         };
         Ok(Node { state })
@@ -80,4 +89,26 @@ impl Node {
     {
         Ok(Box::new(alloc, Node::new(alloc, query)?)?)
     }
+}
+
+/// So many runners that are fed from nowhere.
+#[cycle(make)]
+fn idle_runners(alloc: Global, query: &Query, count: u32) -> Result<Instances<Progress>, AllocError>
+    requires run { CanRun (plain_of query.now.shape) }
+    requires small { slots_of (plain_of query.now.shape) ≤ max_slots }
+    ensures live { IfOk result (λ runners. runners.live ≡ []) }
+    ensures count { IfOk result (λ runners. length runners.idle ≡ count) }
+    ensures sound { IfOk result (λ runners. (columns : List Column)
+        → AllByRecursion (IsSoundOf seen_of columns (plain_of query.now.shape)) runners.idle) }
+{
+    let mut runners = Instances::new(alloc, count)?;
+    'idle: for _ in 0..count {
+        let node = Node::new(alloc, query)?;
+        runners.rest(Progress {
+            node,
+            position: 0,
+            answer: None,
+        });
+    }
+    Ok(runners)
 }

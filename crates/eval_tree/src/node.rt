@@ -1,5 +1,7 @@
 //! What is kept for a query while its word goes by.
 
+use crate::Progress;
+use compose_eval::Instances;
 use iter_eval::Chain;
 use split_eval::Pending;
 use value_ops::Value;
@@ -29,4 +31,6 @@ pub enum State {
     Pair(Box<Node>, Box<Node>),
     /// For an iter: the operand, and the values so far behind which a further piece may go on.
     Repeated(Box<Node>, Chain<Value>),
+    /// For a compose: the left operand, and the runners of the right one that it feeds.
+    Fed(Box<Node>, Instances<Progress>),
 }

@@ -4,9 +4,13 @@ ghost use Rattle.query_model.specs.Queries.{plain_of};
 ghost use Rattle.eval_tree.specs.Plain.{holding_of, seen_of};
 ghost use Rattle.eval_tree.specs.Steps.{CanStart, CanStep, Starts, StartsSoundly, Steps, StepsSoundly};
 
-use crate::folds::{go_on, go_on_if_new};
-use crate::lefts::{applied, combined, ended, joined, wait, wait_if_new};
+use crate::composing::step_compose;
+use crate::feeds::feed;
+use crate::folds::go_on_if_new;
+use crate::iterating::step_iter;
+use crate::lefts::{applied, combined};
 use crate::live::is_live;
+use crate::splitting::{start_split, step_split};
 use crate::{Hit, Node, State};
 use item_schema::Item;
 use predicate_cells::holds;
@@ -14,7 +18,7 @@ use query_model::{Query, Shape};
 use std::alloc::{AllocError, Global};
 
 /// Adds the start at the end of the word, behind `at` items.
-#[cycle(start)]
+#[cycle(step)]
 pub fn start(
     query: &Query,
     node: &mut Node,
@@ -42,16 +46,8 @@ pub fn start(
             let hit = start(inner, a, alloc, at)?;
             applied(alloc, expression, hit)
         }
-        (Shape::Split(first, second, expression), State::Sequence(a, b, held)) => {
-            match start(first, a, alloc, at)? {
-                Some(left) => {
-                    let right = start(second, b, alloc, at)?;
-                    let hit = joined(alloc, expression, &left, right)?;
-                    wait_if_new(held, is_live(second, b, at), at, left);
-                    Ok(hit)
-                }
-                None => Ok(None),
-            }
+        (Shape::Split(..), State::Sequence(a, b, held)) => {
+            start_split(query, a, b, held, alloc, at)
         }
         (Shape::Combine(first, second, expression), State::Pair(a, b)) => {
             let left = start(first, a, alloc, at)?;
@@ -64,6 +60,10 @@ pub fn start(
             let hit = Hit::of_number(at, *number);
             go_on_if_new(alloc, so_far, is_live(inner, a, at), at, &hit)?;
             Ok(Some(hit))
+        }
+        (Shape::Compose(first, second), State::Fed(a, runners)) => {
+            let left = start(first, a, alloc, at)?;
+            feed(second, runners, alloc, is_live(first, a, at), at, left)
         }
         _ => Ok(None),
     }
@@ -102,43 +102,19 @@ pub fn step(
             let hit = step(inner, a, alloc, now, item)?;
             applied(alloc, expression, hit)
         }
-        (Shape::Split(first, second, expression), State::Sequence(a, b, held)) => {
-            let left = step(first, a, alloc, now, item)?;
-            let right = step(second, b, alloc, now, item)?;
-            // What waits for a right value is looked up before what can't go on is given up. None
-            // waits at the end yet, so what is put there needs no look.
-            let hit = ended(alloc, expression, held, right)?;
-            let node = &**b;
-            held.keep(|start| start != now && is_live(second, node, start));
-            match left {
-                Some(left) => {
-                    let right = start(second, b, alloc, now)?;
-                    let begun = joined(alloc, expression, &left, right)?;
-                    wait(held, is_live(second, b, now), now, left);
-                    Ok(hit.or(begun))
-                }
-                None => Ok(hit),
-            }
+        (Shape::Split(..), State::Sequence(a, b, held)) => {
+            step_split(query, a, b, held, alloc, now, item)
         }
         (Shape::Combine(first, second, expression), State::Pair(a, b)) => {
             let left = step(first, a, alloc, now, item)?;
             let right = step(second, b, alloc, now, item)?;
             combined(alloc, expression, left, right)
         }
-        (Shape::Iter(inner, _, expression), State::Repeated(a, so_far)) => {
-            let piece = step(inner, a, alloc, now, item)?;
-            // The value before the piece is looked up before what can't go on is given up.
-            let hit = ended(alloc, expression, so_far.as_pending(), piece)?;
-            let node = &**a;
-            so_far.keep(|start| start != now && is_live(inner, node, start));
-            match hit {
-                Some(hit) => {
-                    start(inner, a, alloc, now)?;
-                    go_on(alloc, so_far, is_live(inner, a, now), now, &hit)?;
-                    Ok(Some(hit))
-                }
-                None => Ok(None),
-            }
+        (Shape::Iter(..), State::Repeated(a, so_far)) => {
+            step_iter(query, a, so_far, alloc, now, item)
+        }
+        (Shape::Compose(..), State::Fed(a, runners)) => {
+            step_compose(query, a, runners, alloc, now, item)
         }
         _ => Ok(None),
     }

@@ -1,17 +1,30 @@
-use Rattle.std.proofs.Common.{◌≡◌, rules, false, arith, sym, refl}
+use Rattle.std.proofs.Common.{◌≡◌, ◌∙◌, ℕ, Option, None, Some, ap, rules, false, arith, sym, refl}
 use Rattle.std.proofs.lemmas.Grind.{common_steps}
 use Rattle.query_model.specs.declared.query.Shape.{Shape}
 use Rattle.query_model.specs.declared.query.Shape.TheVariants.{Atom, Eps, Or', Split', Iter', Combine', Apply', Compose', Collect'}
-use Rattle.query_model.specs.Queries.{plain_of}
+use Rattle.predicate_cells.specs.Plain as predicates
+use Rattle.value_ops.specs.Expressions as values
+use Rattle.query_model.specs.Queries.{Qre, atom, plain_of}
+use Rattle.eval_tree.specs.declared.node.State.TheVariants.{Item}
+use Rattle.eval_tree.specs.declared.node.State.TheViews.{out-State, roll-State}
+use Rattle.eval_tree.specs.declared.progress.Progress.{Progress}
+use Rattle.eval_tree.specs.Holdings.{Holding, waiting}
 use Rattle.eval_tree.specs.Live.{live_of}
 use Rattle.eval_tree.specs.Plain.{holding_of}
 use Rattle.eval_tree.proofs.Lived.{IsOther, lives_read, other_none}
+use Rattle.eval_tree.proofs.Unlike.{unlike_lives}
 use Rattle.eval_tree.proofs.live.+is_live.Goals as goal
 
 pub returns-in-Atom-Item-Some-clause-lives : goal.returns-in-Atom-Item-Some-clause-lives
+unfolding roll-State out-State denote.Hole.Carrier.roll denote.Hole.Carrier.out
 returns-in-Atom-Item-Some-clause-lives t c =
+    let s = c.in-Atom-Item-Some in
+    let item : c.args.node.now.state ≡ Item s.field-0-1 = search rules in
+    let found : s.field-0-1 ≡ Some s.found = rw item at s.is-1 in
     lives_read (plain_of c.args.query.now.shape) c.args.node.now.state c.args.start _
-    (first_of (search rules, grind (arith, common_steps)))
+    (sym (ap (λ (q : Qre). live_of q (holding_of c.args.node.now.state) c.args.start) (ap plain_of s.is-0)
+    ∙ ap (λ (h : Holding Progress). live_of (atom (predicates.plain_of s.field-0-0) (values.plain_of s.field-1-0)) h c.args.start)
+    (ap holding_of item ∙ ap (λ (x : Option ℕ). waiting x) found)))
 
 pub returns-then-is_live-2-clause-lives : goal.returns-then-is_live-2-clause-lives
 returns-then-is_live-2-clause-lives t c =
@@ -34,12 +47,28 @@ returns-in-Iter-Repeated-clause-lives t c =
     (first_of (search rules, grind (arith, common_steps)))
 
 pub returns-in_default-clause-lives : goal.returns-in_default-clause-lives
+unfolding roll-State out-State denote.Hole.Carrier.roll denote.Hole.Carrier.out
 returns-in_default-clause-lives t c =
+    let s = c.in_default in
+    let none : s.field-0-1 ≡ None = search rules in
     lives_read (plain_of c.args.query.now.shape) c.args.node.now.state c.args.start false
-    (first_of (search rules, grind (arith, common_steps)))
+    (sym (ap (λ (q : Qre). live_of q (holding_of c.args.node.now.state) c.args.start) (ap plain_of s.is-0)
+    ∙ ap (λ (h : Holding Progress). live_of (atom (predicates.plain_of s.field-0-0) (values.plain_of s.field-1-0)) h c.args.start)
+    (ap holding_of s.is-1 ∙ ap (λ (x : Option ℕ). waiting x) none)))
 
 pub returns-in_default-8 : goal.returns-in_default-8
 returns-in_default-8 t c =
+    let read : false ≡ live_of (plain_of c.args.query.now.shape) (holding_of c.args.node.now.state) c.args.start =
+    unlike_lives (plain_of c.in_default.field-0-0.value.shape) (plain_of c.in_default.field-1-0.value.shape)
+    c.args.node.now.state c.args.start c.in_default.not-Fed-1
+    ∙ sym (ap (λ (q : Qre). live_of q (holding_of c.args.node.now.state) c.args.start) (ap plain_of c.in_default.is-0)) in
+    record {
+      lives = lives_read (plain_of c.args.query.now.shape) c.args.node.now.state c.args.start false read;
+      read = read;
+    }
+
+pub returns-in_default-9 : goal.returns-in_default-9
+returns-in_default-9 t c =
     let read : false ≡ live_of (plain_of c.args.query.now.shape) (holding_of c.args.node.now.state) c.args.start =
     sym (other_none c.args.query.now.shape c.args.node.now.state c.args.start (other c.args.query.now.shape refl)) in
     record {
@@ -55,5 +84,5 @@ returns-in_default-8 t c =
     other (Iter' p f a number value) is = search rules
     other (Combine' p f a q g b value) is = search rules
     other (Apply' p f a value) is = search rules
-    other (Compose' p f a q g b) is = tt
+    other (Compose' p f a q g b) is = search rules
     other (Collect' key sync rate p f a) is = tt

@@ -1,9 +1,20 @@
-use Rattle.std.proofs.Common.{◌+◌, refl}
+use Rattle.std.proofs.Common.{inr, refl, subst, sym}
+use Rattle.query_model.specs.declared.query.Query.{Query}
 use Rattle.query_model.specs.Queries.{plain_of}
 use Rattle.query_model.specs.Rules.{free}
-use Rattle.eval_tree.proofs.Arms.{same_query, soundly_stepped_as, stepped_as}
-use Rattle.eval_tree.proofs.Carried.{carried}
+use Rattle.eval_tree.specs.Feeds.{CanCarry, IsCarried}
+use Rattle.eval_tree.specs.Plain.{seen_of}
+use Rattle.eval_tree.proofs.Carried.{carried, carry_next, found_sound}
 use Rattle.eval_tree.proofs.follow.RunnerFollower.step.Goals as goal
+
+pub carry-requires : goal.carry-requires
+carry-requires c =
+    let runner = c.args.self.now in
+    let on = runner.checked.now in
+    subst (λ (query : Query). CanCarry seen_of (plain_of query.shape) runner.progress c.args.item.now)
+    (sym c.main.ensures.main)
+    (carry_next on.layout.columns (plain_of on.main.shape) runner.progress c.args.item.now c.main.ensures.checked.clear
+    (found_sound runner c.requires.sound c.requires.found) c.requires.fits)
 
 pub returns-clause-ok : goal.returns-clause-ok
 returns-clause-ok c = λ word follows.
@@ -12,11 +23,21 @@ returns-clause-ok c = λ word follows.
     record {
       run = follows.run;
       found = refl;
-      at = carried free on.layout.columns (plain_of on.main.shape) word c.args.item.now old
-          (record { node = c.step.new.node; position = old.position + 1; answer = c.value_of.result }) c.in_ok-hit.hit
+      at = carried free on.layout.columns (plain_of on.main.shape) word c.args.item.now old c.carry.new.runner
           c.main.ensures.checked.clear c.requires.fits.is_item follows.at
-          (stepped_as _ _ _ _ _ _ (old.position + 1) c.args.item.now _ _ (same_query _ _ c.main.ensures.main) refl refl
-          refl c.in_ok-hit.ensures.word)
-          (soundly_stepped_as _ _ _ _ _ _ (old.position + 1) c.args.item.now _ _ (same_query _ _ c.main.ensures.main)
-          refl refl refl c.in_ok-hit.ensures.sound) refl c.value_of.ensures;
+          (subst (λ (query : Query). IsCarried seen_of (plain_of query.shape) old c.args.item.now c.carry.new.runner)
+          c.main.ensures.main c.in_ok-carry.ensures);
+    }
+
+pub returns-clause-sound : goal.returns-clause-sound
+returns-clause-sound c =
+    let runner = c.args.self.now in
+    let on = runner.checked.now in
+    let one_more =
+    subst (λ (query : Query). IsCarried seen_of (plain_of query.shape) runner.progress c.args.item.now c.carry.new.runner)
+    c.main.ensures.main c.in_ok-carry.ensures in
+    record {
+      run = c.requires.sound.run;
+      sound = inr (one_more.sound free on.layout.columns c.main.ensures.checked.clear c.requires.fits.is_item
+          (found_sound runner c.requires.sound c.requires.found));
     }

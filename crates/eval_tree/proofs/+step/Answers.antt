@@ -1,0 +1,1158 @@
+use Rattle.std.proofs.Common.{List, None, Option, Some, ap, arith, false, inl, refl, rules, subst, sym, true, w64, ℕ, ◌++◌, ◌-◌, ◌∙◌, ◌≡◌}
+use Rattle.std.specs.Prelude.{FitsSigned, IfNone, IfSome}
+use Rattle.std.specs.Option.{is_some}
+use Rattle.std.proofs.lemmas.Bool.{false≢true}
+use Rattle.value_ops.specs.Expressions as values
+use Rattle.query_model.specs.declared.query.Shape.{Shape}
+use Rattle.query_model.specs.declared.query.Shape.TheViews.{the_lemmas}
+use Rattle.query_model.specs.declared.query.Shape.TheVariants.{Apply', Atom, Collect', Combine', Compose', Eps, Iter', Or', Split'}
+use Rattle.query_model.specs.Queries.{Qre, plain_of}
+use Rattle.eval_tree.specs.declared.hit.Hit.{Hit}
+use Rattle.eval_tree.specs.Lefts.{AreTypedWith, IsPut}
+use Rattle.eval_tree.specs.Plain.{holding_of, runners_of, seen_of}
+use Rattle.eval_tree.proofs.Allowed.{started_split, stepped_atom, stepped_ended, stepped_joined}
+use Rattle.eval_tree.proofs.Arms.{can_start_as, can_step_as, ended_as, live_as, number_hit, same_query, soundly_started_as, soundly_stepped_as, started_as, stepped_as, where_ok}
+use Rattle.eval_tree.proofs.Combines.{start_combine, step_combine}
+use Rattle.eval_tree.proofs.FoldSoundness.{sound_start_combine, sound_start_iter, sound_step_combine, sound_step_iter_none, sound_step_iter_some}
+use Rattle.eval_tree.proofs.FoldsAllowed.{started_combine, stepped_combine, stepped_iter}
+use Rattle.eval_tree.proofs.IterArms.{iter_starts, iter_steps_none, iter_steps_some}
+use Rattle.eval_tree.proofs.Choices.{start_apply, start_choice, step_apply, step_choice}
+use Rattle.eval_tree.proofs.Items.{start_atom, step_atom, step_atom_none, step_atom_other, step_eps}
+use Rattle.eval_tree.proofs.Shaped.{HasNodes, shaped, soundly_shaped}
+use Rattle.eval_tree.proofs.Soundness.{sound_start_split_some, sound_step_apply, sound_step_atom, sound_step_split_none, sound_step_split_some}
+use Rattle.eval_tree.proofs.Unsound.{unsound_apply, unsound_atom, unsound_choice, unsound_combine, unsound_compose, unsound_eps, unsound_iter, unsound_split}
+use Rattle.eval_tree.proofs.SplitArms.{split_starts, split_steps_none, split_steps_some}
+use Rattle.eval_tree.proofs.SplitStarts.{start_split_none}
+use Rattle.value_ops.specs.declared.field.Field.{Field}
+use Rattle.value_ops.specs.declared.value.ValueType.{ValueType}
+use Rattle.value_ops.specs.Evaluation.{given, value_of}
+use Rattle.value_ops.specs.Typing.{HasType, types_of}
+use Rattle.predicate_cells.specs.Plain as predicates
+use Rattle.eval_tree.specs.Holdings.{Holding, fed, operand, waiting}
+use Rattle.eval_tree.specs.declared.node.State.TheVariants.{Fed}
+use Rattle.eval_tree.specs.declared.node.State.TheViews.{out-State, roll-State}
+use Rattle.eval_tree.specs.declared.progress.Progress.{Progress}
+use Rattle.split_eval.specs.Entries.{Contents, live_entries}
+use Rattle.value_ops.specs.declared.value.Value.{Value}
+use Rattle.eval_tree.specs.Live.{live_of}
+use Rattle.eval_tree.proofs.Elsewhere.{elsewhere, fresh_elsewhere}
+use Rattle.compose_eval.specs.Followers as followers
+use Rattle.compose_eval.specs.Followers.{instance_at, live_instances, retired, with_follower, IsAt}
+use Rattle.eval_tree.specs.Feeds.{CanBegin, CanCarry, CanFeed, CanPassOn, Feeds, HasIdle, IsBegun, IsCarried, PassesOn, hit_at}
+use Rattle.eval_tree.specs.Steps.{CanStep, Steps, StepsSoundly}
+use Rattle.eval_tree.proofs.ComposeAllowed.{carry_begun, feeds_allowed, passes_allowed, start_cleared, step_carried}
+use Rattle.eval_tree.proofs.ComposeArms.{compose_starts, compose_steps, fed_is, runners_are}
+use Rattle.eval_tree.proofs.ComposeSoundness.{sound_start_compose, sound_step_compose}
+use Rattle.eval_tree.proofs.Carried.{begun_anew, carried_on}
+use Rattle.eval_tree.proofs.Feeding.{begin_last, fed_already, feeds_at_rest, feeds_awake, feeds_none, passed_one, renew_allowed, tell_allowed}
+use Rattle.eval_tree.proofs.+step.Goals as goal
+use Rattle.eval_tree.proofs.+step.Goals.{composing::step_compose-After-keep, iterating::step_iter-After-keep, splitting::step_split-After-keep, steps::start-In-Iter-Repeated, steps::step-in_default-take-via-in-Some+else-holds, steps::step-in_default-take-via-in_default-take, steps::start-in_default-via-in-Atom+in_default, steps::start-in_default-via-in-Eps+in_default, steps::start-in_default-via-in-Or+in_default, steps::start-in_default-via-in-Apply+in_default, steps::start-in_default-via-in-Split+in_default, steps::start-in_default-via-in-Combine+in_default, steps::start-in_default-via-in-Iter+in_default, steps::start-in_default-via-in-Compose+in_default, steps::start-in_default-via-in_default, steps::step-in_default-via-in-Atom+in_default, steps::step-in_default-via-in-Eps+in_default, steps::step-in_default-via-in-Or+in_default, steps::step-in_default-via-in-Apply+in_default, steps::step-in_default-via-in-Split+in_default, steps::step-in_default-via-in-Combine+in_default, steps::step-in_default-via-in-Iter+in_default, steps::step-in_default-via-in-Compose+in_default, steps::step-in_default-via-in_default, feeds::feed-then-idle-eq0-via-then-idle-eq0, feeds::feed-then-idle-eq0-via-else-idle-eq0+then-is_some, feeds::feed-then-live, feeds::feed-else-live}
+
+-- the runners of a compose
+abbrev Runners : Type 0
+Runners = followers.Contents Progress
+
+-- a shape without an arm of its own has no nodes
+no_nodes : (shape : Shape) → ((pred value : _) → shape ≡ Atom pred value → ⊥)
+    → ((number : _) → shape ≡ Eps number → ⊥) → ((p f a q g b : _) → shape ≡ Or' p f a q g b → ⊥)
+    → ((p f a q g b value : _) → shape ≡ Split' p f a q g b value → ⊥)
+    → ((p f a number value : _) → shape ≡ Iter' p f a number value → ⊥)
+    → ((p f a q g b value : _) → shape ≡ Combine' p f a q g b value → ⊥)
+    → ((p f a value : _) → shape ≡ Apply' p f a value → ⊥)
+    → ((p f a q g b : _) → shape ≡ Compose' p f a q g b → ⊥) → HasNodes (plain_of shape) → ⊥
+no_nodes (Atom pred value) no_atom no_eps no_or no_split no_iter no_combine no_apply no_compose run =
+    no_atom pred value refl
+no_nodes (Eps number) no_atom no_eps no_or no_split no_iter no_combine no_apply no_compose run = no_eps number refl
+no_nodes (Or' p f a q g b) no_atom no_eps no_or no_split no_iter no_combine no_apply no_compose run =
+    no_or p f a q g b refl
+no_nodes (Split' p f a q g b value) no_atom no_eps no_or no_split no_iter no_combine no_apply no_compose run =
+    no_split p f a q g b value refl
+no_nodes (Iter' p f a number value) no_atom no_eps no_or no_split no_iter no_combine no_apply no_compose run =
+    no_iter p f a number value refl
+no_nodes (Combine' p f a q g b value) no_atom no_eps no_or no_split no_iter no_combine no_apply no_compose run =
+    no_combine p f a q g b value refl
+no_nodes (Apply' p f a value) no_atom no_eps no_or no_split no_iter no_combine no_apply no_compose run =
+    no_apply p f a value refl
+no_nodes (Compose' p f a q g b) no_atom no_eps no_or no_split no_iter no_combine no_apply no_compose run =
+    no_compose p f a q g b refl
+no_nodes (Collect' key sync rate p f a) no_atom no_eps no_or no_split no_iter no_combine no_apply no_compose run = run
+
+-- what is said of a place that is there, and where there is none
+there_is : (place : Option ℕ) (P : ℕ → Type 0) → is_some place ≡ true → IfSome place P → (i : ℕ) × P i
+there_is (Some i) P some is = (i, is)
+there_is None P some is = absurd (false≢true some)
+
+there_is_none : (place : Option ℕ) (A : Type 0) → is_some place ≡ false → IfNone place A → A
+there_is_none None A none is = is
+there_is_none (Some i) A none is = absurd (false≢true (sym none))
+
+pub steps::start-returns-in-Atom-Item-clause-word : goal.steps::start-returns-in-Atom-Item-clause-word
+unfolding roll-State out-State denote.Hole.Carrier.roll denote.Hole.Carrier.out
+steps::start-returns-in-Atom-Item-clause-word t c =
+    started_as _ _ _ _ (waiting (Some c.args.at)) _ c.args.at _ _ (ap plain_of c.in-Atom-Item.is-0)
+    (ap holding_of c.in-Atom-Item.is-1) (rw c.in-Atom-Item.is-1 refl) refl
+    (start_atom seen_of _ _ _ c.args.at)
+
+pub steps::start-returns-in_ok-right-in-Or-Both-clause-word :
+    goal.steps::start-returns-in_ok-right-in-Or-Both-clause-word
+steps::start-returns-in_ok-right-in-Or-Both-clause-word t c =
+    let s = c.in-Or-Both in
+    started_as _ _ _ _ _ _ c.args.at _ _ (ap plain_of s.is-0) (ap holding_of s.is-1) refl c.or.ensures
+    (start_choice seen_of (plain_of s.first.value.shape) (plain_of s.second.value.shape) (holding_of s.a.value.state)
+    (holding_of s.b.value.state) (holding_of c.start.new.node.state) (holding_of c.start-in-Or-Both.new.node.state)
+    c.args.at c.in_ok-left-in-Or-Both.left c.in_ok-right-in-Or-Both.right
+    (started_as _ _ (holding_of c.deref_mut.result.now.state)
+    (holding_of s.a.value.state) _ _ c.args.at _ _ (same_query _ _ c.deref.ensures)
+    (search rules) refl refl c.in_ok-left-in-Or-Both.ensures.word)
+    (started_as _ _ (holding_of c.deref_mut-in-Or-Both.result.now.state)
+    (holding_of s.b.value.state) _ _ c.args.at _ _ (same_query _ _ c.deref-in-Or-Both.ensures)
+    (search rules) refl refl c.in_ok-right-in-Or-Both.ensures.word))
+
+pub steps::start-returns-in_ok-hit-in-Apply-Operand-clause-word :
+    goal.steps::start-returns-in_ok-hit-in-Apply-Operand-clause-word
+unfolding roll-State out-State denote.Hole.Carrier.roll denote.Hole.Carrier.out
+steps::start-returns-in_ok-hit-in-Apply-Operand-clause-word t c =
+    let s = c.in-Apply-Operand in
+    where_ok c.applied.result _ _ (λ hit applied. started_as _ _ _ _
+    (operand (holding_of c.start-in-Apply-Operand.new.node.state)) _ c.args.at _ _ (ap plain_of s.is-0)
+    (ap holding_of s.is-1) (rw s.is-1 refl) refl
+    (start_apply seen_of (plain_of s.inner.value.shape) (values.plain_of s.expression) (holding_of s.a.value.state)
+    (holding_of c.start-in-Apply-Operand.new.node.state) c.args.at c.in_ok-hit-in-Apply-Operand.hit hit
+    (started_as _ _ (holding_of c.deref_mut-in-Apply-Operand.result.now.state)
+    (holding_of s.a.value.state) _ _ c.args.at _ _ (same_query _ _ c.deref-in-Apply-Operand.ensures)
+    (search rules) refl refl c.in_ok-hit-in-Apply-Operand.ensures.word)
+    applied)) c.applied.ensures
+
+pub steps::start-combined-requires : goal.steps::start-combined-requires
+steps::start-combined-requires t c =
+    let s = c.in-Combine-Pair in
+    started_combine seen_of (plain_of s.first.value.shape) (plain_of s.second.value.shape)
+    (values.plain_of s.expression)
+    (holding_of s.a.value.state) (holding_of s.b.value.state) (holding_of c.start-in-Combine-Pair.new.node.state)
+    (holding_of c.start-in-Combine-Pair-2.new.node.state) c.args.at c.in_ok-left-in-Combine-Pair.left
+    c.in_ok-right-in-Combine-Pair.right
+    (can_start_as _ _ _ _ c.args.at (sym (ap plain_of s.is-0)) (sym (ap holding_of s.is-1)) c.requires)
+    (soundly_started_as _ _ (holding_of c.deref_mut-in-Combine-Pair.result.now.state)
+    (holding_of s.a.value.state) _ _ c.args.at _ _ (same_query _ _ c.deref-in-Combine-Pair.ensures)
+    (search rules) refl refl c.in_ok-left-in-Combine-Pair.ensures.sound)
+    (soundly_started_as _ _ (holding_of c.deref_mut-in-Combine-Pair-2.result.now.state)
+    (holding_of s.b.value.state) _ _ c.args.at _ _ (same_query _ _ c.deref-in-Combine-Pair-2.ensures)
+    (search rules) refl refl c.in_ok-right-in-Combine-Pair.ensures.sound)
+
+pub steps::start-returns-in_ok-right-in-Combine-Pair-clause-word :
+    goal.steps::start-returns-in_ok-right-in-Combine-Pair-clause-word
+steps::start-returns-in_ok-right-in-Combine-Pair-clause-word t c =
+    let s = c.in-Combine-Pair in
+    where_ok c.combined.result _ _ (λ hit combined. started_as _ _ _ _ _ _ c.args.at _ _ (ap plain_of s.is-0)
+    (ap holding_of s.is-1) refl refl
+    (start_combine seen_of (plain_of s.first.value.shape) (plain_of s.second.value.shape)
+    (values.plain_of s.expression) (holding_of s.a.value.state)
+    (holding_of s.b.value.state) (holding_of c.start-in-Combine-Pair.new.node.state)
+    (holding_of c.start-in-Combine-Pair-2.new.node.state) c.args.at c.in_ok-left-in-Combine-Pair.left
+    c.in_ok-right-in-Combine-Pair.right hit
+    (started_as _ _ (holding_of c.deref_mut-in-Combine-Pair.result.now.state)
+    (holding_of s.a.value.state) _ _ c.args.at _ _ (same_query _ _ c.deref-in-Combine-Pair.ensures)
+    (search rules) refl refl c.in_ok-left-in-Combine-Pair.ensures.word)
+    (started_as _ _ (holding_of c.deref_mut-in-Combine-Pair-2.result.now.state)
+    (holding_of s.b.value.state) _ _ c.args.at _ _ (same_query _ _ c.deref-in-Combine-Pair-2.ensures)
+    (search rules) refl refl c.in_ok-right-in-Combine-Pair.ensures.word)
+    combined)) c.combined.ensures
+
+pub steps::start-returns-in_ok-right-in-Combine-Pair-clause-sound :
+    goal.steps::start-returns-in_ok-right-in-Combine-Pair-clause-sound
+steps::start-returns-in_ok-right-in-Combine-Pair-clause-sound t c =
+    let s = c.in-Combine-Pair in
+    where_ok c.combined.result _ _ (λ hit combined. soundly_started_as _ _ _ _ _ _ c.args.at _ _ (ap plain_of s.is-0)
+    (ap holding_of s.is-1) refl refl
+    (sound_start_combine seen_of (plain_of s.first.value.shape) (plain_of s.second.value.shape)
+    (values.plain_of s.expression) (holding_of s.a.value.state)
+    (holding_of s.b.value.state) (holding_of c.start-in-Combine-Pair.new.node.state)
+    (holding_of c.start-in-Combine-Pair-2.new.node.state) c.args.at c.in_ok-left-in-Combine-Pair.left
+    c.in_ok-right-in-Combine-Pair.right hit
+    (soundly_started_as _ _ (holding_of c.deref_mut-in-Combine-Pair.result.now.state)
+    (holding_of s.a.value.state) _ _ c.args.at _ _ (same_query _ _ c.deref-in-Combine-Pair.ensures)
+    (search rules) refl refl c.in_ok-left-in-Combine-Pair.ensures.sound)
+    (soundly_started_as _ _ (holding_of c.deref_mut-in-Combine-Pair-2.result.now.state)
+    (holding_of s.b.value.state) _ _ c.args.at _ _ (same_query _ _ c.deref-in-Combine-Pair-2.ensures)
+    (search rules) refl refl
+    c.in_ok-right-in-Combine-Pair.ensures.sound) combined)) c.combined.ensures
+
+-- the number of no piece
+number_fits : (t : ℕ) (c : steps::start-In-Iter-Repeated t) → FitsSigned w64 c.in-Iter-Repeated.number
+number_fits t c = search rules
+
+pub steps::start-returns-in_ok-go_on_if_new-in-Iter-Repeated-clause-word :
+    goal.steps::start-returns-in_ok-go_on_if_new-in-Iter-Repeated-clause-word
+unfolding roll-State out-State denote.Hole.Carrier.roll denote.Hole.Carrier.out
+steps::start-returns-in_ok-go_on_if_new-in-Iter-Repeated-clause-word t c =
+    let s = c.in-Iter-Repeated in
+    let first = number_hit _ _ _
+    (number_fits t (goal.at.steps::start-returns-in_ok-go_on_if_new-in-Iter-Repeated-clause-word t c).In-Iter-Repeated)
+    c.of_number-hit.ensures in
+    let put = subst (λ (hit : Hit). IsPut c.is_live.result s.so_far
+    (record { inner = c.args.at; outer = hit.start; value = hit.value }) c.go_on_if_new.new.so_far)
+    first (rw s.is-1 at c.in_ok-go_on_if_new-in-Iter-Repeated.ensures) in
+    started_as _ _ _ _ _ _ c.args.at _ _ (ap plain_of s.is-0) (ap holding_of s.is-1) refl
+    (ap (λ (hit : Hit). Some hit) first)
+    (iter_starts (plain_of s.inner.value.shape) s.number _ s.a.value.state
+    c.start-in-Iter-Repeated.new.node.state s.so_far c.go_on_if_new.new.so_far c.args.at _
+    c.is_live.result
+    (started_as _ _ (holding_of c.deref_mut-in-Iter-Repeated.result.now.state)
+    (holding_of s.a.value.state) _ _ c.args.at _ _ (same_query _ _ c.deref-in-Iter-Repeated.ensures)
+    (search rules) refl refl c.in_ok-start-in-Iter-Repeated.ensures.word)
+    (live_as _ _ _ _ c.args.at c.is_live.result c.deref-in-Iter-Repeated-2.ensures
+    c.deref-in-Iter-Repeated-3.ensures c.is_live.ensures.read)
+    put)
+
+pub steps::start-returns-in_ok-go_on_if_new-in-Iter-Repeated-clause-sound :
+    goal.steps::start-returns-in_ok-go_on_if_new-in-Iter-Repeated-clause-sound
+unfolding roll-State out-State denote.Hole.Carrier.roll denote.Hole.Carrier.out
+steps::start-returns-in_ok-go_on_if_new-in-Iter-Repeated-clause-sound t c =
+    let s = c.in-Iter-Repeated in
+    let first = number_hit _ _ _
+    (number_fits t (goal.at.steps::start-returns-in_ok-go_on_if_new-in-Iter-Repeated-clause-sound t c).In-Iter-Repeated)
+    c.of_number-hit.ensures in
+    let put = subst (λ (hit : Hit). IsPut c.is_live.result s.so_far
+    (record { inner = c.args.at; outer = hit.start; value = hit.value }) c.go_on_if_new.new.so_far)
+    first (rw s.is-1 at c.in_ok-go_on_if_new-in-Iter-Repeated.ensures) in
+    soundly_started_as _ _ _ _ _ _ c.args.at _ _ (ap plain_of s.is-0) (ap holding_of s.is-1) refl
+    (ap (λ (hit : Hit). Some hit) first)
+    (sound_start_iter seen_of (plain_of s.inner.value.shape) s.number _ (holding_of s.a.value.state)
+    (holding_of c.start-in-Iter-Repeated.new.node.state) s.so_far c.go_on_if_new.new.so_far c.args.at _
+    c.is_live.result
+    (soundly_started_as _ _ (holding_of c.deref_mut-in-Iter-Repeated.result.now.state)
+    (holding_of s.a.value.state) _ _ c.args.at _ _ (same_query _ _ c.deref-in-Iter-Repeated.ensures)
+    (search rules) refl refl c.in_ok-start-in-Iter-Repeated.ensures.sound)
+    put)
+
+pub steps::start-returns-in_default-clause-word : goal.steps::start-returns-in_default-clause-word
+steps::start-returns-in_default-clause-word t c = λ standing columns word starts clear is positions rep fresh end apart.
+    let stream = c.requires.columns in
+    let q = plain_of c.args.query.now.shape in
+    let state = c.args.node.now.state in
+    let sound = c.requires.sound in
+    elim c.in_default.branch [
+      | steps::start-in_default-via-in-Atom+in_default w ↦ absurd (unsound_atom stream c.args.at q state _ _
+          (ap plain_of w.in_default.is-0) w.in_default.not-Item-1 sound)
+      | steps::start-in_default-via-in-Eps+in_default w ↦ absurd (unsound_eps stream c.args.at q state _
+          (ap plain_of w.in_default.is-0) w.in_default.not-Empty-1 sound)
+      | steps::start-in_default-via-in-Or+in_default w ↦ absurd (unsound_choice stream c.args.at q state _ _
+          (ap plain_of w.in_default.is-0) w.in_default.not-Both-1 sound)
+      | steps::start-in_default-via-in-Apply+in_default w ↦ absurd (unsound_apply stream c.args.at q state _ _
+          (ap plain_of w.in_default.is-0) w.in_default.not-Operand-1 sound)
+      | steps::start-in_default-via-in-Split+in_default w ↦ absurd (unsound_split stream c.args.at q state _ _ _
+          (ap plain_of w.in_default.is-0) w.in_default.not-Sequence-1 sound)
+      | steps::start-in_default-via-in-Combine+in_default w ↦ absurd (unsound_combine stream c.args.at q state _ _ _
+          (ap plain_of w.in_default.is-0) w.in_default.not-Pair-1 sound)
+      | steps::start-in_default-via-in-Iter+in_default w ↦ absurd (unsound_iter stream c.args.at q state _ _ _
+          (ap plain_of w.in_default.is-0) w.in_default.not-Repeated-1 sound)
+      | steps::start-in_default-via-in-Compose+in_default w ↦ absurd (unsound_compose stream c.args.at q state _ _
+          (ap plain_of w.in_default.is-0) w.in_default.not-Fed-1 sound)
+      | steps::start-in_default-via-in_default w ↦ absurd (no_nodes c.args.query.now.shape
+          (λ pred value is. search rules) (λ number is. search rules) (λ p f a q g b is. search rules)
+          (λ p f a q g b value is. search rules) (λ p f a number value is. search rules)
+          (λ p f a q g b value is. search rules) (λ p f a value is. search rules) (λ p f a q g b is. search rules)
+          (shaped columns q state word starts rep))
+    ]
+
+pub steps::step-eval-requires : goal.steps::step-eval-requires
+steps::step-eval-requires t c =
+    let s = c.in-Atom-Item in
+    subst (λ (fields : List Field). (type : ValueType)
+    × HasType (types_of (given fields None None)) (values.plain_of s.expression) type) (sym c.fields.ensures)
+    (stepped_atom seen_of (predicates.plain_of s.pred) (values.plain_of s.expression) _ c.args.now c.args.item.now
+    (can_step_as _ _ _ _ c.args.now c.args.item.now (sym (ap plain_of s.is-0)) (sym (ap holding_of s.is-1)) c.requires))
+
+pub steps::step-returns-in_ok-value-in-Some-clause-word : goal.steps::step-returns-in_ok-value-in-Some-clause-word
+unfolding roll-State out-State denote.Hole.Carrier.roll denote.Hole.Carrier.out
+steps::step-returns-in_ok-value-in-Some-clause-word t c =
+    let s = c.in-Atom-Item in
+    let found : s.found ≡ Some c.in-Some.start = sym (rw s.is-1 at c.take.ensures.value) ∙ c.in-Some.is in
+    let gives : value_of (given c.args.item.now None None) (values.plain_of s.expression)
+    ≡ Some c.in_ok-value-in-Some.value = subst (λ (fields : List Field).
+    value_of (given fields None None) (values.plain_of s.expression) ≡ Some c.in_ok-value-in-Some.value)
+    c.fields.ensures c.in_ok-value-in-Some.ensures.value in
+    stepped_as _ _ _ _ (waiting None) _ c.args.now c.args.item.now _ _ (ap plain_of s.is-0)
+    (ap holding_of s.is-1 ∙ ap (λ (start : Option ℕ). waiting start) found)
+    (rw s.is-1 (ap (λ (start : Option ℕ). waiting start) c.take.ensures.after)) refl
+    (step_atom seen_of (predicates.plain_of s.pred) (values.plain_of s.expression) c.in-Some.start c.args.now
+    c.args.item.now c.in_ok-value-in-Some.value (sym c.holds.ensures ∙ c.if-holds.true) gives)
+
+pub steps::step-returns-in_ok-value-in-Some-clause-sound : goal.steps::step-returns-in_ok-value-in-Some-clause-sound
+unfolding roll-State out-State denote.Hole.Carrier.roll denote.Hole.Carrier.out
+steps::step-returns-in_ok-value-in-Some-clause-sound t c =
+    let s = c.in-Atom-Item in
+    let gives : value_of (given c.args.item.now None None) (values.plain_of s.expression)
+    ≡ Some c.in_ok-value-in-Some.value = subst (λ (fields : List Field).
+    value_of (given fields None None) (values.plain_of s.expression) ≡ Some c.in_ok-value-in-Some.value)
+    c.fields.ensures c.in_ok-value-in-Some.ensures.value in
+    soundly_stepped_as _ _ _ _ (waiting None) _ c.args.now c.args.item.now _ _ (ap plain_of s.is-0)
+    (ap holding_of s.is-1)
+    (rw s.is-1 (ap (λ (start : Option ℕ). waiting start) c.take.ensures.after)) refl
+    (sound_step_atom seen_of (predicates.plain_of s.pred) (values.plain_of s.expression) s.found c.args.now
+    c.in-Some.start c.args.item.now c.in_ok-value-in-Some.value gives)
+
+pub steps::step-returns-in_default-take-clause-word : goal.steps::step-returns-in_default-take-clause-word
+unfolding roll-State out-State denote.Hole.Carrier.roll denote.Hole.Carrier.out
+steps::step-returns-in_default-take-clause-word t c =
+    let s = c.in-Atom-Item in
+    elim c.in_default-take.branch [
+      | steps::step-in_default-take-via-in-Some+else-holds w ↦
+          stepped_as _ _ _ _ (waiting None) _ c.args.now c.args.item.now _ _ (ap plain_of s.is-0)
+          (ap holding_of s.is-1 ∙ ap (λ (start : Option ℕ). waiting start)
+          (sym (rw s.is-1 at c.take.ensures.value) ∙ w.in-Some.is))
+          (rw s.is-1 (ap (λ (start : Option ℕ). waiting start) c.take.ensures.after)) refl
+          (step_atom_other seen_of (predicates.plain_of s.pred) (values.plain_of s.expression)
+          w.in-Some.start c.args.now
+          c.args.item.now (sym w.holds.ensures ∙ w.if-holds.false))
+      | steps::step-in_default-take-via-in_default-take w ↦
+          stepped_as _ _ _ _ (waiting None) _ c.args.now c.args.item.now _ _ (ap plain_of s.is-0)
+          (ap holding_of s.is-1 ∙ ap (λ (start : Option ℕ). waiting start)
+          (sym (rw s.is-1 at c.take.ensures.value) ∙ w.in_default-take.is))
+          (rw s.is-1 (ap (λ (start : Option ℕ). waiting start) c.take.ensures.after)) refl
+          (step_atom_none seen_of (predicates.plain_of s.pred) (values.plain_of s.expression) c.args.now
+          c.args.item.now)
+    ]
+
+pub steps::step-returns-in-Eps-Empty-clause-word : goal.steps::step-returns-in-Eps-Empty-clause-word
+steps::step-returns-in-Eps-Empty-clause-word t c =
+    let s = c.in-Eps-Empty in
+    stepped_as _ _ _ _ _ _ c.args.now c.args.item.now _ _ (ap plain_of s.is-0) (ap holding_of s.is-1)
+    (ap holding_of s.is-1) refl (step_eps seen_of _ c.args.now c.args.item.now)
+
+pub steps::step-returns-in_ok-right-in-Or-Both-clause-word : goal.steps::step-returns-in_ok-right-in-Or-Both-clause-word
+unfolding roll-State out-State denote.Hole.Carrier.roll denote.Hole.Carrier.out
+steps::step-returns-in_ok-right-in-Or-Both-clause-word t c =
+    let s = c.in-Or-Both in
+    stepped_as _ _ _ _ _ _ c.args.now c.args.item.now _ _ (ap plain_of s.is-0) (ap holding_of s.is-1) refl c.or.ensures
+    (step_choice seen_of (plain_of s.first.value.shape) (plain_of s.second.value.shape) (holding_of s.a.value.state)
+    (holding_of s.b.value.state) (holding_of c.step.new.node.state) (holding_of c.step-in-Or-Both.new.node.state)
+    c.args.now c.args.item.now c.in_ok-left-in-Or-Both.left c.in_ok-right-in-Or-Both.right
+    (stepped_as _ _ (holding_of c.deref_mut.result.now.state)
+    (holding_of s.a.value.state) _ _ c.args.now c.args.item.now _ _ (same_query _ _ c.deref.ensures)
+    (search rules) refl refl c.in_ok-left-in-Or-Both.ensures.word)
+    (stepped_as _ _ (holding_of c.deref_mut-in-Or-Both.result.now.state)
+    (holding_of s.b.value.state) _ _ c.args.now c.args.item.now _ _ (same_query _ _ c.deref-in-Or-Both.ensures)
+    (search rules) refl refl c.in_ok-right-in-Or-Both.ensures.word))
+
+pub steps::step-returns-in_ok-hit-in-Apply-Operand-clause-word :
+    goal.steps::step-returns-in_ok-hit-in-Apply-Operand-clause-word
+unfolding roll-State out-State denote.Hole.Carrier.roll denote.Hole.Carrier.out
+steps::step-returns-in_ok-hit-in-Apply-Operand-clause-word t c =
+    let s = c.in-Apply-Operand in
+    where_ok c.applied.result _ _ (λ hit applied. stepped_as _ _ _ _
+    (operand (holding_of c.step-in-Apply-Operand.new.node.state)) _ c.args.now c.args.item.now _ _
+    (ap plain_of s.is-0) (ap holding_of s.is-1) (rw s.is-1 refl) refl
+    (step_apply seen_of (plain_of s.inner.value.shape) (values.plain_of s.expression) (holding_of s.a.value.state)
+    (holding_of c.step-in-Apply-Operand.new.node.state) c.args.now c.args.item.now c.in_ok-hit-in-Apply-Operand.hit hit
+    (stepped_as _ _ (holding_of c.deref_mut-in-Apply-Operand.result.now.state)
+    (holding_of s.a.value.state) _ _ c.args.now c.args.item.now _ _ (same_query _ _ c.deref-in-Apply-Operand.ensures)
+    (search rules) refl refl c.in_ok-hit-in-Apply-Operand.ensures.word)
+    applied)) c.applied.ensures
+
+pub steps::step-returns-in_ok-hit-in-Apply-Operand-clause-sound :
+    goal.steps::step-returns-in_ok-hit-in-Apply-Operand-clause-sound
+unfolding roll-State out-State denote.Hole.Carrier.roll denote.Hole.Carrier.out
+steps::step-returns-in_ok-hit-in-Apply-Operand-clause-sound t c =
+    let s = c.in-Apply-Operand in
+    where_ok c.applied.result _ _ (λ hit applied. soundly_stepped_as _ _ _ _
+    (operand (holding_of c.step-in-Apply-Operand.new.node.state)) _ c.args.now c.args.item.now _ _
+    (ap plain_of s.is-0) (ap holding_of s.is-1) (rw s.is-1 refl) refl
+    (sound_step_apply seen_of (plain_of s.inner.value.shape) (values.plain_of s.expression)
+    (holding_of s.a.value.state) (holding_of c.step-in-Apply-Operand.new.node.state) c.args.now c.args.item.now
+    c.in_ok-hit-in-Apply-Operand.hit hit
+    (soundly_stepped_as _ _ (holding_of c.deref_mut-in-Apply-Operand.result.now.state)
+    (holding_of s.a.value.state) _ _ c.args.now c.args.item.now _ _ (same_query _ _ c.deref-in-Apply-Operand.ensures)
+    (search rules) refl refl c.in_ok-hit-in-Apply-Operand.ensures.sound)
+    applied)) c.applied.ensures
+
+pub steps::step-combined-requires : goal.steps::step-combined-requires
+steps::step-combined-requires t c =
+    let s = c.in-Combine-Pair in
+    stepped_combine seen_of (plain_of s.first.value.shape) (plain_of s.second.value.shape)
+    (values.plain_of s.expression)
+    (holding_of s.a.value.state) (holding_of s.b.value.state) (holding_of c.step-in-Combine-Pair.new.node.state)
+    (holding_of c.step-in-Combine-Pair-2.new.node.state) c.args.now c.args.item.now c.in_ok-left-in-Combine-Pair.left
+    c.in_ok-right-in-Combine-Pair.right
+    (can_step_as _ _ _ _ c.args.now c.args.item.now (sym (ap plain_of s.is-0)) (sym (ap holding_of s.is-1)) c.requires)
+    (soundly_stepped_as _ _ (holding_of c.deref_mut-in-Combine-Pair.result.now.state)
+    (holding_of s.a.value.state) _ _ c.args.now c.args.item.now _ _ (same_query _ _ c.deref-in-Combine-Pair.ensures)
+    (search rules) refl refl c.in_ok-left-in-Combine-Pair.ensures.sound)
+    (soundly_stepped_as _ _ (holding_of c.deref_mut-in-Combine-Pair-2.result.now.state)
+    (holding_of s.b.value.state) _ _ c.args.now c.args.item.now _ _ (same_query _ _ c.deref-in-Combine-Pair-2.ensures)
+    (search rules) refl refl c.in_ok-right-in-Combine-Pair.ensures.sound)
+
+pub steps::step-returns-in_ok-right-in-Combine-Pair-clause-word :
+    goal.steps::step-returns-in_ok-right-in-Combine-Pair-clause-word
+steps::step-returns-in_ok-right-in-Combine-Pair-clause-word t c =
+    let s = c.in-Combine-Pair in
+    where_ok c.combined.result _ _ (λ hit combined. stepped_as _ _ _ _ _ _ c.args.now c.args.item.now _ _
+    (ap plain_of s.is-0) (ap holding_of s.is-1) refl refl
+    (step_combine seen_of (plain_of s.first.value.shape) (plain_of s.second.value.shape)
+    (values.plain_of s.expression) (holding_of s.a.value.state)
+    (holding_of s.b.value.state) (holding_of c.step-in-Combine-Pair.new.node.state)
+    (holding_of c.step-in-Combine-Pair-2.new.node.state) c.args.now c.args.item.now c.in_ok-left-in-Combine-Pair.left
+    c.in_ok-right-in-Combine-Pair.right hit
+    (stepped_as _ _ (holding_of c.deref_mut-in-Combine-Pair.result.now.state)
+    (holding_of s.a.value.state) _ _ c.args.now c.args.item.now _ _ (same_query _ _ c.deref-in-Combine-Pair.ensures)
+    (search rules) refl refl c.in_ok-left-in-Combine-Pair.ensures.word)
+    (stepped_as _ _ (holding_of c.deref_mut-in-Combine-Pair-2.result.now.state)
+    (holding_of s.b.value.state) _ _ c.args.now c.args.item.now _ _ (same_query _ _ c.deref-in-Combine-Pair-2.ensures)
+    (search rules) refl refl c.in_ok-right-in-Combine-Pair.ensures.word)
+    combined)) c.combined.ensures
+
+pub steps::step-returns-in_ok-right-in-Combine-Pair-clause-sound :
+    goal.steps::step-returns-in_ok-right-in-Combine-Pair-clause-sound
+steps::step-returns-in_ok-right-in-Combine-Pair-clause-sound t c =
+    let s = c.in-Combine-Pair in
+    where_ok c.combined.result _ _ (λ hit combined. soundly_stepped_as _ _ _ _ _ _ c.args.now c.args.item.now _ _
+    (ap plain_of s.is-0) (ap holding_of s.is-1) refl refl
+    (sound_step_combine seen_of (plain_of s.first.value.shape) (plain_of s.second.value.shape)
+    (values.plain_of s.expression) (holding_of s.a.value.state)
+    (holding_of s.b.value.state) (holding_of c.step-in-Combine-Pair.new.node.state)
+    (holding_of c.step-in-Combine-Pair-2.new.node.state) c.args.now c.args.item.now c.in_ok-left-in-Combine-Pair.left
+    c.in_ok-right-in-Combine-Pair.right hit
+    (soundly_stepped_as _ _ (holding_of c.deref_mut-in-Combine-Pair.result.now.state)
+    (holding_of s.a.value.state) _ _ c.args.now c.args.item.now _ _ (same_query _ _ c.deref-in-Combine-Pair.ensures)
+    (search rules) refl refl c.in_ok-left-in-Combine-Pair.ensures.sound)
+    (soundly_stepped_as _ _ (holding_of c.deref_mut-in-Combine-Pair-2.result.now.state)
+    (holding_of s.b.value.state) _ _ c.args.now c.args.item.now _ _ (same_query _ _ c.deref-in-Combine-Pair-2.ensures)
+    (search rules) refl refl
+    c.in_ok-right-in-Combine-Pair.ensures.sound) combined)) c.combined.ensures
+
+pub steps::step-returns-in_default-clause-word : goal.steps::step-returns-in_default-clause-word
+steps::step-returns-in_default-clause-word t c = λ standing columns word starts clear is positions rep end apart.
+    let stream = c.requires.columns in
+    let q = plain_of c.args.query.now.shape in
+    let state = c.args.node.now.state in
+    let sound = c.requires.sound in
+    elim c.in_default.branch [
+      | steps::step-in_default-via-in-Atom+in_default w ↦ absurd (unsound_atom stream c.requires.position q state _ _
+          (ap plain_of w.in_default.is-0) w.in_default.not-Item-1 sound)
+      | steps::step-in_default-via-in-Eps+in_default w ↦ absurd (unsound_eps stream c.requires.position q state _
+          (ap plain_of w.in_default.is-0) w.in_default.not-Empty-1 sound)
+      | steps::step-in_default-via-in-Or+in_default w ↦ absurd (unsound_choice stream c.requires.position q state _ _
+          (ap plain_of w.in_default.is-0) w.in_default.not-Both-1 sound)
+      | steps::step-in_default-via-in-Apply+in_default w ↦ absurd (unsound_apply stream c.requires.position q state _ _
+          (ap plain_of w.in_default.is-0) w.in_default.not-Operand-1 sound)
+      | steps::step-in_default-via-in-Split+in_default w ↦
+          absurd (unsound_split stream c.requires.position q state _ _ _
+          (ap plain_of w.in_default.is-0) w.in_default.not-Sequence-1 sound)
+      | steps::step-in_default-via-in-Combine+in_default w ↦
+          absurd (unsound_combine stream c.requires.position q state _ _ _
+          (ap plain_of w.in_default.is-0) w.in_default.not-Pair-1 sound)
+      | steps::step-in_default-via-in-Iter+in_default w ↦ absurd (unsound_iter stream c.requires.position q state _ _ _
+          (ap plain_of w.in_default.is-0) w.in_default.not-Repeated-1 sound)
+      | steps::step-in_default-via-in-Compose+in_default w ↦
+          absurd (unsound_compose stream c.requires.position q state _ _
+          (ap plain_of w.in_default.is-0) w.in_default.not-Fed-1 sound)
+      | steps::step-in_default-via-in_default w ↦ absurd (no_nodes c.args.query.now.shape
+          (λ pred value is. search rules) (λ number is. search rules) (λ p f a q g b is. search rules)
+          (λ p f a q g b value is. search rules) (λ p f a number value is. search rules)
+          (λ p f a q g b value is. search rules) (λ p f a value is. search rules) (λ p f a q g b is. search rules)
+          (shaped columns q state word starts rep))
+    ]
+
+pub steps::step-returns-in_default-clause-sound : goal.steps::step-returns-in_default-clause-sound
+steps::step-returns-in_default-clause-sound t c = λ standing columns position behind clear is old.
+    let stream = c.requires.columns in
+    let q = plain_of c.args.query.now.shape in
+    let state = c.args.node.now.state in
+    let sound = c.requires.sound in
+    elim c.in_default.branch [
+      | steps::step-in_default-via-in-Atom+in_default w ↦ absurd (unsound_atom stream c.requires.position q state _ _
+          (ap plain_of w.in_default.is-0) w.in_default.not-Item-1 sound)
+      | steps::step-in_default-via-in-Eps+in_default w ↦ absurd (unsound_eps stream c.requires.position q state _
+          (ap plain_of w.in_default.is-0) w.in_default.not-Empty-1 sound)
+      | steps::step-in_default-via-in-Or+in_default w ↦ absurd (unsound_choice stream c.requires.position q state _ _
+          (ap plain_of w.in_default.is-0) w.in_default.not-Both-1 sound)
+      | steps::step-in_default-via-in-Apply+in_default w ↦ absurd (unsound_apply stream c.requires.position q state _ _
+          (ap plain_of w.in_default.is-0) w.in_default.not-Operand-1 sound)
+      | steps::step-in_default-via-in-Split+in_default w ↦
+          absurd (unsound_split stream c.requires.position q state _ _ _
+          (ap plain_of w.in_default.is-0) w.in_default.not-Sequence-1 sound)
+      | steps::step-in_default-via-in-Combine+in_default w ↦
+          absurd (unsound_combine stream c.requires.position q state _ _ _
+          (ap plain_of w.in_default.is-0) w.in_default.not-Pair-1 sound)
+      | steps::step-in_default-via-in-Iter+in_default w ↦ absurd (unsound_iter stream c.requires.position q state _ _ _
+          (ap plain_of w.in_default.is-0) w.in_default.not-Repeated-1 sound)
+      | steps::step-in_default-via-in-Compose+in_default w ↦
+          absurd (unsound_compose stream c.requires.position q state _ _
+          (ap plain_of w.in_default.is-0) w.in_default.not-Fed-1 sound)
+      | steps::step-in_default-via-in_default w ↦ absurd (no_nodes c.args.query.now.shape
+          (λ pred value is. search rules) (λ number is. search rules) (λ p f a q g b is. search rules)
+          (λ p f a q g b value is. search rules) (λ p f a number value is. search rules)
+          (λ p f a q g b value is. search rules) (λ p f a value is. search rules) (λ p f a q g b is. search rules)
+          (soundly_shaped columns q state position old))
+    ]
+
+pub steps::start-feed-requires : goal.steps::start-feed-requires
+unfolding roll-State out-State denote.Hole.Carrier.roll denote.Hole.Carrier.out
+steps::start-feed-requires t c =
+    let s = c.in-Compose-Fed in (
+      search (rules, the_lemmas),
+      rw s.is-1 (subst (λ (held : Runners). CanFeed seen_of (plain_of c.deref-in-Compose-Fed-2.result.now.shape) held
+          c.in_ok-left-in-Compose-Fed.left) (sym (runners_are s.a s.runners))
+          (subst (λ (q : Qre). CanFeed seen_of q s.runners c.in_ok-left-in-Compose-Fed.left)
+          (same_query _ _ c.deref-in-Compose-Fed-2.ensures)
+          (feeds_allowed seen_of (plain_of s.first.value.shape) (plain_of s.second.value.shape)
+          (holding_of s.a.value.state) (holding_of c.start-in-Compose-Fed.new.node.state) s.runners c.args.at
+          c.in_ok-left-in-Compose-Fed.left
+          (can_start_as _ _ _ _ c.args.at (sym (ap plain_of s.is-0))
+          (sym (ap holding_of s.is-1 ∙ fed_is s.a s.runners)) c.requires)
+          (soundly_started_as _ _ (holding_of c.deref_mut-in-Compose-Fed.result.now.state)
+          (holding_of s.a.value.state) _ _ c.args.at _ _ (same_query _ _ c.deref-in-Compose-Fed.ensures)
+          (search rules) refl refl c.in_ok-left-in-Compose-Fed.ensures.sound)))),
+    )
+
+pub steps::start-returns-in_ok-left-in-Compose-Fed-clause-word :
+    goal.steps::start-returns-in_ok-left-in-Compose-Fed-clause-word
+unfolding roll-State out-State denote.Hole.Carrier.roll denote.Hole.Carrier.out
+steps::start-returns-in_ok-left-in-Compose-Fed-clause-word t c =
+    let s = c.in-Compose-Fed in
+    let live = c.is_live-in-Compose-Fed.result in
+    let left = c.in_ok-left-in-Compose-Fed.left in
+    where_ok c.feed.result
+    (Feeds seen_of (plain_of c.deref-in-Compose-Fed-2.result.now.shape) (runners_of (out-State (Fed s.a s.runners)))
+    live c.args.at left c.feed.new.runners)
+    _ (λ hit feeds. started_as _ _ _ _ _ _ c.args.at _ _ (ap plain_of s.is-0)
+    (ap holding_of s.is-1 ∙ fed_is s.a s.runners)
+    (fed_is (record { ptr = s.a.ptr; alloc = s.a.alloc; value = c.start-in-Compose-Fed.new.node }) c.feed.new.runners)
+    refl
+    (compose_starts (plain_of s.first.value.shape) (plain_of s.second.value.shape) s.a.value.state
+    c.start-in-Compose-Fed.new.node.state s.runners c.feed.new.runners c.args.at c.in_ok-left-in-Compose-Fed.left hit
+    c.is_live-in-Compose-Fed.result
+    (started_as _ _ (holding_of c.deref_mut-in-Compose-Fed.result.now.state)
+    (holding_of s.a.value.state) _ _ c.args.at _ _ (same_query _ _ c.deref-in-Compose-Fed.ensures)
+    (search rules) refl refl c.in_ok-left-in-Compose-Fed.ensures.word)
+    (live_as _ _ _ _ c.args.at c.is_live-in-Compose-Fed.result c.deref-in-Compose-Fed-3.ensures
+    c.deref-in-Compose-Fed-4.ensures c.is_live-in-Compose-Fed.ensures.read)
+    (subst (λ (q : Qre). Feeds seen_of q s.runners live c.args.at left c.feed.new.runners hit)
+    (sym (same_query _ _ c.deref-in-Compose-Fed-2.ensures))
+    (subst (λ (held : Runners). Feeds seen_of (plain_of c.deref-in-Compose-Fed-2.result.now.shape) held live c.args.at
+    left c.feed.new.runners hit) (runners_are s.a s.runners) feeds)))) (rw s.is-1 at c.feed.ensures)
+
+pub steps::start-returns-in_ok-left-in-Compose-Fed-clause-sound :
+    goal.steps::start-returns-in_ok-left-in-Compose-Fed-clause-sound
+unfolding roll-State out-State denote.Hole.Carrier.roll denote.Hole.Carrier.out
+steps::start-returns-in_ok-left-in-Compose-Fed-clause-sound t c =
+    let s = c.in-Compose-Fed in
+    let live = c.is_live-in-Compose-Fed.result in
+    let left = c.in_ok-left-in-Compose-Fed.left in
+    where_ok c.feed.result
+    (Feeds seen_of (plain_of c.deref-in-Compose-Fed-2.result.now.shape) (runners_of (out-State (Fed s.a s.runners)))
+    live c.args.at left c.feed.new.runners)
+    _ (λ hit feeds. soundly_started_as _ _ _ _ _ _ c.args.at _ _ (ap plain_of s.is-0)
+    (ap holding_of s.is-1 ∙ fed_is s.a s.runners)
+    (fed_is (record { ptr = s.a.ptr; alloc = s.a.alloc; value = c.start-in-Compose-Fed.new.node }) c.feed.new.runners)
+    refl
+    (sound_start_compose seen_of (plain_of s.first.value.shape) (plain_of s.second.value.shape)
+    (holding_of s.a.value.state) (holding_of c.start-in-Compose-Fed.new.node.state) s.runners c.feed.new.runners
+    c.args.at c.is_live-in-Compose-Fed.result c.in_ok-left-in-Compose-Fed.left hit
+    (soundly_started_as _ _ (holding_of c.deref_mut-in-Compose-Fed.result.now.state)
+    (holding_of s.a.value.state) _ _ c.args.at _ _ (same_query _ _ c.deref-in-Compose-Fed.ensures)
+    (search rules) refl refl c.in_ok-left-in-Compose-Fed.ensures.sound)
+    (subst (λ (q : Qre). Feeds seen_of q s.runners live c.args.at left c.feed.new.runners hit)
+    (sym (same_query _ _ c.deref-in-Compose-Fed-2.ensures))
+    (subst (λ (held : Runners). Feeds seen_of (plain_of c.deref-in-Compose-Fed-2.result.now.shape) held live c.args.at
+    left c.feed.new.runners hit) (runners_are s.a s.runners) feeds)))) (rw s.is-1 at c.feed.ensures)
+
+pub steps::step-step_compose-requires : goal.steps::step-step_compose-requires
+unfolding roll-State out-State denote.Hole.Carrier.roll denote.Hole.Carrier.out
+steps::step-step_compose-requires t c =
+    let s = c.in-Compose-Fed in
+    let node = c.deref_mut-in-Compose-Fed.result.now in
+    let left : holding_of s.a.value.state ≡ holding_of node.state = search rules in (
+      search rules,
+      rw s.is-1 (subst (λ (held : Runners). CanStep seen_of (plain_of c.args.query.now.shape)
+          (fed (holding_of node.state) held) c.args.now c.args.item.now) (sym (runners_are s.a s.runners))
+          (can_step_as _ _ _ _ c.args.now c.args.item.now refl
+          (ap (λ (h : Holding Progress). fed h s.runners) (sym left)
+          ∙ sym (ap holding_of s.is-1 ∙ fed_is s.a s.runners)) c.requires)),
+    )
+
+pub steps::step-returns-in-Compose-Fed-clause-word : goal.steps::step-returns-in-Compose-Fed-clause-word
+unfolding roll-State out-State denote.Hole.Carrier.roll denote.Hole.Carrier.out
+steps::step-returns-in-Compose-Fed-clause-word t c =
+    let s = c.in-Compose-Fed in
+    let q = plain_of c.args.query.now.shape in
+    let node = c.deref_mut-in-Compose-Fed.result.now in
+    let a = c.step_compose.new.a in
+    let kept = c.step_compose.new.runners in
+    let left : holding_of s.a.value.state ≡ holding_of node.state = search rules in
+    where_ok c.step_compose.result
+    (Steps seen_of q (fed (holding_of node.state) (runners_of (out-State (Fed s.a s.runners)))) c.args.now
+    c.args.item.now (fed (holding_of a.state) kept))
+    _ (λ hit is. stepped_as _ _ _ _ _ _ c.args.now c.args.item.now _ _ refl
+    (ap holding_of s.is-1 ∙ fed_is s.a s.runners ∙ ap (λ (h : Holding Progress). fed h s.runners) left)
+    (fed_is (record { ptr = s.a.ptr; alloc = s.a.alloc; value = a }) kept) refl
+    (subst (λ (held : Runners). Steps seen_of q (fed (holding_of node.state) held) c.args.now c.args.item.now
+    (fed (holding_of a.state) kept) hit) (runners_are s.a s.runners) is)) (rw s.is-1 at c.step_compose.ensures.word)
+
+pub steps::step-returns-in-Compose-Fed-clause-sound : goal.steps::step-returns-in-Compose-Fed-clause-sound
+unfolding roll-State out-State denote.Hole.Carrier.roll denote.Hole.Carrier.out
+steps::step-returns-in-Compose-Fed-clause-sound t c =
+    let s = c.in-Compose-Fed in
+    let q = plain_of c.args.query.now.shape in
+    let node = c.deref_mut-in-Compose-Fed.result.now in
+    let a = c.step_compose.new.a in
+    let kept = c.step_compose.new.runners in
+    let left : holding_of s.a.value.state ≡ holding_of node.state = search rules in
+    where_ok c.step_compose.result
+    (StepsSoundly seen_of q (fed (holding_of node.state) (runners_of (out-State (Fed s.a s.runners)))) c.args.now
+    c.args.item.now (fed (holding_of a.state) kept))
+    _ (λ hit is. soundly_stepped_as _ _ _ _ _ _ c.args.now c.args.item.now _ _ refl
+    (ap holding_of s.is-1 ∙ fed_is s.a s.runners ∙ ap (λ (h : Holding Progress). fed h s.runners) left)
+    (fed_is (record { ptr = s.a.ptr; alloc = s.a.alloc; value = a }) kept) refl
+    (subst (λ (held : Runners). StepsSoundly seen_of q (fed (holding_of node.state) held) c.args.now c.args.item.now
+    (fed (holding_of a.state) kept) hit) (runners_are s.a s.runners) is)) (rw s.is-1 at c.step_compose.ensures.sound)
+
+pub composing::step_compose-pass_on-requires : goal.composing::step_compose-pass_on-requires
+composing::step_compose-pass_on-requires t c =
+    let s = c.in-Compose in (
+      search (rules, the_lemmas),
+      subst (λ (q : Qre). CanPassOn seen_of q c.args.runners.now c.in_ok-left-in-Compose.left)
+          (same_query _ _ c.deref-in-Compose.ensures)
+          (passes_allowed seen_of (plain_of s.first.value.shape) (plain_of s.second.value.shape)
+          (holding_of c.args.a.now.state) (holding_of c.step.new.node.state) c.args.runners.now c.args.now
+          c.args.item.now c.in_ok-left-in-Compose.left
+          (can_step_as _ _ _ _ c.args.now c.args.item.now (sym (ap plain_of s.is)) refl c.requires)
+          (soundly_stepped_as _ _ _ _ _ _ c.args.now c.args.item.now _ _ (same_query _ _ c.deref.ensures)
+          refl refl refl c.in_ok-left-in-Compose.ensures.sound)),
+    )
+
+-- the runners that are kept
+runners_kept : (t : ℕ) (c : composing::step_compose-After-keep t)
+    → (c.keep.new.self.live
+    ≡ live_instances (live_of (plain_of c.in-Compose.first.value.shape)
+    (holding_of c.step.new.node.state)) c.pass_on.new.runners.live)
+    × (c.keep.new.self.idle ≡ c.pass_on.new.runners.idle
+    ++ retired (live_of (plain_of c.in-Compose.first.value.shape)
+    (holding_of c.step.new.node.state)) c.pass_on.new.runners.live)
+runners_kept t c = (
+  c.keep.ensures.live
+      (live_of (plain_of c.in-Compose.first.value.shape) (holding_of c.step.new.node.state))
+      (λ start answer is. search rules),
+  c.keep.ensures.idle
+      (live_of (plain_of c.in-Compose.first.value.shape) (holding_of c.step.new.node.state))
+      (λ start answer is. search rules),
+)
+
+pub composing::step_compose-returns-in_ok-hit-in-Compose-clause-word :
+    goal.composing::step_compose-returns-in_ok-hit-in-Compose-clause-word
+composing::step_compose-returns-in_ok-hit-in-Compose-clause-word t c =
+    let s = c.in-Compose in
+    let kept = runners_kept t
+    (goal.at.composing::step_compose-returns-in_ok-hit-in-Compose-clause-word t c).After-keep in
+    stepped_as _ _ _ _ _ _ c.args.now c.args.item.now _ _ (ap plain_of s.is) refl refl refl
+    (compose_steps (plain_of s.first.value.shape) (plain_of s.second.value.shape) c.args.a.now.state
+    c.step.new.node.state c.args.runners.now c.pass_on.new.runners c.keep.new.self c.args.now
+    c.args.item.now c.in_ok-left-in-Compose.left c.in_ok-hit-in-Compose.hit
+    (stepped_as _ _ _ _ _ _ c.args.now c.args.item.now _ _ (same_query _ _ c.deref.ensures)
+    refl refl refl c.in_ok-left-in-Compose.ensures.word)
+    (subst (λ (q : Qre). PassesOn seen_of q c.args.runners.now c.in_ok-left-in-Compose.left c.pass_on.new.runners
+    c.in_ok-hit-in-Compose.hit) (sym (same_query _ _ c.deref-in-Compose.ensures)) c.in_ok-hit-in-Compose.ensures)
+    kept.0 kept.1)
+
+pub composing::step_compose-returns-in_ok-hit-in-Compose-clause-sound :
+    goal.composing::step_compose-returns-in_ok-hit-in-Compose-clause-sound
+composing::step_compose-returns-in_ok-hit-in-Compose-clause-sound t c =
+    let s = c.in-Compose in
+    let kept = runners_kept t
+    (goal.at.composing::step_compose-returns-in_ok-hit-in-Compose-clause-sound t c).After-keep in
+    soundly_stepped_as _ _ _ _ _ _ c.args.now c.args.item.now _ _ (ap plain_of s.is) refl refl refl
+    (sound_step_compose seen_of (plain_of s.first.value.shape) (plain_of s.second.value.shape)
+    (holding_of c.args.a.now.state) (holding_of c.step.new.node.state) c.args.runners.now c.pass_on.new.runners
+    c.keep.new.self c.args.now c.args.item.now c.in_ok-left-in-Compose.left c.in_ok-hit-in-Compose.hit
+    (live_of (plain_of s.first.value.shape) (holding_of c.step.new.node.state))
+    (soundly_stepped_as _ _ _ _ _ _ c.args.now c.args.item.now _ _ (same_query _ _ c.deref.ensures)
+    refl refl refl c.in_ok-left-in-Compose.ensures.sound)
+    (subst (λ (q : Qre). PassesOn seen_of q c.args.runners.now c.in_ok-left-in-Compose.left c.pass_on.new.runners
+    c.in_ok-hit-in-Compose.hit) (sym (same_query _ _ c.deref-in-Compose.ensures)) c.in_ok-hit-in-Compose.ensures)
+    kept.0 kept.1)
+
+pub feeds::renew-start-requires : goal.feeds::renew-start-requires
+feeds::renew-start-requires t c = (
+  search rules,
+  start_cleared seen_of (plain_of c.args.query.now.shape) c.args.runner.now None (holding_of c.clear.new.node.state)
+      c.requires c.clear.ensures,
+)
+
+pub feeds::renew-returns : goal.feeds::renew-returns
+feeds::renew-returns t c =
+    begun_anew seen_of (plain_of c.args.query.now.shape) c.args.runner.now _ (holding_of c.clear.new.node.state)
+    c.in_ok-hit.hit c.requires.columns c.requires.sound c.clear.ensures c.in_ok-hit.ensures.word
+    c.in_ok-hit.ensures.sound refl c.value_of.ensures
+
+pub feeds::carry-step-requires : goal.feeds::carry-step-requires
+feeds::carry-step-requires t c = (
+  search rules,
+  step_carried seen_of (plain_of c.args.query.now.shape) c.args.runner.now c.args.item.now c.requires,
+)
+
+pub feeds::carry-returns : goal.feeds::carry-returns
+feeds::carry-returns t c =
+    carried_on seen_of (plain_of c.args.query.now.shape) c.args.runner.now _ c.args.item.now c.in_ok-hit.hit
+    c.in_ok-hit.ensures.word c.in_ok-hit.ensures.sound refl c.value_of.ensures
+
+pub feeds::tell-carry-requires : goal.feeds::tell-carry-requires
+feeds::tell-carry-requires t c = (
+  search rules,
+  subst (CanCarry seen_of (plain_of c.args.query.now.shape) c.args.runner.now) (sym c.from_value.ensures) c.requires,
+)
+
+pub feeds::tell-returns-in_ok-value-in-Some : goal.feeds::tell-returns-in_ok-value-in-Some
+feeds::tell-returns-in_ok-value-in-Some t c = record {
+  carried = subst (λ (item : List Field). IsCarried seen_of (plain_of c.args.query.now.shape) c.args.runner.now item
+      c.carry-2.new.runner) c.from_value.ensures c.in_ok-carry.ensures;
+  answers = ap (λ (v : Value). Some (record { start = c.args.left.start; value = v }))
+      c.in_ok-value-in-Some.ensures.equal
+      ∙ ap (hit_at c.args.left.start) (sym c.in-Some.is);
+}
+
+pub feeds::tell-returns-in-None : goal.feeds::tell-returns-in-None
+feeds::tell-returns-in-None t c = record {
+  carried = subst (λ (item : List Field). IsCarried seen_of (plain_of c.args.query.now.shape) c.args.runner.now item
+      c.carry-2.new.runner) c.from_value.ensures c.in_ok-carry.ensures;
+  answers = ap (hit_at c.args.left.start) (sym c.in-None.is);
+}
+
+pub feeds::begin-renew-requires : goal.feeds::begin-renew-requires
+feeds::begin-renew-requires t c = (
+  search rules,
+  renew_allowed seen_of (plain_of c.args.query.now.shape) c.args.runner.now c.args.left c.requires,
+)
+
+pub feeds::begin-tell-requires : goal.feeds::begin-tell-requires
+feeds::begin-tell-requires t c = (
+  search rules,
+  carry_begun seen_of (plain_of c.args.query.now.shape) c.args.runner.now c.renew.new.runner c.in-Some.hit
+      (subst (CanBegin seen_of (plain_of c.args.query.now.shape) c.args.runner.now) c.in-Some.is c.requires)
+      c.in_ok-renew.ensures,
+)
+
+pub feeds::begin-returns-in-Some : goal.feeds::begin-returns-in-Some
+feeds::begin-returns-in-Some t c =
+    where_ok c.tell.result _ _ (λ hit told. subst (λ (left : Option Hit).
+    IsBegun seen_of (plain_of c.args.query.now.shape) c.args.runner.now left c.tell.new.runner hit) (sym c.in-Some.is)
+    (c.renew.new.runner, c.in_ok-renew.ensures, told)) c.tell.ensures
+
+pub feeds::begin-returns-in-None : goal.feeds::begin-returns-in-None
+feeds::begin-returns-in-None t c =
+    subst (λ (left : Option Hit). IsBegun seen_of (plain_of c.args.query.now.shape) c.args.runner.now left
+    c.renew.new.runner None) (sym c.in-None.is) (c.in_ok-renew.ensures, refl)
+
+pub feeds::pass_on-tell-requires : goal.feeds::pass_on-tell-requires
+feeds::pass_on-tell-requires t c = (
+  search rules,
+  tell_allowed seen_of (plain_of c.args.query.now.shape) c.args.runners.now c.in-Some.hit c.in-Some-place.place
+      c.follower_mut.result.now
+      (subst (CanPassOn seen_of (plain_of c.args.query.now.shape) c.args.runners.now) c.in-Some.is c.requires)
+      c.follower_mut.ensures.value,
+)
+
+pub feeds::pass_on-returns-in-Some-place : goal.feeds::pass_on-returns-in-Some-place
+feeds::pass_on-returns-in-Some-place t c =
+    where_ok c.tell.result _ _ (λ hit tells. subst (λ (left : Option Hit).
+    PassesOn seen_of (plain_of c.args.query.now.shape) c.args.runners.now left (record {
+      live = with_follower c.args.runners.now.live c.in-Some-place.place c.tell.new.runner;
+      idle = c.args.runners.now.idle;
+      room = c.args.runners.now.room;
+    }) hit) (sym c.in-Some.is)
+    (inl (passed_one seen_of (plain_of c.args.query.now.shape) c.args.runners.now c.in-Some.hit c.in-Some-place.place
+    c.follower_mut.result.now c.tell.new.runner hit c.in-Some-place.ensures.there c.follower_mut.ensures.value tells)))
+    c.tell.ensures
+
+pub feeds::feed-begin-requires : goal.feeds::feed-begin-requires
+feeds::feed-begin-requires t c = (
+  search rules,
+  begin_last seen_of (plain_of c.args.query.now.shape) c.args.runners.now c.args.left _ c.resting_mut.result.now
+      c.requires c.resting_mut.ensures.value,
+)
+
+pub feeds::feed-returns-then-idle-eq0 : goal.feeds::feed-returns-then-idle-eq0
+feeds::feed-returns-then-idle-eq0 t c =
+    let count = c.idle.ensures in
+    elim c.then-idle-eq0.branch [
+      | feeds::feed-then-idle-eq0-via-then-idle-eq0 w ↦
+          feeds_none seen_of (plain_of c.args.query.now.shape) c.args.runners.now c.args.live c.args.at c.args.left
+          (λ has. let some = has.idle in let none = w.if-idle-eq0.true in omega (arith, some, none, count))
+      | feeds::feed-then-idle-eq0-via-else-idle-eq0+then-is_some w ↦
+          feeds_none seen_of (plain_of c.args.query.now.shape) c.args.runners.now c.args.live c.args.at c.args.left
+          (λ has. let found = there_is w.place.result (λ i. IsAt c.args.runners.now.live i c.args.at)
+          (sym w.is_some.ensures ∙ w.if-is_some.true) w.place.ensures.there in
+          fed_already c.args.runners.now.live found.0 c.args.at found.1 has.fresh)
+    ]
+
+pub feeds::feed-returns : goal.feeds::feed-returns
+feeds::feed-returns t c =
+    let q = plain_of c.args.query.now.shape in
+    let old = c.args.runners.now in
+    let count = c.idle.ensures in
+    let last = c.idle-last.ensures in
+    let some = c.if-idle-eq0.false in
+    let has : HasIdle old c.args.at = record {
+      idle = omega (arith, count, some);
+      fresh = there_is_none c.place.result (instance_at old.live c.args.at ≡ None)
+          (sym c.is_some.ensures ∙ c.if-is_some.false) c.place.ensures.none;
+    } in
+    elim c.if-live.branch [
+      | feeds::feed-then-live w ↦ subst (λ (new : Runners). Feeds seen_of q old c.args.live c.args.at c.args.left new
+          c.in_ok-hit.hit) (sym w.runners-is)
+          (feeds_awake seen_of q old w.wake.new.self c.args.live c.args.at _ c.args.left c.in_ok-hit.hit
+          c.resting_mut.result.now c.begin.new.runner w.if-live.true has (ap (λ (n : ℕ). n - 1) last)
+          c.resting_mut.ensures.value c.in_ok-hit.ensures w.wake.ensures.wakes w.wake.ensures.room)
+      | feeds::feed-else-live w ↦ subst (λ (new : Runners). Feeds seen_of q old c.args.live c.args.at c.args.left new
+          c.in_ok-hit.hit) (sym w.runners-is)
+          (feeds_at_rest seen_of q old c.args.live c.args.at _ c.args.left c.in_ok-hit.hit
+          c.resting_mut.result.now c.begin.new.runner w.if-live.false has (ap (λ (n : ℕ). n - 1) last)
+          c.resting_mut.ensures.value c.in_ok-hit.ensures)
+    ]
+
+pub steps::start-start_split-requires : goal.steps::start-start_split-requires
+unfolding roll-State out-State denote.Hole.Carrier.roll denote.Hole.Carrier.out
+steps::start-start_split-requires t c =
+    let s = c.in-Split-Sequence in
+    (search rules, can_start_as _ _ _ _ c.args.at refl (search rules) c.requires)
+
+pub steps::start-returns-in-Split-Sequence-clause-word : goal.steps::start-returns-in-Split-Sequence-clause-word
+steps::start-returns-in-Split-Sequence-clause-word t c =
+    where_ok c.start_split.result _ _ (λ hit is. started_as _ _ _ _ _ _ c.args.at _ _ refl (search rules) refl refl is)
+    c.start_split.ensures.word
+
+pub steps::start-returns-in-Split-Sequence-clause-sound : goal.steps::start-returns-in-Split-Sequence-clause-sound
+steps::start-returns-in-Split-Sequence-clause-sound t c =
+    where_ok c.start_split.result _ _ (λ hit is. soundly_started_as _ _ _ _ _ _ c.args.at _ _ refl (search rules)
+    refl refl is)
+    c.start_split.ensures.sound
+
+pub steps::step-step_split-requires : goal.steps::step-step_split-requires
+unfolding roll-State out-State denote.Hole.Carrier.roll denote.Hole.Carrier.out
+steps::step-step_split-requires t c =
+    let s = c.in-Split-Sequence in
+    (search rules, can_step_as _ _ _ _ c.args.now c.args.item.now refl (search rules) c.requires)
+
+pub steps::step-returns-in-Split-Sequence-clause-word : goal.steps::step-returns-in-Split-Sequence-clause-word
+steps::step-returns-in-Split-Sequence-clause-word t c =
+    where_ok c.step_split.result _ _
+    (λ hit is. stepped_as _ _ _ _ _ _ c.args.now c.args.item.now _ _ refl (search rules) refl refl is)
+    c.step_split.ensures.word
+
+pub steps::step-returns-in-Split-Sequence-clause-sound : goal.steps::step-returns-in-Split-Sequence-clause-sound
+steps::step-returns-in-Split-Sequence-clause-sound t c =
+    where_ok c.step_split.result _ _
+    (λ hit is. soundly_stepped_as _ _ _ _ _ _ c.args.now c.args.item.now _ _ refl (search rules) refl refl is)
+    c.step_split.ensures.sound
+
+pub steps::step-step_iter-requires : goal.steps::step-step_iter-requires
+unfolding roll-State out-State denote.Hole.Carrier.roll denote.Hole.Carrier.out
+steps::step-step_iter-requires t c =
+    let s = c.in-Iter-Repeated in
+    (search rules, can_step_as _ _ _ _ c.args.now c.args.item.now refl (search rules) c.requires)
+
+pub steps::step-returns-in-Iter-Repeated-clause-word : goal.steps::step-returns-in-Iter-Repeated-clause-word
+steps::step-returns-in-Iter-Repeated-clause-word t c =
+    where_ok c.step_iter.result _ _ (λ hit is. stepped_as _ _ _ _ _ _ c.args.now c.args.item.now _ _ refl (search rules)
+    refl refl is)
+    c.step_iter.ensures.word
+
+pub steps::step-returns-in-Iter-Repeated-clause-sound : goal.steps::step-returns-in-Iter-Repeated-clause-sound
+steps::step-returns-in-Iter-Repeated-clause-sound t c =
+    where_ok c.step_iter.result _ _
+    (λ hit is. soundly_stepped_as _ _ _ _ _ _ c.args.now c.args.item.now _ _ refl (search rules) refl refl is)
+    c.step_iter.ensures.sound
+
+pub splitting::start_split-joined-requires : goal.splitting::start_split-joined-requires
+splitting::start_split-joined-requires t c =
+    let s = c.in-Split in
+    started_split seen_of (plain_of s.first.value.shape) (plain_of s.second.value.shape) (values.plain_of s.expression)
+    (holding_of c.args.a.now.state) (holding_of c.args.b.now.state) (holding_of c.start.new.node.state)
+    (holding_of c.start-in-Some.new.node.state) c.args.held.now c.args.at c.in-Some.left c.in_ok-right-in-Some.right
+    (can_start_as _ _ _ _ c.args.at (sym (ap plain_of s.is)) refl c.requires)
+    (soundly_started_as _ _ _ _ _ _ c.args.at _ _ (same_query _ _ c.deref.ensures)
+    refl refl (sym c.in-Some.is)
+    c.in_ok-left-in-Split.ensures.sound)
+    (soundly_started_as _ _ _ _ _ _ c.args.at _ _ (same_query _ _ c.deref-in-Some.ensures)
+    refl refl refl c.in_ok-right-in-Some.ensures.sound)
+
+pub splitting::start_split-returns-in_ok-hit-in-Some-clause-word :
+    goal.splitting::start_split-returns-in_ok-hit-in-Some-clause-word
+splitting::start_split-returns-in_ok-hit-in-Some-clause-word t c =
+    let s = c.in-Split in
+    started_as _ _ _ _ _ _ c.args.at _ _ (ap plain_of s.is) refl refl refl
+    (split_starts (plain_of s.first.value.shape) (plain_of s.second.value.shape) (values.plain_of s.expression)
+    c.args.a.now.state c.args.b.now.state c.start.new.node.state c.start-in-Some.new.node.state c.args.held.now
+    c.wait_if_new.new.held c.args.at c.in-Some.left c.in_ok-right-in-Some.right c.in_ok-hit-in-Some.hit c.is_live.result
+    (started_as _ _ _ _ _ _ c.args.at _ _ (same_query _ _ c.deref.ensures)
+    refl refl (sym c.in-Some.is)
+    c.in_ok-left-in-Split.ensures.word)
+    (started_as _ _ _ _ _ _ c.args.at _ _ (same_query _ _ c.deref-in-Some.ensures)
+    refl refl refl c.in_ok-right-in-Some.ensures.word)
+    c.in_ok-hit-in-Some.ensures
+    (live_as _ _ _ _ c.args.at c.is_live.result c.deref-in-Some-2.ensures refl
+    c.is_live.ensures.read)
+    c.wait_if_new.ensures)
+
+pub splitting::start_split-returns-in_ok-hit-in-Some-clause-sound :
+    goal.splitting::start_split-returns-in_ok-hit-in-Some-clause-sound
+splitting::start_split-returns-in_ok-hit-in-Some-clause-sound t c =
+    let s = c.in-Split in
+    soundly_started_as _ _ _ _ _ _ c.args.at _ _ (ap plain_of s.is) refl refl refl
+    (sound_start_split_some seen_of (plain_of s.first.value.shape) (plain_of s.second.value.shape)
+    (values.plain_of s.expression) (holding_of c.args.a.now.state) (holding_of c.args.b.now.state)
+    (holding_of c.start.new.node.state) (holding_of c.start-in-Some.new.node.state) c.args.held.now
+    c.wait_if_new.new.held c.args.at c.in-Some.left c.in_ok-right-in-Some.right c.in_ok-hit-in-Some.hit c.is_live.result
+    (soundly_started_as _ _ _ _ _ _ c.args.at _ _ (same_query _ _ c.deref.ensures)
+    refl refl (sym c.in-Some.is)
+    c.in_ok-left-in-Split.ensures.sound)
+    (soundly_started_as _ _ _ _ _ _ c.args.at _ _ (same_query _ _ c.deref-in-Some.ensures)
+    refl refl refl c.in_ok-right-in-Some.ensures.sound)
+    c.in_ok-hit-in-Some.ensures c.wait_if_new.ensures)
+
+pub splitting::start_split-returns-in-None-clause-word : goal.splitting::start_split-returns-in-None-clause-word
+splitting::start_split-returns-in-None-clause-word t c =
+    let s = c.in-Split in
+    started_as _ _ _ _ _ _ c.args.at _ _ (ap plain_of s.is) refl refl refl
+    (start_split_none seen_of (plain_of s.first.value.shape) (plain_of s.second.value.shape)
+    (values.plain_of s.expression) (holding_of c.args.a.now.state) (holding_of c.args.b.now.state)
+    (holding_of c.start.new.node.state) c.args.held.now c.args.at
+    (started_as _ _ _ _ _ _ c.args.at _ _ (same_query _ _ c.deref.ensures)
+    refl refl (sym c.in-None.is)
+    c.in_ok-left-in-Split.ensures.word))
+
+pub splitting::step_split-ended-requires : goal.splitting::step_split-ended-requires
+splitting::step_split-ended-requires t c =
+    let s = c.in-Split in
+    stepped_ended seen_of (plain_of s.first.value.shape) (plain_of s.second.value.shape) (values.plain_of s.expression)
+    (holding_of c.args.a.now.state) (holding_of c.args.b.now.state)
+    (holding_of c.step-in-Split.new.node.state) c.args.held.now c.args.now c.args.item.now
+    c.in_ok-right-in-Split.right
+    (can_step_as _ _ _ _ c.args.now c.args.item.now (sym (ap plain_of s.is)) refl c.requires)
+    (soundly_stepped_as _ _ _ _ _ _ c.args.now c.args.item.now _ _ (same_query _ _ c.deref-in-Split.ensures)
+    refl refl refl
+    c.in_ok-right-in-Split.ensures.sound)
+
+pub splitting::step_split-joined-requires : goal.splitting::step_split-joined-requires
+splitting::step_split-joined-requires t c =
+    let s = c.in-Split in
+    stepped_joined seen_of (plain_of s.first.value.shape) (plain_of s.second.value.shape) (values.plain_of s.expression)
+    (holding_of c.args.a.now.state) (holding_of c.args.b.now.state) (holding_of c.step.new.node.state)
+    (holding_of c.step-in-Split.new.node.state) (holding_of c.start.new.node.state) c.args.held.now c.args.now
+    c.args.item.now
+    c.in-Some.left c.in_ok-right-in-Split.right c.in_ok-right-in-Some.right
+    (can_step_as _ _ _ _ c.args.now c.args.item.now (sym (ap plain_of s.is)) refl c.requires)
+    (soundly_stepped_as _ _ _ _ _ _ c.args.now c.args.item.now _ _ (same_query _ _ c.deref.ensures)
+    refl refl (sym c.in-Some.is)
+    c.in_ok-left-in-Split.ensures.sound)
+    (soundly_stepped_as _ _ _ _ _ _ c.args.now c.args.item.now _ _ (same_query _ _ c.deref-in-Split.ensures)
+    refl refl refl
+    c.in_ok-right-in-Split.ensures.sound)
+    (soundly_started_as _ _ _ _ _ _ c.args.now _ _ (same_query _ _ c.deref-in-Some.ensures)
+    refl refl refl c.in_ok-right-in-Some.ensures.sound)
+
+-- the left values that are kept
+split_kept : (t : ℕ) (c : splitting::step_split-After-keep t)
+    → c.keep.new.self.entries
+    ≡ live_entries (elsewhere c.args.now (live_of (plain_of c.in-Split.second.value.shape)
+    (holding_of c.step-in-Split.new.node.state))) c.args.held.now.entries
+split_kept t c =
+    c.keep.ensures.entries
+    (elsewhere c.args.now
+    (live_of (plain_of c.in-Split.second.value.shape) (holding_of c.step-in-Split.new.node.state)))
+    (λ start answer is. search rules)
+
+pub splitting::step_split-wait-requires : goal.splitting::step_split-wait-requires
+splitting::step_split-wait-requires t c =
+    let s = c.in-Split in
+    let live = live_of (plain_of s.second.value.shape) (holding_of c.step-in-Split.new.node.state) in
+    fresh_elsewhere c.args.now live c.args.held.now c.keep.new.self
+    (split_kept t (goal.at.splitting::step_split-wait-requires t c).After-keep)
+
+pub splitting::step_split-returns-in_ok-begun-in-Some-clause-word :
+    goal.splitting::step_split-returns-in_ok-begun-in-Some-clause-word
+splitting::step_split-returns-in_ok-begun-in-Some-clause-word t c =
+    let s = c.in-Split in
+    stepped_as _ _ _ _ _ _ c.args.now c.args.item.now _ _ (ap plain_of s.is) refl refl
+    c.or.ensures
+    (split_steps_some (plain_of s.first.value.shape) (plain_of s.second.value.shape) (values.plain_of s.expression)
+    c.args.a.now.state c.args.b.now.state c.step.new.node.state c.step-in-Split.new.node.state
+    c.start.new.node.state c.args.held.now c.keep.new.self c.wait.new.held c.args.now c.args.item.now
+    c.in-Some.left c.in_ok-right-in-Split.right c.in_ok-right-in-Some.right
+    c.in_ok-hit-in-Split.hit c.in_ok-begun-in-Some.begun c.is_live.result
+    (stepped_as _ _ _ _ _ _ c.args.now c.args.item.now _ _ (same_query _ _ c.deref.ensures)
+    refl refl (sym c.in-Some.is)
+    c.in_ok-left-in-Split.ensures.word)
+    (stepped_as _ _ _ _ _ _ c.args.now c.args.item.now _ _ (same_query _ _ c.deref-in-Split.ensures)
+    refl refl refl
+    c.in_ok-right-in-Split.ensures.word) c.in_ok-hit-in-Split.ensures
+    (split_kept t (goal.at.splitting::step_split-returns-in_ok-begun-in-Some-clause-word t c).After-keep)
+    c.keep.ensures.room
+    (started_as _ _ _ _ _ _ c.args.now _ _ (same_query _ _ c.deref-in-Some.ensures)
+    refl refl refl c.in_ok-right-in-Some.ensures.word)
+    c.in_ok-begun-in-Some.ensures
+    (live_as _ _ _ _ c.args.now c.is_live.result c.deref-in-Some-2.ensures refl
+    c.is_live.ensures.read) c.wait.ensures)
+
+pub splitting::step_split-returns-in_ok-begun-in-Some-clause-sound :
+    goal.splitting::step_split-returns-in_ok-begun-in-Some-clause-sound
+splitting::step_split-returns-in_ok-begun-in-Some-clause-sound t c =
+    let s = c.in-Split in
+    soundly_stepped_as _ _ _ _ _ _ c.args.now c.args.item.now _ _ (ap plain_of s.is) refl refl
+    c.or.ensures
+    (sound_step_split_some seen_of (plain_of s.first.value.shape) (plain_of s.second.value.shape)
+    (values.plain_of s.expression)
+    (holding_of c.args.a.now.state) (holding_of c.args.b.now.state) (holding_of c.step.new.node.state)
+    (holding_of c.step-in-Split.new.node.state) (holding_of c.start.new.node.state) c.args.held.now
+    c.keep.new.self c.wait.new.held c.args.now c.args.item.now
+    (elsewhere c.args.now
+    (live_of (plain_of s.second.value.shape) (holding_of c.step-in-Split.new.node.state)))
+    c.in-Some.left
+    c.in_ok-right-in-Split.right c.in_ok-right-in-Some.right
+    c.in_ok-hit-in-Split.hit c.in_ok-begun-in-Some.begun c.is_live.result
+    (soundly_stepped_as _ _ _ _ _ _ c.args.now c.args.item.now _ _ (same_query _ _ c.deref.ensures)
+    refl refl (sym c.in-Some.is)
+    c.in_ok-left-in-Split.ensures.sound)
+    (soundly_stepped_as _ _ _ _ _ _ c.args.now c.args.item.now _ _ (same_query _ _ c.deref-in-Split.ensures)
+    refl refl refl
+    c.in_ok-right-in-Split.ensures.sound) c.in_ok-hit-in-Split.ensures
+    (split_kept t (goal.at.splitting::step_split-returns-in_ok-begun-in-Some-clause-sound t c).After-keep)
+    c.keep.ensures.room
+    (soundly_started_as _ _ _ _ _ _ c.args.now _ _ (same_query _ _ c.deref-in-Some.ensures)
+    refl refl refl c.in_ok-right-in-Some.ensures.sound)
+    c.in_ok-begun-in-Some.ensures c.wait.ensures)
+
+pub splitting::step_split-returns-in-None-clause-word : goal.splitting::step_split-returns-in-None-clause-word
+splitting::step_split-returns-in-None-clause-word t c =
+    let s = c.in-Split in
+    stepped_as _ _ _ _ _ _ c.args.now c.args.item.now _ _ (ap plain_of s.is) refl refl refl
+    (split_steps_none (plain_of s.first.value.shape) (plain_of s.second.value.shape) (values.plain_of s.expression)
+    c.args.a.now.state c.args.b.now.state c.step.new.node.state c.step-in-Split.new.node.state
+    c.args.held.now c.keep.new.self c.args.now c.args.item.now
+    c.in_ok-right-in-Split.right c.in_ok-hit-in-Split.hit
+    (stepped_as _ _ _ _ _ _ c.args.now c.args.item.now _ _ (same_query _ _ c.deref.ensures)
+    refl refl (sym c.in-None.is)
+    c.in_ok-left-in-Split.ensures.word)
+    (stepped_as _ _ _ _ _ _ c.args.now c.args.item.now _ _ (same_query _ _ c.deref-in-Split.ensures)
+    refl refl refl
+    c.in_ok-right-in-Split.ensures.word) c.in_ok-hit-in-Split.ensures
+    (split_kept t (goal.at.splitting::step_split-returns-in-None-clause-word t c).After-keep) c.keep.ensures.room)
+
+pub splitting::step_split-returns-in-None-clause-sound : goal.splitting::step_split-returns-in-None-clause-sound
+splitting::step_split-returns-in-None-clause-sound t c =
+    let s = c.in-Split in
+    soundly_stepped_as _ _ _ _ _ _ c.args.now c.args.item.now _ _ (ap plain_of s.is) refl refl refl
+    (sound_step_split_none seen_of (plain_of s.first.value.shape) (plain_of s.second.value.shape)
+    (values.plain_of s.expression)
+    (holding_of c.args.a.now.state) (holding_of c.args.b.now.state) (holding_of c.step.new.node.state)
+    (holding_of c.step-in-Split.new.node.state) c.args.held.now c.keep.new.self
+    c.args.now c.args.item.now
+    (elsewhere c.args.now
+    (live_of (plain_of s.second.value.shape) (holding_of c.step-in-Split.new.node.state)))
+    c.in_ok-right-in-Split.right c.in_ok-hit-in-Split.hit
+    (soundly_stepped_as _ _ _ _ _ _ c.args.now c.args.item.now _ _ (same_query _ _ c.deref.ensures)
+    refl refl (sym c.in-None.is)
+    c.in_ok-left-in-Split.ensures.sound)
+    (soundly_stepped_as _ _ _ _ _ _ c.args.now c.args.item.now _ _ (same_query _ _ c.deref-in-Split.ensures)
+    refl refl refl
+    c.in_ok-right-in-Split.ensures.sound) c.in_ok-hit-in-Split.ensures
+    (split_kept t (goal.at.splitting::step_split-returns-in-None-clause-sound t c).After-keep) c.keep.ensures.room)
+
+-- the values so far that are kept
+chain_kept : (t : ℕ) (c : iterating::step_iter-After-keep t)
+    → c.keep.new.self.entries
+    ≡ live_entries (elsewhere c.args.now (live_of (plain_of c.in-Iter.inner.value.shape)
+    (holding_of c.step.new.node.state))) c.args.so_far.now.entries
+chain_kept t c =
+    c.keep.ensures.entries
+    (elsewhere c.args.now
+    (live_of (plain_of c.in-Iter.inner.value.shape) (holding_of c.step.new.node.state)))
+    (λ start answer is. search rules)
+
+pub iterating::step_iter-ended-requires : goal.iterating::step_iter-ended-requires
+iterating::step_iter-ended-requires t c =
+    let s = c.in-Iter in
+    let typed = stepped_iter seen_of (plain_of s.inner.value.shape) _ (values.plain_of s.expression)
+    (holding_of c.args.a.now.state) (holding_of c.step.new.node.state) c.args.so_far.now c.args.now
+    c.args.item.now c.in_ok-piece-in-Iter.piece
+    (can_step_as _ _ _ _ c.args.now c.args.item.now (sym (ap plain_of s.is)) refl c.requires)
+    (soundly_stepped_as _ _ _ _ _ _ c.args.now c.args.item.now _ _ (same_query _ _ c.deref.ensures)
+    refl refl refl c.in_ok-piece-in-Iter.ensures.sound) in
+    subst (λ (held : Contents Value). AreTypedWith (values.plain_of s.expression) held.entries
+    c.in_ok-piece-in-Iter.piece)
+    (sym c.as_pending.ensures) typed
+
+pub iterating::step_iter-go_on-requires : goal.iterating::step_iter-go_on-requires
+iterating::step_iter-go_on-requires t c =
+    let s = c.in-Iter in
+    let live = live_of (plain_of s.inner.value.shape) (holding_of c.step.new.node.state) in
+    fresh_elsewhere c.args.now live c.args.so_far.now c.keep.new.self
+    (chain_kept t (goal.at.iterating::step_iter-go_on-requires t c).After-keep)
+
+pub iterating::step_iter-returns-in_ok-go_on-in-Some-clause-word :
+    goal.iterating::step_iter-returns-in_ok-go_on-in-Some-clause-word
+iterating::step_iter-returns-in_ok-go_on-in-Some-clause-word t c =
+    let s = c.in-Iter in
+    stepped_as _ _ _ _ _ _ c.args.now c.args.item.now _ _ (ap plain_of s.is) refl refl refl
+    (iter_steps_some (plain_of s.inner.value.shape) _ (values.plain_of s.expression) c.args.a.now.state
+    c.step.new.node.state c.start.new.node.state c.args.so_far.now
+    c.keep.new.self c.go_on.new.so_far c.args.now c.args.item.now
+    c.in_ok-piece-in-Iter.piece _ c.in-Some.hit c.is_live.result
+    (stepped_as _ _ _ _ _ _ c.args.now c.args.item.now _ _ (same_query _ _ c.deref.ensures)
+    refl refl refl c.in_ok-piece-in-Iter.ensures.word)
+    (ended_as (values.plain_of s.expression) _ _ c.in_ok-piece-in-Iter.piece _ _ c.as_pending.ensures c.in-Some.is
+    c.in_ok-hit-in-Iter.ensures)
+    (chain_kept t (goal.at.iterating::step_iter-returns-in_ok-go_on-in-Some-clause-word t c).After-keep)
+    c.keep.ensures.room
+    (started_as _ _ _ _ _ _ c.args.now _ _ (same_query _ _ c.deref-in-Some.ensures)
+    refl refl refl c.in_ok-start-in-Some.ensures.word)
+    (live_as _ _ _ _ c.args.now c.is_live.result c.deref-in-Some-2.ensures refl c.is_live.ensures.read)
+    c.in_ok-go_on-in-Some.ensures)
+
+pub iterating::step_iter-returns-in_ok-go_on-in-Some-clause-sound :
+    goal.iterating::step_iter-returns-in_ok-go_on-in-Some-clause-sound
+iterating::step_iter-returns-in_ok-go_on-in-Some-clause-sound t c =
+    let s = c.in-Iter in
+    soundly_stepped_as _ _ _ _ _ _ c.args.now c.args.item.now _ _ (ap plain_of s.is) refl refl refl
+    (sound_step_iter_some seen_of (plain_of s.inner.value.shape) _ (values.plain_of s.expression)
+    (holding_of c.args.a.now.state)
+    (holding_of c.step.new.node.state) (holding_of c.start.new.node.state) c.args.so_far.now
+    c.keep.new.self c.go_on.new.so_far c.args.now c.args.item.now
+    (elsewhere c.args.now
+    (live_of (plain_of s.inner.value.shape) (holding_of c.step.new.node.state)))
+    c.in_ok-piece-in-Iter.piece _ c.in-Some.hit c.is_live.result
+    (soundly_stepped_as _ _ _ _ _ _ c.args.now c.args.item.now _ _ (same_query _ _ c.deref.ensures)
+    refl refl refl c.in_ok-piece-in-Iter.ensures.sound)
+    (ended_as (values.plain_of s.expression) _ _ c.in_ok-piece-in-Iter.piece _ _ c.as_pending.ensures c.in-Some.is
+    c.in_ok-hit-in-Iter.ensures)
+    (chain_kept t (goal.at.iterating::step_iter-returns-in_ok-go_on-in-Some-clause-sound t c).After-keep)
+    c.keep.ensures.room
+    (soundly_started_as _ _ _ _ _ _ c.args.now _ _ (same_query _ _ c.deref-in-Some.ensures)
+    refl refl refl c.in_ok-start-in-Some.ensures.sound)
+    c.in_ok-go_on-in-Some.ensures)
+
+pub iterating::step_iter-returns-in-None-clause-word : goal.iterating::step_iter-returns-in-None-clause-word
+iterating::step_iter-returns-in-None-clause-word t c =
+    let s = c.in-Iter in
+    stepped_as _ _ _ _ _ _ c.args.now c.args.item.now _ _ (ap plain_of s.is) refl refl refl
+    (iter_steps_none (plain_of s.inner.value.shape) _ (values.plain_of s.expression) c.args.a.now.state
+    c.step.new.node.state c.args.so_far.now c.keep.new.self c.args.now c.args.item.now
+    c.in_ok-piece-in-Iter.piece
+    (stepped_as _ _ _ _ _ _ c.args.now c.args.item.now _ _ (same_query _ _ c.deref.ensures)
+    refl refl refl c.in_ok-piece-in-Iter.ensures.word)
+    (ended_as (values.plain_of s.expression) _ _ c.in_ok-piece-in-Iter.piece _ _ c.as_pending.ensures c.in-None.is
+    c.in_ok-hit-in-Iter.ensures)
+    (chain_kept t (goal.at.iterating::step_iter-returns-in-None-clause-word t c).After-keep) c.keep.ensures.room)
+
+pub iterating::step_iter-returns-in-None-clause-sound : goal.iterating::step_iter-returns-in-None-clause-sound
+iterating::step_iter-returns-in-None-clause-sound t c =
+    let s = c.in-Iter in
+    soundly_stepped_as _ _ _ _ _ _ c.args.now c.args.item.now _ _ (ap plain_of s.is) refl refl refl
+    (sound_step_iter_none seen_of (plain_of s.inner.value.shape) _ (values.plain_of s.expression)
+    (holding_of c.args.a.now.state) (holding_of c.step.new.node.state) c.args.so_far.now
+    c.keep.new.self c.args.now c.args.item.now
+    (elsewhere c.args.now
+    (live_of (plain_of s.inner.value.shape) (holding_of c.step.new.node.state)))
+    c.in_ok-piece-in-Iter.piece
+    (soundly_stepped_as _ _ _ _ _ _ c.args.now c.args.item.now _ _ (same_query _ _ c.deref.ensures)
+    refl refl refl c.in_ok-piece-in-Iter.ensures.sound)
+    (chain_kept t (goal.at.iterating::step_iter-returns-in-None-clause-sound t c).After-keep) c.keep.ensures.room)

@@ -1,0 +1,206 @@
+-- A copy of a node stands for what the node stands for, is sound, and keeps as much.
+use Rattle.std.proofs.Common.{◌≡◌, ◌∙◌, ℕ, ◌+◌, List, [], ◌∷◌, length, sym, ap, subst, arith}
+use Rattle.std.specs.List.{Contains}
+use Rattle.value_ops.specs.declared.value.Value.{Value}
+use Rattle.value_ops.specs.declared.value.ValueType.TheVariants.{Number}
+use Rattle.item_schema.specs.declared.column.Column.{Column}
+use Rattle.rate_expr.specs.Readings.{HasExtension}
+use Rattle.rate_expr.specs.Words.{Word}
+use Rattle.query_model.specs.Bounds.{places_of}
+use Rattle.query_model.specs.Denotation.{Den}
+use Rattle.query_model.specs.Following.{IsAnswer}
+use Rattle.query_model.specs.Queries.{Qre, atom, eps, choice, split, iter, combine, apply, compose, collect}
+use Rattle.query_model.specs.QueryTypes.{derived_columns, type_of}
+use Rattle.query_model.specs.Rates.{rate_of}
+use Rattle.split_eval.specs.Entries as entries
+use Rattle.compose_eval.specs.Followers.{Contents, followers_of}
+use Rattle.compose_eval.specs.declared.instance.Instance.{Instance}
+use Rattle.eval_tree.specs.Copies.{AreAlike, IsCopy, IsCopyOf}
+use Rattle.eval_tree.specs.Counts.{size_of_answer, size_of_runner, sizes_of, stored_in}
+use Rattle.eval_tree.specs.Feeds.{IsSoundOf}
+use Rattle.eval_tree.specs.Holdings.{Holding, waiting, nothing, both, paired, operand, pending, chained, fed, tracked, Seen}
+use Rattle.eval_tree.specs.Represents.{AreWaiting, Represents}
+use Rattle.eval_tree.specs.Sound.{AreEntriesOf, IsSound, IsSoundWithin, IsTyped}
+use Rattle.eval_tree.specs.Starts.{AreDifferent}
+use Rattle.eval_tree.proofs.Alike.{all_alike, all_followers, as_many_alike, followers_all, followers_many, original, sums_alike}
+use Rattle.eval_tree.proofs.Instances.{all_mapped}
+
+module _ {R : Type 0} (seen : R → Seen R) where
+  all_copied : (q : Qre) (old new : Contents R) → AreAlike (IsCopyOf seen (IsCopy seen q)) (followers_of old.live) (followers_of new.live)
+      → AreAlike (IsCopyOf seen (IsCopy seen q)) old.idle new.idle
+      → length new.live + length new.idle ≡ length old.live + length old.idle
+  all_copied q old new live idle =
+      let lives = as_many_alike (IsCopyOf seen (IsCopy seen q)) (followers_of old.live) (followers_of new.live) live in
+      let rests = as_many_alike (IsCopyOf seen (IsCopy seen q)) old.idle new.idle idle in
+      let before = followers_many old.live in
+      let after = followers_many new.live in
+      omega (arith, lives, rests, before, after)
+
+  pub copy_represents : (columns : List Column) (q : Qre) (old new : Holding R) (word : Word) (starts : List ℕ)
+      → IsCopy seen q old new → Represents seen columns q old word starts → Represents seen columns q new word starts
+  copy_represents columns (atom pred e) (waiting found) new word starts copy rep =
+      subst (λ (h : Holding R). Represents seen columns (atom pred e) h word starts) (sym copy) rep
+  copy_represents columns (eps number) nothing new word starts copy rep =
+      subst (λ (h : Holding R). Represents seen columns (eps number) h word starts) (sym copy) rep
+  copy_represents columns (choice f g) (both a b) (both a' b') word starts copy rep = (
+    copy_represents columns f a a' word starts copy.0 rep.0,
+    copy_represents columns g b b' word starts copy.1 rep.1,
+  )
+  copy_represents columns (choice f g) (both a b) new word starts copy rep = absurd copy
+  copy_represents columns (combine f g e) (paired a b) (paired a' b') word starts copy rep = (
+    copy_represents columns f a a' word starts copy.0 rep.0,
+    copy_represents columns g b b' word starts copy.1 rep.1,
+  )
+  copy_represents columns (combine f g e) (paired a b) new word starts copy rep = absurd copy
+  copy_represents columns (apply f e) (operand a) (operand a') word starts copy rep =
+      copy_represents columns f a a' word starts copy rep
+  copy_represents columns (apply f e) (operand a) new word starts copy rep = absurd copy
+  copy_represents columns (split f g e) (pending a b left) (pending a' b' left') word starts copy rep = (
+    copy_represents columns f a a' word starts copy.0 rep.0,
+    (rep.1.0, rep.1.1, copy_represents columns g b b' word rep.1.0 copy.1 rep.1.2),
+    subst (λ (s : entries.Contents Value). AreWaiting (Den f) (HasExtension columns (rate_of g)) word starts s.entries)
+        (sym copy.2) rep.2,
+    ap (λ (s : entries.Contents Value). s.room) copy.2 ∙ rep.3,
+  )
+  copy_represents columns (split f g e) (pending a b left) new word starts copy rep = absurd copy
+  copy_represents columns (iter f number e) (chained a so_far) (chained a' so_far') word starts copy rep = (
+    (rep.0.0, rep.0.1, copy_represents columns f a a' word rep.0.0 copy.0 rep.0.2),
+    subst (λ (s : entries.Contents Value).
+        AreWaiting (Den (iter f number e)) (HasExtension columns (rate_of f)) word starts s.entries) (sym copy.1) rep.1,
+    ap (λ (s : entries.Contents Value). s.room) copy.1 ∙ rep.2,
+  )
+  copy_represents columns (iter f number e) (chained a so_far) new word starts copy rep = absurd copy
+  copy_represents columns (compose f g) (fed a held) (fed a' held') word starts copy rep =
+      let row = rep.1 in
+      let full = row.full in
+      let many = all_copied g held held' copy.1.live copy.1.idle in (
+        copy_represents columns f a a' word starts copy.0 rep.0,
+        record {
+          distinct = subst AreDifferent (sym copy.1.starts) row.distinct;
+          there = λ start. (
+            λ there. (row.there start).0 (subst (λ (xs : List ℕ). Contains xs start) copy.1.starts there),
+            λ live. subst (λ (xs : List ℕ). Contains xs start) (sym copy.1.starts) ((row.there start).1 live),
+          );
+          each = λ start runner there.
+              let (was, among, copied) = original (IsCopyOf seen (IsCopy seen g)) held.live held'.live start runner copy.1.starts
+              copy.1.live there in
+              let (out, outputs, follows) = row.each start was among in (
+                out,
+                outputs,
+                record {
+                  position = copied.position ∙ follows.position;
+                  node = copy_represents (derived_columns (type_of columns f)) g (seen was).node (seen runner).node out
+                      (0 ∷ []) copied.node follows.node;
+                  answer = subst (IsAnswer g out) (sym copied.answer) follows.answer;
+                },
+              );
+          full = omega (arith, many, full);
+        },
+      )
+  copy_represents columns (compose f g) (fed a held) new word starts copy rep = absurd copy
+  copy_represents columns (collect column sync rate f) (tracked sets all) new word starts copy rep = absurd copy
+  copy_represents columns q old new word starts copy rep = absurd rep
+
+  pub copy_sound : (columns : List Column) (q : Qre) (position : ℕ) (old new : Holding R) → IsCopy seen q old new
+      → IsSound seen columns q position old → IsSound seen columns q position new
+  copy_sound columns (atom pred e) position (waiting found) new copy sound =
+      subst (IsSound seen columns (atom pred e) position) (sym copy) sound
+  copy_sound columns (eps number) position nothing new copy sound =
+      subst (IsSound seen columns (eps number) position) (sym copy) sound
+  copy_sound columns (choice f g) position (both a b) (both a' b') copy sound =
+      (copy_sound columns f position a a' copy.0 sound.0, copy_sound columns g position b b' copy.1 sound.1)
+  copy_sound columns (choice f g) position (both a b) new copy sound = absurd copy
+  copy_sound columns (combine f g e) position (paired a b) (paired a' b') copy sound =
+      (copy_sound columns f position a a' copy.0 sound.0, copy_sound columns g position b b' copy.1 sound.1)
+  copy_sound columns (combine f g e) position (paired a b) new copy sound = absurd copy
+  copy_sound columns (apply f e) position (operand a) (operand a') copy sound =
+      copy_sound columns f position a a' copy sound
+  copy_sound columns (apply f e) position (operand a) new copy sound = absurd copy
+  copy_sound columns (split f g e) position (pending a b left) (pending a' b' left') copy sound = (
+    copy_sound columns f position a a' copy.0 sound.0,
+    copy_sound columns g position b b' copy.1 sound.1,
+    subst (AreEntriesOf (type_of columns f) (places_of g)) (sym copy.2) sound.2,
+  )
+  copy_sound columns (split f g e) position (pending a b left) new copy sound = absurd copy
+  copy_sound columns (iter f number e) position (chained a so_far) (chained a' so_far') copy sound = (
+    copy_sound columns f position a a' copy.0 sound.0,
+    subst (AreEntriesOf Number (places_of f)) (sym copy.1) sound.1,
+  )
+  copy_sound columns (iter f number e) position (chained a so_far) new copy sound = absurd copy
+  copy_sound columns (compose f g) position (fed a held) (fed a' held') copy sound =
+      let derived = derived_columns (type_of columns f) in
+      let count : length held.live + length held.idle ≡ places_of f + 1 = sound.2 in
+      let many = all_copied g held held' copy.1.live copy.1.idle in
+      let one : (was runner : R) → IsCopyOf seen (IsCopy seen g) was runner → IsSoundOf seen derived g was
+      → IsSoundOf seen derived g runner =
+      (λ was runner copied is. record {
+        node = subst (λ (n : ℕ). IsSound seen derived g n (seen runner).node) (sym copied.position)
+            (copy_sound derived g (seen was).position (seen was).node (seen runner).node copied.node is.node);
+        answer = subst (IsTyped (type_of derived g)) (sym copied.answer) is.answer;
+      }) in (
+        copy_sound columns f position a a' copy.0 sound.0,
+        subst AreDifferent (sym copy.1.starts) sound.1,
+        many ∙ count,
+        followers_all (IsSoundWithin seen (IsSoundOf seen derived g) (position + 1)) held'.live
+            (all_alike (IsCopyOf seen (IsCopy seen g)) (IsSoundWithin seen (IsSoundOf seen derived g) (position + 1))
+            (followers_of held.live) (followers_of held'.live)
+            (λ was runner copied is.
+            let within = is.within in
+            let same = copied.position in
+            record { within = omega (arith, within, same); sound = one was runner copied is.sound }) copy.1.live
+            (all_followers (IsSoundWithin seen (IsSoundOf seen derived g) (position + 1)) held.live sound.3)),
+        all_alike (IsCopyOf seen (IsCopy seen g)) (IsSoundOf seen derived g) held.idle held'.idle one copy.1.idle sound.4,
+      )
+  copy_sound columns (compose f g) position (fed a held) new copy sound = absurd copy
+  copy_sound columns (collect column sync rate f) position (tracked sets all) new copy sound = absurd copy
+  copy_sound columns q position old new copy sound = absurd sound
+
+  pub copy_stored : (columns : List Column) (q : Qre) (position : ℕ) (old new : Holding R) → IsCopy seen q old new
+      → IsSound seen columns q position old → stored_in seen q new ≡ stored_in seen q old
+  copy_stored columns (atom pred e) position (waiting found) new copy sound = ap (stored_in seen (atom pred e)) copy
+  copy_stored columns (eps number) position nothing new copy sound = ap (stored_in seen (eps number)) copy
+  copy_stored columns (choice f g) position (both a b) (both a' b') copy sound =
+      let x = copy_stored columns f position a a' copy.0 sound.0 in
+      let y = copy_stored columns g position b b' copy.1 sound.1 in
+      omega (arith, x, y)
+  copy_stored columns (choice f g) position (both a b) new copy sound = absurd copy
+  copy_stored columns (combine f g e) position (paired a b) (paired a' b') copy sound =
+      let x = copy_stored columns f position a a' copy.0 sound.0 in
+      let y = copy_stored columns g position b b' copy.1 sound.1 in
+      omega (arith, x, y)
+  copy_stored columns (combine f g e) position (paired a b) new copy sound = absurd copy
+  copy_stored columns (apply f e) position (operand a) (operand a') copy sound =
+      copy_stored columns f position a a' copy sound
+  copy_stored columns (apply f e) position (operand a) new copy sound = absurd copy
+  copy_stored columns (split f g e) position (pending a b left) (pending a' b' left') copy sound =
+      let x = copy_stored columns f position a a' copy.0 sound.0 in
+      let y = copy_stored columns g position b b' copy.1 sound.1 in
+      let z = ap (λ (s : entries.Contents Value). sizes_of s.entries) copy.2 in
+      omega (arith, x, y, z)
+  copy_stored columns (split f g e) position (pending a b left) new copy sound = absurd copy
+  copy_stored columns (iter f number e) position (chained a so_far) (chained a' so_far') copy sound =
+      let x = copy_stored columns f position a a' copy.0 sound.0 in
+      let z = ap (λ (s : entries.Contents Value). sizes_of s.entries) copy.1 in
+      omega (arith, x, z)
+  copy_stored columns (iter f number e) position (chained a so_far) new copy sound = absurd copy
+  copy_stored columns (compose f g) position (fed a held) (fed a' held') copy sound =
+      let derived = derived_columns (type_of columns f) in
+      let x = copy_stored columns f position a a' copy.0 sound.0 in
+      let size : R → ℕ = (λ (runner : R). 1 + size_of_runner seen (stored_in seen g) runner) in
+      let one : (was runner : R) → IsCopyOf seen (IsCopy seen g) was runner → IsSoundOf seen derived g was
+      → size runner ≡ size was =
+      (λ was runner copied is.
+      let node = copy_stored derived g (seen was).position (seen was).node (seen runner).node copied.node is.node in
+      let answer = ap size_of_answer copied.answer in
+      omega (arith, node, answer)) in
+      let each = all_mapped
+      (λ (one : Instance R). IsSoundWithin seen (IsSoundOf seen derived g) (position + 1) one.follower)
+      (λ (one : Instance R). IsSoundOf seen derived g one.follower) held.live (λ one is. is.sound) sound.3 in
+      let lives = sums_alike (IsCopyOf seen (IsCopy seen g)) (IsSoundOf seen derived g) size (followers_of held.live)
+      (followers_of held'.live) one copy.1.live (all_followers (IsSoundOf seen derived g) held.live each) in
+      let rests = sums_alike (IsCopyOf seen (IsCopy seen g)) (IsSoundOf seen derived g) size held.idle held'.idle one
+      copy.1.idle sound.4 in
+      omega (arith, x, lives, rests)
+  copy_stored columns (compose f g) position (fed a held) new copy sound = absurd copy
+  copy_stored columns (collect column sync rate f) position (tracked sets all) new copy sound = absurd copy
+  copy_stored columns q position old new copy sound = absurd sound

@@ -1,0 +1,74 @@
+-- A new node of a compose: all its runners are idle.
+use Rattle.std.proofs.Common.{◌≡◌, ◌≤◌, ℕ, ◌+◌, ◌-◌, ◌*◌, ◌^◌, min, List, [], length, sym, ap, subst, arith}
+use Rattle.std.specs.List.{AllByRecursion, Contains}
+use Rattle.std.proofs.Math.Nat.{add-mul}
+use Rattle.item_schema.specs.declared.column.Column.{Column}
+use Rattle.query_model.specs.Bounds.{inner_of, places_of, slots_of}
+use Rattle.query_model.specs.Queries.{Qre, compose}
+use Rattle.query_model.specs.QueryTypes.{derived_columns, type_of}
+use Rattle.query_model.specs.Sizes.{max_slots}
+use Rattle.compose_eval.specs.Followers.{Contents, outers_of}
+use Rattle.compose_eval.specs.declared.instance.Instance.{Instance}
+use Rattle.eval_tree.specs.Feeds.{IsSoundOf}
+use Rattle.eval_tree.specs.Holdings.{Holding, fed, Seen}
+use Rattle.eval_tree.specs.Represents.{Represents}
+use Rattle.eval_tree.specs.Sound.{IsSound, IsSoundWithin}
+use Rattle.eval_tree.specs.Starts.{AreDifferent}
+use Rattle.eval_tree.proofs.Made.{places_few}
+use Rattle.eval_tree.proofs.Members.{no_member}
+
+-- the right operand is not larger than the whole
+pub right_small : (f g : Qre) → slots_of (compose f g) ≤ max_slots → slots_of g ≤ max_slots
+right_small f g small =
+    let whole : inner_of f + (places_of f + 1) * (1 + (inner_of g + 2)) + 2 ≤ max_slots = small in
+    let parts = add-mul (places_of f) 1 (1 + (inner_of g + 2)) in
+    omega (arith, whole, parts)
+
+-- there are as many runners as there are to be
+pub runners_fit : (f g : Qre) (places count : ℕ) → slots_of (compose f g) ≤ max_slots
+    → places ≡ min (places_of f) (2 ^ 32 - 1) → count ≡ min (places + 1) (2 ^ 32 - 1) → count ≡ places_of f + 1
+runners_fit f g places count small is all =
+    let few = places_few f in
+    let whole : inner_of f + (places_of f + 1) * (1 + (inner_of g + 2)) + 2 ≤ 2 ^ 20 = small in
+    omega (arith, few, whole, is, all)
+
+module _ {R : Type 0} (seen : R → Seen R) where
+  pub new_compose : (columns : List Column) (f g : Qre) (a : Holding R) (held : Contents R)
+      → Represents seen columns f a [] [] → held.live ≡ [] → length held.idle ≡ places_of f + 1
+      → Represents seen columns (compose f g) (fed a held) [] []
+  new_compose columns f g a held first none count =
+      let nobody = ap length none in (
+        first,
+        record {
+          distinct = subst (λ (xs : List (Instance R)). AreDifferent (outers_of xs)) (sym none) tt;
+          there = λ start. (
+            λ there. absurd (no_member start
+                (subst (λ (xs : List (Instance R)). Contains (outers_of xs) start) none there)),
+            λ goes_on. absurd (no_member start goes_on.0),
+          );
+          each = λ start runner there. absurd (no_member (record { outer = start; follower = runner })
+              (subst (λ (xs : List (Instance R)). Contains xs (record { outer = start; follower = runner })) none there));
+          full = omega (arith, nobody, count);
+        },
+      )
+
+  pub new_compose_sound : (columns : List Column) (f g : Qre) (a : Holding R) (held : Contents R)
+      → IsSound seen columns f 0 a → held.live ≡ [] → length held.idle ≡ places_of f + 1
+      → ((columns : List Column) → AllByRecursion (IsSoundOf seen columns g) held.idle)
+      → IsSound seen columns (compose f g) 0 (fed a held)
+  new_compose_sound columns f g a held first none count idle =
+      let nobody = ap length none in (
+        first,
+        subst (λ (xs : List (Instance R)). AreDifferent (outers_of xs)) (sym none) tt,
+        omega (arith, nobody, count),
+        subst (AllByRecursion (λ (one : Instance R).
+            IsSoundWithin seen (IsSoundOf seen (derived_columns (type_of columns f)) g) (0 + 1) one.follower)) (sym none) tt,
+        idle (derived_columns (type_of columns f)),
+      )
+
+  -- the same node of the same query
+  pub made_soundly_as : (columns : List Column) (q q' : Qre) (h h' : Holding R) → q' ≡ q → h' ≡ h
+      → IsSound seen columns q 0 h → IsSound seen columns q' 0 h'
+  made_soundly_as columns q q' h h' query node is =
+      subst (λ (x : Qre). IsSound seen columns x 0 h') (sym query)
+      (subst (λ (x : Holding R). IsSound seen columns q 0 x) (sym node) is)

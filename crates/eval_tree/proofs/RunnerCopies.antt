@@ -1,0 +1,56 @@
+-- A node in memory and its copy; and of a runner, that it follows what the runner follows, is sound where this is, and takes
+-- as much.
+use Rattle.std.proofs.Common.{◌≡◌, ◌∙◌, ℕ, List, [], ◌∷◌, sym, ap, subst, arith}
+use Rattle.item_schema.specs.declared.column.Column.{Column}
+use Rattle.rate_expr.specs.Words.{Word}
+use Rattle.query_model.specs.Following.{IsAnswer}
+use Rattle.query_model.specs.Queries.{Qre}
+use Rattle.query_model.specs.QueryTypes.{type_of}
+use Rattle.eval_tree.specs.declared.progress.Progress.{Progress}
+use Rattle.eval_tree.specs.Copies.{IsCopy, IsCopyOf}
+use Rattle.eval_tree.specs.Counts.{size_of_answer, size_of_runner, stored_in}
+use Rattle.eval_tree.specs.Feeds.{IsSoundOf}
+use Rattle.eval_tree.specs.Following.{IsAt}
+use Rattle.eval_tree.specs.Holdings.{Holding}
+use Rattle.eval_tree.specs.Plain.{holding_of, seen_of}
+use Rattle.eval_tree.specs.Sound.{IsSound, IsTyped}
+use Rattle.eval_tree.proofs.Copied.{copy_represents, copy_sound, copy_stored}
+
+-- a fact on a query, a node and its copy
+pub copied_as : (q q' : Qre) (h h' k k' : Holding Progress) → q' ≡ q → h' ≡ h → k' ≡ k
+    → IsCopy seen_of q h k → IsCopy seen_of q' h' k'
+copied_as q q' h h' k k' query original copy is =
+    subst (λ (x : Qre). IsCopy seen_of x h' k') (sym query)
+    (subst (λ (x : Holding Progress). IsCopy seen_of q x k') (sym original)
+    (subst (λ (x : Holding Progress). IsCopy seen_of q h x) (sym copy) is))
+
+pub copied_soundly : (columns : List Column) (q : Qre) (old new : Progress) → IsCopyOf seen_of (IsCopy seen_of q) old new
+    → IsSoundOf seen_of columns q old → IsSoundOf seen_of columns q new
+copied_soundly columns q old new copied is = record {
+  node = subst (λ (n : ℕ). IsSound seen_of columns q n (holding_of new.node.state)) (sym copied.position)
+      (copy_sound seen_of columns q old.position (holding_of old.node.state) (holding_of new.node.state) copied.node
+      is.node);
+  answer = subst (IsTyped (type_of columns q)) (sym copied.answer) is.answer;
+}
+
+pub copied_at : (columns : List Column) (q : Qre) (word : Word) (old new : Progress)
+    → IsCopyOf seen_of (IsCopy seen_of q) old new → IsAt columns q word old → IsAt columns q word new
+copied_at columns q word old new copied at = record {
+  is_word = at.is_word;
+  sound = copied_soundly columns q old new copied at.sound;
+  follows = record {
+    position = copied.position ∙ at.follows.position;
+    node = copy_represents seen_of columns q (holding_of old.node.state) (holding_of new.node.state) word (0 ∷ [])
+        copied.node at.follows.node;
+    answer = subst (IsAnswer q word) (sym copied.answer) at.follows.answer;
+  };
+}
+
+pub copied_kept : (columns : List Column) (q : Qre) (old new : Progress) → IsCopyOf seen_of (IsCopy seen_of q) old new
+    → IsSoundOf seen_of columns q old
+    → size_of_runner seen_of (stored_in seen_of q) new ≡ size_of_runner seen_of (stored_in seen_of q) old
+copied_kept columns q old new copied is =
+    let node = copy_stored seen_of columns q old.position (holding_of old.node.state) (holding_of new.node.state)
+    copied.node is.node in
+    let answer = ap size_of_answer copied.answer in
+    omega (arith, node, answer)

@@ -1,0 +1,78 @@
+-- A node of another shape than the query: its copy keeps nothing, and none of its starts is live.
+use Rattle.std.proofs.Common.{◌≡◌, ℕ, Option, false, refl, sym}
+use Rattle.std.specs.Prelude.{ℤ, Box}
+use Rattle.std.specs.declared.alloc.Global.{Global}
+use Rattle.value_ops.specs.declared.value.Value.{Value}
+use Rattle.value_ops.specs.Expressions.{Expression}
+use Rattle.predicate_cells.specs.Predicates.{Predicate}
+use Rattle.query_model.specs.Queries.{Qre, atom, choice, split, iter, combine, apply, compose}
+use Rattle.split_eval.specs.Entries.{Contents}
+use Rattle.compose_eval.specs.Followers as instances
+use Rattle.eval_tree.specs.declared.node.Node.{Node}
+use Rattle.eval_tree.specs.declared.node.State.{State}
+use Rattle.eval_tree.specs.declared.node.State.TheVariants.{Item, Both', Operand', Sequence', Pair', Repeated', Fed', Both, Operand, Sequence, Pair, Repeated, Fed}
+use Rattle.eval_tree.specs.declared.node.State.TheViews.{out-State, roll-State, roll-out-State}
+use Rattle.eval_tree.specs.declared.progress.Progress.{Progress}
+use Rattle.eval_tree.specs.Copies.{IsCopy}
+use Rattle.eval_tree.specs.Holdings.{nothing}
+use Rattle.eval_tree.specs.Live.{live_of}
+use Rattle.eval_tree.specs.Plain.{holding_of, runners_of, seen_of}
+
+pub unlike_atom : (pred : Predicate) (e : Expression) (state : State)
+    → ((found : Option ℕ) → state ≡ Item found → ⊥) → IsCopy seen_of (atom pred e) (holding_of state) nothing
+unlike_atom pred e (Item found) unlike = absurd (unlike found refl)
+unlike_atom pred e state unlike = tt
+
+module _ (f : Qre) where
+  pub unlike_apply : (e : Expression) (state : State) → ((a : Box Node Global) → state ≡ Operand a → ⊥)
+      → IsCopy seen_of (apply f e) (holding_of state) nothing
+  unlike_apply e (Operand' p a) unlike = absurd (unlike (record { ptr = p.ptr; alloc = p.alloc; value = record { state = a } }) refl)
+  unlike_apply e state unlike = tt
+
+  pub unlike_iter : (number : ℤ) (e : Expression) (state : State)
+      → ((a : Box Node Global) (so_far : Contents Value) → state ≡ Repeated a so_far → ⊥)
+      → IsCopy seen_of (iter f number e) (holding_of state) nothing
+  unlike_iter number e (Repeated' p a so_far) unlike =
+      absurd (unlike (record { ptr = p.ptr; alloc = p.alloc; value = record { state = a } }) so_far refl)
+  unlike_iter number e state unlike = tt
+
+module _ (f g : Qre) where
+  pub unlike_choice : (state : State) → ((a b : Box Node Global) → state ≡ Both a b → ⊥)
+      → IsCopy seen_of (choice f g) (holding_of state) nothing
+  unlike_choice (Both' p a q b) unlike =
+      absurd (unlike (record { ptr = p.ptr; alloc = p.alloc; value = record { state = a } })
+      (record { ptr = q.ptr; alloc = q.alloc; value = record { state = b } }) refl)
+  unlike_choice state unlike = tt
+
+  pub unlike_combine : (e : Expression) (state : State) → ((a b : Box Node Global) → state ≡ Pair a b → ⊥)
+      → IsCopy seen_of (combine f g e) (holding_of state) nothing
+  unlike_combine e (Pair' p a q b) unlike =
+      absurd (unlike (record { ptr = p.ptr; alloc = p.alloc; value = record { state = a } })
+      (record { ptr = q.ptr; alloc = q.alloc; value = record { state = b } }) refl)
+  unlike_combine e state unlike = tt
+
+  pub unlike_split : (e : Expression) (state : State)
+      → ((a b : Box Node Global) (held : Contents Value) → state ≡ Sequence a b held → ⊥)
+      → IsCopy seen_of (split f g e) (holding_of state) nothing
+  unlike_split e (Sequence' p a q b held) unlike =
+      absurd (unlike (record { ptr = p.ptr; alloc = p.alloc; value = record { state = a } })
+      (record { ptr = q.ptr; alloc = q.alloc; value = record { state = b } }) held refl)
+  unlike_split e state unlike = tt
+
+  pub unlike_compose : (state : State)
+      → ((a : Box Node Global) (runners : instances.Contents Progress) → state ≡ Fed a runners → ⊥)
+      → IsCopy seen_of (compose f g) (holding_of state) nothing
+  unfolding roll-State out-State denote.Hole.Carrier.roll denote.Hole.Carrier.out
+  unlike_compose (Fed' p a held runners) unlike =
+      absurd (unlike (record { ptr = p.ptr; alloc = p.alloc; value = record { state = a } })
+      (runners_of (out-State (Fed' p a held runners))) (sym (roll-out-State (Fed' p a held runners))))
+  unlike_compose state unlike = tt
+
+  pub unlike_lives : (state : State) (start : ℕ)
+      → ((a : Box Node Global) (runners : instances.Contents Progress) → state ≡ Fed a runners → ⊥)
+      → false ≡ live_of (compose f g) (holding_of state) start
+  unfolding roll-State out-State denote.Hole.Carrier.roll denote.Hole.Carrier.out
+  unlike_lives (Fed' p a held runners) start unlike =
+      absurd (unlike (record { ptr = p.ptr; alloc = p.alloc; value = record { state = a } })
+      (runners_of (out-State (Fed' p a held runners))) (sym (roll-out-State (Fed' p a held runners))))
+  unlike_lives state start unlike = refl

@@ -1,0 +1,105 @@
+-- A node of another shape than the query is not sound for it.
+use Rattle.std.proofs.Common.{◌≡◌, ℕ, List, Option, refl, subst, sym}
+use Rattle.std.specs.Prelude.{ℤ, Box}
+use Rattle.std.specs.declared.alloc.Global.{Global}
+use Rattle.value_ops.specs.declared.value.Value.{Value}
+use Rattle.value_ops.specs.Expressions.{Expression}
+use Rattle.item_schema.specs.declared.column.Column.{Column}
+use Rattle.predicate_cells.specs.Predicates.{Predicate}
+use Rattle.query_model.specs.Queries.{Qre, atom, eps, choice, split, iter, combine, apply, compose}
+use Rattle.split_eval.specs.Entries.{Contents}
+use Rattle.compose_eval.specs.Followers as instances
+use Rattle.eval_tree.specs.declared.node.Node.{Node}
+use Rattle.eval_tree.specs.declared.node.State.{State}
+use Rattle.eval_tree.specs.declared.node.State.TheVariants.{Item, Empty, Both', Operand', Sequence', Pair', Repeated', Fed', Both, Operand, Sequence, Pair, Repeated, Fed}
+use Rattle.eval_tree.specs.declared.node.State.TheViews.{out-State, roll-State, roll-out-State}
+use Rattle.eval_tree.specs.declared.progress.Progress.{Progress}
+use Rattle.eval_tree.specs.Plain.{holding_of, runners_of, seen_of}
+use Rattle.eval_tree.specs.Sound.{IsSound}
+
+no_compose : (columns : List Column) (position : ℕ) (f g : Qre) (node : State)
+    → ((a : Box Node Global) (runners : instances.Contents Progress) → node ≡ Fed a runners → ⊥)
+    → IsSound seen_of columns (compose f g) position (holding_of node) → ⊥
+unfolding roll-State out-State denote.Hole.Carrier.roll denote.Hole.Carrier.out
+no_compose columns position f g (Fed' p a held runners) unlike sound =
+    unlike (record { ptr = p.ptr; alloc = p.alloc; value = record { state = a } })
+    (runners_of (out-State (Fed' p a held runners))) (sym (roll-out-State (Fed' p a held runners)))
+no_compose columns position f g node unlike sound = sound
+
+module _ (columns : List Column) (position : ℕ) (q : Qre) (state : State) where
+  abbrev pub IsFor : Qre → State → Type 0
+  IsFor f node = IsSound seen_of columns f position (holding_of node)
+
+  taken_for : (f : Qre) → q ≡ f → IsFor q state → IsFor f state
+  taken_for f same sound = subst (λ (x : Qre). IsFor x state) same sound
+
+  pub unsound_atom : (pred : Predicate) (e : Expression) → q ≡ atom pred e
+      → ((found : Option ℕ) → state ≡ Item found → ⊥) → IsFor q state → ⊥
+  unsound_atom pred e same unlike sound = none state unlike (taken_for (atom pred e) same sound)
+    where
+      none : (node : State) → ((found : Option ℕ) → node ≡ Item found → ⊥) → IsFor (atom pred e) node → ⊥
+      none (Item found) unlike sound = unlike found refl
+      none node unlike sound = sound
+
+  pub unsound_eps : (number : ℤ) → q ≡ eps number → (state ≡ Empty → ⊥) → IsFor q state → ⊥
+  unsound_eps number same unlike sound = none state unlike (taken_for (eps number) same sound)
+    where
+      none : (node : State) → (node ≡ Empty → ⊥) → IsFor (eps number) node → ⊥
+      none Empty unlike sound = unlike refl
+      none node unlike sound = sound
+
+  pub unsound_choice : (f g : Qre) → q ≡ choice f g → ((a b : Box Node Global) → state ≡ Both a b → ⊥)
+      → IsFor q state → ⊥
+  unsound_choice f g same unlike sound = none state unlike (taken_for (choice f g) same sound)
+    where
+      none : (node : State) → ((a b : Box Node Global) → node ≡ Both a b → ⊥) → IsFor (choice f g) node → ⊥
+      none (Both' p a q b) unlike sound =
+          unlike (record { ptr = p.ptr; alloc = p.alloc; value = record { state = a } })
+          (record { ptr = q.ptr; alloc = q.alloc; value = record { state = b } }) refl
+      none node unlike sound = sound
+
+  pub unsound_combine : (f g : Qre) (e : Expression) → q ≡ combine f g e
+      → ((a b : Box Node Global) → state ≡ Pair a b → ⊥) → IsFor q state → ⊥
+  unsound_combine f g e same unlike sound = none state unlike (taken_for (combine f g e) same sound)
+    where
+      none : (node : State) → ((a b : Box Node Global) → node ≡ Pair a b → ⊥) → IsFor (combine f g e) node → ⊥
+      none (Pair' p a q b) unlike sound =
+          unlike (record { ptr = p.ptr; alloc = p.alloc; value = record { state = a } })
+          (record { ptr = q.ptr; alloc = q.alloc; value = record { state = b } }) refl
+      none node unlike sound = sound
+
+  pub unsound_split : (f g : Qre) (e : Expression) → q ≡ split f g e
+      → ((a b : Box Node Global) (held : Contents Value) → state ≡ Sequence a b held → ⊥) → IsFor q state → ⊥
+  unsound_split f g e same unlike sound = none state unlike (taken_for (split f g e) same sound)
+    where
+      none : (node : State) → ((a b : Box Node Global) (held : Contents Value) → node ≡ Sequence a b held → ⊥)
+          → IsFor (split f g e) node → ⊥
+      none (Sequence' p a q b held) unlike sound =
+          unlike (record { ptr = p.ptr; alloc = p.alloc; value = record { state = a } })
+          (record { ptr = q.ptr; alloc = q.alloc; value = record { state = b } }) held refl
+      none node unlike sound = sound
+
+  pub unsound_apply : (f : Qre) (e : Expression) → q ≡ apply f e
+      → ((a : Box Node Global) → state ≡ Operand a → ⊥) → IsFor q state → ⊥
+  unsound_apply f e same unlike sound = none state unlike (taken_for (apply f e) same sound)
+    where
+      none : (node : State) → ((a : Box Node Global) → node ≡ Operand a → ⊥) → IsFor (apply f e) node → ⊥
+      none (Operand' p a) unlike sound =
+          unlike (record { ptr = p.ptr; alloc = p.alloc; value = record { state = a } }) refl
+      none node unlike sound = sound
+
+  pub unsound_iter : (f : Qre) (number : ℤ) (e : Expression) → q ≡ iter f number e
+      → ((a : Box Node Global) (so_far : Contents Value) → state ≡ Repeated a so_far → ⊥) → IsFor q state → ⊥
+  unsound_iter f number e same unlike sound = none state unlike (taken_for (iter f number e) same sound)
+    where
+      none : (node : State) → ((a : Box Node Global) (so_far : Contents Value) → node ≡ Repeated a so_far → ⊥)
+          → IsFor (iter f number e) node → ⊥
+      none (Repeated' p a so_far) unlike sound =
+          unlike (record { ptr = p.ptr; alloc = p.alloc; value = record { state = a } }) so_far refl
+      none node unlike sound = sound
+
+  pub unsound_compose : (f g : Qre) → q ≡ compose f g
+      → ((a : Box Node Global) (runners : instances.Contents Progress) → state ≡ Fed a runners → ⊥)
+      → IsFor q state → ⊥
+  unsound_compose f g same unlike sound =
+      no_compose columns position f g state unlike (taken_for (compose f g) same sound)

@@ -1,0 +1,125 @@
+use Rattle.std.proofs.Common.{◌∙◌, ◌+◌, List, length, take, ap, arith, refl, rules, subst, sym}
+use Rattle.value_ops.specs.Expressions as values
+use Rattle.predicate_cells.specs.Plain as predicates
+use Rattle.query_model.specs.Queries.{Qre, compose, plain_of}
+use Rattle.compose_eval.specs.declared.instance.Instance.{Instance}
+use Rattle.compose_eval.specs.Followers.{followers_of, outers_of}
+use Rattle.eval_tree.specs.declared.progress.Progress.{Progress}
+use Rattle.eval_tree.specs.declared.node.State.TheViews.{out-State, roll-State}
+use Rattle.eval_tree.specs.Copies.{AreAlike, AreCopied, IsCopy, IsCopyOf}
+use Rattle.eval_tree.specs.Holdings.{fed}
+use Rattle.eval_tree.specs.Plain.{holding_of, seen_of}
+use Rattle.eval_tree.proofs.Arms.{same_node, same_query}
+use Rattle.eval_tree.proofs.ComposeArms.{fed_is}
+use Rattle.eval_tree.proofs.Others.{other_copied, other_shape}
+use Rattle.eval_tree.proofs.RunnerCopies.{copied_as}
+use Rattle.eval_tree.proofs.Runners.{alike_more, as_many_taken, copied_fresh, copied_many, follower_put, start_put}
+use Rattle.eval_tree.proofs.Unlike.{unlike_apply, unlike_atom, unlike_choice, unlike_combine, unlike_compose, unlike_iter, unlike_split}
+use Rattle.eval_tree.proofs.copies.+copy.Goals as goal
+use Rattle.eval_tree.proofs.copies.+copy.Goals.{copy-in_default-via-in-Atom+in_default, copy-in_default-via-in-Or+in_default, copy-in_default-via-in-Apply+in_default, copy-in_default-via-in-Split+in_default, copy-in_default-via-in-Combine+in_default, copy-in_default-via-in-Iter+in_default, copy-in_default-via-in-Compose+in_default, copy-in_default-via-in_default}
+
+pub copied_live-put-requires-clause-room : goal.copied_live-put-requires-clause-room
+copied_live-put-requires-clause-room t c =
+    let before = c.live.invariant in
+    let some = c.live-test.true in
+    let count = c.len-i-end.ensures.count in
+    let few = c.len-i-end.ensures.few in
+    let many = copied_many c.args.runners.now.live c.live.copy.live c.live.i before.2 (omega (arith, some, count)) in
+    let room = before.0 in
+    let none = ap length before.1 in
+    omega (arith, some, count, few, many, room, none)
+
+pub copied_live-put-requires-clause-fresh : goal.copied_live-put-requires-clause-fresh
+copied_live-put-requires-clause-fresh t c =
+    copied_fresh c.args.runners.now.live c.live.copy.live c.live.i c.outer.result c.len-i-end.ensures.distinct
+    c.live.invariant.2 c.outer.ensures
+
+pub copied_live-live-preserved : goal.copied_live-live-preserved
+copied_live-live-preserved t c =
+    let live = c.args.runners.now.live in
+    let before = c.live.invariant in
+    let copied = c.in_ok-follower.follower in (
+      c.put.ensures.room ∙ before.0,
+      c.put.ensures.idle ∙ before.1,
+      start_put live c.live.copy.live c.put.new.self.live c.live.i c.outer.result copied before.2 c.outer.ensures
+          c.put.ensures.live,
+      follower_put (IsCopyOf seen_of (IsCopy seen_of (plain_of c.args.query.now.shape))) live c.live.copy.live
+          c.put.new.self.live c.live.i c.outer.result c.follower.result.now copied c.follower.ensures before.3
+          c.in_ok-follower.ensures c.put.ensures.live,
+      c.len-i-end.ensures.count,
+    )
+
+pub copied_runners-rest-requires : goal.copied_runners-rest-requires
+copied_runners-rest-requires t c =
+    let before = c.idle.invariant in
+    let some = c.idle-test.true in
+    let count = c.idle-i-end.ensures in
+    let many = as_many_taken (IsCopyOf seen_of (IsCopy seen_of (plain_of c.args.query.now.shape)))
+    c.args.runners.now.idle c.idle.copy.idle c.idle.i (omega (arith, some, count)) before.3 in
+    let few = before.4 in
+    omega (arith, some, count, many, few)
+
+pub copied_runners-idle-preserved : goal.copied_runners-idle-preserved
+copied_runners-idle-preserved t c =
+    let runners = c.args.runners.now in
+    let alike = IsCopyOf seen_of (IsCopy seen_of (plain_of c.args.query.now.shape)) in
+    let before = c.idle.invariant in
+    let few = before.4 in
+    let as_many = ap length c.rest.ensures.live in
+    let room = c.rest.ensures.room in (
+      c.rest.ensures.room ∙ before.0,
+      ap (λ (live : List (Instance Progress)). outers_of live) c.rest.ensures.live ∙ before.1,
+      subst (λ (live : List (Instance Progress)). AreAlike alike (followers_of runners.live) (followers_of live))
+          (sym c.rest.ensures.live) before.2,
+      subst (AreAlike alike (take (c.idle.i + 1) runners.idle)) (sym c.rest.ensures.idle)
+          (alike_more alike runners.idle c.idle.copy.idle c.idle.i c.resting.result.now
+          c.in_ok-copy_of_runner.field-0 c.resting.ensures before.3 c.in_ok-copy_of_runner.ensures),
+      omega (arith, few, as_many, room),
+      c.idle-i-end.ensures,
+    )
+
+pub copy-returns-in_ok-copied_runners-in-Compose-Fed : goal.copy-returns-in_ok-copied_runners-in-Compose-Fed
+unfolding roll-State out-State denote.Hole.Carrier.roll denote.Hole.Carrier.out
+copy-returns-in_ok-copied_runners-in-Compose-Fed t c =
+    let s = c.in-Compose-Fed in
+    let f = plain_of s.first.value.shape in
+    let g = plain_of s.second.value.shape in
+    let a = c.in_ok-a-in-Compose-Fed.a in
+    let held = c.in_ok-copied_runners-in-Compose-Fed.field-0 in
+    copied_as (compose f g) _ (fed (holding_of s.a.value.state) s.runners) _ (fed (holding_of a.value.state) held) _
+    (ap plain_of s.is-0) (ap holding_of s.is-1 ∙ fed_is s.a s.runners) (fed_is a held) (
+      copied_as (plain_of c.deref-in-Compose-Fed.result.now.shape) f (holding_of c.deref-in-Compose-Fed-2.result.now.state)
+          (holding_of s.a.value.state) (holding_of a.value.state) _ (same_query _ _ c.deref-in-Compose-Fed.ensures)
+          (same_node _ _ c.deref-in-Compose-Fed-2.ensures) refl c.in_ok-a-in-Compose-Fed.ensures,
+      subst (λ (q : Qre). AreCopied seen_of (IsCopy seen_of q) s.runners held)
+          (sym (same_query _ _ c.deref-in-Compose-Fed-3.ensures)) c.in_ok-copied_runners-in-Compose-Fed.ensures,
+    )
+
+pub copy-returns-in_default : goal.copy-returns-in_default
+copy-returns-in_default t c = elim c.in_default.branch [
+  | copy-in_default-via-in-Atom+in_default w ↦
+      copied_as _ _ _ _ _ _ (ap plain_of w.in_default.is-0) refl refl
+      (unlike_atom (predicates.plain_of w.in_default.field-0-0) (values.plain_of w.in_default.field-1-0) c.args.node.now.state w.in_default.not-Item-1)
+  | copy-in_default-via-in-Or+in_default w ↦
+      copied_as _ _ _ _ _ _ (ap plain_of w.in_default.is-0) refl refl
+      (unlike_choice _ _ c.args.node.now.state w.in_default.not-Both-1)
+  | copy-in_default-via-in-Apply+in_default w ↦
+      copied_as _ _ _ _ _ _ (ap plain_of w.in_default.is-0) refl refl
+      (unlike_apply _ (values.plain_of w.in_default.field-1-0) c.args.node.now.state w.in_default.not-Operand-1)
+  | copy-in_default-via-in-Split+in_default w ↦
+      copied_as _ _ _ _ _ _ (ap plain_of w.in_default.is-0) refl refl
+      (unlike_split _ _ (values.plain_of w.in_default.field-2-0) c.args.node.now.state w.in_default.not-Sequence-1)
+  | copy-in_default-via-in-Combine+in_default w ↦
+      copied_as _ _ _ _ _ _ (ap plain_of w.in_default.is-0) refl refl
+      (unlike_combine _ _ (values.plain_of w.in_default.field-2-0) c.args.node.now.state w.in_default.not-Pair-1)
+  | copy-in_default-via-in-Iter+in_default w ↦
+      copied_as _ _ _ _ _ _ (ap plain_of w.in_default.is-0) refl refl
+      (unlike_iter _ w.in_default.field-1-0 (values.plain_of w.in_default.field-2-0) c.args.node.now.state w.in_default.not-Repeated-1)
+  | copy-in_default-via-in-Compose+in_default w ↦
+      copied_as _ _ _ _ _ _ (ap plain_of w.in_default.is-0) refl refl
+      (unlike_compose _ _ c.args.node.now.state w.in_default.not-Fed-1)
+  | copy-in_default-via-in_default w ↦ other_copied c.args.query.now.shape c.args.node.now.state
+      (other_shape c.args.query.now.shape (λ pred value is. search rules) (λ p f a q g b is. search rules)
+      (λ p f a q g b value is. search rules) (λ p f a number value is. search rules)
+      (λ p f a q g b value is. search rules) (λ p f a value is. search rules) (λ p f a q g b is. search rules))
+]

@@ -1,0 +1,46 @@
+-- Statement. What a copy of a node keeps: the same, and for each runner a copy of it.
+use Rattle.std.specs.Prelude.{◌≡◌, List, [], ◌∷◌}
+use Rattle.query_model.specs.Queries.{Qre, atom, eps, choice, split, iter, combine, apply, compose, collect}
+use Rattle.compose_eval.specs.Followers.{Contents, followers_of, outers_of}
+use Rattle.eval_tree.specs.Holdings.{Holding, waiting, nothing, both, paired, operand, pending, chained, fed, tracked, Seen}
+
+-- each of the one list is so to the one of the other at the same place
+abbrev pub AreAlike : {A : Type 0} → (A → A → Type 0) → List A → List A → Type 0
+AreAlike P [] [] = Unit {0}
+AreAlike P (x ∷ xs) (y ∷ ys) = P x y × AreAlike P xs ys
+AreAlike P xs ys = ⊥
+
+module _ {R : Type 0} (seen : R → Seen R) where
+  pub record IsCopyOf (is_copy : Holding R → Holding R → Type 0) (old new : R) : Type 0 where
+    pub position : (seen new).position ≡ (seen old).position
+    pub answer : (seen new).answer ≡ (seen old).answer
+    pub node : is_copy (seen old).node (seen new).node
+
+  -- copies of the runners of a compose, from the same starts
+  pub record AreCopied (is_copy : Holding R → Holding R → Type 0) (old new : Contents R) : Type 0 where
+    pub starts : outers_of new.live ≡ outers_of old.live
+    pub live : AreAlike (IsCopyOf is_copy) (followers_of old.live) (followers_of new.live)
+    pub idle : AreAlike (IsCopyOf is_copy) old.idle new.idle
+    pub room : new.room ≡ old.room
+
+  -- for nodes of the query; of those of another shape nothing is said, and there are none of collect yet
+  abbrev pub IsCopy : Qre → Holding R → Holding R → Type 0
+  IsCopy (atom pred expression) (waiting found) new = new ≡ waiting found
+  IsCopy (eps number) nothing new = new ≡ nothing
+  IsCopy (choice f g) (both a b) (both a' b') = IsCopy f a a' × IsCopy g b b'
+  IsCopy (choice f g) (both a b) new = ⊥
+  IsCopy (combine f g expression) (paired a b) (paired a' b') = IsCopy f a a' × IsCopy g b b'
+  IsCopy (combine f g expression) (paired a b) new = ⊥
+  IsCopy (apply f expression) (operand a) (operand a') = IsCopy f a a'
+  IsCopy (apply f expression) (operand a) new = ⊥
+  IsCopy (split f g expression) (pending a b left) (pending a' b' left') =
+      IsCopy f a a' × IsCopy g b b' × (left' ≡ left)
+  IsCopy (split f g expression) (pending a b left) new = ⊥
+  IsCopy (iter f number expression) (chained a so_far) (chained a' so_far') =
+      IsCopy f a a' × (so_far' ≡ so_far)
+  IsCopy (iter f number expression) (chained a so_far) new = ⊥
+  IsCopy (compose f g) (fed a held) (fed a' held') =
+      IsCopy f a a' × AreCopied (IsCopy g) held held'
+  IsCopy (compose f g) (fed a held) new = ⊥
+  IsCopy (collect column sync rate f) (tracked sets all) new = ⊥
+  IsCopy query old new = Unit {0}

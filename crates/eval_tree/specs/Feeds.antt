@@ -1,0 +1,173 @@
+-- For the prover. What becomes of runners: they take items and begin anew, and those of a compose do
+-- so by the hits of its left operand.
+use Rattle.std.specs.Prelude.{◌≡◌, ◌<◌, ◌⊎◌, ℕ, zero, suc, ◌+◌, ◌^◌, Bool, List, [], ◌∷◌, ◌++◌, Option, None, Some, MatchOption, if◌then◌else◌, length, slice_get}
+use Rattle.std.specs.Option.{option_map}
+use Rattle.std.specs.List.{AllByRecursion}
+use Rattle.value_ops.specs.declared.field.Field.{Field}
+use Rattle.value_ops.specs.declared.field.Field.TheVariants as field
+use Rattle.value_ops.specs.declared.value.Value.{Value}
+use Rattle.item_schema.specs.declared.column.Column.{Column}
+use Rattle.item_schema.specs.Items.{IsItemOf}
+use Rattle.rate_expr.specs.Words.{Word, IsWordOf}
+use Rattle.query_model.specs.Following.{composes_of}
+use Rattle.query_model.specs.Queries.{Qre}
+use Rattle.query_model.specs.QueryTypes.{type_of}
+use Rattle.query_model.specs.Rules.{Standing, IsClear}
+use Rattle.compose_eval.specs.Followers.{Contents, instance_at, with_follower}
+use Rattle.eval_tree.specs.declared.hit.Hit.{Hit}
+use Rattle.eval_tree.specs.Holdings.{Holding, Seen}
+use Rattle.eval_tree.specs.Represents.{IsFollowing, Represents}
+use Rattle.eval_tree.specs.Sound.{IsSound, IsSoundRunner, IsSoundWithin}
+
+-- the value as an item of a stream of values
+abbrev pub item_of : Value → List Field
+item_of value = field.Val value ∷ []
+
+-- an answer as a hit of the start
+abbrev pub hit_at : ℕ → Option Value → Option Hit
+hit_at start answer = option_map (λ value. record { start = start; value = value }) answer
+
+-- the value of a hit is an item of the stream
+abbrev pub IsHitIn : List Column → Option Hit → Type 0
+IsHitIn columns hit =
+    MatchOption hit (Unit {0}) (λ found. IsItemOf columns (item_of found.value))
+
+-- one is idle, and the start feeds none
+pub record HasIdle {R : Type 0} (held : Contents R) (at : ℕ) : Type 0 where
+  pub idle : 0 < length held.idle
+  pub fresh : instance_at held.live at ≡ None
+
+module _ {R : Type 0} (seen : R → Seen R) where
+  abbrev pub FollowsWord : List Column → Qre → Word → R → Type 0
+  FollowsWord columns query word runner =
+      IsFollowing seen (Represents seen columns query) query word runner
+
+  abbrev pub IsSoundOf : List Column → Qre → R → Type 0
+  IsSoundOf columns query runner =
+      IsSoundRunner seen (IsSound seen columns query) (type_of columns query) runner
+
+  -- what is sound stands for the empty word then, without a start, and stays sound
+  abbrev pub IsCleared : Qre → Holding R → Holding R → Type 0
+  IsCleared query old new = (columns : List Column) (position : ℕ)
+      → IsSound seen columns query position old
+      → ((others : List Column) → Represents seen others query new [] [])
+      × ((now : ℕ) → IsSound seen columns query now new)
+
+  -- the node of a runner is cleared, and all else of it is as before
+  pub record IsClearedIn (query : Qre) (old new : R) : Type 0 where
+    pub position : (seen new).position ≡ (seen old).position
+    pub answer : (seen new).answer ≡ (seen old).answer
+    pub node : IsCleared query (seen old).node (seen new).node
+
+  -- the first so many runners are cleared, and the others are as before
+  abbrev pub AreCleared : Qre → ℕ → List R → List R → Type 0
+  AreCleared query zero old new = new ≡ old
+  AreCleared query (suc count) (runner ∷ old) (cleared ∷ new) =
+      IsClearedIn query runner cleared × AreCleared query count old new
+  AreCleared query (suc count) [] [] = Unit {0}
+  AreCleared query (suc count) old new = ⊥
+
+  -- a runner may take one more item
+  pub record CanCarry (query : Qre) (runner : R) (item : List Field) : Type 0 where
+    pub standing : Standing
+    pub columns : List Column
+    pub clear : IsClear standing columns query
+    pub sound : IsSoundOf columns query runner
+    pub is_item : IsItemOf columns item
+    pub room : (seen runner).position + 1 + composes_of query < 2 ^ 64
+
+  -- a runner may begin anew, and then take the value of a hit
+  pub record CanBegin (query : Qre) (runner : R) (left : Option Hit) : Type 0 where
+    pub standing : Standing
+    pub columns : List Column
+    pub clear : IsClear standing columns query
+    pub sound : IsSoundOf columns query runner
+    pub is_item : IsHitIn columns left
+    pub room : 1 + composes_of query < 2 ^ 64
+
+  -- the runners of a compose may take the value of a hit of its left operand
+  pub record CanPassOn (query : Qre) (held : Contents R) (left : Option Hit) : Type 0 where
+    pub standing : Standing
+    pub columns : List Column
+    pub most : ℕ
+    pub clear : IsClear standing columns query
+    pub live : AllByRecursion
+        (λ one. IsSoundWithin seen (IsSoundOf columns query) most one.follower) held.live
+    pub is_item : IsHitIn columns left
+    pub room : most + 1 + composes_of query < 2 ^ 64
+
+  -- an idle one may begin with it
+  pub record CanFeed (query : Qre) (held : Contents R) (left : Option Hit) : Type 0 where
+    pub standing : Standing
+    pub columns : List Column
+    pub clear : IsClear standing columns query
+    pub idle : AllByRecursion (IsSoundOf columns query) held.idle
+    pub is_item : IsHitIn columns left
+    pub room : 1 + composes_of query < 2 ^ 64
+
+  -- whatever word it followed, now it follows the word and the item behind it, and it stays sound
+  pub record IsCarried (query : Qre) (old : R) (item : List Field) (new : R) : Type 0 where
+    pub word : (standing : Standing) (columns : List Column) (word : Word)
+        → IsClear standing columns query → IsWordOf columns (word ++ item ∷ [])
+        → FollowsWord columns query word old → FollowsWord columns query (word ++ item ∷ []) new
+    pub sound : (standing : Standing) (columns : List Column) → IsClear standing columns query
+        → IsItemOf columns item → IsSoundOf columns query old → IsSoundOf columns query new
+    pub position : (seen new).position ≡ (seen old).position + 1
+
+  -- it follows the empty word, and stays sound
+  pub record IsRenewed (query : Qre) (old new : R) : Type 0 where
+    pub word : (standing : Standing) (columns : List Column) → IsClear standing columns query
+        → FollowsWord columns query [] new
+    pub sound : (standing : Standing) (columns : List Column) → IsClear standing columns query
+        → IsSoundOf columns query old → IsSoundOf columns query new
+    pub position : (seen new).position ≡ 0
+
+  -- it takes the value of a hit, and its answer is a hit of the same start
+  pub record IsTold (query : Qre) (old : R) (left : Hit) (new : R) (hit : Option Hit) : Type 0 where
+    pub carried : IsCarried query old (item_of left.value) new
+    pub answers : hit ≡ hit_at left.start (seen new).answer
+
+  -- it begins anew, and where there is a hit takes its value
+  abbrev pub IsBegun : Qre → R → Option Hit → R → Option Hit → Type 0
+  IsBegun query old left new hit = MatchOption left (IsRenewed query old new × (hit ≡ None))
+      (λ found. (between : R) × IsRenewed query old between × IsTold query between found new hit)
+
+  -- the runner that the start of the hit feeds takes its value
+  pub record IsPassed (query : Qre) (old : Contents R) (left : Hit) (new : Contents R)
+      (hit : Option Hit) : Type 0 where
+    pub place : ℕ
+    pub runner : R
+    pub told : R
+    pub at : slice_get old.live place ≡ Some (record { outer = left.start; follower = runner })
+    pub is : new ≡ record {
+      live = with_follower old.live place told;
+      idle = old.idle;
+      room = old.room;
+    }
+    pub tells : IsTold query runner left told hit
+
+  -- where the start feeds none nothing changes
+  abbrev pub PassesOn : Qre → Contents R → Option Hit → Contents R → Option Hit → Type 0
+  PassesOn query old left new hit = MatchOption left ((new ≡ old) × (hit ≡ None)) (λ found.
+      IsPassed query old found new hit
+      ⊎ ((instance_at old.live found.start ≡ None) × (new ≡ old) × (hit ≡ None)))
+
+  -- the last idle one begins anew, and is fed from the start where this can go on
+  pub record IsFedFrom (query : Qre) (old : Contents R) (live : Bool) (at : ℕ) (left : Option Hit)
+      (new : Contents R) (hit : Option Hit) : Type 0 where
+    pub front : List R
+    pub runner : R
+    pub next : R
+    pub last : old.idle ≡ front ++ runner ∷ []
+    pub begun : IsBegun query runner left next hit
+    pub is : new ≡ (if live then (record {
+      live = old.live ++ record { outer = at; follower = next } ∷ [];
+      idle = front;
+      room = old.room;
+    }) else (record { live = old.live; idle = front ++ next ∷ []; room = old.room }))
+
+  -- where none is idle, or the start feeds one already, nothing changes
+  abbrev pub Feeds : Qre → Contents R → Bool → ℕ → Option Hit → Contents R → Option Hit → Type 0
+  Feeds query old live at left new hit =
+      (HasIdle old at × IsFedFrom query old live at left new hit)
+      ⊎ ((HasIdle old at → ⊥) × (new ≡ old) × (hit ≡ None))

@@ -1,0 +1,132 @@
+//! Runners of the right operand of a compose. The values of the left operand are their items.
+ghost use Rattle.std.specs.Prelude.{IfOk, None};
+ghost use Rattle.query_model.specs.Queries.{plain_of};
+ghost use Rattle.eval_tree.specs.Feeds.{CanBegin, CanCarry, CanFeed, CanPassOn, Feeds, IsBegun, IsCarried, IsRenewed, IsTold, PassesOn, item_of};
+ghost use Rattle.eval_tree.specs.Plain.{seen_of};
+
+use crate::clear::clear;
+use crate::runner::value_of;
+use crate::{Hit, Progress, start, step};
+use compose_eval::Instances;
+use item_schema::Item;
+use query_model::Query;
+use std::alloc::{AllocError, Global};
+
+/// The last idle runner begins anew, takes the value of a hit, and is fed from the start where this
+/// can go on. Where the starts are apart one is idle, and none is fed from there.
+#[cycle(step)]
+pub(crate) fn feed(
+    query: &Query,
+    runners: &mut Instances<Progress>,
+    alloc: Global,
+    live: bool,
+    at: u64,
+    left: Option<Hit>,
+) -> Result<Option<Hit>, AllocError>
+    requires { CanFeed seen_of (plain_of query.now.shape) runners.old left }
+    ensures { IfOk result (Feeds seen_of (plain_of query.now.shape) runners.old live at left
+        runners.new) }
+{
+    if runners.idle() == 0 || runners.place(at).is_some() {
+        return Ok(None);
+    }
+    let last = runners.idle() - 1;
+    let hit = begin(query, runners.resting_mut(last), alloc, left)?;
+    if live {
+        runners.wake(at);
+    }
+    Ok(hit)
+}
+
+/// The runner that is fed from the start of a hit takes its value, and its answer is the hit of the
+/// whole.
+#[cycle(step)]
+pub(crate) fn pass_on(
+    query: &Query,
+    runners: &mut Instances<Progress>,
+    alloc: Global,
+    left: Option<Hit>,
+) -> Result<Option<Hit>, AllocError>
+    requires { CanPassOn seen_of (plain_of query.now.shape) runners.old left }
+    ensures { IfOk result (PassesOn seen_of (plain_of query.now.shape) runners.old left
+        runners.new) }
+{
+    match left {
+        Some(hit) => match runners.place(hit.start) {
+            Some(place) => tell(query, runners.follower_mut(place), alloc, hit),
+            None => Ok(None),
+        },
+        None => Ok(None),
+    }
+}
+
+#[cycle(step)]
+fn begin(
+    query: &Query,
+    runner: &mut Progress,
+    alloc: Global,
+    left: Option<Hit>,
+) -> Result<Option<Hit>, AllocError>
+    requires { CanBegin seen_of (plain_of query.now.shape) runner.old left }
+    ensures { IfOk result (IsBegun seen_of (plain_of query.now.shape) runner.old left runner.new) }
+{
+    renew(query, runner, alloc)?;
+    match left {
+        Some(hit) => tell(query, runner, alloc, hit),
+        None => Ok(None),
+    }
+}
+
+#[cycle(step)]
+fn tell(
+    query: &Query,
+    runner: &mut Progress,
+    alloc: Global,
+    left: Hit,
+) -> Result<Option<Hit>, AllocError>
+    requires { CanCarry seen_of (plain_of query.now.shape) runner.old (item_of left.value) }
+    ensures { IfOk result (IsTold seen_of (plain_of query.now.shape) runner.old left runner.new) }
+{
+    let start = left.start;
+    carry(query, runner, alloc, &Item::from_value(left.value))?;
+    match &runner.answer {
+        Some(value) => {
+            let value = value.try_copy(alloc)?;
+            Ok(Some(Hit { start, value }))
+        }
+        None => Ok(None),
+    }
+}
+
+/// One more item.
+#[cycle(step)]
+pub(crate) fn carry(
+    query: &Query,
+    runner: &mut Progress,
+    alloc: Global,
+    item: &Item,
+) -> Result<(), AllocError>
+    requires { CanCarry seen_of (plain_of query.now.shape) runner.old item.now }
+    ensures { IfOk result (λ done. IsCarried seen_of (plain_of query.now.shape) runner.old item.now
+        runner.new) }
+{
+    let now = runner.position + 1;
+    let hit = step(query, &mut runner.node, alloc, now, item)?;
+    runner.position = now;
+    runner.answer = value_of(hit);
+    Ok(())
+}
+
+/// Before the first item.
+#[cycle(step)]
+fn renew(query: &Query, runner: &mut Progress, alloc: Global) -> Result<(), AllocError>
+    requires { CanBegin seen_of (plain_of query.now.shape) runner.old None }
+    ensures { IfOk result (λ done. IsRenewed seen_of (plain_of query.now.shape) runner.old
+        runner.new) }
+{
+    clear(query, &mut runner.node);
+    let hit = start(query, &mut runner.node, alloc, 0)?;
+    runner.position = 0;
+    runner.answer = value_of(hit);
+    Ok(())
+}
