@@ -123,7 +123,8 @@ refusal_completes refusal status old new refuses no_sink = absurd refuses
 -- the outcome of the text, by the command
 outcome_carried : (command : Command) (text : List ℕ) (monitor : Monitor) → Compiles text (accepted monitor)
     → (status : Status) (old new : Outside) → Carried command monitor status old new → OutcomeOf (Some command) text status old new
-outcome_carried Run text monitor compiles status old new carried = Outcome-ended text monitor compiles status old new carried
+outcome_carried (Run engine) text monitor compiles status old new carried =
+    Outcome-ended text monitor compiles status old new carried
 outcome_carried Check text monitor compiles status old new carried =
     line_writes Check text monitor compiles status old.taken new.taken carried
 outcome_carried Bound text monitor compiles status old new carried =
@@ -134,7 +135,8 @@ outcome_carried (Drill count seed) text monitor compiles status old new carried 
 outcome_refused : (command : Command) (text : List ℕ) (refusal : Refusal) → Compiles text (refused refusal)
     → (status : Status) (old : Outside) (taken : Option (List ℕ)) → Refuses refusal status old.taken taken
     → OutcomeOf (Some command) text status old (record old { taken = taken })
-outcome_refused Run text refusal compiles status old taken refuses = Outcome-refused text refusal compiles status old taken refuses
+outcome_refused (Run engine) text refusal compiles status old taken refuses =
+    Outcome-refused text refusal compiles status old taken refuses
 outcome_refused Check text refusal compiles status old taken refuses =
     line_refused Check text refusal compiles status old.taken taken refuses
 outcome_refused Bound text refusal compiles status old taken refuses =
@@ -146,7 +148,7 @@ outcome_refused (Drill count seed) text refusal compiles status old taken refuse
 completes_carried : (command : Command) (monitor : Monitor) (status : Status) (old new : Outside)
     → Carried command monitor status old new → (status ≡ ItemFault → ⊥) → (status ≡ SinkFault → ⊥)
     → CompletesOf (Some command) (accepted monitor) status
-completes_carried Run monitor status old new carried no_items no_sink =
+completes_carried (Run engine) monitor status old new carried no_items no_sink =
     Completes-ended monitor status old new carried no_items no_sink
 completes_carried Check monitor status old new carried no_items no_sink =
     line_completes Check monitor status old.taken new.taken carried no_sink
@@ -157,7 +159,8 @@ completes_carried (Drill count seed) monitor status old new carried no_items no_
 
 completes_refused : (command : Command) (refusal : Refusal) (status : Status) (old new : Option (List ℕ))
     → Refuses refusal status old new → (status ≡ SinkFault → ⊥) → CompletesOf (Some command) (refused refusal) status
-completes_refused Run refusal status old new refuses no_sink = Completes-refused refusal status old new refuses no_sink
+completes_refused (Run engine) refusal status old new refuses no_sink =
+    Completes-refused refusal status old new refuses no_sink
 completes_refused Check refusal status old new refuses no_sink = refusal_completes refusal status old new refuses no_sink
 completes_refused Bound refusal status old new refuses no_sink = refusal_completes refusal status old new refuses no_sink
 completes_refused (Drill count seed) refusal status old new refuses no_sink =

@@ -43,7 +43,7 @@ module _ (left left' : Option (List ℕ)) (ends ends' : ℕ) where
 
     pub reads_carried : (command : Command) (monitor : Monitor) (status : Status) (old new : Outside)
         → Carried command monitor status old new → ReadsQuery left left' ends ends' status
-    reads_carried Run monitor status old new carried = reads_run monitor status old new carried
+    reads_carried (Run engine) monitor status old new carried = reads_run monitor status old new carried
     reads_carried Check monitor status old new carried = reads_line Check monitor status old.taken new.taken carried
     reads_carried Bound monitor status old new carried = reads_line Bound monitor status old.taken new.taken carried
     reads_carried (Drill count seed) monitor status old new carried =

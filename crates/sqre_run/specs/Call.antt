@@ -46,7 +46,7 @@ Refuses refusal _ old new = ⊥
 abbrev pub Runs : List ℕ → (Monitor → Type 0) → Type 0
 Runs text goes_on = (monitor : Monitor) × Compiles text (accepted monitor) × goes_on monitor
 
--- What `run` read of the items and wrote for a query text, by the status.
+-- What `run` or `slow` read of the items and wrote for a query text, by the status.
 abbrev pub Outcome : List ℕ → Status → Outside → Outside → Type 0
 Outcome text Done old new = Runs text (λ monitor. Rose old.ends new.ends
     × ((meaning : Meaning) → IsMeaning monitor meaning → IfSome old.left (λ bytes.
@@ -65,8 +65,9 @@ Outcome text Memory old new = (new ≡ old)
 Outcome text Limit old new = Runs text (λ monitor. (got : List ℕ) × (length got ≡ max_count)
     × Wrote monitor old new got (λ meaning. whole_output (answering meaning) got))
 
--- How `run` ends where no count of faults rose: a query at the end of its items or after 2^63-1
--- bytes of them, and any other text with its refusal. Usage and Memory may come with both.
+-- How `run` or `slow` ends where no count of faults rose: a query at the end of its items or
+-- after 2^63-1 bytes of them, and any other text with its refusal. Usage and Memory may come with
+-- both.
 abbrev pub Completes : Verdict → Status → Type 0
 Completes query Usage = Unit {0}
 Completes query Memory = Unit {0}
@@ -75,23 +76,23 @@ Completes (accepted monitor) Limit = Unit {0}
 Completes (refused refusal) Refused = Unit {0}
 Completes query _ = ⊥
 
--- `run` alone reads items
+-- `run` and `slow` alone read items
 abbrev pub LeavesItems : {S : Type 0} → Option Command → S → S → Type 0
-LeavesItems (Some Run) items items' = Unit {0}
+LeavesItems (Some (Run engine)) items items' = Unit {0}
 LeavesItems command items items' = items' ≡ items
 
--- and is done at their end alone
+-- and are done at their end alone
 abbrev pub EndsItems : Option Command → ℕ → ℕ → Type 0
-EndsItems (Some Run) ends ends' = Rose ends ends'
+EndsItems (Some (Run engine)) ends ends' = Rose ends ends'
 EndsItems command ends ends' = Unit {0}
 
 -- What was read of the items and written for a query text, by what the words ask for.
 abbrev pub OutcomeOf : Option Command → List ℕ → Status → Outside → Outside → Type 0
-OutcomeOf (Some Run) text status old new = Outcome text status old new
+OutcomeOf (Some (Run engine)) text status old new = Outcome text status old new
 OutcomeOf (Some command) text status old new = WritesLine command text status old.taken new.taken
 OutcomeOf None text status old new = new ≡ old
 
 -- How a call ends where no count of faults rose, by what the words ask for.
 abbrev pub CompletesOf : Option Command → Verdict → Status → Type 0
-CompletesOf (Some Run) query status = Completes query status
+CompletesOf (Some (Run engine)) query status = Completes query status
 CompletesOf command query status = CompletesLine query status

@@ -19,5 +19,5 @@ LineCarried command monitor _ old new = ⊥
 
 -- a run of the items ended, or one line was told
 abbrev pub Carried : Command → Monitor → Status → Outside → Outside → Type 0
-Carried Run monitor status old new = Ended monitor status old new
+Carried (Run engine) monitor status old new = Ended monitor status old new
 Carried command monitor status old new = LineCarried command monitor status old.taken new.taken

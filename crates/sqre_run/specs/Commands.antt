@@ -6,6 +6,7 @@ use Rattle.std.specs.List.{list_all}
 use Rattle.std.specs.Str.Parse.{digits_value}
 use Rattle.sqre_run.specs.declared.command.Command.{Command}
 use Rattle.sqre_run.specs.declared.command.Command.TheVariants.{Run, Check, Bound, Drill}
+use Rattle.sqre_run.specs.declared.command.Engine.TheVariants.{Runner, Slow}
 
 -- the most items of a drill, and the greatest seed
 abbrev pub max_items : ℕ
@@ -31,9 +32,11 @@ question_of word =
     if says word (codes "check") then Some Check
     else if says word (codes "bound") then Some Bound else None
 
--- `run`
+-- `run` or `slow`
 abbrev pub run_of : List ℕ → Option Command
-run_of word = if says word (codes "run") then Some Run else None
+run_of word =
+    if says word (codes "run") then Some (Run Runner)
+    else if says word (codes "slow") then Some (Run Slow) else None
 
 -- a drill of so many items from a seed, if both are numbers
 abbrev pub drill_from : Option ℕ → Option ℕ → Option Command
@@ -46,8 +49,8 @@ drill_of word count seed =
     if says word (codes "drill") then drill_from (number_in 7 max_items count) (number_in 20 max_seed seed)
     else None
 
--- what the words ask for, if they have one of the forms: `check QUERY` or `bound QUERY`, `run QUERY ITEMS`,
--- `drill QUERY COUNT SEED`
+-- what the words ask for, if they have one of the forms: `check QUERY` or `bound QUERY`,
+-- `run QUERY ITEMS` or `slow QUERY ITEMS`, `drill QUERY COUNT SEED`
 abbrev pub command_of : List (List ℕ) → Option Command
 command_of (word ∷ query ∷ []) = question_of word
 command_of (word ∷ query ∷ items ∷ []) = run_of word

@@ -16,9 +16,9 @@ use Rattle.sqre_run.specs.declared.status.Status.{Status}
 use Rattle.sqre_run.specs.declared.status.Status.TheVariants.{Done, Refused, Usage, QueryFault, ItemFault, SinkFault, Memory, Limit}
 
 -- This holds of the line for a query that is accepted: that it is, its bounds, or what a drill tells of
--- it, whatever function gives its values. `run` has no such line.
+-- it, whatever function gives its values. `run` and `slow` have no such line.
 abbrev pub HoldsOfLine : Command → Monitor → (List ℕ → Type 0) → Type 0
-HoldsOfLine Run monitor P = ⊥
+HoldsOfLine (Run engine) monitor P = ⊥
 HoldsOfLine Check monitor P = P check_text
 HoldsOfLine Bound monitor P = P (bound_text (places_of monitor.query) (slots_of monitor.query))
 HoldsOfLine (Drill count seed) monitor P =

@@ -20,8 +20,9 @@ use report_writer::refusal_text;
 use std::alloc::Global;
 
 /// Does what the words after the program's name ask for. `run QUERY ITEMS` compiles the query and
-/// answers every line of the items; `check QUERY`, `bound QUERY` and `drill QUERY COUNT SEED` write one
-/// line. What the words QUERY and ITEMS name is for the caller to open.
+/// answers every line of the items, and so does `slow QUERY ITEMS` by the engine that keeps the
+/// whole word; `check QUERY`, `bound QUERY` and `drill QUERY COUNT SEED` write one line. What the
+/// words QUERY and ITEMS name is for the caller to open.
 pub fn sqre<Q: Source, S: Source, W: Sink>(
     alloc: Global,
     words: &[String],

@@ -11,11 +11,21 @@ const SEED_DIGITS: usize = 20;
 /// The most items of a drill.
 const MAX_ITEMS: u64 = 1_000_000;
 
+/// What follows the items of a run.
+#[derive(Clone, Copy, Debug, PartialEq, Eq)]
+pub enum Engine {
+    /// The one that goes on from item to item, where it has nodes for all shapes of the query, and
+    /// else the other.
+    Runner,
+    /// The one that keeps the whole word and searches it anew after each item.
+    Slow,
+}
+
 /// What the words after the program's name ask for.
 #[derive(Clone, Copy, Debug, PartialEq, Eq)]
 pub enum Command {
     /// An answer to each item.
-    Run,
+    Run(Engine),
     /// Whether the query is accepted.
     Check,
     /// How much is kept for the query.
@@ -50,7 +60,8 @@ fn run_of(word: &str) -> Option<Command>
     ensures { result ≡ run_of word.now }
 {
     match word {
-        "run" => Some(Command::Run),
+        "run" => Some(Command::Run(Engine::Runner)),
+        "slow" => Some(Command::Run(Engine::Slow)),
         _ => None,
     }
 }

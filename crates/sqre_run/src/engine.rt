@@ -22,7 +22,7 @@ use query_model::Checked;
 use report_writer::{bound_text, check_text};
 use std::alloc::{AllocError, Global};
 
-/// Carries a command out. `run` alone reads the items.
+/// Carries a command out. A run alone reads the items.
 pub fn carry_out<S: Source, W: Sink>(
     alloc: Global,
     command: Command,
@@ -42,7 +42,7 @@ pub fn carry_out<S: Source, W: Sink>(
         (result ≡ Status.SinkFault) }
 {
     match command {
-        Command::Run => run_query(alloc, checked, items, out),
+        Command::Run(engine) => run_query(alloc, engine, checked, items, out),
         Command::Check => tell(check_text(alloc), out),
         Command::Bound => tell(bound_line(alloc, checked), out),
         Command::Drill { count, seed } => tell(drill_query(alloc, checked, count, seed), out),

@@ -1,4 +1,4 @@
-//! The engine of a run, by the shapes of its query.
+//! The engine of a run, by what the words ask for and the shapes of its query.
 ghost use Rattle.std.specs.Prelude.{◌≡◌};
 ghost use Rattle.eval_tree.specs.Shapes.{CanRun};
 ghost use Rattle.io_edge.specs.Counts.{FailsBy};
@@ -7,6 +7,7 @@ ghost use Rattle.query_model.specs.Queries.{plain_of};
 ghost use Rattle.sqre_run.specs.Outside.{Ended, outside};
 
 use crate::Status;
+use crate::command::Engine;
 use crate::run::run;
 use eval_tree::{Runner, can_run};
 use io_edge::{Sink, Source};
@@ -14,10 +15,10 @@ use query_model::Checked;
 use slow_eval::Slow;
 use std::alloc::{AllocError, Global};
 
-/// Runs the query item by item where there are nodes for all of its shapes, and else by the engine
-/// that keeps the whole word.
+/// Runs the query, whichever engine follows its items.
 pub fn run_query<S: Source, W: Sink>(
     alloc: Global,
+    engine: Engine,
     checked: &Checked,
     items: &mut S,
     out: &mut W,
@@ -31,10 +32,9 @@ pub fn run_query<S: Source, W: Sink>(
     ensures sink_faults { FailsBy (W.faults out.old) (W.faults out.new)
         (result ≡ Status.SinkFault) }
 {
-    if can_run(checked.main()) {
-        run_item_by_item(alloc, checked, items, out)
-    } else {
-        run_slow(alloc, checked, items, out)
+    match engine {
+        Engine::Runner if can_run(checked.main()) => run_item_by_item(alloc, checked, items, out),
+        Engine::Runner | Engine::Slow => run_slow(alloc, checked, items, out),
     }
 }
 

@@ -1,7 +1,7 @@
 // The commands that write one line. Where an item is read at all, its source fails at once.
 use super::{Given, SUM, outcome, sum_over};
 use crate::Status;
-use crate::command::{Command, command_of};
+use crate::command::{Command, Engine, command_of};
 use crate::tests::words_of;
 use std::test::Fail;
 
@@ -13,7 +13,8 @@ const NONE: &[u8] = b"stream(plain, col(a, int))\nmain(atom(gt(a, 1000), a))\n";
 fn words_ask_for_a_command(rt: HostRuntime) -> Result<(), Fail> {
     let drill = |count, seed| Some(Command::Drill { count, seed });
     for (words, wanted) in [
-        ("run q -", Some(Command::Run)),
+        ("run q -", Some(Command::Run(Engine::Runner))),
+        ("slow q -", Some(Command::Run(Engine::Slow))),
         ("check q", Some(Command::Check)),
         ("bound q", Some(Command::Bound)),
         ("drill q 0000002 00000000000000000007", drill(2, 7)),
@@ -29,7 +30,8 @@ fn words_ask_for_a_command(rt: HostRuntime) -> Result<(), Fail> {
         ("drill q 2 -1", None),
         ("drill q  0", None),
         ("drill q 2", None),
-        ("slow q -", None),
+        ("slow q", None),
+        ("slow q - x", None),
         ("checks q", None),
         ("run q", None),
         ("bound q -", None),

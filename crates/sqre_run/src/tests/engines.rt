@@ -1,5 +1,5 @@
 // Queries of several shapes: whichever engine runs one, the answers are those of the language.
-use super::{outcome, run_of};
+use super::{Given, outcome, run_of};
 use crate::Status;
 use std::test::Fail;
 
@@ -11,6 +11,14 @@ main(apply(
 
 const SUM_OF_DIFFERENCES: &[u8] = b"stream(plain, col(a, int))
 main(iter(split(atom(any, a), atom(any, a), sub(x, y)), 0, add(x, y)))
+";
+
+// The sum behind the last `end`.
+const SUM_BEHIND_END: &[u8] = b"stream(plain, col(k, text), col(a, int))
+main(split(
+    split(iter(atom(any, 0), 0, 0), atom(eq(k, \"end\"), 0), 0),
+    iter(atom(ne(k, \"end\"), a), 0, add(x, y)),
+    y))
 ";
 
 #[test]
@@ -37,6 +45,24 @@ fn queries_are_answered_whichever_shapes_they_have(rt: HostRuntime) -> Result<()
         let (status, bytes) = outcome(rt.alloc(), run_of(query, items))?;
         assert_eq!(rt; status, Status::Done);
         assert_eq!(rt; bytes.as_slice(), written);
+    }
+    Ok(())
+}
+
+#[test]
+fn slow_answers_as_a_run_does(rt: HostRuntime) -> Result<(), Fail> {
+    for words in ["run q -", "slow q -"] {
+        let given = Given {
+            words,
+            ..run_of(SUM_BEHIND_END, b"x,1\nend,0\nx,4\nx,5\nend,0\nx,2\n")
+        };
+        let (status, bytes) = outcome(rt.alloc(), given)?;
+        assert_eq!(rt; status, Status::Done, "at {words}");
+        assert_eq!(rt;
+            bytes.as_slice(),
+            b"undefined\n0\n4\n9\n0\n2\n".as_slice(),
+            "at {words}"
+        );
     }
     Ok(())
 }
