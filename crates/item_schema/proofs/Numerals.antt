@@ -1,5 +1,5 @@
 -- The tests of numbers, and the parts that their texts have.
-use Rattle.std.proofs.Common.{◌≡◌, ℕ, ◌-◌, ◌*◌, ◌^◌, ◌<◌, ◌≤◌, ◌==◌, inl, inr, Bool, true, false, ◌||◌, not, nat_lt, List, [], ◌∷◌, ◌++◌, length, get_or, slice_index, refl, sym, ap, ◌∙◌, arith, rules}
+use Rattle.std.proofs.Common.{◌≡◌, ℕ, ◌-◌, ◌*◌, ◌^◌, ◌<◌, ◌≤◌, ◌==◌, inl, inr, Bool, true, false, ◌||◌, not, nat_lt, if◌then◌else◌, Option, Some, None, List, [], ◌∷◌, ◌++◌, length, get_or, slice_index, refl, sym, ap, ◌∙◌, arith, rules}
 use Rattle.std.specs.Char.{is_ascii_digit}
 use Rattle.std.specs.List.{list_all, list_any, before_first, after_first, position_or_len}
 use Rattle.std.specs.Str.Parse.{IsNumeral, digits_value, starts_with_minus, without_leading_sign}
@@ -7,10 +7,11 @@ use Rattle.std.proofs.lemmas.Bool.{and_parts, and_from, or_right}
 use Rattle.std.proofs.lemmas.Bool.Decides.{nat_tests}
 use Rattle.std.proofs.lemmas.Str.Parse.{IsDigitsTest, IsNumeralModel, digit_from_value, numerals_by_value}
 use Rattle.std.proofs.lemmas.List.{append-nil}
+use Rattle.std.proofs.lemmas.List.Folds.{list_all_at}
 use Rattle.std.proofs.lemmas.List.Sums.{passes_at_first, split_at_first}
 use Rattle.item_schema.proofs.Cuts.{after_first-front, before_first-front, before_first-none, is_found, nothing_behind}
 use Rattle.item_schema.proofs.Sizes.{digits_value_after-append, digits_value_after-zeros}
-use Rattle.item_schema.specs.Reading.{is_numeral, is_point, signed, units}
+use Rattle.item_schema.specs.Reading.{fraction_of, is_decimal, is_numeral, is_point, signed, units, whole_of}
 use Rattle.item_schema.specs.Written.{IsFraction, Sign, sign_bytes, with_sign}
 use Rattle.item_schema.specs.Written.Sign.{Absent, Plus, Minus}
 
@@ -27,10 +28,15 @@ numeral_from_test digits passes =
     let parts = and_parts (nat_lt 0 (length digits)) (list_all is_ascii_digit digits) passes in
     (grind (arith, nat_tests, parts.0), digits_are.to digits parts.1)
 
--- a numeral passes the test
+-- a numeral passes the test, and nothing with another byte does
 pub numeral_passes : (digits : List ℕ) → IsNumeral 10 digits → is_numeral digits ≡ true
 numeral_passes digits numeral =
     and_from (nat_lt 0 (length digits)) (list_all is_ascii_digit digits) (grind (arith, nat_tests)) (digits_are.from digits numeral.1)
+
+pub no_numeral : (digits : List ℕ) (i : ℕ) → i < length digits → is_ascii_digit (get_or digits i 0) ≡ false → is_numeral digits ≡ false
+no_numeral digits i within other =
+    let all = list_all_at is_ascii_digit digits i 0 within other in
+    grind (arith, nat_tests, all)
 
 -- a text, the sign that it begins with and what stands behind it
 pub record CutSign (text : List ℕ) : Type 0 where
@@ -140,3 +146,21 @@ pub units-whole : (places : ℕ) (whole fraction : List ℕ) → length fraction
     → units places whole fraction ≡ digits_value 10 (whole ++ fraction) * 10 ^ (places - length fraction)
 units-whole places whole fraction few =
     rw (digits_value_after-append 10 0 whole fraction) (sym (digits_value_after-zeros (digits_value 10 whole) places fraction few))
+
+-- a text that is cut at its point is a decimal number where both parts are numerals
+pub decimal_parts : (text whole fraction : List ℕ) → whole ≡ whole_of text
+    → Some fraction ≡ (if list_any is_point (without_leading_sign text) then Some (fraction_of text) else None)
+    → is_numeral whole ≡ true → is_numeral fraction ≡ true → (is_decimal text ≡ true) × (fraction ≡ fraction_of text)
+decimal_parts text whole fraction before behind first second = (form, same)
+  where
+    by_point : (found : Bool) → Some fraction ≡ (if found then Some (fraction_of text) else None) → fraction ≡ fraction_of text
+    by_point true is = cc
+    by_point false is = absurd (cc)
+
+    same : fraction ≡ fraction_of text
+    same = by_point (list_any is_point (without_leading_sign text)) behind
+
+    form : is_decimal text ≡ true
+    form =
+        and_from (is_numeral (whole_of text)) _ (ap is_numeral (sym before) ∙ first)
+        (or_right (not (list_any is_point (without_leading_sign text))) (is_numeral (fraction_of text)) (ap is_numeral (sym same) ∙ second))

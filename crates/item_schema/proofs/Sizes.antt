@@ -2,12 +2,10 @@
 use Rattle.std.proofs.Common.{◌≡◌, ℕ, suc, ◌+◌, ◌-◌, ◌*◌, ◌^◌, ◌<◌, ◌≤◌, min, true, List, [], ◌∷◌, ◌++◌, length, get_or, take, refl, ap, ◌∙◌, inl, inr, arith}
 use Rattle.std.specs.Char.{digit_value, is_ascii_digit}
 use Rattle.std.specs.Str.Parse.{digits_value, digits_value_after}
-use Rattle.std.specs.List.{list_all}
 use Rattle.std.proofs.Math.Nat.{pow-suc, mul_comm}
 use Rattle.std.proofs.lemmas.Nat.{pow-add, mul-le}
 use Rattle.std.proofs.lemmas.Bool.{cases_lt, cases_eq}
 use Rattle.std.proofs.lemmas.List.{take_more}
-use Rattle.std.proofs.lemmas.List.Folds.{list_all_at}
 use Rattle.std.proofs.lemmas.Bool.Decides.{nat_tests}
 use Rattle.item_schema.specs.Reading.{units}
 
@@ -20,10 +18,6 @@ digits_value_after-append radix n (digit ∷ digits) others = digits_value_after
 -- the value of a digit
 pub digit_value-digit : (byte : ℕ) → is_ascii_digit byte ≡ true → digit_value byte ≡ byte - 48
 digit_value-digit byte is = grind (arith, nat_tests)
-
--- each of the digits is one
-pub digit_at : (digits : List ℕ) (i : ℕ) → i < length digits → list_all is_ascii_digit digits ≡ true → is_ascii_digit (get_or digits i 0) ≡ true
-digit_at digits i within are = grind (arith, nat_tests, list_all_at is_ascii_digit digits i 0 within)
 
 -- digits behind others move these to the left
 shift : (n value tens tens' rest rest' : ℕ) → tens' ≡ tens * 10 → rest' ≡ (0 * 10 + value) * tens + rest
@@ -78,10 +72,10 @@ min-mul-min most a b some =
     ]
 
 -- a turn of a loop over digits
-pub digits_value_after-more : (n : ℕ) (digits : List ℕ) (i : ℕ) → i < length digits → list_all is_ascii_digit digits ≡ true
+pub digits_value_after-more : (n : ℕ) (digits : List ℕ) (i : ℕ) → i < length digits → is_ascii_digit (get_or digits i 0) ≡ true
     → digits_value_after 10 n (take (i + 1) digits) ≡ digits_value_after 10 n (take i digits) * 10 + (get_or digits i 0 - 48)
-digits_value_after-more n digits i within are =
-    rw (take_more digits i 0 within, digits_value_after-append 10 n (take i digits)) (ap (λ v. digits_value_after 10 n (take i digits) * 10 + v) (digit_value-digit _ (digit_at digits i within are)))
+digits_value_after-more n digits i within is =
+    rw (take_more digits i 0 within, digits_value_after-append 10 n (take i digits)) (ap (λ v. digits_value_after 10 n (take i digits) * 10 + v) (digit_value-digit _ is))
 
 -- the size of a decimal number from the kept sizes of its parts
 pub units_kept : (most places : ℕ) (whole fraction : List ℕ) → 0 < most → length fraction ≤ places

@@ -1,4 +1,5 @@
 pub mod CutLines
+pub mod Decimals
 pub mod Fields
 pub mod Items
 pub mod Layout

@@ -9,6 +9,7 @@ mod item;
 mod laws;
 mod layout;
 mod number;
+mod number_line;
 mod parts;
 mod place;
 mod plain_line;

@@ -1,8 +1,7 @@
 //! Numbers as the fields of a line write them.
-ghost use Rattle.std.specs.Prelude.{◌≡◌, ◌≤◌, ℕ, length, min, true, false, IsTrue, MatchOption};
-ghost use Rattle.std.specs.Char.{is_ascii_digit};
-ghost use Rattle.std.specs.List.{list_all};
+ghost use Rattle.std.specs.Prelude.{◌≡◌, ◌≤◌, ℕ, List, min, true, false, MatchOption};
 ghost use Rattle.std.specs.Str.Parse.{without_leading_sign, digits_value_after};
+ghost use Rattle.item_schema.specs.Decimals.{KeepsDecimal};
 ghost use Rattle.item_schema.specs.Reading.{field_of, fraction_of, is_decimal, is_numeral, signed, stored, units, whole_of};
 
 use crate::cut::cut_at;
@@ -10,28 +9,35 @@ use crate::{Cause, Kind};
 use value_ops::Field;
 
 /// The field of an `Int` column.
+#[inline]
 pub(crate) fn int_field(text: &[u8]) -> Result<Field, Cause>
     ensures { result ≡ field_of Kind.Int text.now }
 {
-    let digits = without_sign(text);
-    if !is_numeral(digits) {
-        return Err(Cause::Number);
+    match size_behind(0, without_sign(text)) {
+        Some(size) => stored(text, size),
+        None => Err(Cause::Number),
     }
-    stored(text, size_after(0, digits))
 }
 
 /// The field of a `Fixed` column.
-#[tactic(auto, using(crate::proofs::Forms::fraction_digits))]
 pub(crate) fn fixed_field(places: u8, text: &[u8]) -> Result<Field, Cause>
     ensures { result ≡ field_of (Kind.Fixed places) text.now }
 {
-    let Some((whole, fraction)) = decimal_parts(text) else {
+    let Some(decimal) = decimal_of(text) else {
         return Err(Cause::Number);
     };
-    if fraction.len() > usize::from(places) {
+    if decimal.places > usize::from(places) {
         return Err(Cause::Digits);
     }
-    stored(text, units(places, whole, fraction))
+    stored(text, units(places, decimal))
+}
+
+// A decimal number: what its digits write without the point, or the greatest of 64 bits, and how
+// many of them stand behind it.
+#[derive(Clone, Copy)]
+struct Decimal {
+    size: u64,
+    places: usize,
 }
 
 fn without_sign(text: &[u8]) -> &[u8]
@@ -43,62 +49,53 @@ fn without_sign(text: &[u8]) -> &[u8]
     }
 }
 
-fn is_numeral(digits: &[u8]) -> bool
-    ensures { result ≡ is_numeral digits.now }
-{
-    !digits.is_empty() && are_digits(digits)
-}
-
-fn are_digits(bytes: &[u8]) -> bool
-    ensures { result ≡ list_all is_ascii_digit bytes.now }
-{
-    bytes.iter().all(|byte| byte.is_ascii_digit())
-}
-
-// What stands before the point and behind it, if the text is a decimal number.
+// What the text writes behind its sign, if it is a decimal number.
 #[tactic(auto, using(crate::proofs::Cuts::nothing_behind))]
-fn decimal_parts(text: &[u8]) -> Option<(&[u8], &[u8])>
-    ensures { MatchOption result (is_decimal text.now ≡ false) (λ parts.
-        (is_decimal text.now ≡ true)
-        × (parts.0.now ≡ whole_of text.now)
-        × (parts.1.now ≡ fraction_of text.now)) }
+fn decimal_of(text: &[u8]) -> Option<Decimal>
+    ensures { MatchOption result (is_decimal text.now ≡ false) (λ decimal.
+        (is_decimal text.now ≡ true) × KeepsDecimal text.now decimal) }
 {
     let (whole, fraction) = cut_at(b'.', without_sign(text));
-    if !is_numeral(whole) {
-        return None;
-    }
-    match fraction {
-        None => Some((whole, &[])),
-        Some(fraction) if is_numeral(fraction) => Some((whole, fraction)),
-        Some(_) => None,
-    }
+    let size = size_behind(0, whole)?;
+    let Some(fraction) = fraction else {
+        return Some(Decimal { size, places: 0 });
+    };
+    Some(Decimal {
+        size: size_behind(size, fraction)?,
+        places: fraction.len(),
+    })
 }
 
-// The number that digits write behind those of another, or the greatest of 64 bits.
-fn size_after(size: u64, digits: &[u8]) -> u64
-    requires { IsTrue (list_all is_ascii_digit digits.now) }
-    ensures { (exact : ℕ) → size ≡ min exact u64.MAX
-        → result ≡ min (digits_value_after 10 exact digits.now) u64.MAX }
+// The number that a numeral writes behind the digits of another, or the greatest of 64 bits.
+#[inline]
+fn size_behind(size: u64, digits: &[u8]) -> Option<u64>
+    ensures { MatchOption result (is_numeral digits.now ≡ false) (λ behind.
+        (is_numeral digits.now ≡ true) × ((exact : ℕ) → size ≡ min exact u64.MAX
+        → behind ≡ min (digits_value_after 10 exact digits.now) u64.MAX)) }
 {
-    let mut size = size;
+    if digits.is_empty() {
+        return None;
+    }
+    let mut behind = size;
     for digit in digits {
-        size = size
+        if !digit.is_ascii_digit() {
+            return None;
+        }
+        behind = behind
             .saturating_mul(10)
             .saturating_add(u64::from(*digit - b'0'));
     }
-    size
+    Some(behind)
 }
 
-// What the digits of a decimal number write, times so many tens, or the greatest of 64 bits.
-fn units(places: u8, whole: &[u8], fraction: &[u8]) -> u64
-    requires few { length fraction.now ≤ places }
-    requires whole { IsTrue (list_all is_ascii_digit whole.now) }
-    requires fraction { IsTrue (list_all is_ascii_digit fraction.now) }
-    ensures { result ≡ min (units places whole.now fraction.now) u64.MAX }
+// The number times so many tens as it has less places, or the greatest of 64 bits.
+fn units(places: u8, decimal: Decimal) -> u64
+    requires { decimal.places ≤ places }
+    ensures { (text : List ℕ) → KeepsDecimal text decimal
+        → result ≡ min (units places (whole_of text) (fraction_of text)) u64.MAX }
 {
-    let zeros = u32::from(places) - fraction.len() as u32;
-    let size = size_after(size_after(0, whole), fraction);
-    size.saturating_mul(10u64.saturating_pow(zeros))
+    let zeros = u32::from(places) - decimal.places as u32;
+    decimal.size.saturating_mul(10u64.saturating_pow(zeros))
 }
 
 // The number of this size with the sign that the text begins with.

@@ -4,6 +4,7 @@ ghost use Rattle.item_schema.specs.Items.{IsItemOf};
 ghost use Rattle.item_schema.specs.Reading.{IsStopOf, item_of};
 
 use crate::cut_line::without_mark;
+use crate::number_line::number_item;
 use crate::parts::parts_of;
 use crate::row::{read_row, row_fields};
 use crate::{Cause, Item, ItemStop, Schema};
@@ -16,9 +17,14 @@ pub fn read_item(alloc: Global, schema: &Schema, line: &[u8]) -> Result<Item, It
     ensures skipped { IfErr result (IsStopOf (item_of schema.now.columns line.now)) }
     ensures of_schema { IfOk result (IsItemOf schema.now.columns) }
 {
-    line_item(alloc, schema, line)
+    match number_item(schema, line) {
+        Some(item) => Ok(item),
+        None => line_item(alloc, schema, line),
+    }
 }
 
+// Kept out of the way of numbers, which need none of its fields' room.
+#[inline(never)]
 fn line_item(alloc: Global, schema: &Schema, line: &[u8]) -> Result<Item, ItemStop>
     ensures item { IfOk result (λ item. item_of schema.now.columns line.now ≡ Ok item) }
     ensures stopped { IfErr result (IsStopOf (item_of schema.now.columns line.now)) }

@@ -1,0 +1,16 @@
+use Rattle.std.proofs.Common.{◌≡◌, true, get_or, sym, ◌∙◌, arith}
+use Rattle.std.specs.Char.{is_ascii_digit}
+use Rattle.std.proofs.lemmas.Grind.{common_steps}
+use Rattle.item_schema.proofs.Sizes.{digits_value_after-more}
+use Rattle.item_schema.proofs.number.size_behind.Goals as goal
+
+pub loop-digit-preserved : goal.loop-digit-preserved
+loop-digit-preserved c =
+    let digits = c.args.digits.now in
+    let i = c.loop-digit.digit-index in
+    let digit : is_ascii_digit (get_or digits i 0) ≡ true = sym c.is_ascii_digit.ensures.value ∙ c.if-not-is_ascii_digit.false in
+    record {
+      digits = grind (arith, common_steps);
+      kept = λ exact is.
+          omega (arith, c.loop-digit.invariant.kept exact is, digits_value_after-more exact digits i c.loop-digit-test.true digit, c.saturating_add-behind.ensures, c.saturating_mul.ensures, c.from.ensures);
+    }
