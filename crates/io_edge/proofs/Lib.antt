@@ -2,6 +2,7 @@ mod Copies
 mod Fillings
 mod Pieces
 pub mod LineLaws
+pub mod LinesEnds
 pub mod OneList
 pub mod Parts
 pub mod Readings

@@ -1,17 +1,19 @@
 -- How the steps of a reading follow one another.
-use Rattle.std.proofs.Common.{◌≡◌, ◌≢◌, inl, inr, ◌<◌, ◌≤◌, ℕ, ◌+◌, true, false, List, [], ◌∷◌, ◌++◌, length, Option, Some, None, Ok, MatchOption, refl, sym, ap, ◌∙◌, arith, length-append, append_assoc, append-nil}
+use Rattle.std.proofs.Common.{◌≡◌, ◌≢◌, inl, inr, ◌<◌, ◌≤◌, ℕ, ◌+◌, true, false, List, [], ◌∷◌, ◌++◌, length, take, drop, nat_lt, Option, Some, None, Ok, MatchOption, refl, sym, ap, ◌∙◌, arith, length-append, length-take, append_assoc, append-nil}
 use Rattle.std.proofs.lemmas.Bool.{false≢true}
+use Rattle.std.proofs.lemmas.Bool.Decides.{nat_tests}
 use Rattle.std.proofs.lemmas.List.{take_at, nil_from_length}
 use Rattle.std.proofs.Math.Seq.{drop-append_seam}
 use Rattle.std.proofs.lemmas.List.Elements.{All-append, All-drop, All-head, All-same, All-take}
 use Rattle.std.proofs.KnownBytes.{Consumes-trans}
+use Rattle.std.specs.Io.BufRead.{strip_last}
 use Rattle.std.specs.Io.KnownBytes.{Consumes}
-use Rattle.io_edge.specs.Lines.{Shown, NoLf, ended_by_lf, lines_from}
+use Rattle.io_edge.specs.Lines.{Shown, text, NoLf, ended_by_lf, lines_from}
 use Rattle.io_edge.specs.Started.{StandsFor}
 use Rattle.io_edge.specs.Reading.{Reading, count_of, lines_after, Shows, Ends, CutAt, Answers}
 use Rattle.io_edge.specs.Answered.{shown_by}
 use Rattle.io_edge.specs.Told.{IsQuiet}
-use Rattle.io_edge.specs.Limits.{max_count}
+use Rattle.io_edge.specs.Limits.{max_count, max_line}
 use Rattle.io_edge.specs.Steps.{Cuts, Joins, Reaches, Refills}
 use Rattle.io_edge.specs.declared.under_way.Answer.{Answer}
 use Rattle.io_edge.proofs.LineLaws.{lines_from-piece, lines_from-stands, ended_by_lf-stands}
@@ -63,6 +65,29 @@ Cuts-from_piece old new piece line shown no_lf taken stands shows no_start answe
       };
     }
 
+-- bytes behind none stand for themselves
+StandsFor-whole : (start piece : List ℕ) → length start ≡ 0 → StandsFor (start ++ piece) piece
+StandsFor-whole start piece none =
+    let same : piece ≡ start ++ piece = ap (λ l. l ++ piece) (sym (nil_from_length start none)) in
+    record { count = ap length same; same = λ within. same }
+
+-- a line that lies whole among the bytes taken
+pub Cuts-from_whole : (old new : Reading) (at : ℕ) → NoLf (take at old.unread)
+    → old.unread ≡ take at old.unread ++ 10 ∷ drop (at + 1) old.unread
+    → length old.start ≡ 0 → at ≤ max_line → new.shown ≡ strip_last 13 (take at old.unread)
+    → new.start ≡ old.start → new.unread ≡ drop (at + 1) old.unread → new.answered ≡ old.answered + (at + 1) → new.met ≡ false
+    → Cuts old (text new.shown) new
+Cuts-from_whole old new at no_lf taken none fits shown start unread answered not_met =
+    let piece = take at old.unread in
+    let count : length piece ≡ at =
+    omega (arith, length-take at old.unread, ap length taken, length-append piece (10 ∷ drop (at + 1) old.unread))
+    in
+    let short : nat_lt max_line (length piece) ≡ false = grind (arith, nat_tests) in
+    let shows : text new.shown ≡ ended_by_lf piece = ap text shown ∙ rw short refl in
+    let rest : old.unread ≡ piece ++ 10 ∷ new.unread = taken ∙ ap (λ l. piece ++ 10 ∷ l) (sym unread) in
+    Cuts-from_piece old new piece piece (text new.shown) no_lf rest (StandsFor-whole old.start piece none) shows
+    (start ∙ nil_from_length old.start none) (omega (arith, answered, count)) not_met
+
 -- From old the bytes `got` were taken, and no line was answered: an LF may only stand among those
 -- that were not gone over.
 pub record Goes (old : Reading) (got : List ℕ) (now : Reading) : Type 0 where
@@ -95,7 +120,7 @@ Goes-joins old now new got goes joins = record {
 
 -- a read follows where all bytes before it were gone over
 pub Goes-reads : (old now new : Reading) (got : List ℕ) → Goes old got now → now.unread ≡ []
-    → new ≡ record now { unread = new.unread }
+    → new ≡ record now { unread = new.unread; shown = [] }
     → Goes old (got ++ new.unread) new
 Goes-reads old now new got goes none is =
     let start : now.start ≡ new.start = sym (ap (λ r. r.start) is) in

@@ -1,6 +1,8 @@
 -- For the prover. What an answered line shows.
-use Rattle.std.specs.Prelude.{ℕ, List}
+use Rattle.std.specs.Prelude.{ℕ, List, []}
 use Rattle.io_edge.specs.Lines.{Shown, text, long}
+use Rattle.io_edge.specs.declared.lines.Place.{Place}
+use Rattle.io_edge.specs.declared.lines.Place.TheVariants.{Nowhere, InChunk, InBuffer}
 use Rattle.io_edge.specs.declared.under_way.Answer.{Answer}
 use Rattle.io_edge.specs.declared.under_way.Answer.TheVariants.{Whole, Long}
 
@@ -8,3 +10,9 @@ use Rattle.io_edge.specs.declared.under_way.Answer.TheVariants.{Whole, Long}
 abbrev pub shown_by : Answer → List ℕ → Shown
 shown_by Whole bytes = text bytes
 shown_by Long bytes = long
+
+-- the bytes of the line answered last, of which these stand in the chunk and in the buffer
+abbrev pub shown_at : Place → List ℕ → List ℕ → List ℕ
+shown_at Nowhere cut kept = []
+shown_at InChunk cut kept = cut
+shown_at InBuffer cut kept = kept

@@ -1,9 +1,11 @@
 pub mod Answered
+pub mod Chunked
 pub mod Counts
 pub mod Ended
 pub mod Kept
 pub mod Limits
 pub mod Lines
+pub mod LinesEnd
 pub mod Memory
 pub mod Reading
 pub mod RealFile

@@ -19,10 +19,10 @@ pub record Joins (old new : Reading) : Type 0 where
   pub waits : Waits old [] new
   pub no_lf : NoLf old.unread
 
--- bytes are taken behind those of the line under way, and not too many
+-- bytes are taken behind those of the line under way, and not too many; no line is shown any more
 pub record Refills (left left' : Option (List ℕ)) (old new : Reading) : Type 0 where
   pub bytes : Consumes left left' new.unread
-  pub else_same : new ≡ record old { unread = new.unread }
+  pub else_same : new ≡ record old { unread = new.unread; shown = [] }
   pub few : count_of new ≤ max_count
 
 -- the end of the input comes again at each call, and so does the limit

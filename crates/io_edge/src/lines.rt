@@ -1,5 +1,5 @@
 //! The lines of a source, in a buffer of one line and one read.
-ghost use Rattle.std.specs.Prelude.{◌≡◌, ℕ, ◌+◌, ◌^◌, ◌<◌, ◌≤◌, ◌↔◌, List, [], ◌∷◌, ◌++◌, length, take, drop, true, false, Ok, Err, None, IfOk, OnErr, IsErrOf, IsFalse, IsTrue, MatchOption, MatchResult};
+ghost use Rattle.std.specs.Prelude.{◌≡◌, ℕ, ◌+◌, ◌^◌, ◌<◌, ◌≤◌, ◌↔◌, List, [], ◌∷◌, ◌++◌, length, take, drop, true, false, Ok, Err, None, IfOk, OnErr, IsErrOf, IsTrue, MatchOption, MatchResult};
 ghost use Rattle.std.specs.Io.KnownBytes.{Consumes};
 ghost use Rattle.io_edge.specs.Counts.{FailsBy};
 ghost use Rattle.io_edge.specs.Ended.{MeetsEnd};
@@ -8,7 +8,7 @@ ghost use Rattle.io_edge.specs.Reading.{count_of, Ends};
 ghost use Rattle.io_edge.specs.Answered.{shown_by};
 
 use crate::chunk::Chunk;
-use crate::under_way::{Answer, UnderWay};
+use crate::under_way::{Answer, MAX_LINE, UnderWay};
 use crate::{Failed, Source};
 use std::alloc::{AllocError, Global};
 use std::marker::Model;
@@ -41,27 +41,37 @@ pub enum LineStop {
 pub struct Lines {
     chunk: Chunk,
     line: UnderWay,
+    place: Place,
     answered: u64,
     met: bool,
+}
+
+/// Where the bytes of the line answered last stand. A line that lies whole in a read is not copied.
+#[derive(Clone, Copy)]
+enum Place {
+    Nowhere,
+    InChunk,
+    InBuffer,
 }
 
 impl Model for Lines {
     ghost use Rattle.std.specs.Prelude.{◌≡◌, ◌≤◌, ℕ, ◌+◌, [], length, true};
     ghost use Rattle.io_edge.specs.Limits.{max_count};
+    ghost use Rattle.io_edge.specs.Answered.{shown_at};
     ghost use Rattle.io_edge.specs.Reading.{Reading};
 
     ghost Value = { Reading };
 
     ghost view = { λ l. record {
       start = l.line.start;
-      unread = l.chunk;
+      unread = l.chunk.unread;
       answered = l.answered;
       met = l.met;
-      shown = l.line.shown;
+      shown = shown_at l.place l.chunk.line l.line.shown;
     } };
 
-    ghost invariant = { λ l. (l.answered + (length l.line.start + length l.chunk) ≤ max_count)
-        × (l.met ≡ true → (l.line.start ≡ []) × (l.chunk ≡ [])) };
+    ghost invariant = { λ l. (l.answered + (length l.line.start + length l.chunk.unread) ≤ max_count)
+        × (l.met ≡ true → (l.line.start ≡ []) × (l.chunk.unread ≡ [])) };
 }
 
 impl Lines {
@@ -80,6 +90,7 @@ impl Lines {
         Ok(Lines {
             chunk: Chunk::new(alloc)?,
             line: UnderWay::new(alloc)?,
+            place: Place::Nowhere,
             answered: 0,
             met: false,
         })
@@ -106,20 +117,24 @@ impl Lines {
     pub fn is_ready(&self) -> bool
         ensures { IsTrue result ↔ IsQuiet self.now }
     {
-        self.met || has_lf(self.chunk.as_slice()) || self.is_full()
+        self.met || self.chunk.has_lf() || self.is_full()
     }
 
     /// Whether so many bytes were taken as are ever taken.
     fn is_full(&self) -> bool
         ensures { IsTrue result ↔ (count_of self.now ≡ max_count) }
     {
-        self.answered + self.line.len() + self.chunk.as_slice().len() as u64 == MAX_COUNT
+        self.answered + self.line.len() + self.chunk.unread().len() as u64 == MAX_COUNT
     }
 
     fn shown(&self) -> &[u8]
         ensures { result.now ≡ self.now.shown }
     {
-        self.line.shown()
+        match self.place {
+            Place::Nowhere => &[],
+            Place::InChunk => self.chunk.line(),
+            Place::InBuffer => self.line.shown(),
+        }
     }
 
     /// Goes on to the end of the next line, or to that of the input.
@@ -154,11 +169,18 @@ impl Lines {
         ensures { MatchOption result (Joins self.old self.new)
             (λ answer. Cuts self.old (shown_by answer self.new.shown) self.new) }
     {
-        let bytes = self.chunk.as_slice();
+        let bytes = self.chunk.unread();
         match first_lf(bytes) {
+            Some(at) if at <= MAX_LINE && self.line.len() == 0 => {
+                self.chunk.cut(at);
+                self.place = Place::InChunk;
+                self.answered += at as u64 + 1;
+                Some(Answer::Whole)
+            }
             Some(at) => {
                 self.line.add(&bytes[..at]);
                 self.chunk.skip(at + 1);
+                self.place = Place::InBuffer;
                 self.answered += self.line.len() + 1;
                 Some(self.line.end_at_lf())
             }
@@ -171,13 +193,14 @@ impl Lines {
         }
     }
 
-    /// Takes the next bytes, where all before them are answered or in the line under way.
+    /// Takes the next bytes, where all before them are answered or in the line under way. These take
+    /// the room of the line answered last.
     fn refill<S: Source>(&mut self, source: &mut S) -> Result<usize, LineStop>
         requires none_waits { self.old.unread ≡ [] }
         requires not_met { self.old.met ≡ false }
         ensures bytes { Refills (S.left source.old) (S.left source.new) self.old self.new }
         ensures count { MatchResult result (λ count. count ≡ length self.new.unread)
-            (λ _. self.new ≡ self.old) }
+            (λ _. self.new ≡ record self.old { shown = [] }) }
         ensures limit { IsErrOf result LineStop.Limit ↔ (count_of self.old ≡ max_count) }
         ensures quiet { count_of self.old ≡ max_count → source.new ≡ source.old }
         ensures end { MeetsEnd (S.ends source.old) (S.ends source.new) (S.left source.new)
@@ -185,6 +208,7 @@ impl Lines {
         ensures cause { FailsBy (S.faults source.old) (S.faults source.new)
             (IsErrOf result LineStop.Failed) }
     {
+        self.place = Place::Nowhere;
         let room = MAX_COUNT - self.answered - self.line.len();
         if room == 0 {
             return Err(LineStop::Limit);
@@ -209,15 +233,9 @@ impl Lines {
             return None;
         }
         self.answered += count;
+        self.place = Place::InBuffer;
         Some(self.line.end_with_input())
     }
-}
-
-fn has_lf(bytes: &[u8]) -> bool
-    ensures some { IsTrue result → NoLf bytes.now → ⊥ }
-    ensures none { IsFalse result → NoLf bytes.now }
-{
-    first_lf(bytes).is_some()
 }
 
 /// The place of the first LF.

@@ -10,7 +10,7 @@ use std::alloc::{AllocError, Global};
 use std::marker::Model;
 
 /// The most bytes that a line has before its line end, where it is shown.
-const MAX_LINE: usize = 65_536;
+pub(crate) const MAX_LINE: usize = 65_536;
 
 /// How a line is answered.
 #[derive(Clone, Copy)]
@@ -68,6 +68,8 @@ impl UnderWay {
         &self.bytes
     }
 
+    // Most lines lie whole in a read, and are not added.
+    #[inline(never)]
     pub(crate) fn add(&mut self, piece: &[u8])
         requires { length self.old.start + length piece.now ≤ max_count }
         ensures { StandsFor (self.old.start ++ piece.now) self.new.start }
