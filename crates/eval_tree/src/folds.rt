@@ -10,6 +10,7 @@ use value_ops::Value;
 
 /// The value so far waits at the end of its pieces, where a further piece may go on. Where the starts
 /// are apart there is always room.
+#[inline(always)]
 pub(crate) fn go_on(
     alloc: Global,
     so_far: &mut Chain<Value>,

@@ -15,6 +15,7 @@ use std::alloc::{AllocError, Global};
 use value_ops::Value;
 
 #[cycle(step)]
+#[inline(always)]
 pub(crate) fn step_iter(
     query: &Query,
     a: &mut Node,

@@ -96,6 +96,7 @@ pub(crate) fn joined(
 }
 
 /// The hit of the whole whose left value waited.
+#[inline(always)]
 pub(crate) fn ended(
     alloc: Global,
     expression: &Expr,
@@ -114,6 +115,7 @@ pub(crate) fn ended(
     }
 }
 
+#[inline(always)]
 fn with_left(
     alloc: Global,
     expression: &Expr,

@@ -32,6 +32,7 @@ pub(crate) fn push_field(
 }
 
 /// The field that a text writes in a column of this kind and number.
+#[inline(always)]
 pub(crate) fn read_field(
     alloc: Global,
     kind: Kind,

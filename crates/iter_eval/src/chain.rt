@@ -46,6 +46,7 @@ impl<V: Drop> Chain<V> {
         Ok(Chain { so_far })
     }
 
+    #[inline(always)]
     pub fn put(&mut self, inner: u64, outer: u64, value: V)
         requires room { length self.old.entries < self.old.room }
         requires fresh { entry_at self.old.entries inner ≡ None }
@@ -71,6 +72,7 @@ impl<V: Drop> Chain<V> {
         self.so_far.take(inner)
     }
 
+    #[inline(always)]
     pub fn keep<F: Fn(u64) -> bool>(&mut self, live: F)
         requires { F.IsAlwaysCallable live }
         ensures entries { (is_live : ℕ → Bool) → AnswersAs F.post live is_live

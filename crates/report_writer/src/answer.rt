@@ -23,6 +23,7 @@ pub fn push_answer(answer: Option<&Value>, text: &mut Vec<u8>) -> Result<(), All
     text.extend_from_slice(b"\n")
 }
 
+#[inline(always)]
 pub(crate) fn push_value(value: &Value, text: &mut Vec<u8>) -> Result<(), AllocError>
     ensures ok { OnOk result (text.new.items ≡ text.old.items ++ value_text value.now) }
     ensures err { OnErr result (StartsWith text.new.items text.old.items) }

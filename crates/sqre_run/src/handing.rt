@@ -10,6 +10,7 @@ use language_base::Bytes;
 use std::alloc::AllocError;
 
 /// Writes a text whole, or says why not.
+#[inline(always)]
 pub fn hand_over<W: Sink>(reply: Result<&[u8], AllocError>, out: &mut W) -> Option<Status>
     ensures handed { HandedOver result reply.entry (W.taken out.old) (W.taken out.new) }
     ensures handed_on { IfSome result (λ status.
@@ -58,6 +59,7 @@ pub fn end<W: Sink>(status: Status, out: &mut W) -> Status
 }
 
 /// Hands on all that the sink holds back, where the next line takes a read.
+#[inline(always)]
 pub fn hand_on_before_read<W: Sink>(lines: &Lines, out: &mut W) -> Result<(), Failed>
     ensures calm { OnOk result (IsQuiet lines.now ⊎ (W.held out.new ≡ 0)) }
     ensures taken { W.taken out.new ≡ W.taken out.old }

@@ -44,6 +44,7 @@ pub fn long_text<'b, F: Follower>(
     reply_text(reply, session.answer(), buffer)
 }
 
+#[inline(always)]
 fn reply_text<'b>(
     reply: Reply,
     answer: Option<&Value>,
@@ -56,6 +57,7 @@ fn reply_text<'b>(
     Ok(buffer.as_slice())
 }
 
+#[inline(always)]
 fn push_reply(reply: Reply, answer: Option<&Value>, buffer: &mut Vec<u8>) -> Result<(), AllocError>
     ensures { OnOk result (
         buffer.new.items ≡ buffer.old.items ++ text_of reply (option_copied answer.entry)) }

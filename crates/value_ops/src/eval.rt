@@ -37,6 +37,7 @@ impl Expr {
     }
 
     /// The value that an expression gives. Only a table takes memory.
+    #[inline(always)]
     pub fn eval(
         &self,
         alloc: Global,
@@ -68,6 +69,7 @@ impl Expr {
 }
 
 // The scalar that the expression gives.
+#[inline(always)]
 fn scalar(expr: &Expr, inputs: &Inputs) -> Scalar
     requires { IsNumber (types_of (inputs_of inputs.now)) (plain_of expr.now) }
     ensures { scalar_of (inputs_of inputs.now) (plain_of expr.now) ≡ Some result }

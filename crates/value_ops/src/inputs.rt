@@ -27,6 +27,7 @@ impl<'a> Inputs<'a> {
     }
 
     /// The table that a name stands for.
+    #[inline(always)]
     pub(crate) fn table(&self, name: Var) -> Option<&'a Table>
         ensures { option_copied result ≡ table_in (value_named (inputs_of self.now) name) }
     {

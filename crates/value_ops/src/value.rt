@@ -35,6 +35,7 @@ impl Value {
         }
     }
 
+    #[inline(always)]
     pub fn try_copy(&self, alloc: Global) -> Result<Value, AllocError>
         ensures equal { IfOk result (λ copy. copy ≡ self.now) }
         ensures no_memory { IsNoTable self.now → IsOk result }
