@@ -21,7 +21,6 @@ pub mod Placed
 pub mod Repeats
 pub mod Rooted
 pub mod Ruled
-pub mod SameMembers
 pub mod SamePaths
 mod Shaping
 pub mod SomeItem

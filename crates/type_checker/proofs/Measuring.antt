@@ -31,7 +31,8 @@ use Rattle.type_checker.specs.Layouts.{column_of, kind_of, layout_of}
 use Rattle.type_checker.specs.Nodes.{first_where, nodes_in, places_of}
 use Rattle.type_checker.specs.Passes.{IsLimited, IsMain, IsMeasured, IsNamed, counted, told_apart, values_apart}
 use Rattle.type_checker.specs.Resolved.{outside, resolved}
-use Rattle.type_checker.specs.Sizes.{derives_many_cells, first_node, has_few_cells, has_few_nodes, has_few_slots, has_many_positions}
+use Rattle.query_cells.specs.Few.{has_few_cells}
+use Rattle.type_checker.specs.Sizes.{derives_many_cells, first_node, has_few_nodes, has_few_slots, has_many_positions}
 use Rattle.type_checker.specs.Steps.{◌>>=◌, because, provided, refusal, unless}
 use Rattle.type_checker.specs.declared.measured.Measured.{Measured}
 use Rattle.type_checker.specs.declared.stop.CheckStop.{CheckStop}

@@ -1,5 +1,5 @@
 -- For the prover. What a pass over a query finds, as its caller needs it.
-use Rattle.std.specs.Prelude.{◌≡◌, ◌↔◌, Bool, true, Result, Err, List, ◌∷◌, [], ◌++◌, Option, None, Some, FitsSigned}
+use Rattle.std.specs.Prelude.{◌≡◌, Bool, true, Result, Err, List, ◌∷◌, [], ◌++◌, Option, None, Some, FitsSigned}
 use Rattle.std.specs.List.{Contains}
 use Rattle.language_base.specs.declared.refusal.Refusal.{Refusal}
 use Rattle.language_base.specs.declared.rule.Rule.{Rule}
@@ -48,10 +48,6 @@ first_in is_so columns standing query =
 -- the node is a composition whose right operand tells too many values of the left one apart
 abbrev pub derives_many : Node → Bool
 derives_many node = derives_many_cells node.columns node.query
-
--- two lists have the same members
-abbrev pub HaveSameMembers : List Predicate → List Predicate → Type 0
-HaveSameMembers one other = (pred : Predicate) → Contains one pred ↔ Contains other pred
 
 -- At each node tests are of the kinds of their columns, expressions are well typed and numbers of
 -- 64 bits; no collection stands on the right of a composition or in another, and what is collected

@@ -22,7 +22,8 @@ use Rattle.type_checker.specs.Judged.{limited, measured}
 use Rattle.type_checker.specs.Layouts.{layout_of}
 use Rattle.type_checker.specs.Nodes.{places_of}
 use Rattle.type_checker.specs.Resolved.{outside, resolved}
-use Rattle.type_checker.specs.Sizes.{has_few_cells, has_few_nodes}
+use Rattle.query_cells.specs.Few.{has_few_cells}
+use Rattle.type_checker.specs.Sizes.{has_few_nodes}
 use Rattle.type_checker.specs.Steps.{◌>>=◌, because, provided, unless}
 use Rattle.type_checker.specs.declared.measured.Measured.{Measured}
 

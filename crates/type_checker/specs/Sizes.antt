@@ -1,16 +1,16 @@
 -- Statement. The limits of a program.
 use Rattle.std.specs.Prelude.{Bool, false, not, List, nat_le, Option}
-use Rattle.language_base.specs.Limits.{max_cells, max_positions}
+use Rattle.language_base.specs.Limits.{max_positions}
 use Rattle.language_base.specs.declared.span.Span.{Span}
 use Rattle.item_schema.specs.declared.column.Column.{Column}
-use Rattle.predicate_cells.specs.Cells.{count_from}
+use Rattle.query_cells.specs.Few.{has_few_cells}
 use Rattle.query_lets.specs.Sizes.{nodes_of}
 use Rattle.query_model.specs.Bounds.{slots_of}
 use Rattle.query_model.specs.Queries.{Qre, compose}
 use Rattle.query_model.specs.QueryTypes.{derived_columns, type_of}
 use Rattle.query_model.specs.Rates.{rate_of}
 use Rattle.query_model.specs.Rules.{free}
-use Rattle.query_model.specs.Sizes.{max_nodes, max_slots, predicates_of}
+use Rattle.query_model.specs.Sizes.{max_nodes, max_slots}
 use Rattle.query_syntax.specs.Queries.{Query}
 use Rattle.rate_expr.specs.Rates.{size_of}
 use Rattle.type_checker.specs.Nodes.{Node, first_where, nodes_in}
@@ -26,10 +26,6 @@ has_many_positions node = not (nat_le (size_of (rate_of node.query)) max_positio
 -- little is kept for the query
 abbrev pub has_few_slots : Qre → Bool
 has_few_slots query = nat_le (slots_of query) max_slots
-
--- the query's predicates tell apart few items of its stream
-abbrev pub has_few_cells : List Column → Qre → Bool
-has_few_cells columns query = nat_le (count_from 0 columns (predicates_of query)) max_cells
 
 -- the node is a composition whose right operand's predicates tell apart too many values of the left
 -- one

@@ -3,7 +3,6 @@
 
 mod after_lets;
 mod apart;
-mod cells;
 mod checking;
 mod columns;
 mod expression;

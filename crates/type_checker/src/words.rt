@@ -12,12 +12,12 @@ ghost use Rattle.type_checker.specs.Standings.{standing_of};
 ghost use Rattle.type_checker.specs.WordRules.{FirstBroken};
 
 use crate::CheckStop;
-use crate::cells::cells_of;
 use crate::roots::{Operands, choice, collected, fed, iterated, one_item, side_by_side, split};
 use crate::standing::Standing;
 use crate::values::values_of;
 use language_base::Span;
 use predicate_cells::{CellStop, Cells};
+use query_cells::cells_of;
 use query_model::{Query, Shape};
 use rate_expr::Positions;
 use std::alloc::{AllocError, Global};

@@ -3,9 +3,9 @@ use Rattle.std.proofs.lemmas.Result.{IfOk-weaker, on_ok_weaker}
 use Rattle.predicate_cells.specs.Cells.{Partition}
 use Rattle.query_model.specs.Queries.{plain_of}
 use Rattle.query_model.specs.Sizes.{predicates_of}
-use Rattle.type_checker.specs.Findings.{HaveSameMembers}
-use Rattle.type_checker.proofs.SameMembers.{all_fit_alike, few_alike, many_alike}
-use Rattle.type_checker.proofs.cells.cells_of.Goals as goal
+use Rattle.query_cells.specs.Members.{HaveSameMembers}
+use Rattle.query_cells.proofs.SameMembers.{all_fit_alike, few_alike, many_alike}
+use Rattle.query_cells.proofs.cells.cells_of.Goals as goal
 
 pub new-requires : goal.new-requires
 new-requires c =

@@ -1,4 +1,4 @@
-//! The cells of the items of a query's stream.
+//! The cells of a stream under the predicates of a query.
 ghost use Rattle.std.specs.Prelude.{◌≡◌, [], ◌∷◌, ◌++◌, false, true, Err, IfOk, OnOk};
 ghost use Rattle.predicate_cells.specs.Cells.{AllFit};
 ghost use Rattle.predicate_cells.specs.Plain as predicate;
@@ -7,8 +7,8 @@ ghost use Rattle.query_model.specs.Queries.{plain_of};
 ghost use Rattle.query_model.specs.Sizes.{predicates_of};
 ghost use Rattle.rate_expr.specs.Plain as rates;
 ghost use Rattle.rate_expr.specs.Rates.{preds_of};
-ghost use Rattle.type_checker.specs.Findings.{HaveSameMembers};
-ghost use Rattle.type_checker.specs.Sizes.{has_few_cells};
+ghost use Rattle.query_cells.specs.Members.{HaveSameMembers};
+ghost use Rattle.query_cells.specs.Few.{has_few_cells};
 
 use item_schema::Schema;
 use predicate_cells::{CellStop, Cells, Pred, Preds};

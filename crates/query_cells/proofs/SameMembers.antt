@@ -22,7 +22,7 @@ use Rattle.predicate_cells.specs.Predicates.{Predicate}
 use Rattle.predicate_cells.specs.Rising.{rising}
 use Rattle.predicate_cells.proofs.RisingLists.{has, has_rising, length_members, one_rising, rises}
 use Rattle.predicate_cells.proofs.TextOrder.{bytes_eq_is, same_text}
-use Rattle.type_checker.specs.Findings.{HaveSameMembers}
+use Rattle.query_cells.specs.Members.{HaveSameMembers}
 
 module _ {A : Type 0} (test : A → Bool) where
   -- a member that passes a test

@@ -3,8 +3,8 @@ use Rattle.std.proofs.lemmas.Result.{on_ok_weaker}
 use Rattle.rate_expr.specs.Plain.{plain_of}
 use Rattle.rate_expr.specs.Rates.{preds_of}
 use Rattle.rate_expr.specs.declared.rate.Rate.{Rate}
-use Rattle.type_checker.proofs.SameMembers.{added_both}
-use Rattle.type_checker.proofs.cells.+add_those_in.Goals as goal
+use Rattle.query_cells.proofs.SameMembers.{added_both}
+use Rattle.query_cells.proofs.cells.+add_those_in.Goals as goal
 
 pub returns-in-One : goal.returns-in-One
 returns-in-One t c = rw c.in-One.is c.add_once.ensures

@@ -3,8 +3,8 @@ use Rattle.std.proofs.lemmas.Result.{on_ok_weaker}
 use Rattle.query_model.specs.Queries.{plain_of}
 use Rattle.query_model.specs.Sizes.{predicates_of}
 use Rattle.query_model.specs.declared.query.Shape.{Shape}
-use Rattle.type_checker.proofs.SameMembers.{added_both}
-use Rattle.type_checker.proofs.cells.+add_those_of.Goals as goal
+use Rattle.query_cells.proofs.SameMembers.{added_both}
+use Rattle.query_cells.proofs.cells.+add_those_of.Goals as goal
 
 pub returns-in-Atom : goal.returns-in-Atom
 returns-in-Atom t c = rw c.in-Atom.is c.add_once.ensures
