@@ -1,3 +1,4 @@
 pub mod Tested
+pub mod TestedCollects
 pub mod TestedComposes
 pub mod TestedFolds

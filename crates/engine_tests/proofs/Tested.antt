@@ -1,5 +1,5 @@
 -- The query of the tests keeps the rules.
-use Rattle.std.proofs.Common.{◌≡◌, ◌<◌, ℕ, ◌+◌, ◌^◌, ◌∙◌, List, [], ◌∷◌, ◌++◌, Option, ap, arith, refl, rules, sym, subst}
+use Rattle.std.proofs.Common.{◌≡◌, ◌<◌, ℕ, ◌+◌, ◌^◌, ◌∙◌, List, [], ◌∷◌, ◌++◌, Option, None, ap, arith, refl, rules, sym, subst}
 use Rattle.std.specs.Prelude.{IsTrue, ℤ, codes, pos, FitsSigned}
 use Rattle.std.specs.Int.{w64}
 use Rattle.std.specs.List.{list_all}
@@ -23,7 +23,7 @@ use Rattle.query_model.specs.Rules.{CanBeMet, IsClear, Standing, bound, free}
 use Rattle.query_model.specs.Sizes.{IsSmall}
 use Rattle.eval_tree.specs.Holdings.{Holding}
 use Rattle.eval_tree.specs.Plain.{seen_of}
-use Rattle.eval_tree.specs.Shapes.{CanRun}
+use Rattle.eval_tree.specs.Streams.{CanBeMade}
 use Rattle.eval_tree.specs.Sound.{IsSound}
 use Rattle.eval_tree.specs.Steps.{CanStart, CanStep, StartsSoundly, StepsSoundly}
 use Rattle.eval_tree.specs.declared.hit.Hit.{Hit}
@@ -78,8 +78,8 @@ checked_as q is_clear is_small on columns query = record {
 pub checked : (on : OnStream) → on.layout.columns ≡ numbers → plain_of on.main.shape ≡ difference → IsChecked on
 checked on columns query = checked_as difference (clear free) small on columns query
 
-pub can_run : (q : Qre) → q ≡ difference → CanRun q
-can_run q is = subst CanRun (sym is) (tt, tt)
+pub can_be_made : (q : Qre) → q ≡ difference → CanBeMade None q
+can_be_made q is = subst (CanBeMade None) (sym is) (tt, tt)
 
 module _ (q : Qre) (is : q ≡ difference) where
   clear_as : IsClear bound numbers q

@@ -17,7 +17,6 @@ use Rattle.query_model.specs.Checked.{IsChecked, OnStream}
 use Rattle.query_model.specs.Queries.{Qre, atom, combine, iter, plain_of}
 use Rattle.query_model.specs.Rules.{IsClear, Standing, free}
 use Rattle.query_model.specs.Sizes.{IsSmall}
-use Rattle.eval_tree.specs.Shapes.{CanRun}
 use Rattle.engine_tests.proofs.Tested.{checked_as, met, numbers}
 
 abbrev pub total : Expression → Qre
@@ -71,6 +70,3 @@ small = record {
 
 pub excess_checked : (on : OnStream) → on.layout.columns ≡ numbers → plain_of on.main.shape ≡ excess → IsChecked on
 excess_checked on columns query = checked_as excess (clear free) small on columns query
-
-pub excess_runs : (q : Qre) → q ≡ excess → CanRun q
-excess_runs q is = subst CanRun (sym is) (tt, tt)

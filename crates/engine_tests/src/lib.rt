@@ -5,6 +5,8 @@
 #[cfg(test)]
 mod bounds;
 #[cfg(test)]
+mod collects;
+#[cfg(test)]
 mod instances;
 #[cfg(test)]
 mod keys;

@@ -5,7 +5,7 @@ ghost use Rattle.value_ops.specs.Expressions.{binary, literal, read};
 ghost use Rattle.predicate_cells.specs.Predicates.{any};
 ghost use Rattle.query_model.specs.Queries.{atom, combine, compose, iter, plain_of, split};
 
-use eval_tree::{Hit, Node, Runner, can_run, copy, is_live, start, step, stored};
+use eval_tree::{Hit, Node, Runner, copy, is_live, start, step, stored};
 use item_schema::{Column, Item, Kind, Schema};
 use predicate_cells::Pred;
 use query_model::{Checked, Follower, Query, Shape, Span};
@@ -13,7 +13,7 @@ use std::alloc::{AllocError, Global};
 use std::test::Fail;
 use value_ops::{BinaryOp, Bytes, Expr, Field, Scalar, Value, Var};
 
-fn query(shape: Shape) -> Query
+pub(crate) fn query(shape: Shape) -> Query
     ensures { result.shape ≡ shape }
 {
     let span = Span { from: 0, to: 1 };
@@ -42,7 +42,7 @@ fn difference(alloc: Global) -> Result<Query, AllocError>
 }
 
 // iter(atom(any, EXPRESSION), 0, add(x, y))
-fn total(alloc: Global, expression: Expr) -> Result<Query, AllocError>
+pub(crate) fn total(alloc: Global, expression: Expr) -> Result<Query, AllocError>
     ensures { IfOk result (λ query. plain_of query.shape
         ≡ iter (atom any (values.plain_of expression)) (pos 0)
         (binary BinaryOp.Add (read Var.Left) (read Var.Right))) }
@@ -108,8 +108,7 @@ fn number_of(hit: &Option<Hit>) -> Option<(u64, i64)> {
 fn a_split_joins_the_values_of_two_items(rt: HostRuntime) -> Result<(), Fail> {
     let alloc = rt.alloc();
     let query = difference(alloc)?;
-    assert!(rt; can_run(&query));
-    let mut node = Node::new(alloc, &query)?;
+    let mut node = Node::new(alloc, &query, None)?;
     let begun = start(&query, &mut node, alloc, 0)?;
     assert_eq!(rt; number_of(&begun), None);
     let nine = item(alloc, 9)?;

@@ -9,7 +9,7 @@ use Rattle.rate_expr.specs.Words.{Word}
 use Rattle.query_model.specs.Following.{FitsNext, IsAnswer}
 use Rattle.query_model.specs.Queries.{Qre}
 use Rattle.query_model.specs.QueryTypes.{type_of}
-use Rattle.query_model.specs.Rules.{Standing, free, IsClear}
+use Rattle.query_model.specs.Rules.{Standing, free, HasNoCollect, IsClear}
 use Rattle.eval_tree.specs.declared.hit.Hit.{Hit}
 use Rattle.eval_tree.specs.declared.progress.Progress.{Progress}
 use Rattle.eval_tree.specs.declared.runner.Runner.{Runner}
@@ -58,13 +58,13 @@ module _ {R : Type 0} (seen : R → Seen R) where
 
   -- the node was cleared, for some columns and so for all
   pub begun_anew : (q : Qre) (old new : R) (cleared : Holding R) (hit : Option Hit) (columns : List Column)
-      → IsSoundOf seen columns q old → IsCleared seen q (seen old).node cleared
+      → HasNoCollect q → IsSoundOf seen columns q old → IsCleared seen q (seen old).node cleared
       → Starts seen q cleared 0 (seen new).node hit → StartsSoundly seen q cleared 0 (seen new).node hit
       → (seen new).position ≡ 0 → (seen new).answer ≡ option_map (λ (found : Hit). found.value) hit
       → IsRenewed seen q old new
-  begun_anew q old new cleared hit some is_sound is_cleared starts soundly position answer = record {
+  begun_anew q old new cleared hit some no_collect is_sound is_cleared starts soundly position answer = record {
     word = λ standing columns clear.
-        let rep = (is_cleared some (seen old).position is_sound.node).0 columns in
+        let rep = (is_cleared no_collect some (seen old).position is_sound.node).0 columns in
         let started = starts standing columns [] [] clear tt (λ start there. absurd (no_member start there)) rep
         (λ there. no_member 0 there) refl (one_apart columns q []) in
         record {
@@ -73,7 +73,7 @@ module _ {R : Type 0} (seen : R → Seen R) where
           answer = subst (IsAnswer q []) (sym answer) (first_answers q hit started.hit);
         };
     sound = λ standing columns clear is.
-        let sound = soundly standing columns clear ((is_cleared columns (seen old).position is.node).1 0) in
+        let sound = soundly standing columns clear ((is_cleared no_collect columns (seen old).position is.node).1 0) in
         record {
           node = subst (λ (n : ℕ). IsSound seen columns q n (seen new).node) (sym position) sound.node;
           answer = subst (IsTyped (type_of columns q)) (sym answer)

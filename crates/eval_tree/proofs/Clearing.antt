@@ -15,6 +15,7 @@ use Rattle.query_model.specs.Denotation.{Den}
 use Rattle.query_model.specs.Queries.{Qre, atom, eps, choice, split, iter, combine, apply, compose}
 use Rattle.query_model.specs.QueryTypes.{derived_columns, type_of}
 use Rattle.query_model.specs.Rates.{rate_of}
+use Rattle.query_model.specs.Rules.{HasNoCollect}
 use Rattle.split_eval.specs.Entries as entries
 use Rattle.split_eval.specs.declared.entry.Entry.{Entry}
 use Rattle.compose_eval.specs.Followers.{Contents, live_instances, outers_of, retired}
@@ -43,38 +44,38 @@ no_entries type places old new are none same =
 module _ {R : Type 0} (seen : R → Seen R) where
   pub clear_atom : (pred : Predicate) (e : Expression) (found : Option ℕ)
       → IsCleared seen (atom pred e) (waiting found) (waiting None)
-  clear_atom pred e found = λ columns position sound. (
+  clear_atom pred e found = λ no_collect columns position sound. (
     λ others start. (λ is. absurd (none-some start is), λ there. absurd (no_member start there.0)),
     λ now. tt,
   )
 
   pub clear_eps : (number : ℤ) → IsCleared seen (eps number) nothing nothing
-  clear_eps number = λ columns position sound. (λ others. tt, λ now. tt)
+  clear_eps number = λ no_collect columns position sound. (λ others. tt, λ now. tt)
 
   pub clear_choice : (f g : Qre) (a b a' b' : Holding R) → IsCleared seen f a a' → IsCleared seen g b b'
       → IsCleared seen (choice f g) (both a b) (both a' b')
-  clear_choice f g a b a' b' first second = λ columns position sound.
-      let x = first columns position sound.0 in
-      let y = second columns position sound.1 in
+  clear_choice f g a b a' b' first second = λ no_collect columns position sound.
+      let x = first no_collect.0 columns position sound.0 in
+      let y = second no_collect.1 columns position sound.1 in
       (λ others. (x.0 others, y.0 others), λ now. (x.1 now, y.1 now))
 
   pub clear_combine : (f g : Qre) (e : Expression) (a b a' b' : Holding R) → IsCleared seen f a a'
       → IsCleared seen g b b' → IsCleared seen (combine f g e) (paired a b) (paired a' b')
-  clear_combine f g e a b a' b' first second = λ columns position sound.
-      let x = first columns position sound.0 in
-      let y = second columns position sound.1 in
+  clear_combine f g e a b a' b' first second = λ no_collect columns position sound.
+      let x = first no_collect.0 columns position sound.0 in
+      let y = second no_collect.1 columns position sound.1 in
       (λ others. (x.0 others, y.0 others), λ now. (x.1 now, y.1 now))
 
   pub clear_apply : (f : Qre) (e : Expression) (a a' : Holding R) → IsCleared seen f a a'
       → IsCleared seen (apply f e) (operand a) (operand a')
-  clear_apply f e a a' first = λ columns position sound. first columns position sound
+  clear_apply f e a a' first = λ no_collect columns position sound. first no_collect columns position sound
 
   pub clear_split : (f g : Qre) (e : Expression) (a b a' b' : Holding R) (held new : entries.Contents Value)
       → IsCleared seen f a a' → IsCleared seen g b b' → new.entries ≡ [] → new.room ≡ held.room
       → IsCleared seen (split f g e) (pending a b held) (pending a' b' new)
-  clear_split f g e a b a' b' held new first second none room = λ columns position sound.
-      let x = first columns position sound.0 in
-      let y = second columns position sound.1 in (
+  clear_split f g e a b a' b' held new first second none room = λ no_collect columns position sound.
+      let x = first no_collect.0 columns position sound.0 in
+      let y = second no_collect.1 columns position sound.1 in (
         λ others.
             let is = new_split seen others f g a' b' new.room (x.0 others) (y.0 others) (room ∙ sound.2.room) in (
               is.0,
@@ -88,8 +89,8 @@ module _ {R : Type 0} (seen : R → Seen R) where
   pub clear_iter : (f : Qre) (number : ℤ) (e : Expression) (a a' : Holding R) (held new : entries.Contents Value)
       → IsCleared seen f a a' → new.entries ≡ [] → new.room ≡ held.room
       → IsCleared seen (iter f number e) (chained a held) (chained a' new)
-  clear_iter f number e a a' held new first none room = λ columns position sound.
-      let x = first columns position sound.0 in (
+  clear_iter f number e a a' held new first none room = λ no_collect columns position sound.
+      let x = first no_collect columns position sound.0 in (
         λ others.
             let is = new_chain seen others f number e a' new.room (x.0 others) (room ∙ sound.1.room) in (
               is.0,
@@ -118,27 +119,27 @@ module _ {R : Type 0} (seen : R → Seen R) where
   one_cleared q (suc i) (y ∷ old) [] x w are at is = absurd are
 
   -- a cleared runner is sound
-  cleared_soundly : (columns : List Column) (q : Qre) (old new : R) → IsClearedIn seen q old new
+  cleared_soundly : (columns : List Column) (q : Qre) (old new : R) → HasNoCollect q → IsClearedIn seen q old new
       → IsSoundOf seen columns q old → IsSoundOf seen columns q new
-  cleared_soundly columns q old new is sound = record {
+  cleared_soundly columns q old new no_collect is sound = record {
     node = subst (λ (n : ℕ). IsSound seen columns q n (seen new).node) (sym is.position)
-        ((is.node columns (seen old).position sound.node).1 (seen old).position);
+        ((is.node no_collect columns (seen old).position sound.node).1 (seen old).position);
     answer = subst (IsTyped (type_of columns q)) (sym is.answer) sound.answer;
   }
 
-  all_cleared : (columns : List Column) (q : Qre) (count : ℕ) (old new : List R) → count ≡ length old
+  all_cleared : (columns : List Column) (q : Qre) (count : ℕ) (old new : List R) → HasNoCollect q → count ≡ length old
       → AreCleared seen q count old new → AllByRecursion (IsSoundOf seen columns q) old
       → AllByRecursion (IsSoundOf seen columns q) new × (length new ≡ length old)
-  all_cleared columns q zero old new many are all = (
+  all_cleared columns q zero old new no_collect many are all = (
     subst (AllByRecursion (IsSoundOf seen columns q)) (sym are) all,
     ap length are,
   )
-  all_cleared columns q (suc count) [] [] many are all = (tt, refl)
-  all_cleared columns q (suc count) [] (z ∷ new) many are all = absurd are
-  all_cleared columns q (suc count) (y ∷ old) [] many are all = absurd are
-  all_cleared columns q (suc count) (y ∷ old) (z ∷ new) many are all =
-      let rest = all_cleared columns q count old new (omega (arith, many)) are.1 all.1 in
-      ((cleared_soundly columns q y z are.0 all.0, rest.0), ap suc rest.1)
+  all_cleared columns q (suc count) [] [] no_collect many are all = (tt, refl)
+  all_cleared columns q (suc count) [] (z ∷ new) no_collect many are all = absurd are
+  all_cleared columns q (suc count) (y ∷ old) [] no_collect many are all = absurd are
+  all_cleared columns q (suc count) (y ∷ old) (z ∷ new) no_collect many are all =
+      let rest = all_cleared columns q count old new no_collect (omega (arith, many)) are.1 all.1 in
+      ((cleared_soundly columns q y z no_collect are.0 all.0, rest.0), ap suc rest.1)
 
   none_live : (live : List (Instance R)) → live_instances (λ start. false) live ≡ []
   none_live [] = refl
@@ -149,8 +150,8 @@ module _ {R : Type 0} (seen : R → Seen R) where
       → resting.idle ≡ held.idle ++ retired (λ start. false) held.live
       → new.live ≡ resting.live → AreCleared seen g (length resting.idle) resting.idle new.idle
       → IsCleared seen (compose f g) (fed a held) (fed a' new)
-  clear_compose f g a a' held resting new first live idle same are = λ columns position sound.
-      let x = first columns position sound.0 in
+  clear_compose f g a a' held resting new first live idle same are = λ no_collect columns position sound.
+      let x = first no_collect.0 columns position sound.0 in
       let derived = derived_columns (type_of columns f) in
       let none : new.live ≡ [] = same ∙ live ∙ none_live held.live in
       let each = all_mapped (λ (one : Instance R). IsSoundWithin seen (IsSoundOf seen derived g) (position + 1) one.follower)
@@ -159,7 +160,7 @@ module _ {R : Type 0} (seen : R → Seen R) where
       subst (AllByRecursion (IsSoundOf seen derived g)) (sym idle)
       (all_joined (IsSoundOf seen derived g) held.idle (retired (λ start. false) held.live) sound.4
       (all_retired (IsSoundOf seen derived g) (λ start. false) held.live each)) in
-      let (after, many) = all_cleared derived g (length resting.idle) resting.idle new.idle refl are all in
+      let (after, many) = all_cleared derived g (length resting.idle) resting.idle new.idle no_collect.1 refl are all in
       let count : length held.live + length held.idle ≡ places_of f + 1 = sound.2 in
       let nobody = ap length none in
       let parts = kept_count (λ start. false) held.live in

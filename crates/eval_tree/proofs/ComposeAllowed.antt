@@ -65,6 +65,7 @@ module _ {R : Type 0} (seen : R → Seen R) where
         standing = can.standing;
         columns = derived_columns (type_of can.columns f);
         clear = can.clear.1;
+        no_collect = can.clear.2;
         idle = can.sound.4;
         is_item = hit_item (type_of can.columns f) left (hit_of (type_of can.columns f) at left x.hit);
         room = omega (arith, room);
@@ -108,6 +109,6 @@ module _ {R : Type 0} (seen : R → Seen R) where
         standing = can.standing;
         columns = can.columns;
         clear = can.clear;
-        sound = (is can.columns (seen runner).position can.sound.node).1 0;
+        sound = (is can.no_collect can.columns (seen runner).position can.sound.node).1 0;
         room = omega (arith, room);
       }

@@ -19,7 +19,6 @@ use Rattle.eval_tree.specs.Plain.{holding_of, runners_of, seen_of}
 use Rattle.eval_tree.specs.Steps.{Starts, Steps}
 use Rattle.eval_tree.proofs.ComposeStarts.{start_compose}
 use Rattle.eval_tree.proofs.ComposeSteps.{step_compose}
-use Rattle.eval_tree.proofs.Shaped.{shaped}
 
 -- what it holds
 pub fed_is : (a : Box Node Global) (held : Contents Progress)
@@ -43,7 +42,7 @@ module _ (f g : Qre) where
   compose_starts a a' held new at left hit live first is_live feeds =
       λ standing columns word starts clear is positions rep fresh end apart.
       start_compose seen_of f g (holding_of a) (holding_of a') held new at left hit live
-      (shaped columns f a word starts rep.0) first is_live feeds
+      first is_live feeds
       standing columns word starts clear is positions rep fresh end apart
 
   pub compose_steps : (a a' : State) (held passed kept : Contents Progress) (now : ℕ) (item : List Field)
@@ -55,5 +54,5 @@ module _ (f g : Qre) where
   compose_steps a a' held passed kept now item left hit first passes live idle =
       λ standing columns word starts clear is positions rep end apart.
       step_compose seen_of f g (holding_of a) (holding_of a') held passed kept now item left hit
-      (shaped columns f a word starts rep.0) first passes live idle
+      first passes live idle
       standing columns word starts clear is positions rep end apart

@@ -24,7 +24,6 @@ use Rattle.eval_tree.proofs.Instances.{different_more, none_fed}
 use Rattle.eval_tree.proofs.Living.{living}
 use Rattle.eval_tree.proofs.Outputs.{out_word}
 use Rattle.eval_tree.proofs.Pieces.{behind_end}
-use Rattle.eval_tree.proofs.Shaped.{HasNodes}
 
 module _ {R : Type 0} (seen : R → Seen R) (standing : Standing) (columns : List Column) (f g : Qre)
     (clear : IsClear standing columns f) (clear_right : IsClear standing (derived_columns (type_of columns f)) g) where
@@ -53,11 +52,11 @@ module _ {R : Type 0} (seen : R → Seen R) (standing : Standing) (columns : Lis
       )
 
   -- one is idle, since live starts are fewer than runners, and the new start feeds none
-  has_idle : (word : Word) (starts : List ℕ) (at : ℕ) (held : Contents R) → HasNodes f → IsWordOf columns word
+  has_idle : (word : Word) (starts : List ℕ) (at : ℕ) (held : Contents R) → IsWordOf columns word
       → ArePositions word starts → (Contains starts at → ⊥) → AreApart columns f word (starts ++ at ∷ [])
       → RowOf (IsLive columns f word starts) word held → HasIdle held at
-  has_idle word starts at held run is positions fresh apart row =
-      let few = few_live standing columns f word starts (outers_of held.live) run clear is positions
+  has_idle word starts at held is positions fresh apart row =
+      let few = few_live standing columns f word starts (outers_of held.live) clear is positions
       (λ i j more more_is first second. apart i j more more_is (Contains-append_left starts (at ∷ []) i first)
       (Contains-append_left starts (at ∷ []) j second))
       row.distinct (λ i there. (row.there i).0 there) in
@@ -161,9 +160,9 @@ module _ {R : Type 0} (seen : R → Seen R) (standing : Standing) (columns : Lis
 
 module _ {R : Type 0} (seen : R → Seen R) where
   pub start_compose : (f g : Qre) (a a' : Holding R) (held new : Contents R) (at : ℕ) (left hit : Option Hit)
-      (live : Bool) → HasNodes f → Starts seen f a at a' left → live ≡ live_of f a' at
+      (live : Bool) → Starts seen f a at a' left → live ≡ live_of f a' at
       → Feeds seen g held live at left new hit → Starts seen (compose f g) (fed a held) at (fed a' new) hit
-  start_compose f g a a' held new at left hit live run first is_live feeds =
+  start_compose f g a a' held new at left hit live first is_live feeds =
       λ standing columns word starts clear is positions rep fresh end apart.
       let x = first standing columns word starts clear.0 is positions rep.0 fresh end apart in
       let all : ArePositions word (starts ++ at ∷ []) =
@@ -171,7 +170,7 @@ module _ {R : Type 0} (seen : R → Seen R) where
         | inl old ↦ positions start old
         | inr same ↦ omega (arith, same, end)
       ]) in
-      let lives = living seen standing columns f a' word (starts ++ at ∷ []) at run clear.0 is all x.after in
+      let lives = living seen standing columns f a' word (starts ++ at ∷ []) at clear.0 is all x.after in
       elim feeds [
         | inl (can, feeds_one) ↦
             let (sees, hit_is) = begun_sees seen standing columns f g clear.0 clear.1 at left feeds_one.runner
@@ -188,5 +187,5 @@ module _ {R : Type 0} (seen : R → Seen R) where
               hit = hit_is;
             }
         | inr (cannot, same, none) ↦ absurd (cannot
-            (has_idle seen standing columns f g clear.0 clear.1 word starts at held run is positions fresh apart rep.1))
+            (has_idle seen standing columns f g clear.0 clear.1 word starts at held is positions fresh apart rep.1))
       ]

@@ -20,7 +20,6 @@ use Rattle.eval_tree.proofs.ComposeHits.{composed, none_composed}
 use Rattle.eval_tree.proofs.Fed.{Row, fed_on, hit_feeds, narrowed}
 use Rattle.eval_tree.proofs.Instances.{told_member}
 use Rattle.eval_tree.proofs.Living.{living}
-use Rattle.eval_tree.proofs.Shaped.{HasNodes}
 use Rattle.eval_tree.proofs.SplitSteps.{more_positions}
 
 module _ {R : Type 0} (seen : R → Seen R) where
@@ -55,11 +54,11 @@ module _ {R : Type 0} (seen : R → Seen R) where
       ]
 
   pub step_compose : (f g : Qre) (a a' : Holding R) (held passed kept : Contents R) (now : ℕ) (item : List Field)
-      (left hit : Option Hit) → HasNodes f → Steps seen f a now item a' left → PassesOn seen g held left passed hit
+      (left hit : Option Hit) → Steps seen f a now item a' left → PassesOn seen g held left passed hit
       → kept.live ≡ live_instances (live_of f a') passed.live
       → kept.idle ≡ passed.idle ++ retired (live_of f a') passed.live
       → Steps seen (compose f g) (fed a held) now item (fed a' kept) hit
-  step_compose f g a a' held passed kept now item left hit run first passes live idle =
+  step_compose f g a a' held passed kept now item left hit first passes live idle =
       λ standing columns word starts clear is positions rep end apart.
       let x = first standing columns word starts clear.0 is positions rep.0 end apart in
       let longer = fed_on seen standing columns f g clear.0 clear.1 word item starts is positions held passed left hit
@@ -68,7 +67,7 @@ module _ {R : Type 0} (seen : R → Seen R) where
         after = (
           x.after,
           narrowed seen standing columns f g clear.0 clear.1 word item starts is positions passed kept (live_of f a')
-              (λ start. living seen standing columns f a' (word ++ item ∷ []) starts start run clear.0 is
+              (λ start. living seen standing columns f a' (word ++ item ∷ []) starts start clear.0 is
               (more_positions word item starts positions) x.after) live idle longer,
         );
         hit = passed_hit standing columns f g clear.0 clear.1 word item starts is positions held passed left hit rep.1

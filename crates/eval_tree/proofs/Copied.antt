@@ -1,9 +1,11 @@
 -- A copy of a node stands for what the node stands for, is sound, and keeps as much.
-use Rattle.std.proofs.Common.{◌≡◌, ◌∙◌, ℕ, ◌+◌, List, [], ◌∷◌, length, sym, ap, subst, arith}
+use Rattle.std.proofs.Common.{◌≡◌, ◌∙◌, ℕ, ◌+◌, List, [], ◌∷◌, drop, length, sym, ap, subst, arith}
 use Rattle.std.specs.List.{Contains}
 use Rattle.value_ops.specs.declared.value.Value.{Value}
 use Rattle.value_ops.specs.declared.value.ValueType.TheVariants.{Number}
 use Rattle.item_schema.specs.declared.column.Column.{Column}
+use Rattle.rate_expr.specs.Behind.{IsBehind}
+use Rattle.rate_expr.specs.FirstLastFollow.{AreSetsOf}
 use Rattle.rate_expr.specs.Readings.{HasExtension}
 use Rattle.rate_expr.specs.Words.{Word}
 use Rattle.query_model.specs.Bounds.{places_of}
@@ -15,14 +17,17 @@ use Rattle.query_model.specs.Rates.{rate_of}
 use Rattle.split_eval.specs.Entries as entries
 use Rattle.compose_eval.specs.Followers.{Contents, followers_of}
 use Rattle.compose_eval.specs.declared.instance.Instance.{Instance}
+use Rattle.symbolic_nfa.specs.Automata.{Automaton}
 use Rattle.eval_tree.specs.Copies.{AreAlike, IsCopy, IsCopyOf}
 use Rattle.eval_tree.specs.Counts.{size_of_answer, size_of_runner, sizes_of, stored_in}
-use Rattle.eval_tree.specs.Feeds.{IsSoundOf}
+use Rattle.eval_tree.specs.Feeds.{FollowsWord, IsSoundOf}
 use Rattle.eval_tree.specs.Holdings.{Holding, waiting, nothing, both, paired, operand, pending, chained, fed, tracked, Seen}
+use Rattle.eval_tree.specs.Keyed.{AreTracked, StandFor}
 use Rattle.eval_tree.specs.Represents.{AreWaiting, Represents}
 use Rattle.eval_tree.specs.Sound.{AreEntriesOf, IsSound, IsSoundWithin, IsTyped}
-use Rattle.eval_tree.specs.Starts.{AreDifferent}
+use Rattle.eval_tree.specs.Starts.{AreDifferent, IsLive}
 use Rattle.eval_tree.proofs.Alike.{all_alike, all_followers, as_many_alike, followers_all, followers_many, original, sums_alike}
+use Rattle.eval_tree.proofs.CollectCopies.{track_stands, tracks_sound, tracks_stand, tracks_stored}
 use Rattle.eval_tree.proofs.Instances.{all_mapped}
 
 module _ {R : Type 0} (seen : R → Seen R) where
@@ -98,7 +103,26 @@ module _ {R : Type 0} (seen : R → Seen R) where
         },
       )
   copy_represents columns (compose f g) (fed a held) new word starts copy rep = absurd copy
-  copy_represents columns (collect column sync rate f) (tracked sets all) new word starts copy rep = absurd copy
+  copy_represents columns (collect column sync rate f) (tracked all) (tracked all') word starts copy rep =
+      let follows : (u : Word) (was runner : R) → IsCopyOf seen (IsCopy seen f) was runner
+      → FollowsWord seen columns f u was → FollowsWord seen columns f u runner =
+      (λ u was runner copied follows. record {
+        position = copied.position ∙ follows.position;
+        node = copy_represents columns f (seen was).node (seen runner).node u (0 ∷ []) copied.node follows.node;
+        answer = subst (IsAnswer f u) (sym copied.answer) follows.answer;
+      }) in (
+        subst (λ (a : Automaton). AreSetsOf a.sets rate) (sym copy.nfa) rep.0,
+        ap (λ (a : Automaton). a.cells.layout.columns) copy.nfa ∙ rep.1,
+        tracks_stand seen (IsCopy seen f) (IsLive columns (collect column sync rate f) word starts)
+            (λ start track. IsBehind all'.nfa.sets (drop start word) track.state
+            × StandFor (FollowsWord seen columns f) column sync (drop start word) track.keys) all.tracks all'.tracks
+            (λ was track copied is. track_stands seen (IsCopy seen f) (FollowsWord seen columns f) column sync all'.nfa.sets
+            (λ start. drop start word) was track follows copied is) copy.tracks
+            (subst (λ (a : Automaton). AreTracked (IsLive columns (collect column sync rate f) word starts)
+            (λ start track. IsBehind a.sets (drop start word) track.state
+            × StandFor (FollowsWord seen columns f) column sync (drop start word) track.keys) all.tracks) (sym copy.nfa) rep.2),
+      )
+  copy_represents columns (collect column sync rate f) (tracked all) new word starts copy rep = absurd copy
   copy_represents columns q old new word starts copy rep = absurd rep
 
   pub copy_sound : (columns : List Column) (q : Qre) (position : ℕ) (old new : Holding R) → IsCopy seen q old new
@@ -152,7 +176,20 @@ module _ {R : Type 0} (seen : R → Seen R) where
         all_alike (IsCopyOf seen (IsCopy seen g)) (IsSoundOf seen derived g) held.idle held'.idle one copy.1.idle sound.4,
       )
   copy_sound columns (compose f g) position (fed a held) new copy sound = absurd copy
-  copy_sound columns (collect column sync rate f) position (tracked sets all) new copy sound = absurd copy
+  copy_sound columns (collect column sync rate f) position (tracked all) (tracked all') copy sound =
+      let (distinct, keys) = tracks_sound seen (IsCopy seen f) (IsSoundOf seen columns f) position all.tracks all'.tracks
+      (λ was runner copied is. record {
+        node = subst (λ (n : ℕ). IsSound seen columns f n (seen runner).node) (sym copied.position)
+            (copy_sound columns f (seen was).position (seen was).node (seen runner).node copied.node is.node);
+        answer = subst (IsTyped (type_of columns f)) (sym copied.answer) is.answer;
+      }) copy.tracks sound.3 sound.4 in (
+        subst (λ (a : Automaton). AreSetsOf a.sets rate) (sym copy.nfa) sound.0,
+        ap (λ (a : Automaton). a.cells.layout.columns) copy.nfa ∙ sound.1,
+        sound.2,
+        distinct,
+        keys,
+      )
+  copy_sound columns (collect column sync rate f) position (tracked all) new copy sound = absurd copy
   copy_sound columns q position old new copy sound = absurd sound
 
   pub copy_stored : (columns : List Column) (q : Qre) (position : ℕ) (old new : Holding R) → IsCopy seen q old new
@@ -202,5 +239,11 @@ module _ {R : Type 0} (seen : R → Seen R) where
       copy.1.idle sound.4 in
       omega (arith, x, lives, rests)
   copy_stored columns (compose f g) position (fed a held) new copy sound = absurd copy
-  copy_stored columns (collect column sync rate f) position (tracked sets all) new copy sound = absurd copy
+  copy_stored columns (collect column sync rate f) position (tracked all) (tracked all') copy sound =
+      tracks_stored seen (IsCopy seen f) (IsSoundOf seen columns f) position (stored_in seen f) all.tracks all'.tracks
+      (λ was runner copied is.
+      let node = copy_stored columns f (seen was).position (seen was).node (seen runner).node copied.node is.node in
+      let answer = ap size_of_answer copied.answer in
+      omega (arith, node, answer)) copy.tracks sound.4
+  copy_stored columns (collect column sync rate f) position (tracked all) new copy sound = absurd copy
   copy_stored columns q position old new copy sound = absurd sound

@@ -114,6 +114,7 @@ module _ {R : Type 0} (seen : R → Seen R) (g : Qre) where
     standing = can.standing;
     columns = can.columns;
     clear = can.clear;
+    no_collect = can.no_collect;
     sound = all_read (IsSoundOf seen can.columns g) old.idle i runner can.idle read;
     is_item = can.is_item;
     room = can.room;
@@ -124,6 +125,7 @@ module _ {R : Type 0} (seen : R → Seen R) (g : Qre) where
     standing = can.standing;
     columns = can.columns;
     clear = can.clear;
+    no_collect = can.no_collect;
     sound = can.sound;
     is_item = tt;
     room = can.room;

@@ -12,10 +12,10 @@ use Rattle.query_model.specs.Rules.{Standing, bound, IsClear}
 use Rattle.eval_tree.specs.Starts.{AreApart, AreDifferent, ArePositions, IsLive}
 use Rattle.eval_tree.proofs.Apart.{apart_first, apart_second, apart_left, apart_right}
 use Rattle.eval_tree.proofs.Chains.{chain_apart, chain_clear}
+use Rattle.eval_tree.proofs.CollectFew.{few_collect}
 use Rattle.eval_tree.proofs.GoingOn.{GoesOnAt, GoesOnRight, live_iter, live_split}
 use Rattle.eval_tree.proofs.Members.{first_member, later_member, member_cases, no_member}
 use Rattle.eval_tree.proofs.Pieces.{at_end, none_before, piece_goes_on, some_item}
-use Rattle.eval_tree.proofs.Shaped.{HasNodes}
 
 -- of different numbers that are each of one kind or another
 pub record AreParted (P Q : ℕ → Type 0) (all : List ℕ) : Type 0 where
@@ -151,15 +151,15 @@ through columns f g e word starts (x ∷ all) clear is apart different each =
       ];
     }
 
-pub few_live : (standing : Standing) (columns : List Column) (q : Qre) (word : Word) (starts live : List ℕ) → HasNodes q
+pub few_live : (standing : Standing) (columns : List Column) (q : Qre) (word : Word) (starts live : List ℕ)
     → IsClear standing columns q → IsWordOf columns word → ArePositions word starts
     → AreApart columns q word starts → AreDifferent live
     → ((i : ℕ) → Contains live i → IsLive columns q word starts i) → length live ≤ places_of q
-few_live standing columns (atom pred e) word starts live run clear is positions apart different each =
+few_live standing columns (atom pred e) word starts live clear is positions apart different each =
     few_atom columns pred e word starts live positions different each
-few_live standing columns (eps number) word starts live run clear is positions apart different each =
+few_live standing columns (eps number) word starts live clear is positions apart different each =
     few_eps columns number word starts live each
-few_live standing columns (choice f g) word starts live run clear is positions apart different each =
+few_live standing columns (choice f g) word starts live clear is positions apart different each =
     let two = parted (IsLive columns f word starts) (IsLive columns g word starts) live different
     (λ i there. let (among, (item, more, more_is, in_either)) = each i there in
     elim in_either [
@@ -167,20 +167,20 @@ few_live standing columns (choice f g) word starts live run clear is positions a
       | inr in_g ↦ inr (among, (item, more, more_is, in_g))
     ]) in
     let count = two.count in
-    let first = few_live bound columns f word starts two.firsts run.0 clear.0 is positions
+    let first = few_live bound columns f word starts two.firsts clear.0 is positions
     (apart_first columns f g word starts apart) two.different.0 two.are.0 in
-    let second = few_live bound columns g word starts two.seconds run.1 clear.1 is positions
+    let second = few_live bound columns g word starts two.seconds clear.1 is positions
     (apart_second columns f g word starts apart) two.different.1 two.are.1 in
     omega (arith, count, first, second)
-few_live standing columns (split f g e) word starts live run clear is positions apart different each =
+few_live standing columns (split f g e) word starts live clear is positions apart different each =
     let two = parted (IsLive columns f word starts) (GoesOnRight columns f g word starts) live different
     (λ i there. live_split columns f g e word starts i is positions (each i there)) in
     let right = through columns f g e word starts two.seconds clear is apart two.different.1 two.are.1 in
     let count = two.count in
     let same = right.count in
-    let first = few_live bound columns f word starts two.firsts run.0 clear.0 is positions
+    let first = few_live bound columns f word starts two.firsts clear.0 is positions
     (apart_left columns f g e word starts clear.1 apart) two.different.0 two.are.0 in
-    let second = few_live bound columns g word right.ends right.ends run.1 clear.1 is
+    let second = few_live bound columns g word right.ends right.ends clear.1 is
     (λ at there. let (start, among, (piece, from, is_piece, in_f, more)) = right.each at there in is_piece.inside)
     (apart_right columns f g e word starts right.ends clear is apart
     (λ at there. let (start, among, (piece, from, is_piece, in_f, more)) = right.each at there in
@@ -188,14 +188,14 @@ few_live standing columns (split f g e) word starts live run clear is positions 
     right.different
     (λ at there. let (start, among, (piece, from, is_piece, in_f, more)) = right.each at there in (there, more)) in
     omega (arith, count, same, first, second)
-few_live standing columns (iter f number e) word starts live run clear is positions apart different each =
+few_live standing columns (iter f number e) word starts live clear is positions apart different each =
     let q = iter f number e in
     let two = chain_clear columns f number e clear in
     let apart_two = chain_apart columns f number e word starts apart in
     let next = through columns q f e word starts live two is apart_two different
     (λ i there. live_iter columns f number e word starts i positions (each i there)) in
     let same = next.count in
-    let few = few_live bound columns f word next.ends next.ends run clear.0 is
+    let few = few_live bound columns f word next.ends next.ends clear.0 is
     (λ at there. let (start, among, (piece, from, is_piece, in_q, more)) = next.each at there in is_piece.inside)
     (apart_right columns q f e word starts next.ends two is apart_two
     (λ at there. let (start, among, (piece, from, is_piece, in_q, more)) = next.each at there in
@@ -203,12 +203,12 @@ few_live standing columns (iter f number e) word starts live run clear is positi
     next.different
     (λ at there. let (start, among, (piece, from, is_piece, in_q, more)) = next.each at there in (there, more)) in
     omega (arith, same, few)
-few_live standing columns (combine f g e) word starts live run clear is positions apart different each =
-    let first = few_live bound columns f word starts live run.0 clear.0 is positions apart different each in
+few_live standing columns (combine f g e) word starts live clear is positions apart different each =
+    let first = few_live bound columns f word starts live clear.0 is positions apart different each in
     omega (arith, first)
-few_live standing columns (apply f e) word starts live run clear is positions apart different each =
-    few_live bound columns f word starts live run clear.0 is positions apart different each
-few_live standing columns (compose f g) word starts live run clear is positions apart different each =
-    few_live standing columns f word starts live run clear.0 is positions apart different each
-few_live standing columns (collect column sync rate f) word starts live run clear is positions apart different each =
-    absurd run
+few_live standing columns (apply f e) word starts live clear is positions apart different each =
+    few_live bound columns f word starts live clear.0 is positions apart different each
+few_live standing columns (compose f g) word starts live clear is positions apart different each =
+    few_live standing columns f word starts live clear.0 is positions apart different each
+few_live standing columns (collect column sync rate f) word starts live clear is positions apart different each =
+    few_collect columns column sync rate f word starts live positions apart different each

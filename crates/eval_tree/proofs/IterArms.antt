@@ -18,7 +18,6 @@ use Rattle.eval_tree.specs.Steps.{Starts, Steps}
 use Rattle.eval_tree.proofs.Elsewhere.{elsewhere}
 use Rattle.eval_tree.proofs.IterStarts.{start_iter}
 use Rattle.eval_tree.proofs.IterSteps.{step_iter_none, step_iter_some}
-use Rattle.eval_tree.proofs.Shaped.{shaped}
 use Rattle.eval_tree.proofs.SplitArms.{put_room}
 
 module _ (f : Qre) (number : ℤ) (e : Expression) where
@@ -30,7 +29,7 @@ module _ (f : Qre) (number : ℤ) (e : Expression) where
   iter_starts a a' so_far new at operand live first is_live put =
       λ standing columns word starts clear is positions rep fresh end apart.
       start_iter seen_of f number e (holding_of a) (holding_of a') so_far new at operand live
-      (shaped columns f a word rep.0.0 rep.0.2) first is_live put
+      first is_live put
       (put_room live so_far new (record { inner = at; outer = at; value = value.Scalar (Number number) }) put)
       standing columns word starts clear is positions rep fresh end apart
 
@@ -42,7 +41,7 @@ module _ (f : Qre) (number : ℤ) (e : Expression) where
   iter_steps_none a a' so_far kept now item piece first ended keeps room =
       λ standing columns word starts clear is positions rep end apart.
       step_iter_none seen_of f number e (holding_of a) (holding_of a') so_far kept now item piece
-      (shaped columns f a word rep.0.0 rep.0.2) first ended keeps room
+      first ended keeps room
       standing columns word starts clear is positions rep end apart
 
   pub iter_steps_some : (a a' a'' : State) (so_far kept new : Contents Value) (now : ℕ) (item : List Field)
@@ -57,6 +56,6 @@ module _ (f : Qre) (number : ℤ) (e : Expression) where
   iter_steps_some a a' a'' so_far kept new now item piece begun hit live first ended keeps room second is_live put =
       λ standing columns word starts clear is positions rep end apart.
       step_iter_some seen_of f number e (holding_of a) (holding_of a') (holding_of a'') so_far kept new now item piece
-      begun hit live (shaped columns f a word rep.0.0 rep.0.2) first ended keeps room second is_live put
+      begun hit live first ended keeps room second is_live put
       (put_room live kept new (record { inner = now; outer = hit.start; value = hit.value }) put)
       standing columns word starts clear is positions rep end apart

@@ -26,7 +26,6 @@ use Rattle.eval_tree.proofs.Apart.{apart_right}
 use Rattle.eval_tree.proofs.Chains.{chain_apart, chain_clear}
 use Rattle.eval_tree.proofs.Ends.{NoneAtEnd, reached_end, reached_new}
 use Rattle.eval_tree.proofs.Pieces.{behind_end, end_is, word_behind}
-use Rattle.eval_tree.proofs.Shaped.{HasNodes}
 use Rattle.eval_tree.proofs.Splits.{handed}
 use Rattle.eval_tree.proofs.Waits.{waiting_new}
 
@@ -35,12 +34,12 @@ first_value number = value.Scalar (Number number)
 
 module _ {R : Type 0} (seen : R → Seen R) (f : Qre) (number : ℤ) (e : Expression) where
   pub start_iter : (a a' : Holding R) (so_far new : Contents Value) (at : ℕ) (operand : Option Hit) (live : Bool)
-      → HasNodes f → Starts seen f a at a' operand → live ≡ live_of f a' at
+      → Starts seen f a at a' operand → live ≡ live_of f a' at
       → IsPut live so_far (record { inner = at; outer = at; value = value.Scalar (Number number) }) new
       → new.room ≡ so_far.room
       → Starts seen (iter f number e) (chained a so_far) at (chained a' new)
       (Some (record { start = at; value = value.Scalar (Number number) }))
-  start_iter a a' so_far new at operand live run first is_live put room =
+  start_iter a a' so_far new at operand live first is_live put room =
       λ standing columns word starts clear is positions rep fresh end apart.
       let q = iter f number e in
       let x = first_value number in
@@ -76,7 +75,7 @@ module _ {R : Type 0} (seen : R → Seen R) (f : Qre) (number : ℤ) (e : Expres
       (apart_right columns q f e word all (ends ++ at ∷ []) two is apart_two
       (λ k there. (after k).0 (subst (λ n. Contains (ends ++ n ∷ []) k) end there))) in
       record {
-        after = handed seen columns q f e two word all ends a' so_far new at x live run is places apart_two before
+        after = handed seen columns q f e two word all ends a' so_far new at x live is places apart_two before
             rep.1.distinct
             (waiting_new (Den q) (HasExtension columns (rate_of f)) word starts so_far.entries at end no_value rep.1)
             rep.2 (Contains-push starts at) den

@@ -29,7 +29,6 @@ use Rattle.eval_tree.proofs.Chains.{chain_apart, chain_clear, den_push, no_empty
 use Rattle.eval_tree.proofs.Elsewhere.{elsewhere}
 use Rattle.eval_tree.proofs.Ends.{before_end, reached_all, reached_end, reached_more}
 use Rattle.eval_tree.proofs.Pieces.{behind_end, drop_more, length_more, split_piece, word_behind, word_piece}
-use Rattle.eval_tree.proofs.Shaped.{HasNodes}
 use Rattle.eval_tree.proofs.SplitHits.{IsBefore, ended_before}
 use Rattle.eval_tree.proofs.SplitSteps.{more_positions, still_waiting}
 use Rattle.eval_tree.proofs.Splits.{handed, none_in}
@@ -78,10 +77,10 @@ module _ (columns : List Column) (f : Qre) (number : ℤ) (e : Expression)
 
 module _ {R : Type 0} (seen : R → Seen R) (f : Qre) (number : ℤ) (e : Expression) where
   pub step_iter_none : (a a' : Holding R) (so_far kept : Contents Value) (now : ℕ) (item : List Field)
-      (piece : Option Hit) → HasNodes f → Steps seen f a now item a' piece → IsEnded e so_far.entries piece None
+      (piece : Option Hit) → Steps seen f a now item a' piece → IsEnded e so_far.entries piece None
       → kept.entries ≡ live_entries (elsewhere now (live_of f a')) so_far.entries → kept.room ≡ so_far.room
       → Steps seen (iter f number e) (chained a so_far) now item (chained a' kept) None
-  step_iter_none a a' so_far kept now item piece run first ended keeps room =
+  step_iter_none a a' so_far kept now item piece first ended keeps room =
       λ standing columns word starts clear is positions rep end apart.
       let q = iter f number e in
       let longer = word ++ item ∷ [] in
@@ -94,7 +93,7 @@ module _ {R : Type 0} (seen : R → Seen R) (f : Qre) (number : ℤ) (e : Expres
       (λ k there. let (start, part, from, cut, in_q) = (reached k).0 there in cut.inside) operand end
       (apart_right columns q f e longer starts ends two is apart_two
       (λ k there. let (start, part, from, cut, below, in_q) = (before k).0 there in (start, part, from, cut, in_q))) in
-      let waits = still_waiting seen columns q f e two word item starts ends a' now so_far.entries run is last
+      let waits = still_waiting seen columns q f e two word item starts ends a' now so_far.entries is last
       before reached rep.1 x.after in
       let hit = chain_hit columns f number e clear word item starts None is positions
       (ended_before columns q f e two word item starts ends so_far.entries is reached rep.1 piece None x.hit
@@ -117,13 +116,13 @@ module _ {R : Type 0} (seen : R → Seen R) (f : Qre) (number : ℤ) (e : Expres
       }
 
   pub step_iter_some : (a a' a'' : Holding R) (so_far kept new : Contents Value) (now : ℕ) (item : List Field)
-      (piece begun : Option Hit) (hit : Hit) (live : Bool) → HasNodes f → Steps seen f a now item a' piece
+      (piece begun : Option Hit) (hit : Hit) (live : Bool) → Steps seen f a now item a' piece
       → IsEnded e so_far.entries piece (Some hit)
       → kept.entries ≡ live_entries (elsewhere now (live_of f a')) so_far.entries → kept.room ≡ so_far.room
       → Starts seen f a' now a'' begun → live ≡ live_of f a'' now
       → IsPut live kept (record { inner = now; outer = hit.start; value = hit.value }) new → new.room ≡ kept.room
       → Steps seen (iter f number e) (chained a so_far) now item (chained a'' new) (Some hit)
-  step_iter_some a a' a'' so_far kept new now item piece begun hit live run first ended keeps room second is_live put
+  step_iter_some a a' a'' so_far kept new now item piece begun hit live first ended keeps room second is_live put
       same_room =
       λ standing columns word starts clear is positions rep end apart.
       let q = iter f number e in
@@ -138,7 +137,7 @@ module _ {R : Type 0} (seen : R → Seen R) (f : Qre) (number : ℤ) (e : Expres
       (λ k there. let (start, part, from, cut, in_q) = (reached k).0 there in cut.inside) operand end
       (apart_right columns q f e longer starts ends two is apart_two
       (λ k there. let (start, part, from, cut, below, in_q) = (before k).0 there in (start, part, from, cut, in_q))) in
-      let waits = still_waiting seen columns q f e two word item starts ends a' now so_far.entries run is last
+      let waits = still_waiting seen columns q f e two word item starts ends a' now so_far.entries is last
       before reached rep.1 x.after in
       let is_hit = chain_hit columns f number e clear word item starts (Some hit) is positions
       (ended_before columns q f e two word item starts ends so_far.entries is reached rep.1 piece (Some hit) x.hit
@@ -155,7 +154,7 @@ module _ {R : Type 0} (seen : R → Seen R) (f : Qre) (number : ℤ) (e : Expres
       (apart_right columns q f e longer starts (ends ++ now ∷ []) two is apart_two
       (λ k there. (after k).0 (subst (λ n. Contains (ends ++ n ∷ []) k) last there))) in
       record {
-        after = handed seen columns q f e two longer starts ends a'' kept new hit.start hit.value live run is all
+        after = handed seen columns q f e two longer starts ends a'' kept new hit.start hit.value live is all
             apart_two before
             (subst AreDistinct (sym keeps) (AreDistinct-live so_far.entries (elsewhere now (live_of f a')) rep.1.distinct))
             (subst (AreWaitingBefore (Den q) (HasExtension columns (rate_of f)) longer starts) (sym keeps) waits)

@@ -7,6 +7,17 @@ pub mod Chains
 pub mod Choices
 pub mod Cleared
 pub mod Clearing
+pub mod CollectAllowed
+pub mod CollectArms
+pub mod CollectBegun
+pub mod CollectCopies
+pub mod CollectCopying
+pub mod CollectFew
+pub mod CollectLiving
+pub mod CollectMade
+pub mod CollectSoundness
+pub mod CollectStarts
+pub mod CollectSteps
 pub mod Combines
 pub mod ComposeAllowed
 pub mod ComposeArms
@@ -31,6 +42,9 @@ pub mod Items
 pub mod IterArms
 pub mod IterStarts
 pub mod IterSteps
+pub mod KeyWords
+pub mod KeysPushed
+pub mod KeysTabled
 pub mod Lived
 pub mod Living
 pub mod Made
@@ -43,7 +57,7 @@ pub mod Quiet
 pub mod Reading
 pub mod RunnerCopies
 pub mod Runners
-pub mod Shaped
+pub mod Served
 pub mod SomeWords
 pub mod Soundness
 pub mod SplitArms
@@ -51,7 +65,9 @@ pub mod SplitHits
 pub mod SplitStarts
 pub mod SplitSteps
 pub mod Splits
+pub mod Tracked
 pub mod Typed
 pub mod Unlike
 pub mod Unsound
 pub mod Waits
+pub mod Zips

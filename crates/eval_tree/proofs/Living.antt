@@ -1,5 +1,6 @@
 -- Exactly the starts that can go on are live.
 use Rattle.std.proofs.Common.{◌≡◌, ◌↔◌, ◌==◌, ◌||◌, ℕ, ◌∙◌, Bool, true, false, List, [], ◌∷◌, ◌++◌, Option, Some, None, IsTrue, cond, drop, refl, sym, ap, subst, append_assoc, ◌⊎◌, inl, inr}
+use Rattle.std.specs.List.{list_any, Contains}
 use Rattle.std.proofs.lemmas.Bool.{eqb-true, eq-eqb}
 use Rattle.std.proofs.lemmas.Option.{none-some, same_Some}
 use Rattle.value_ops.specs.declared.value.Value.{Value}
@@ -17,15 +18,17 @@ use Rattle.query_model.proofs.InRates.{den_in}
 use Rattle.split_eval.specs.Entries.{entry_at, AreDistinct}
 use Rattle.split_eval.specs.declared.entry.Entry.{Entry}
 use Rattle.split_eval.proofs.Found.{found_behind, found_first}
-use Rattle.eval_tree.specs.Holdings.{Holding, waiting, nothing, both, paired, operand, pending, chained, fed, Seen}
+use Rattle.map_collect.specs.Tracks.{begins_at, starts_of}
+use Rattle.map_collect.specs.declared.track.Track.{Track}
+use Rattle.eval_tree.specs.Holdings.{Holding, waiting, nothing, both, paired, operand, pending, chained, fed, tracked, Seen}
 use Rattle.eval_tree.specs.Live.{is_outer, is_waiting, live_of}
 use Rattle.eval_tree.specs.Represents.{Represents}
 use Rattle.eval_tree.specs.Starts.{ArePositions, IsLive}
 use Rattle.eval_tree.proofs.Chains.{star_push}
 use Rattle.eval_tree.proofs.Few.{live_atom, no_live}
 use Rattle.eval_tree.proofs.GoingOn.{live_iter, live_split}
+use Rattle.eval_tree.proofs.Members.{first_member, later_member, member_cases, no_member}
 use Rattle.eval_tree.proofs.Pieces.{behind_end, piece_goes_on, word_join, word_piece}
-use Rattle.eval_tree.proofs.Shaped.{HasNodes}
 use Rattle.eval_tree.proofs.SomeWords.{some_word}
 use Rattle.eval_tree.proofs.Waits.{is_entry}
 
@@ -69,6 +72,25 @@ outer_is (x ∷ entries) inner entry found = first (x.inner == inner) (outer_is 
         (eq-eqb x.outer entry.outer (ap (λ (e : Entry Value). e.outer) (same_Some x entry there)))
     first false later there = right_true (x.outer == entry.outer) (is_outer entries entry.outer) (later there)
 
+-- a start of a collect that is found is there, and the other way round
+pub start_there : {R : Type 0} (tracks : List (Track R)) (start : ℕ) → IsTrue (list_any (begins_at start) tracks)
+    → Contains (starts_of tracks) start
+start_there [] start is = let wrong : false ≡ true = is in cc
+start_there (x ∷ tracks) start is =
+    elim (either_true (x.start == start) (list_any (begins_at start) tracks) is) [
+      | inl first ↦ subst (Contains (x.start ∷ starts_of tracks)) (eqb-true x.start start first)
+          (first_member x.start (starts_of tracks))
+      | inr later ↦ later_member x.start start (starts_of tracks) (start_there tracks start later)
+    ]
+
+pub start_read : {R : Type 0} (tracks : List (Track R)) (start : ℕ) → Contains (starts_of tracks) start
+    → IsTrue (list_any (begins_at start) tracks)
+start_read [] start there = absurd (no_member start there)
+start_read (x ∷ tracks) start there = elim (member_cases x.start start (starts_of tracks) there) [
+  | inl same ↦ left_true (x.start == start) (list_any (begins_at start) tracks) (eq-eqb x.start start same)
+  | inr later ↦ right_true (x.start == start) (list_any (begins_at start) tracks) (start_read tracks start later)
+]
+
 module _ {R : Type 0} (seen : R → Seen R) where
   living_atom : (standing : Standing) (columns : List Column) (pred : Predicate) (e : Expression) (found : Option ℕ)
       (word : Word) (starts : List ℕ) (start : ℕ) → IsClear standing columns (atom pred e)
@@ -101,18 +123,18 @@ module _ {R : Type 0} (seen : R → Seen R) where
   )
 
   pub living : (standing : Standing) (columns : List Column) (q : Qre) (holding : Holding R) (word : Word)
-      (starts : List ℕ) (start : ℕ) → HasNodes q → IsClear standing columns q → IsWordOf columns word
+      (starts : List ℕ) (start : ℕ) → IsClear standing columns q → IsWordOf columns word
       → ArePositions word starts → Represents seen columns q holding word starts
       → IsTrue (live_of q holding start) ↔ IsLive columns q word starts start
-  living standing columns (atom pred e) (waiting found) word starts start run clear is positions rep =
+  living standing columns (atom pred e) (waiting found) word starts start clear is positions rep =
       living_atom standing columns pred e found word starts start clear positions rep
-  living standing columns (eps number) nothing word starts start run clear is positions rep = (
+  living standing columns (eps number) nothing word starts start clear is positions rep = (
     λ live. let wrong : false ≡ true = live in cc,
     λ live. absurd (no_live columns number word starts start live),
   )
-  living standing columns (choice f g) (both a b) word starts start run clear is positions rep =
-      let first = living bound columns f a word starts start run.0 clear.0 is positions rep.0 in
-      let second = living bound columns g b word starts start run.1 clear.1 is positions rep.1 in (
+  living standing columns (choice f g) (both a b) word starts start clear is positions rep =
+      let first = living bound columns f a word starts start clear.0 is positions rep.0 in
+      let second = living bound columns g b word starts start clear.1 is positions rep.1 in (
         λ live. elim (either_true (live_of f a start) (live_of g b start) live) [
           | inl left ↦ let (there, (item, more, more_is, in_f)) =
               first.0 left in (there, (item, more, more_is, inl in_f))
@@ -125,8 +147,8 @@ module _ {R : Type 0} (seen : R → Seen R) where
               (second.1 (there, (item, more, more_is, in_g)))
         ],
       )
-  living standing columns (split f g e) (pending a b left) word starts start run clear is positions rep =
-      let first = living bound columns f a word starts start run.0 clear.0 is positions rep.0 in (
+  living standing columns (split f g e) (pending a b left) word starts start clear is positions rep =
+      let first = living bound columns f a word starts start clear.0 is positions rep.0 in (
         λ live. elim (either_true (live_of f a start) (is_outer left.entries start) live) [
           | inl begun ↦
               let (there, (item, more, more_is, in_f)) = first.0 begun in
@@ -177,7 +199,7 @@ module _ {R : Type 0} (seen : R → Seen R) where
               ((rep.2.each at start den.0).1 (from, (piece, cut, den.1), more)))
         ],
       )
-  living standing columns (iter f number e) (chained a so_far) word starts start run clear is positions rep = (
+  living standing columns (iter f number e) (chained a so_far) word starts start clear is positions rep = (
     λ live.
         let (entry, found, outer) = outer_found so_far.entries start rep.1.distinct live in
         let (from, (piece, cut, den), (item, more, more_is, in_f)) =
@@ -203,11 +225,14 @@ module _ {R : Type 0} (seen : R → Seen R) where
         outer_is so_far.entries at (record { inner = at; outer = start; value = den.0 })
         ((rep.1.each at start den.0).1 (from, (piece, cut, den.1), more)),
   )
-  living standing columns (combine f g e) (paired a b) word starts start run clear is positions rep =
-      living bound columns f a word starts start run.0 clear.0 is positions rep.0
-  living standing columns (apply f e) (operand a) word starts start run clear is positions rep =
-      living bound columns f a word starts start run clear.0 is positions rep
-  living standing columns (compose f g) (fed a held) word starts start run clear is positions rep =
-      living standing columns f a word starts start run clear.0 is positions rep.0
-  living standing columns (collect column sync rate f) holding word starts start run clear is positions rep = absurd run
-  living standing columns q holding word starts start run clear is positions rep = absurd rep
+  living standing columns (combine f g e) (paired a b) word starts start clear is positions rep =
+      living bound columns f a word starts start clear.0 is positions rep.0
+  living standing columns (apply f e) (operand a) word starts start clear is positions rep =
+      living bound columns f a word starts start clear.0 is positions rep
+  living standing columns (compose f g) (fed a held) word starts start clear is positions rep =
+      living standing columns f a word starts start clear.0 is positions rep.0
+  living standing columns (collect column sync rate f) (tracked all) word starts start clear is positions rep = (
+    λ live. (rep.2.there start).0 (start_there all.tracks start live),
+    λ live. start_read all.tracks start ((rep.2.there start).1 live),
+  )
+  living standing columns q holding word starts start clear is positions rep = absurd rep

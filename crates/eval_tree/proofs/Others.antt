@@ -1,16 +1,14 @@
--- The empty word, and the shape for which there is no node: what is kept for them, cleared and copied.
-use Rattle.std.proofs.Common.{◌≡◌, Bool, true, false, refl}
-use Rattle.std.proofs.lemmas.Bool.{false≢true}
+-- The empty word: what is kept for it, cleared and copied; and what is copied where it is not what the query asks for.
+use Rattle.std.proofs.Common.{◌≡◌, refl}
 use Rattle.query_model.specs.declared.query.Shape.{Shape}
 use Rattle.query_model.specs.declared.query.Shape.TheVariants.{Atom, Eps, Or', Split', Iter', Combine', Apply', Compose', Collect'}
-use Rattle.query_model.specs.Queries.{Qre, atom, eps, choice, split, iter, combine, apply, compose, collect, plain_of}
-use Rattle.eval_tree.specs.declared.progress.Progress.{Progress}
+use Rattle.query_model.specs.Queries.{plain_of}
 use Rattle.eval_tree.specs.declared.node.State.{State}
 use Rattle.eval_tree.specs.declared.node.State.TheVariants.{Empty, Item}
 use Rattle.eval_tree.specs.Copies.{IsCopy}
 use Rattle.eval_tree.specs.Counts.{stored_in}
 use Rattle.eval_tree.specs.Feeds.{IsCleared}
-use Rattle.eval_tree.specs.Holdings.{Holding, waiting, nothing, both, paired, operand, pending, chained, fed, tracked}
+use Rattle.eval_tree.specs.Holdings.{nothing}
 use Rattle.eval_tree.specs.Plain.{holding_of, seen_of}
 use Rattle.eval_tree.proofs.Lived.{IsOther}
 
@@ -25,22 +23,32 @@ other_stored (Iter' p f a number value) state other = absurd other
 other_stored (Combine' p f a q g b value) state other = absurd other
 other_stored (Apply' p f a value) state other = absurd other
 other_stored (Compose' p f a q g b) state other = absurd other
-other_stored (Collect' key sync rate p f a) (Item found) other = refl
-other_stored (Collect' key sync rate p f a) state other = refl
+other_stored (Collect' key sync rate p f a) state other = absurd other
 
-pub other_cleared : (shape : Shape) (state : State) → IsOther shape
+-- a shape whose nodes stay as they are where they are cleared: nothing is kept for the empty word, and no collect is cleared
+abbrev pub IsLeft : Shape → Type 0
+IsLeft (Atom pred value) = ⊥
+IsLeft (Eps number) = Unit {0}
+IsLeft (Or' p f a q g b) = ⊥
+IsLeft (Split' p f a q g b value) = ⊥
+IsLeft (Iter' p f a number value) = ⊥
+IsLeft (Combine' p f a q g b value) = ⊥
+IsLeft (Apply' p f a value) = ⊥
+IsLeft (Compose' p f a q g b) = ⊥
+IsLeft (Collect' key sync rate p f a) = Unit {0}
+
+pub left_cleared : (shape : Shape) (state : State) → IsLeft shape
     → IsCleared seen_of (plain_of shape) (holding_of state) (holding_of state)
-other_cleared (Atom pred value) state other = absurd other
-other_cleared (Eps number) Empty other = λ columns position sound. (λ others. tt, λ now. tt)
-other_cleared (Eps number) state other = λ columns position sound. absurd sound
-other_cleared (Or' p f a q g b) state other = absurd other
-other_cleared (Split' p f a q g b value) state other = absurd other
-other_cleared (Iter' p f a number value) state other = absurd other
-other_cleared (Combine' p f a q g b value) state other = absurd other
-other_cleared (Apply' p f a value) state other = absurd other
-other_cleared (Compose' p f a q g b) state other = absurd other
-other_cleared (Collect' key sync rate p f a) (Item found) other = λ columns position sound. absurd sound
-other_cleared (Collect' key sync rate p f a) state other = λ columns position sound. absurd sound
+left_cleared (Atom pred value) state left = absurd left
+left_cleared (Eps number) Empty left = λ no_collect columns position sound. (λ others. tt, λ now. tt)
+left_cleared (Eps number) state left = λ no_collect columns position sound. absurd sound
+left_cleared (Or' p f a q g b) state left = absurd left
+left_cleared (Split' p f a q g b value) state left = absurd left
+left_cleared (Iter' p f a number value) state left = absurd left
+left_cleared (Combine' p f a q g b value) state left = absurd left
+left_cleared (Apply' p f a value) state left = absurd left
+left_cleared (Compose' p f a q g b) state left = absurd left
+left_cleared (Collect' key sync rate p f a) state left = λ no_collect columns position sound. absurd no_collect
 
 pub other_copied : (shape : Shape) (state : State) → IsOther shape
     → IsCopy seen_of (plain_of shape) (holding_of state) nothing
@@ -53,8 +61,7 @@ other_copied (Iter' p f a number value) state other = absurd other
 other_copied (Combine' p f a q g b value) state other = absurd other
 other_copied (Apply' p f a value) state other = absurd other
 other_copied (Compose' p f a q g b) state other = absurd other
-other_copied (Collect' key sync rate p f a) (Item found) other = tt
-other_copied (Collect' key sync rate p f a) state other = tt
+other_copied (Collect' key sync rate p f a) state other = absurd other
 
 -- it is none of the shapes that have arms of their own
 pub other_shape : (shape : Shape) → ((pred value : _) → shape ≡ Atom pred value → ⊥)
@@ -62,37 +69,31 @@ pub other_shape : (shape : Shape) → ((pred value : _) → shape ≡ Atom pred 
     → ((p f a number value : _) → shape ≡ Iter' p f a number value → ⊥)
     → ((p f a q g b value : _) → shape ≡ Combine' p f a q g b value → ⊥)
     → ((p f a value : _) → shape ≡ Apply' p f a value → ⊥) → ((p f a q g b : _) → shape ≡ Compose' p f a q g b → ⊥)
-    → IsOther shape
-other_shape (Atom pred value) no_atom no_or no_split no_iter no_combine no_apply no_compose = no_atom pred value refl
-other_shape (Eps number) no_atom no_or no_split no_iter no_combine no_apply no_compose = tt
-other_shape (Or' p f a q g b) no_atom no_or no_split no_iter no_combine no_apply no_compose = no_or p f a q g b refl
-other_shape (Split' p f a q g b value) no_atom no_or no_split no_iter no_combine no_apply no_compose = no_split p f a q g b value refl
-other_shape (Iter' p f a number value) no_atom no_or no_split no_iter no_combine no_apply no_compose = no_iter p f a number value refl
-other_shape (Combine' p f a q g b value) no_atom no_or no_split no_iter no_combine no_apply no_compose = no_combine p f a q g b value refl
-other_shape (Apply' p f a value) no_atom no_or no_split no_iter no_combine no_apply no_compose = no_apply p f a value refl
-other_shape (Compose' p f a q g b) no_atom no_or no_split no_iter no_combine no_apply no_compose = no_compose p f a q g b refl
-other_shape (Collect' key sync rate p f a) no_atom no_or no_split no_iter no_combine no_apply no_compose = tt
+    → ((key sync rate p f a : _) → shape ≡ Collect' key sync rate p f a → ⊥) → IsOther shape
+other_shape (Atom pred value) no_atom no_or no_split no_iter no_combine no_apply no_compose no_collect = no_atom pred value refl
+other_shape (Eps number) no_atom no_or no_split no_iter no_combine no_apply no_compose no_collect = tt
+other_shape (Or' p f a q g b) no_atom no_or no_split no_iter no_combine no_apply no_compose no_collect = no_or p f a q g b refl
+other_shape (Split' p f a q g b value) no_atom no_or no_split no_iter no_combine no_apply no_compose no_collect = no_split p f a q g b value refl
+other_shape (Iter' p f a number value) no_atom no_or no_split no_iter no_combine no_apply no_compose no_collect = no_iter p f a number value refl
+other_shape (Combine' p f a q g b value) no_atom no_or no_split no_iter no_combine no_apply no_compose no_collect = no_combine p f a q g b value refl
+other_shape (Apply' p f a value) no_atom no_or no_split no_iter no_combine no_apply no_compose no_collect = no_apply p f a value refl
+other_shape (Compose' p f a q g b) no_atom no_or no_split no_iter no_combine no_apply no_compose no_collect = no_compose p f a q g b refl
+other_shape (Collect' key sync rate p f a) no_atom no_or no_split no_iter no_combine no_apply no_compose no_collect =
+    no_collect key sync rate p f a refl
 
--- whether what is kept is that for a query of such a shape
-abbrev pub is_kept_for : Qre → Holding Progress → Bool
-is_kept_for (atom pred e) (waiting found) = true
-is_kept_for (choice f g) (both a b) = true
-is_kept_for (split f g e) (pending a b left) = true
-is_kept_for (iter f number e) (chained a so_far) = true
-is_kept_for (combine f g e) (paired a b) = true
-is_kept_for (apply f e) (operand a) = true
-is_kept_for (compose f g) (fed a held) = true
-is_kept_for (collect column sync rate f) (tracked sets all) = true
-is_kept_for query holding = false
-
-pub unlike_copied : (q : Qre) (h : Holding Progress) → false ≡ is_kept_for q h → IsCopy seen_of q h nothing
-unlike_copied (atom pred e) (waiting found) is = absurd (false≢true is)
-unlike_copied (eps number) nothing is = refl
-unlike_copied (choice f g) (both a b) is = absurd (false≢true is)
-unlike_copied (split f g e) (pending a b left) is = absurd (false≢true is)
-unlike_copied (iter f number e) (chained a so_far) is = absurd (false≢true is)
-unlike_copied (combine f g e) (paired a b) is = absurd (false≢true is)
-unlike_copied (apply f e) (operand a) is = absurd (false≢true is)
-unlike_copied (compose f g) (fed a held) is = absurd (false≢true is)
-unlike_copied (collect column sync rate f) (tracked sets all) is = absurd (false≢true is)
-unlike_copied q h is = tt
+-- it is none of the shapes that are cleared
+pub left_shape : (shape : Shape) → ((pred value : _) → shape ≡ Atom pred value → ⊥)
+    → ((p f a q g b : _) → shape ≡ Or' p f a q g b → ⊥) → ((p f a q g b value : _) → shape ≡ Split' p f a q g b value → ⊥)
+    → ((p f a number value : _) → shape ≡ Iter' p f a number value → ⊥)
+    → ((p f a q g b value : _) → shape ≡ Combine' p f a q g b value → ⊥)
+    → ((p f a value : _) → shape ≡ Apply' p f a value → ⊥) → ((p f a q g b : _) → shape ≡ Compose' p f a q g b → ⊥)
+    → IsLeft shape
+left_shape (Atom pred value) no_atom no_or no_split no_iter no_combine no_apply no_compose = no_atom pred value refl
+left_shape (Eps number) no_atom no_or no_split no_iter no_combine no_apply no_compose = tt
+left_shape (Or' p f a q g b) no_atom no_or no_split no_iter no_combine no_apply no_compose = no_or p f a q g b refl
+left_shape (Split' p f a q g b value) no_atom no_or no_split no_iter no_combine no_apply no_compose = no_split p f a q g b value refl
+left_shape (Iter' p f a number value) no_atom no_or no_split no_iter no_combine no_apply no_compose = no_iter p f a number value refl
+left_shape (Combine' p f a q g b value) no_atom no_or no_split no_iter no_combine no_apply no_compose = no_combine p f a q g b value refl
+left_shape (Apply' p f a value) no_atom no_or no_split no_iter no_combine no_apply no_compose = no_apply p f a value refl
+left_shape (Compose' p f a q g b) no_atom no_or no_split no_iter no_combine no_apply no_compose = no_compose p f a q g b refl
+left_shape (Collect' key sync rate p f a) no_atom no_or no_split no_iter no_combine no_apply no_compose = tt

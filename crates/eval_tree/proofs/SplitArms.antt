@@ -16,7 +16,6 @@ use Rattle.eval_tree.specs.Live.{live_of}
 use Rattle.eval_tree.specs.Plain.{holding_of, seen_of}
 use Rattle.eval_tree.specs.Steps.{Starts, Steps}
 use Rattle.eval_tree.proofs.Elsewhere.{elsewhere}
-use Rattle.eval_tree.proofs.Shaped.{shaped}
 use Rattle.eval_tree.proofs.SplitStarts.{start_split_some}
 use Rattle.eval_tree.proofs.SplitSteps.{step_split_none, step_split_some}
 
@@ -39,7 +38,7 @@ module _ (f g : Qre) (e : Expression) where
       λ standing columns word starts clear is positions rep fresh end apart.
       start_split_some seen_of f g e (holding_of a) (holding_of b) (holding_of a')
       (holding_of b') held new at left right
-      hit live (shaped columns g b word rep.1.0 rep.1.2) first second joined is_live put
+      hit live first second joined is_live put
       (put_room live held new (record { inner = at; outer = left.start; value = left.value }) put)
       standing columns word starts clear is positions rep fresh end apart
 
@@ -52,7 +51,7 @@ module _ (f g : Qre) (e : Expression) where
   split_steps_none a b a' b' held kept now item right hit first second ended keeps room =
       λ standing columns word starts clear is positions rep end apart.
       step_split_none seen_of f g e (holding_of a) (holding_of b) (holding_of a') (holding_of b') held kept now item
-      right hit (shaped columns g b word rep.1.0 rep.1.2) first second ended keeps room
+      right hit first second ended keeps room
       standing columns word starts clear is positions rep end apart
 
   pub split_steps_some : (a b a' b' b'' : State) (held kept new : Contents Value) (now : ℕ) (item : List Field)
@@ -69,7 +68,7 @@ module _ (f g : Qre) (e : Expression) where
       room third joined is_live put =
       λ standing columns word starts clear is positions rep end apart.
       step_split_some seen_of f g e (holding_of a) (holding_of b) (holding_of a') (holding_of b') (holding_of b'') held
-      kept new now item left right begun hit second_hit live (shaped columns g b word rep.1.0 rep.1.2)
+      kept new now item left right begun hit second_hit live
       first second ended
       keeps room third joined is_live put
       (put_room live kept new (record { inner = now; outer = left.start; value = left.value }) put)

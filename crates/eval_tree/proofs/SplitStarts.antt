@@ -23,7 +23,6 @@ use Rattle.eval_tree.specs.Steps.{IsFirstHit, Starts}
 use Rattle.eval_tree.proofs.Apart.{apart_left, apart_right}
 use Rattle.eval_tree.proofs.Ends.{reached_end, reached_new, reached_same}
 use Rattle.eval_tree.proofs.Pieces.{behind_end, end_is, word_behind}
-use Rattle.eval_tree.proofs.Shaped.{HasNodes}
 use Rattle.eval_tree.proofs.Splits.{handed}
 use Rattle.eval_tree.proofs.Waits.{waiting_new, waiting_same}
 
@@ -66,13 +65,13 @@ module _ {R : Type 0} (seen : R → Seen R) where
       }
 
   pub start_split_some : (f g : Qre) (e : Expression) (a b a' b' : Holding R) (held new : Contents Value) (at : ℕ)
-      (left : Hit) (right hit : Option Hit) (live : Bool) → HasNodes g
+      (left : Hit) (right hit : Option Hit) (live : Bool)
       → Starts seen f a at a' (Some left) → Starts seen g b at b' right
       → IsJoined e left.start left.value right hit → live ≡ live_of g b' at
       → IsPut live held (record { inner = at; outer = left.start; value = left.value }) new
       → new.room ≡ held.room
       → Starts seen (split f g e) (pending a b held) at (pending a' b' new) hit
-  start_split_some f g e a b a' b' held new at left right hit live run first second joined is_live put room =
+  start_split_some f g e a b a' b' held new at left right hit live first second joined is_live put room =
       λ standing columns word starts clear is positions rep fresh end apart.
       let all = starts ++ at ∷ [] in
       let apart_f = apart_left columns f g e word all clear.1 apart in
@@ -100,7 +99,7 @@ module _ {R : Type 0} (seen : R → Seen R) where
       (apart_right columns f g e word all (ends ++ at ∷ []) clear is apart
       (λ k there. (after k).0 (subst (λ n. Contains (ends ++ n ∷ []) k) end there))) in
       let inner : left.start ≡ at = x.hit.0 in
-      let handed_on = handed seen columns f g e clear word all ends b' held new at left.value live run is
+      let handed_on = handed seen columns f g e clear word all ends b' held new at left.value live is
       (λ start there. elim (Contains-push_cases starts at start there) [
         | inl old ↦ positions start old
         | inr same ↦ subst (λ k. k ≤ length word) same inside

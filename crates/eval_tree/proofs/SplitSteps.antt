@@ -30,7 +30,6 @@ use Rattle.eval_tree.proofs.Elsewhere.{elsewhere, elsewhere_lives}
 use Rattle.eval_tree.proofs.Ends.{AreReachedBefore, reached_all, reached_end, reached_more}
 use Rattle.eval_tree.proofs.Living.{living}
 use Rattle.eval_tree.proofs.Pieces.{length_more, word_behind, word_piece}
-use Rattle.eval_tree.proofs.Shaped.{HasNodes}
 use Rattle.eval_tree.proofs.Splits.{extension_less, handed, none_in}
 use Rattle.eval_tree.proofs.Waits.{AreWaitingBefore, waiting_all, waiting_more}
 use Rattle.eval_tree.proofs.SplitHits.{either_end, ended_before, last_joined, no_last}
@@ -47,14 +46,14 @@ module _ {R : Type 0} (seen : R → Seen R) where
   pub still_waiting : (columns : List Column) (f g : Qre) (e : Expression) → IsClear bound columns (split f g e)
       → (word : Word) (item : List Field) (starts ends : List ℕ) (b' : Holding R) (now : ℕ)
       (entries : List (Entry Value))
-      → HasNodes g → IsWordOf columns (word ++ item ∷ []) → now ≡ length (word ++ item ∷ [])
+      → IsWordOf columns (word ++ item ∷ []) → now ≡ length (word ++ item ∷ [])
       → AreReachedBefore (In (rate_of f)) (word ++ item ∷ []) starts ends
       → AreReached (In (rate_of f)) word starts ends
       → AreWaiting (Den f) (HasExtension columns (rate_of g)) word starts entries
       → Represents seen columns g b' (word ++ item ∷ []) ends
       → AreWaitingBefore (Den f) (HasExtension columns (rate_of g)) (word ++ item ∷ []) starts
       (live_entries (elsewhere now (live_of g b')) entries)
-  still_waiting columns f g e clear word item starts ends b' now entries run is last before reached waiting right =
+  still_waiting columns f g e clear word item starts ends b' now entries is last before reached waiting right =
       let old = word_parts columns word (item ∷ []) is in
       waiting_more (Den f) (HasExtension columns (rate_of g)) word item starts ends entries
       (elsewhere now (live_of g b'))
@@ -69,15 +68,15 @@ module _ {R : Type 0} (seen : R → Seen R) where
       (elsewhere_lives now (live_of g b')
       (λ inner. Contains ends inner × HasExtension columns (rate_of g) (drop inner (word ++ item ∷ [])))
       (λ there. let (start, piece, begins, cut, below, in_piece) = (before now).0 there.0 in omega (arith, below, last))
-      (λ inner. living seen bound columns g b' (word ++ item ∷ []) ends inner run clear.1 is
+      (λ inner. living seen bound columns g b' (word ++ item ∷ []) ends inner clear.1 is
       (λ k there. let (start, piece, begins, cut, below, in_piece) = (before k).0 there in cut.inside) right))
 
   pub step_split_none : (f g : Qre) (e : Expression) (a b a' b' : Holding R) (held kept : Contents Value) (now : ℕ)
-      (item : List Field) (right hit : Option Hit) → HasNodes g
+      (item : List Field) (right hit : Option Hit)
       → Steps seen f a now item a' None → Steps seen g b now item b' right → IsEnded e held.entries right hit
       → kept.entries ≡ live_entries (elsewhere now (live_of g b')) held.entries → kept.room ≡ held.room
       → Steps seen (split f g e) (pending a b held) now item (pending a' b' kept) hit
-  step_split_none f g e a b a' b' held kept now item right hit run first second ended keeps room =
+  step_split_none f g e a b a' b' held kept now item right hit first second ended keeps room =
       λ standing columns word starts clear is positions rep end apart.
       let longer = word ++ item ∷ [] in
       let (ends, reached, right_rep) = rep.1 in
@@ -91,7 +90,7 @@ module _ {R : Type 0} (seen : R → Seen R) where
       (apart_right columns f g e longer starts ends clear is apart
       (λ k there. let (start, piece, from, cut, below, in_f) = (before k).0 there in (start, piece, from, cut, in_f)))
       in
-      let waits = still_waiting columns f g e clear word item starts ends b' now held.entries run is last before
+      let waits = still_waiting columns f g e clear word item starts ends b' now held.entries is last before
       reached rep.2 y.after in
       record {
         after = (
@@ -121,14 +120,14 @@ module _ {R : Type 0} (seen : R → Seen R) where
 
   pub step_split_some : (f g : Qre) (e : Expression) (a b a' b' b'' : Holding R)
       (held kept new : Contents Value) (now : ℕ)
-      (item : List Field) (left : Hit) (right begun hit second_hit : Option Hit) (live : Bool) → HasNodes g
+      (item : List Field) (left : Hit) (right begun hit second_hit : Option Hit) (live : Bool)
       → Steps seen f a now item a' (Some left) → Steps seen g b now item b' right → IsEnded e held.entries right hit
       → kept.entries ≡ live_entries (elsewhere now (live_of g b')) held.entries → kept.room ≡ held.room
       → Starts seen g b' now b'' begun → IsJoined e left.start left.value begun second_hit
       → live ≡ live_of g b'' now
       → IsPut live kept (record { inner = now; outer = left.start; value = left.value }) new → new.room ≡ kept.room
       → Steps seen (split f g e) (pending a b held) now item (pending a' b'' new) (option_or hit second_hit)
-  step_split_some f g e a b a' b' b'' held kept new now item left right begun hit second_hit live run first second ended
+  step_split_some f g e a b a' b' b'' held kept new now item left right begun hit second_hit live first second ended
       keeps room third joined is_live put same_room =
       λ standing columns word starts clear is positions rep end apart.
       let longer = word ++ item ∷ [] in
@@ -143,7 +142,7 @@ module _ {R : Type 0} (seen : R → Seen R) where
       (apart_right columns f g e longer starts ends clear is apart
       (λ k there. let (start, piece, from, cut, below, in_f) = (before k).0 there in (start, piece, from, cut, in_f)))
       in
-      let waits = still_waiting columns f g e clear word item starts ends b' now held.entries run is last before
+      let waits = still_waiting columns f g e clear word item starts ends b' now held.entries is last before
       reached rep.2 y.after in
       let from = x.hit.sound.0 in
       let den = x.hit.sound.1 in
@@ -156,7 +155,7 @@ module _ {R : Type 0} (seen : R → Seen R) where
       last
       (apart_right columns f g e longer starts (ends ++ now ∷ []) clear is apart
       (λ k there. (after k).0 (subst (λ n. Contains (ends ++ n ∷ []) k) last there))) in
-      let handed_on = handed seen columns f g e clear longer starts ends b'' kept new left.start left.value live run
+      let handed_on = handed seen columns f g e clear longer starts ends b'' kept new left.start left.value live
       is all apart before
       (subst AreDistinct (sym keeps) (AreDistinct-live held.entries (elsewhere now (live_of g b')) rep.2.distinct))
       (subst (AreWaitingBefore (Den f) (HasExtension columns (rate_of g)) longer starts) (sym keeps) waits)

@@ -32,7 +32,6 @@ use Rattle.eval_tree.proofs.Few.{few_live}
 use Rattle.eval_tree.proofs.Living.{living}
 use Rattle.eval_tree.proofs.Members.{member_cases, no_member}
 use Rattle.eval_tree.proofs.Pieces.{word_behind, word_piece}
-use Rattle.eval_tree.proofs.Shaped.{HasNodes}
 use Rattle.eval_tree.proofs.Waits.{AreWaitingBefore, fresh_end, is_entry, waiting_end}
 
 -- the inner starts of entries
@@ -81,17 +80,17 @@ module _ (columns : List Column) (f g : Qre) (e : Expression) (clear : IsClear b
       none start den.0 there den.1
 
   -- The room is enough: left values that wait, and one more, have different live starts on the right.
-  pub has_room : (word : Word) (starts ends : List ℕ) (held : Contents Value) → HasNodes g → IsWordOf columns word
+  pub has_room : (word : Word) (starts ends : List ℕ) (held : Contents Value) → IsWordOf columns word
       → AreApart columns (split f g e) word starts → AreDistinct held.entries
       → AreReachedBefore (In (rate_of f)) word starts ends
       → AreReached (In (rate_of f)) word starts (ends ++ length word ∷ [])
       → AreWaitingBefore (Den f) (HasExtension columns (rate_of g)) word starts held.entries
       → HasExtension columns (rate_of g) (drop (length word) word)
       → held.room ≡ places_of g → length held.entries < held.room
-  has_room word starts ends held run is apart distinct before reached waiting more room =
+  has_room word starts ends held is apart distinct before reached waiting more room =
       let all = ends ++ length word ∷ [] in
       let count = count_inners held.entries in
-      let few = few_live bound columns g word all (length word ∷ inners held.entries) run clear.1 is
+      let few = few_live bound columns g word all (length word ∷ inners held.entries) clear.1 is
       (λ at there. let (start, piece, from, cut, in_f) = (reached at).0 there in cut.inside)
       (apart_right columns f g e word starts all clear is apart (λ at there. (reached at).0 there)) (
         (λ there. let (entry, found) = inner_found held.entries (length word) distinct there in
@@ -128,7 +127,7 @@ module _ {R : Type 0} (seen : R → Seen R) (columns : List Column) (f g : Qre) 
 
   -- A left value of a piece to the end is handed over: the right operand is started there, and the value waits.
   pub handed : (word : Word) (starts ends : List ℕ) (b : Holding R) (old new : Contents Value) (begun : ℕ) (x : Value)
-      (live : Bool) → HasNodes g → IsWordOf columns word → ArePositions word starts
+      (live : Bool) → IsWordOf columns word → ArePositions word starts
       → AreApart columns (split f g e) word starts
       → AreReachedBefore (In (rate_of f)) word starts ends → AreDistinct old.entries
       → AreWaitingBefore (Den f) (HasExtension columns (rate_of g)) word starts old.entries
@@ -136,11 +135,11 @@ module _ {R : Type 0} (seen : R → Seen R) (columns : List Column) (f g : Qre) 
       → Represents seen columns g b word (ends ++ length word ∷ []) → live ≡ live_of g b (length word)
       → IsPut live old (record { inner = length word; outer = begun; value = x }) new → new.room ≡ old.room
       → IsRight word starts b new
-  handed word starts ends b old new begun x live run is positions apart before distinct waiting room there den
+  handed word starts ends b old new begun x live is positions apart before distinct waiting room there den
       right live_is put same_room =
       let in_f = den_in bound columns f (drop begun word) x clear.0 (word_behind columns word begun is) den in
       let reached = reached_end (In (rate_of f)) word starts ends begun before there (positions begun there) in_f in
-      let lives = living seen bound columns g b word (ends ++ length word ∷ []) (length word) run clear.1 is
+      let lives = living seen bound columns g b word (ends ++ length word ∷ []) (length word) clear.1 is
       (λ at among. let (start, piece, from, cut, in_piece) = (reached at).0 among in cut.inside) right in
       let apart_f = apart_left columns f g e word starts clear.1 apart in (
         (ends ++ length word ∷ [], reached, right),
@@ -159,7 +158,7 @@ module _ {R : Type 0} (seen : R → Seen R) (columns : List Column) (f g : Qre) 
               (λ is_live. (lives.0 (sym live_is ∙ is_live)).1),
               (λ more. live_is ∙ lives.1 (Contains-push ends (length word), more)),
             )
-            (λ is_live. has_room columns f g e clear word starts ends old run is apart distinct before reached waiting
+            (λ is_live. has_room columns f g e clear word starts ends old is apart distinct before reached waiting
             ((lives.0 (sym live_is ∙ is_live)).1) room)
             put,
         same_room ∙ room,

@@ -5,18 +5,20 @@ use Rattle.std.specs.declared.alloc.Global.{Global}
 use Rattle.value_ops.specs.declared.value.Value.{Value}
 use Rattle.value_ops.specs.Expressions.{Expression}
 use Rattle.predicate_cells.specs.Predicates.{Predicate}
-use Rattle.query_model.specs.Queries.{Qre, atom, choice, split, iter, combine, apply, compose}
+use Rattle.rate_expr.specs.Rates as rates
+use Rattle.query_model.specs.Queries.{Qre, atom, choice, split, iter, combine, apply, compose, collect}
 use Rattle.split_eval.specs.Entries.{Contents}
 use Rattle.compose_eval.specs.Followers as instances
+use Rattle.map_collect.specs.Tracks as tracks
 use Rattle.eval_tree.specs.declared.node.Node.{Node}
 use Rattle.eval_tree.specs.declared.node.State.{State}
-use Rattle.eval_tree.specs.declared.node.State.TheVariants.{Item, Both', Operand', Sequence', Pair', Repeated', Fed', Both, Operand, Sequence, Pair, Repeated, Fed}
+use Rattle.eval_tree.specs.declared.node.State.TheVariants.{Item, Both', Operand', Sequence', Pair', Repeated', Fed', Tracked', Both, Operand, Sequence, Pair, Repeated, Fed, Tracked}
 use Rattle.eval_tree.specs.declared.node.State.TheViews.{out-State, roll-State, roll-out-State}
 use Rattle.eval_tree.specs.declared.progress.Progress.{Progress}
 use Rattle.eval_tree.specs.Copies.{IsCopy}
 use Rattle.eval_tree.specs.Holdings.{nothing}
 use Rattle.eval_tree.specs.Live.{live_of}
-use Rattle.eval_tree.specs.Plain.{holding_of, runners_of, seen_of}
+use Rattle.eval_tree.specs.Plain.{holding_of, runners_of, seen_of, tracks_of}
 
 pub unlike_atom : (pred : Predicate) (e : Expression) (state : State)
     → ((found : Option ℕ) → state ≡ Item found → ⊥) → IsCopy seen_of (atom pred e) (holding_of state) nothing
@@ -76,3 +78,18 @@ module _ (f g : Qre) where
       absurd (unlike (record { ptr = p.ptr; alloc = p.alloc; value = record { state = a } })
       (runners_of (out-State (Fed' p a held runners))) (sym (roll-out-State (Fed' p a held runners))))
   unlike_lives state start unlike = refl
+
+module _ (column : ℕ) (sync : Predicate) (rate : rates.Expression) (f : Qre) where
+  pub unlike_collect : (state : State) → ((all : tracks.Contents Progress) → state ≡ Tracked all → ⊥)
+      → IsCopy seen_of (collect column sync rate f) (holding_of state) nothing
+  unfolding roll-State out-State denote.Hole.Carrier.roll denote.Hole.Carrier.out
+  unlike_collect (Tracked' all tracks) unlike =
+      absurd (unlike (tracks_of (out-State (Tracked' all tracks))) (sym (roll-out-State (Tracked' all tracks))))
+  unlike_collect state unlike = tt
+
+  pub unlike_tracked : (state : State) (start : ℕ) → ((all : tracks.Contents Progress) → state ≡ Tracked all → ⊥)
+      → false ≡ live_of (collect column sync rate f) (holding_of state) start
+  unfolding roll-State out-State denote.Hole.Carrier.roll denote.Hole.Carrier.out
+  unlike_tracked (Tracked' all tracks) start unlike =
+      absurd (unlike (tracks_of (out-State (Tracked' all tracks))) (sym (roll-out-State (Tracked' all tracks))))
+  unlike_tracked state start unlike = refl

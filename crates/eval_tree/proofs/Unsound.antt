@@ -6,15 +6,17 @@ use Rattle.value_ops.specs.declared.value.Value.{Value}
 use Rattle.value_ops.specs.Expressions.{Expression}
 use Rattle.item_schema.specs.declared.column.Column.{Column}
 use Rattle.predicate_cells.specs.Predicates.{Predicate}
-use Rattle.query_model.specs.Queries.{Qre, atom, eps, choice, split, iter, combine, apply, compose}
+use Rattle.rate_expr.specs.Rates as rates
+use Rattle.query_model.specs.Queries.{Qre, atom, eps, choice, split, iter, combine, apply, compose, collect}
 use Rattle.split_eval.specs.Entries.{Contents}
 use Rattle.compose_eval.specs.Followers as instances
+use Rattle.map_collect.specs.Tracks as tracks
 use Rattle.eval_tree.specs.declared.node.Node.{Node}
 use Rattle.eval_tree.specs.declared.node.State.{State}
-use Rattle.eval_tree.specs.declared.node.State.TheVariants.{Item, Empty, Both', Operand', Sequence', Pair', Repeated', Fed', Both, Operand, Sequence, Pair, Repeated, Fed}
+use Rattle.eval_tree.specs.declared.node.State.TheVariants.{Item, Empty, Both', Operand', Sequence', Pair', Repeated', Fed', Tracked', Both, Operand, Sequence, Pair, Repeated, Fed, Tracked}
 use Rattle.eval_tree.specs.declared.node.State.TheViews.{out-State, roll-State, roll-out-State}
 use Rattle.eval_tree.specs.declared.progress.Progress.{Progress}
-use Rattle.eval_tree.specs.Plain.{holding_of, runners_of, seen_of}
+use Rattle.eval_tree.specs.Plain.{holding_of, runners_of, seen_of, tracks_of}
 use Rattle.eval_tree.specs.Sound.{IsSound}
 
 no_compose : (columns : List Column) (position : ℕ) (f g : Qre) (node : State)
@@ -25,6 +27,14 @@ no_compose columns position f g (Fed' p a held runners) unlike sound =
     unlike (record { ptr = p.ptr; alloc = p.alloc; value = record { state = a } })
     (runners_of (out-State (Fed' p a held runners))) (sym (roll-out-State (Fed' p a held runners)))
 no_compose columns position f g node unlike sound = sound
+
+no_collect : (columns : List Column) (position column : ℕ) (sync : Predicate) (rate : rates.Expression) (f : Qre)
+    (node : State) → ((all : tracks.Contents Progress) → node ≡ Tracked all → ⊥)
+    → IsSound seen_of columns (collect column sync rate f) position (holding_of node) → ⊥
+unfolding roll-State out-State denote.Hole.Carrier.roll denote.Hole.Carrier.out
+no_collect columns position column sync rate f (Tracked' all tracks) unlike sound =
+    unlike (tracks_of (out-State (Tracked' all tracks))) (sym (roll-out-State (Tracked' all tracks)))
+no_collect columns position column sync rate f node unlike sound = sound
 
 module _ (columns : List Column) (position : ℕ) (q : Qre) (state : State) where
   abbrev pub IsFor : Qre → State → Type 0
@@ -103,3 +113,8 @@ module _ (columns : List Column) (position : ℕ) (q : Qre) (state : State) wher
       → IsFor q state → ⊥
   unsound_compose f g same unlike sound =
       no_compose columns position f g state unlike (taken_for (compose f g) same sound)
+
+  pub unsound_collect : (column : ℕ) (sync : Predicate) (rate : rates.Expression) (f : Qre) → q ≡ collect column sync rate f
+      → ((all : tracks.Contents Progress) → state ≡ Tracked all → ⊥) → IsFor q state → ⊥
+  unsound_collect column sync rate f same unlike sound =
+      no_collect columns position column sync rate f state unlike (taken_for (collect column sync rate f) same sound)

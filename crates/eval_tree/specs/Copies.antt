@@ -2,6 +2,10 @@
 use Rattle.std.specs.Prelude.{◌≡◌, List, [], ◌∷◌}
 use Rattle.query_model.specs.Queries.{Qre, atom, eps, choice, split, iter, combine, apply, compose, collect}
 use Rattle.compose_eval.specs.Followers.{Contents, followers_of, outers_of}
+use Rattle.map_collect.specs.Keys.{fallback_of, followers_of as keyed_followers, names_of}
+use Rattle.map_collect.specs.Tracks as tracks
+use Rattle.map_collect.specs.declared.keys.Keys.{Keys}
+use Rattle.map_collect.specs.declared.track.Track.{Track}
 use Rattle.eval_tree.specs.Holdings.{Holding, waiting, nothing, both, paired, operand, pending, chained, fed, tracked, Seen}
 
 -- each of the one list is so to the one of the other at the same place
@@ -23,7 +27,25 @@ module _ {R : Type 0} (seen : R → Seen R) where
     pub idle : AreAlike (IsCopyOf is_copy) old.idle new.idle
     pub room : new.room ≡ old.room
 
-  -- for nodes of the query; of those of another shape nothing is said, and there are none of collect yet
+  -- copies of the runners for keys
+  pub record AreCopiedKeys (is_copy : Holding R → Holding R → Type 0) (old new : Keys R) : Type 0 where
+    pub fallback : IsCopyOf is_copy (fallback_of old) (fallback_of new)
+    pub names : names_of new ≡ names_of old
+    pub keyed : AreAlike (IsCopyOf is_copy) (keyed_followers old) (keyed_followers new)
+
+  -- the same start and state, and copies of its runners
+  pub record IsCopiedTrack (is_copy : Holding R → Holding R → Type 0) (old new : Track R) : Type 0 where
+    pub start : new.start ≡ old.start
+    pub state : new.state ≡ old.state
+    pub keys : AreCopiedKeys is_copy old.keys new.keys
+
+  -- copies of the starts of a collect, of the same automaton
+  pub record AreCopiedTracks (is_copy : Holding R → Holding R → Type 0)
+      (old new : tracks.Contents R) : Type 0 where
+    pub nfa : new.nfa ≡ old.nfa
+    pub tracks : AreAlike (IsCopiedTrack is_copy) old.tracks new.tracks
+
+  -- for nodes of the query; of those of another shape nothing is said
   abbrev pub IsCopy : Qre → Holding R → Holding R → Type 0
   IsCopy (atom pred expression) (waiting found) new = new ≡ waiting found
   IsCopy (eps number) nothing new = new ≡ nothing
@@ -42,5 +64,7 @@ module _ {R : Type 0} (seen : R → Seen R) where
   IsCopy (compose f g) (fed a held) (fed a' held') =
       IsCopy f a a' × AreCopied (IsCopy g) held held'
   IsCopy (compose f g) (fed a held) new = ⊥
-  IsCopy (collect column sync rate f) (tracked sets all) new = ⊥
+  IsCopy (collect column sync rate f) (tracked all) (tracked all') =
+      AreCopiedTracks (IsCopy f) all all'
+  IsCopy (collect column sync rate f) (tracked all) new = ⊥
   IsCopy query old new = Unit {0}

@@ -12,7 +12,7 @@ use Rattle.rate_expr.specs.Words.{Word, IsWordOf}
 use Rattle.query_model.specs.Following.{composes_of}
 use Rattle.query_model.specs.Queries.{Qre}
 use Rattle.query_model.specs.QueryTypes.{type_of}
-use Rattle.query_model.specs.Rules.{Standing, IsClear}
+use Rattle.query_model.specs.Rules.{Standing, HasNoCollect, IsClear}
 use Rattle.compose_eval.specs.Followers.{Contents, instance_at, with_follower}
 use Rattle.eval_tree.specs.declared.hit.Hit.{Hit}
 use Rattle.eval_tree.specs.Holdings.{Holding, Seen}
@@ -46,9 +46,10 @@ module _ {R : Type 0} (seen : R → Seen R) where
   IsSoundOf columns query runner =
       IsSoundRunner seen (IsSound seen columns query) (type_of columns query) runner
 
-  -- what is sound stands for the empty word then, without a start, and stays sound
+  -- What is sound stands for the empty word then, without a start, and stays sound. Only runners are
+  -- cleared, and in their queries no collect stands.
   abbrev pub IsCleared : Qre → Holding R → Holding R → Type 0
-  IsCleared query old new = (columns : List Column) (position : ℕ)
+  IsCleared query old new = HasNoCollect query → (columns : List Column) (position : ℕ)
       → IsSound seen columns query position old
       → ((others : List Column) → Represents seen others query new [] [])
       × ((now : ℕ) → IsSound seen columns query now new)
@@ -81,6 +82,7 @@ module _ {R : Type 0} (seen : R → Seen R) where
     pub standing : Standing
     pub columns : List Column
     pub clear : IsClear standing columns query
+    pub no_collect : HasNoCollect query
     pub sound : IsSoundOf columns query runner
     pub is_item : IsHitIn columns left
     pub room : 1 + composes_of query < 2 ^ 64
@@ -101,6 +103,7 @@ module _ {R : Type 0} (seen : R → Seen R) where
     pub standing : Standing
     pub columns : List Column
     pub clear : IsClear standing columns query
+    pub no_collect : HasNoCollect query
     pub idle : AllByRecursion (IsSoundOf columns query) held.idle
     pub is_item : IsHitIn columns left
     pub room : 1 + composes_of query < 2 ^ 64

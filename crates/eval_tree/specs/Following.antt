@@ -7,7 +7,6 @@ use Rattle.query_model.specs.QueryTypes.{type_of}
 use Rattle.eval_tree.specs.Counts.{size_of_runner, stored_in}
 use Rattle.eval_tree.specs.Plain.{seen_of}
 use Rattle.eval_tree.specs.Represents.{IsFollowing, Represents}
-use Rattle.eval_tree.specs.Shapes.{CanRun}
 use Rattle.eval_tree.specs.Sound.{IsSound, IsSoundRunner}
 use Rattle.eval_tree.specs.declared.progress.Progress.{Progress}
 use Rattle.eval_tree.specs.declared.runner.Runner.{Runner}
@@ -39,15 +38,13 @@ pub record IsAt (columns : List Column) (query : Qre) (word : Word)
   pub sound : IsSoundRunner seen_of (IsSound seen_of columns query) (type_of columns query) progress
   pub follows : IsFollowing seen_of (Represents seen_of columns query) query word progress
 
--- its query is one that can be run, and where it is not lost it is sound
+-- where it is not lost it is sound
 pub record IsSoundly (runner : Runner) : Type 0 where
-  pub run : CanRun (query_of runner)
   pub sound : (runner.failed ≡ true) ⊎ IsSoundRunner seen_of
       (IsSound seen_of (columns_of runner) (query_of runner))
       (type_of (columns_of runner) (query_of runner)) runner.progress
 
 -- it is not lost, and follows the word
 pub record Follows (runner : Runner) (word : Word) : Type 0 where
-  pub run : CanRun (query_of runner)
   pub found : runner.failed ≡ false
   pub at : IsAt (columns_of runner) (query_of runner) word runner.progress

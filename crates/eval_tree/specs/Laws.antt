@@ -13,4 +13,4 @@ pub follows_ends : (runner : Runner) (word : Word) → Follows runner word
 follows_ends runner word follows = follows.at.follows.position
 
 pub follows_sound : (runner : Runner) (word : Word) → Follows runner word → IsSoundly runner
-follows_sound runner word follows = record { run = follows.run; sound = inr follows.at.sound }
+follows_sound runner word follows = record { sound = inr follows.at.sound }

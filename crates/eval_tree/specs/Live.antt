@@ -4,6 +4,7 @@ use Rattle.std.specs.List.{list_any}
 use Rattle.value_ops.specs.declared.value.Value.{Value}
 use Rattle.query_model.specs.Queries.{Qre, atom, choice, split, iter, combine, apply, compose, collect}
 use Rattle.split_eval.specs.declared.entry.Entry.{Entry}
+use Rattle.map_collect.specs.Tracks.{begins_at}
 use Rattle.eval_tree.specs.Holdings.{Holding, waiting, both, paired, operand, pending, chained, fed, tracked}
 
 -- the start is the one that waits
@@ -25,6 +26,6 @@ module _ {R : Type 0} where
   live_of (combine f g expression) (paired a b) start = live_of f a start
   live_of (apply f expression) (operand a) start = live_of f a start
   live_of (compose f g) (fed a held) start = live_of f a start
-  live_of (collect column sync rate f) (tracked sets all) start =
-      list_any (λ track. track.start == start) all
+  live_of (collect column sync rate f) (tracked all) start =
+      list_any (begins_at start) all.tracks
   live_of query holding start = false

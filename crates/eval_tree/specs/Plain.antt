@@ -1,19 +1,31 @@
 -- Statement. What a node in memory holds.
-use Rattle.std.specs.Prelude.{[]}
+use Rattle.std.specs.Prelude.{false, []}
 use Rattle.value_ops.specs.declared.value.Value.{Value}
 use Rattle.split_eval.specs.Entries as entries
 use Rattle.compose_eval.specs.Followers.{Contents}
-use Rattle.eval_tree.specs.Holdings.{Holding, waiting, nothing, both, paired, operand, pending, chained, fed, Seen}
+use Rattle.map_collect.specs.Tracks as tracks
+use Rattle.eval_tree.specs.Holdings.{Holding, waiting, nothing, both, paired, operand, pending, chained, fed, tracked, Seen}
 use Rattle.eval_tree.specs.declared.node.Node.{Node}
 use Rattle.eval_tree.specs.declared.node.State.{State, out-State}
 use Rattle.eval_tree.specs.declared.node.State.TheOpen.{State-F}
-use Rattle.eval_tree.specs.declared.node.State.TheVariants.{Item, Empty, Both', Operand', Sequence', Pair', Repeated', Fed'}
+use Rattle.eval_tree.specs.declared.node.State.TheVariants.{Item, Empty, Both', Operand', Sequence', Pair', Repeated', Fed', Tracked'}
 use Rattle.eval_tree.specs.declared.progress.Progress.{Progress}
 
 -- the runners of a compose; there are none of another shape
 abbrev pub runners_of : State-F State Node Progress → Contents Progress
 runners_of (State-F.Fed a held) = held
 runners_of state = record { live = []; idle = []; room = 0 }
+
+-- the starts of a collect; there are none of another shape
+abbrev pub tracks_of : State-F State Node Progress → tracks.Contents Progress
+tracks_of (State-F.Tracked all) = all
+tracks_of state = record {
+  nfa = record {
+    sets = record { nullable = false; first = 0; last = 0; follow = []; preds = [] };
+    cells = record { layout = record { has_header = false; columns = [] }; preds = [] };
+  };
+  tracks = [];
+}
 
 -- what is kept
 abbrev pub holding_of : State → Holding Progress
@@ -26,6 +38,7 @@ holding_of (Pair' p a q b) = paired (holding_of a) (holding_of b)
 holding_of (Repeated' p a so_far) = chained (holding_of a) so_far
 holding_of (Fed' p a held runners) =
     fed (holding_of a) (runners_of (out-State (Fed' p a held runners)))
+holding_of (Tracked' all tracks) = tracked (tracks_of (out-State (Tracked' all tracks)))
 
 -- what is seen of a runner
 abbrev pub seen_of : Progress → Seen Progress

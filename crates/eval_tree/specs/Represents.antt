@@ -1,11 +1,9 @@
 -- Statement. What it is that a node stands for a word and starts in it: its lists have exactly the
 -- readings of the word from these starts that can go on.
-use Rattle.std.specs.Prelude.{◌≡◌, ◌↔◌, ℕ, ◌+◌, List, [], ◌∷◌, Some, drop, filter, length, map}
+use Rattle.std.specs.Prelude.{◌≡◌, ◌↔◌, ℕ, ◌+◌, List, [], ◌∷◌, Some, drop, length}
 use Rattle.std.specs.List.{Contains}
 use Rattle.value_ops.specs.declared.value.Value.{Value}
 use Rattle.item_schema.specs.declared.column.Column.{Column}
-use Rattle.predicate_cells.specs.Predicates.{Predicate}
-use Rattle.predicate_cells.specs.Truth.{holds}
 use Rattle.rate_expr.specs.Behind.{IsBehind}
 use Rattle.rate_expr.specs.FirstLastFollow.{AreSetsOf}
 use Rattle.rate_expr.specs.Language.{In}
@@ -13,7 +11,7 @@ use Rattle.rate_expr.specs.Rates as rate
 use Rattle.rate_expr.specs.Readings.{HasExtension}
 use Rattle.rate_expr.specs.Words.{Word}
 use Rattle.query_model.specs.Bounds.{places_of}
-use Rattle.query_model.specs.Denotation.{Den, Outputs, keys_after, projection}
+use Rattle.query_model.specs.Denotation.{Den, Outputs}
 use Rattle.query_model.specs.Following.{IsAnswer}
 use Rattle.query_model.specs.Queries.{Qre, atom, eps, choice, split, iter, combine, apply, compose, collect}
 use Rattle.query_model.specs.QueryTypes.{derived_columns, type_of}
@@ -21,7 +19,8 @@ use Rattle.query_model.specs.Rates.{rate_of}
 use Rattle.split_eval.specs.Entries.{entry_at, AreDistinct}
 use Rattle.split_eval.specs.declared.entry.Entry.{Entry}
 use Rattle.compose_eval.specs.Followers.{Contents, outers_of}
-use Rattle.eval_tree.specs.Holdings.{Holding, waiting, nothing, both, paired, operand, pending, chained, fed, tracked, Seen, Track}
+use Rattle.eval_tree.specs.Holdings.{Holding, waiting, nothing, both, paired, operand, pending, chained, fed, tracked, Seen}
+use Rattle.eval_tree.specs.Keyed.{AreTracked, StandFor}
 use Rattle.eval_tree.specs.Starts.{IsLive, IsPiece, AreDifferent}
 
 -- the positions at which pieces of the set end that begin at the starts
@@ -66,22 +65,6 @@ module _ {R : Type 0} (seen : R → Seen R) where
         → Contains held.live (record { outer = start; follower = runner }) → sees start runner
     pub full : length held.live + length held.idle ≡ count
 
-  -- the runners of a start follow what the word has for their keys, and the fallback what it has
-  -- for all keys
-  pub record IsKeyed (follows : Word → R → Type 0) (column : ℕ) (sync : Predicate) (word : Word)
-      (track : Track R) : Type 0 where
-    pub fallback : follows (filter (holds sync) word) track.fallback
-    pub keys : map (λ one. one.0) track.keyed ≡ keys_after column sync [] word
-    pub each : (key : List ℕ) (runner : R) → Contains track.keyed (key, runner)
-        → follows (projection column sync key word) runner
-
-  -- each start that can go on is there once, with the state and the runners behind its piece
-  pub record AreTracked (lives : ℕ → Type 0) (tracks : ℕ → Track R → Type 0)
-      (all : List (Track R)) : Type 0 where
-    pub distinct : AreDifferent (map (λ track. track.start) all)
-    pub there : (start : ℕ) → Contains (map (λ track. track.start) all) start ↔ lives start
-    pub each : (track : Track R) → Contains all track → tracks track.start track
-
   -- what is kept for the query stands for the word and the starts
   abbrev pub Represents : List Column → Qre → Holding R → Word → List ℕ → Type 0
   Represents columns (atom pred expression) (waiting found) word starts =
@@ -112,10 +95,10 @@ module _ {R : Type 0} (seen : R → Seen R) where
       (IsFollowing (Represents (derived_columns (type_of columns f)) g) g)
       (drop start word) runner)
       (places_of f + 1) held
-  Represents columns (collect column sync rate f) (tracked sets all) word starts =
-      AreSetsOf sets rate
+  Represents columns (collect column sync rate f) (tracked all) word starts =
+      AreSetsOf all.nfa.sets rate × (all.nfa.cells.layout.columns ≡ columns)
       × AreTracked (IsLive columns (collect column sync rate f) word starts)
-      (λ start track. IsBehind sets (drop start word) track.state
-      × IsKeyed (IsFollowing (Represents columns f) f) column sync (drop start word) track)
-      all
+      (λ start track. IsBehind all.nfa.sets (drop start word) track.state
+      × StandFor (IsFollowing (Represents columns f) f) column sync (drop start word) track.keys)
+      all.tracks
   Represents columns query holding word starts = ⊥

@@ -1,21 +1,23 @@
 -- Statement. What holds of a node whatever words went by: it has the query's shape, its lists have
 -- their rooms, no start stands twice in one, and values have their types.
-use Rattle.std.specs.Prelude.{◌≡◌, ◌≤◌, ℕ, ◌+◌, List, Option, MatchOption, length, map}
+use Rattle.std.specs.Prelude.{◌≡◌, ◌≤◌, ℕ, ◌+◌, List, Option, MatchOption, length}
 use Rattle.std.specs.List.{AllByRecursion}
 use Rattle.value_ops.specs.declared.value.Value.{Value}
 use Rattle.value_ops.specs.declared.value.ValueType.{ValueType}
 use Rattle.value_ops.specs.declared.value.ValueType.TheVariants.{Number}
 use Rattle.value_ops.specs.Types.{IsValueOf}
 use Rattle.item_schema.specs.declared.column.Column.{Column}
-use Rattle.rate_expr.specs.Behind.{IsStateOf}
 use Rattle.rate_expr.specs.FirstLastFollow.{AreSetsOf}
-use Rattle.rate_expr.specs.Sets.{AreSets, Sets}
-use Rattle.query_model.specs.Bounds.{places_of}
+use Rattle.query_model.specs.Bounds.{places_of, slots_of}
 use Rattle.query_model.specs.Queries.{Qre, atom, eps, choice, split, iter, combine, apply, compose, collect}
 use Rattle.query_model.specs.QueryTypes.{derived_columns, type_of}
+use Rattle.query_model.specs.Sizes.{max_slots}
 use Rattle.split_eval.specs.Entries.{Contents, AreDistinct}
 use Rattle.compose_eval.specs.Followers.{outers_of}
-use Rattle.eval_tree.specs.Holdings.{Holding, waiting, nothing, both, paired, operand, pending, chained, fed, tracked, Seen, Track}
+use Rattle.map_collect.specs.Keys.{fallback_of, followers_of}
+use Rattle.map_collect.specs.Tracks.{starts_of}
+use Rattle.map_collect.specs.declared.keys.Keys.{Keys}
+use Rattle.eval_tree.specs.Holdings.{Holding, waiting, nothing, both, paired, operand, pending, chained, fed, tracked, Seen}
 use Rattle.eval_tree.specs.Starts.{AreDifferent}
 
 -- an answer that is there has the type
@@ -41,12 +43,10 @@ module _ {R : Type 0} (seen : R → Seen R) where
     pub within : (seen runner).position ≤ most
     pub sound : is_sound runner
 
-  -- the runners of a start
-  pub record IsSoundTrack (sound : R → Type 0) (most : ℕ) (sets : Sets)
-      (track : Track R) : Type 0 where
-    pub state : IsStateOf sets track.state
-    pub fallback : IsSoundWithin sound most track.fallback
-    pub keyed : AllByRecursion (λ one. IsSoundWithin sound most one.1) track.keyed
+  -- the runners for keys, and the one for later keys
+  pub record AreSoundKeys (is_sound : R → Type 0) (most : ℕ) (keys : Keys R) : Type 0 where
+    pub fallback : IsSoundWithin is_sound most (fallback_of keys)
+    pub keyed : AllByRecursion (IsSoundWithin is_sound most) (followers_of keys)
 
   -- what is kept for the query is sound where so many items of its stream went by
   abbrev pub IsSound : List Column → Qre → ℕ → Holding R → Type 0
@@ -72,8 +72,9 @@ module _ {R : Type 0} (seen : R → Seen R) where
       (position + 1) one.follower) held.live
       × AllByRecursion (IsSoundRunner (IsSound (derived_columns (type_of columns f)) g)
       (type_of (derived_columns (type_of columns f)) g)) held.idle
-  IsSound columns (collect column sync rate f) position (tracked sets all) =
-      AreSets sets × AreSetsOf sets rate × AreDifferent (map (λ track. track.start) all)
-      × AllByRecursion
-      (IsSoundTrack (IsSoundRunner (IsSound columns f) (type_of columns f)) position sets) all
+  IsSound columns (collect column sync rate f) position (tracked all) =
+      AreSetsOf all.nfa.sets rate × (all.nfa.cells.layout.columns ≡ columns)
+      × (slots_of f ≤ max_slots) × AreDifferent (starts_of all.tracks)
+      × AllByRecursion (λ track. AreSoundKeys
+      (IsSoundRunner (IsSound columns f) (type_of columns f)) position track.keys) all.tracks
   IsSound columns query position holding = ⊥

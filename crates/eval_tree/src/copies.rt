@@ -2,12 +2,13 @@
 ghost use Rattle.std.specs.Prelude.{◌≡◌, ◌+◌, ◌≤◌, [], length, IfOk};
 ghost use Rattle.compose_eval.specs.Followers.{followers_of, outers_of};
 ghost use Rattle.query_model.specs.Queries.{plain_of};
-ghost use Rattle.eval_tree.specs.Copies.{AreAlike, AreCopied, IsCopy, IsCopyOf};
+ghost use Rattle.eval_tree.specs.Copies.{AreAlike, AreCopied, AreCopiedKeys, AreCopiedTracks, IsCopy, IsCopyOf};
 ghost use Rattle.eval_tree.specs.Plain.{holding_of, seen_of};
 
 use crate::{Node, Progress, State};
 use compose_eval::Instances;
 use iter_eval::Chain;
+use map_collect::{Keys, Tracks};
 use query_model::{Query, Shape};
 use split_eval::Pending;
 use std::alloc::{AllocError, Global};
@@ -51,6 +52,10 @@ pub fn copy(query: &Query, node: &Node, alloc: Global) -> Result<Node, AllocErro
         (Shape::Compose(first, second), State::Fed(a, runners)) => {
             let a = boxed_copy(first, a, alloc)?;
             let state = State::Fed(a, copied_runners(second, runners, alloc)?);
+            Ok(Node { state })
+        }
+        (Shape::Collect(_, _, _, inner), State::Tracked(tracks)) => {
+            let state = State::Tracked(copied_tracks(inner, tracks, alloc)?);
             Ok(Node { state })
         }
         _ => Ok(Node {
@@ -125,6 +130,42 @@ fn copied_live(
     'live: for i in 0..runners.len() {
         let follower = copy_of_runner(query, runners.follower(i), alloc)?;
         copy.put(runners.outer(i), follower);
+    }
+    Ok(copy)
+}
+
+/// The same starts and states, and copies of the runners.
+#[cycle(copy)]
+pub(crate) fn copied_tracks(
+    query: &Query,
+    tracks: &Tracks<Progress>,
+    alloc: Global,
+) -> Result<Tracks<Progress>, AllocError>
+    ensures { IfOk result (AreCopiedTracks seen_of (IsCopy seen_of (plain_of query.now.shape))
+        tracks.now) }
+{
+    let mut copy = Tracks::new(alloc, tracks.nfa().try_copy(alloc)?);
+    'starts: for i in 0..tracks.len() {
+        let keys = copied_keys(query, tracks.keys(i), alloc)?;
+        copy.put(tracks.start(i), tracks.state(i), keys)?;
+    }
+    Ok(copy)
+}
+
+#[cycle(copy)]
+fn copied_keys(
+    query: &Query,
+    keys: &Keys<Progress>,
+    alloc: Global,
+) -> Result<Keys<Progress>, AllocError>
+    ensures { IfOk result (AreCopiedKeys seen_of (IsCopy seen_of (plain_of query.now.shape))
+        keys.now) }
+{
+    let fallback = copy_of_runner(query, keys.fallback(), alloc)?;
+    let mut copy = Keys::new(alloc, fallback);
+    'keys: for i in 0..keys.len() {
+        let follower = copy_of_runner(query, keys.follower(i), alloc)?;
+        copy.add(keys.key(i), follower)?;
     }
     Ok(copy)
 }

@@ -3,11 +3,12 @@ ghost use Rattle.std.specs.Prelude.{◌≡◌, ◌+◌, ◌-◌, ◌^◌, min};
 ghost use Rattle.std.specs.List.{sum_by};
 ghost use Rattle.compose_eval.specs.Followers.{followers_of};
 ghost use Rattle.query_model.specs.Queries.{plain_of};
-ghost use Rattle.eval_tree.specs.Counts.{size_of_answer, size_of_runner, size_of_value, sizes_of, stored_in};
+ghost use Rattle.eval_tree.specs.Counts.{size_of_answer, size_of_keys, size_of_runner, size_of_state, size_of_track, size_of_value, sizes_of, stored_in};
 ghost use Rattle.eval_tree.specs.Plain.{holding_of, seen_of};
 
 use crate::{Node, Progress, State};
 use compose_eval::Instances;
+use map_collect::{Keys, Tracks};
 use query_model::{Query, Shape};
 use split_eval::Pending;
 use value_ops::Value;
@@ -38,6 +39,7 @@ pub fn stored(query: &Query, node: &Node) -> u64
             let fed = stored(first, a).saturating_add(size_of_live(second, runners));
             fed.saturating_add(size_of_idle(second, runners))
         }
+        (Shape::Collect(_, _, _, inner), State::Tracked(tracks)) => size_of_tracks(inner, tracks),
         _ => 0,
     }
 }
@@ -81,6 +83,45 @@ fn size_of_idle(query: &Query, runners: &Instances<Progress>) -> u64
             .saturating_add(size_of_runner(query, runners.resting(i)));
     }
     sum
+}
+
+/// Each start, its state and its runners.
+#[cycle(stored)]
+pub(crate) fn size_of_tracks(query: &Query, tracks: &Tracks<Progress>) -> u64
+    ensures { result ≡ min (sum_by (λ track. size_of_track seen_of
+        (stored_in seen_of (plain_of query.now.shape)) track) tracks.now.tracks) (2 ^ 64 - 1) }
+{
+    let mut sum: u64 = 0;
+    'starts: for i in 0..tracks.len() {
+        sum = sum
+            .saturating_add(1)
+            .saturating_add(size_of_state(tracks.state(i)))
+            .saturating_add(size_of_keys(query, tracks.keys(i)));
+    }
+    sum
+}
+
+#[cycle(stored)]
+fn size_of_keys(query: &Query, keys: &Keys<Progress>) -> u64
+    ensures { result ≡ min (size_of_keys seen_of (stored_in seen_of (plain_of query.now.shape))
+        keys.now) (2 ^ 64 - 1) }
+{
+    let mut sum = size_of_runner(query, keys.fallback());
+    'keys: for i in 0..keys.len() {
+        sum = sum
+            .saturating_add(1)
+            .saturating_add(size_of_runner(query, keys.follower(i)));
+    }
+    sum
+}
+
+fn size_of_state(state: rate_expr::State) -> u64
+    ensures { result ≡ size_of_state state }
+{
+    match state {
+        rate_expr::State::Initial => 0,
+        rate_expr::State::At(mask) => u64::from(mask.count_ones()),
+    }
 }
 
 fn size_of_entries(held: &Pending<Value>) -> u64

@@ -1,9 +1,10 @@
 //! Where a piece of the word has a value.
 ghost use Rattle.std.specs.Prelude.{◌≡◌};
 ghost use Rattle.value_ops.specs.declared.scalar.Scalar.TheVariants as scalar;
+ghost use Rattle.value_ops.specs.Types.{IsTable};
 ghost use Rattle.value_ops.specs.declared.value.Value.TheVariants as value;
 
-use value_ops::{Scalar, Value};
+use value_ops::{Scalar, Table, Value};
 
 /// The piece from a start to the end of the word has this value.
 #[derive(Drop)]
@@ -18,6 +19,16 @@ impl Hit {
             ≡ record { start = start; value = value.Scalar (scalar.Number number) } }
     {
         let value = Value::Scalar(Scalar::Number(number));
+        Hit { start, value }
+    }
+
+    pub(crate) fn of_table(start: u64, table: Table) -> Hit
+        ensures is { result ≡ record { start = start; value = value.Table table } }
+        ensures typed { IsTable table }
+    {
+        let value = Value::Table(table);
+        // Its type tells that its entries are those of a table.
+        let _type = value.ty();
         Hit { start, value }
     }
 }

@@ -2,6 +2,7 @@
 //! its readings.
 #![tactic(auto)]
 
+mod automaton;
 mod clear;
 mod composing;
 mod copies;
@@ -11,6 +12,7 @@ mod folds;
 mod follow;
 mod hit;
 mod iterating;
+mod keys;
 mod lefts;
 mod live;
 mod make;
@@ -19,13 +21,17 @@ mod progress;
 mod runner;
 mod splitting;
 mod steps;
+mod stream_cells;
+mod tables;
+mod tracks;
 
 pub use copies::copy;
 pub use counts::stored;
 pub use hit::Hit;
+pub use keys::keys_push;
 pub use live::is_live;
-pub use make::can_run;
 pub use node::{Node, State};
 pub use progress::Progress;
 pub use runner::Runner;
 pub use steps::{start, step};
+pub use tables::keys_table;

@@ -27,6 +27,8 @@ pub fn is_live(query: &Query, node: &Node, start: u64) -> bool
         (Shape::Combine(first, ..), State::Pair(a, _)) => is_live(first, a, start),
         (Shape::Iter(..), State::Repeated(_, so_far)) => has_outer(so_far.as_pending(), start),
         (Shape::Compose(first, _), State::Fed(a, _)) => is_live(first, a, start),
+        // Only starts that can go on are kept.
+        (Shape::Collect(..), State::Tracked(tracks)) => tracks.place(start).is_some(),
         _ => false,
     }
 }

@@ -1,6 +1,8 @@
 //! A node for each part of a query.
-ghost use Rattle.std.specs.Prelude.{◌≡◌, ◌≤◌, ◌↔◌, ◌-◌, ◌^◌, [], List, length, IfOk, IsTrue};
+ghost use Rattle.std.specs.Prelude.{◌≡◌, ◌≤◌, ◌-◌, ◌^◌, [], List, None, length, IfOk};
 ghost use Rattle.std.specs.List.{AllByRecursion};
+ghost use Rattle.std.specs.Option.{option_copied, option_map};
+ghost use Rattle.std.specs.Rc.{rc_value};
 ghost use Rattle.item_schema.specs.declared.column.Column.{Column};
 ghost use Rattle.query_model.specs.Bounds.{slots_of};
 ghost use Rattle.query_model.specs.Queries.{plain_of};
@@ -8,93 +10,94 @@ ghost use Rattle.query_model.specs.Sizes.{max_slots};
 ghost use Rattle.eval_tree.specs.Feeds.{IsSoundOf};
 ghost use Rattle.eval_tree.specs.Plain.{holding_of, seen_of};
 ghost use Rattle.eval_tree.specs.Represents.{Represents};
-ghost use Rattle.eval_tree.specs.Shapes.{CanRun};
 ghost use Rattle.eval_tree.specs.Sound.{IsSound};
+ghost use Rattle.eval_tree.specs.Streams.{AreColumnsOf, CanBeMade};
 
+use crate::automaton::no_tracks;
 use crate::{Node, Progress, State};
 use compose_eval::Instances;
 use iter_eval::Chain;
 use memory_bound::places;
+use predicate_cells::Cells;
 use query_model::{Query, Shape};
 use split_eval::Pending;
 use std::alloc::{AllocError, Global};
-
-/// Whether there are nodes for all shapes of the query.
-pub fn can_run(query: &Query) -> bool
-    ensures { IsTrue result ↔ CanRun (plain_of query.now.shape) }
-{
-    match &query.shape {
-        Shape::Atom(..) => true,
-        Shape::Eps(_) => true,
-        Shape::Or(first, second) => can_run(first) && can_run(second),
-        Shape::Split(first, second, _) => can_run(first) && can_run(second),
-        Shape::Apply(inner, _) => can_run(inner),
-        Shape::Combine(first, second, _) => can_run(first) && can_run(second),
-        Shape::Iter(inner, ..) => can_run(inner),
-        Shape::Compose(first, second) => can_run(first) && can_run(second),
-        _ => false,
-    }
-}
+use std::rc::Rc;
 
 impl Node {
     /// It stands for the empty word, without a start.
     #[cycle(make)]
-    pub fn new(alloc: Global, query: &Query) -> Result<Node, AllocError>
-        requires run { CanRun (plain_of query.now.shape) }
+    pub fn new(alloc: Global, query: &Query, cells: Option<&Rc<Cells>>) -> Result<Node, AllocError>
+        requires cells { CanBeMade (option_map rc_value (option_copied cells))
+            (plain_of query.now.shape) }
         requires small { slots_of (plain_of query.now.shape) ≤ max_slots }
         ensures word { IfOk result (λ node. (columns : List Column)
+            → AreColumnsOf (option_map rc_value (option_copied cells.entry)) columns
             → Represents seen_of columns (plain_of query.now.shape) (holding_of node.state) [] []) }
         ensures sound { IfOk result (λ node. (columns : List Column)
+            → AreColumnsOf (option_map rc_value (option_copied cells.entry)) columns
             → IsSound seen_of columns (plain_of query.now.shape) 0 (holding_of node.state)) }
     {
         let state = match &query.shape {
             Shape::Atom(..) => State::Item(None),
             Shape::Eps(_) => State::Empty,
             Shape::Or(first, second) => {
-                let first = Node::boxed(alloc, first)?;
-                State::Both(first, Node::boxed(alloc, second)?)
+                let first = Node::boxed(alloc, first, cells)?;
+                State::Both(first, Node::boxed(alloc, second, cells)?)
             }
-            Shape::Apply(inner, _) => State::Operand(Node::boxed(alloc, inner)?),
+            Shape::Apply(inner, _) => State::Operand(Node::boxed(alloc, inner, cells)?),
             Shape::Split(first, second, _) => {
                 let held = Pending::new(alloc, places(second))?;
-                let first = Node::boxed(alloc, first)?;
-                State::Sequence(first, Node::boxed(alloc, second)?, held)
+                let first = Node::boxed(alloc, first, cells)?;
+                State::Sequence(first, Node::boxed(alloc, second, cells)?, held)
             }
             Shape::Combine(first, second, _) => {
-                let first = Node::boxed(alloc, first)?;
-                State::Pair(first, Node::boxed(alloc, second)?)
+                let first = Node::boxed(alloc, first, cells)?;
+                State::Pair(first, Node::boxed(alloc, second, cells)?)
             }
             Shape::Iter(inner, ..) => {
                 let so_far = Chain::new(alloc, places(inner))?;
-                State::Repeated(Node::boxed(alloc, inner)?, so_far)
+                State::Repeated(Node::boxed(alloc, inner, cells)?, so_far)
             }
             Shape::Compose(first, second) => {
                 let runners = idle_runners(alloc, second, places(first).saturating_add(1))?;
-                let state = State::Fed(Node::boxed(alloc, first)?, runners);
+                let state = State::Fed(Node::boxed(alloc, first, cells)?, runners);
                 return Ok(Node { state });
             }
-            _ => unreachable!(),
+            Shape::Collect(_, _, rate, _) => {
+                let state = State::Tracked(no_tracks(alloc, rate, cells)?);
+                return Ok(Node { state });
+            }
         };
         Ok(Node { state })
     }
 
     #[cycle(make)]
-    fn boxed(alloc: Global, query: &Query) -> Result<Box<Node>, AllocError>
-        requires run { CanRun (plain_of query.now.shape) }
+    fn boxed(
+        alloc: Global,
+        query: &Query,
+        cells: Option<&Rc<Cells>>,
+    ) -> Result<Box<Node>, AllocError>
+        requires cells { CanBeMade (option_map rc_value (option_copied cells))
+            (plain_of query.now.shape) }
         requires small { slots_of (plain_of query.now.shape) ≤ max_slots }
-        ensures word { IfOk result (λ node. (columns : List Column) → Represents seen_of columns
-            (plain_of query.now.shape) (holding_of node.value.state) [] []) }
-        ensures sound { IfOk result (λ node. (columns : List Column) → IsSound seen_of columns
-            (plain_of query.now.shape) 0 (holding_of node.value.state)) }
+        ensures word { IfOk result (λ node. (columns : List Column)
+            → AreColumnsOf (option_map rc_value (option_copied cells.entry)) columns
+            → Represents seen_of columns (plain_of query.now.shape)
+            (holding_of node.value.state) [] []) }
+        ensures sound { IfOk result (λ node. (columns : List Column)
+            → AreColumnsOf (option_map rc_value (option_copied cells.entry)) columns
+            → IsSound seen_of columns (plain_of query.now.shape) 0
+            (holding_of node.value.state)) }
     {
-        Ok(Box::new(alloc, Node::new(alloc, query)?)?)
+        Ok(Box::new(alloc, Node::new(alloc, query, cells)?)?)
     }
 }
 
 /// So many runners that are fed from nowhere.
 #[cycle(make)]
 fn idle_runners(alloc: Global, query: &Query, count: u32) -> Result<Instances<Progress>, AllocError>
-    requires run { CanRun (plain_of query.now.shape) }
+    requires cells { CanBeMade None (plain_of query.now.shape) }
     requires small { slots_of (plain_of query.now.shape) ≤ max_slots }
     ensures live { IfOk result (λ runners. runners.live ≡ []) }
     ensures count { IfOk result (λ runners. length runners.idle ≡ count) }
@@ -103,7 +106,7 @@ fn idle_runners(alloc: Global, query: &Query, count: u32) -> Result<Instances<Pr
 {
     let mut runners = Instances::new(alloc, count)?;
     'idle: for _ in 0..count {
-        let node = Node::new(alloc, query)?;
+        let node = Node::new(alloc, query, None)?;
         runners.rest(Progress {
             node,
             position: 0,

@@ -3,6 +3,7 @@
 use crate::Progress;
 use compose_eval::Instances;
 use iter_eval::Chain;
+use map_collect::Tracks;
 use split_eval::Pending;
 use value_ops::Value;
 
@@ -33,4 +34,7 @@ pub enum State {
     Repeated(Box<Node>, Chain<Value>),
     /// For a compose: the left operand, and the runners of the right one that it feeds.
     Fed(Box<Node>, Instances<Progress>),
+    /// For a collect: the starts that can go on, each with a state of the rate's automaton, with a
+    /// runner for each key, and with the one that those of later keys begin as.
+    Tracked(Tracks<Progress>),
 }

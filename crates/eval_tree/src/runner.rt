@@ -4,6 +4,7 @@ ghost use Rattle.std.specs.Option.{option_map};
 ghost use Rattle.query_model.specs.Queries.{plain_of};
 ghost use Rattle.eval_tree.specs.declared.hit.Hit.{Hit};
 
+use crate::stream_cells::stream_cells;
 use crate::{Hit, Node, Progress, start};
 use query_model::Checked;
 use std::alloc::{AllocError, Global};
@@ -20,11 +21,9 @@ pub struct Runner<'q> {
 impl<'q> Runner<'q> {
     ghost use Rattle.std.specs.Prelude.{[], false, IfOk};
     ghost use Rattle.eval_tree.specs.Following.{columns_of, Follows, is_lost, position_of, query_of};
-    ghost use Rattle.eval_tree.specs.Shapes.{CanRun};
 
     /// It follows the empty word.
     pub fn new(alloc: Global, checked: &'q Checked) -> Result<Runner<'q>, AllocError>
-        requires { CanRun (plain_of checked.now.main.shape) }
         ensures word { IfOk result (λ runner. Follows runner []) }
         ensures position { IfOk result (λ runner. position_of runner ≡ 0) }
         ensures found { IfOk result (λ runner. is_lost runner ≡ false) }
@@ -43,16 +42,15 @@ impl<'q> Runner<'q> {
 impl Progress {
     ghost use Rattle.std.specs.Prelude.{[], IfOk};
     ghost use Rattle.eval_tree.specs.Following.{IsAt};
-    ghost use Rattle.eval_tree.specs.Shapes.{CanRun};
 
     /// Before the first item.
     pub(crate) fn new(alloc: Global, checked: &Checked) -> Result<Progress, AllocError>
-        requires { CanRun (plain_of checked.now.main.shape) }
         ensures { IfOk result (IsAt checked.now.layout.columns
             (plain_of checked.now.main.shape) []) }
     {
         let query = checked.main();
-        let mut node = Node::new(alloc, query)?;
+        let cells = stream_cells(alloc, checked)?;
+        let mut node = Node::new(alloc, query, cells.as_ref())?;
         let hit = start(query, &mut node, alloc, 0)?;
         Ok(Progress {
             node,

@@ -11,6 +11,7 @@ use crate::iterating::step_iter;
 use crate::lefts::{applied, combined};
 use crate::live::is_live;
 use crate::splitting::{start_split, step_split};
+use crate::tracks::{begin_at, pass_by};
 use crate::{Hit, Node, State};
 use item_schema::Item;
 use predicate_cells::holds;
@@ -65,6 +66,9 @@ pub fn start(
             let left = start(first, a, alloc, at)?;
             feed(second, runners, alloc, is_live(first, a, at), at, left)
         }
+        (Shape::Collect(_, _, _, inner), State::Tracked(tracks)) => {
+            begin_at(inner, tracks, alloc, at)
+        }
         _ => Ok(None),
     }
 }
@@ -115,6 +119,9 @@ pub fn step(
         }
         (Shape::Compose(..), State::Fed(a, runners)) => {
             step_compose(query, a, runners, alloc, now, item)
+        }
+        (Shape::Collect(column, sync, _, inner), State::Tracked(tracks)) => {
+            pass_by(inner, tracks, alloc, *column, sync, item)
         }
         _ => Ok(None),
     }

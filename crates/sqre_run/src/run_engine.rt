@@ -1,15 +1,13 @@
-//! The engine of a run, by what the words ask for and the shapes of its query.
+//! The engine of a run, by what the words ask for.
 ghost use Rattle.std.specs.Prelude.{◌≡◌};
-ghost use Rattle.eval_tree.specs.Shapes.{CanRun};
 ghost use Rattle.io_edge.specs.Counts.{FailsBy};
 ghost use Rattle.query_model.specs.Monitors.{monitor_of};
-ghost use Rattle.query_model.specs.Queries.{plain_of};
 ghost use Rattle.sqre_run.specs.Outside.{Ended, outside};
 
 use crate::Status;
 use crate::command::Engine;
 use crate::run::run;
-use eval_tree::{Runner, can_run};
+use eval_tree::Runner;
 use io_edge::{Sink, Source};
 use query_model::Checked;
 use slow_eval::Slow;
@@ -33,8 +31,8 @@ pub fn run_query<S: Source, W: Sink>(
         (result ≡ Status.SinkFault) }
 {
     match engine {
-        Engine::Runner if can_run(checked.main()) => run_item_by_item(alloc, checked, items, out),
-        Engine::Runner | Engine::Slow => run_slow(alloc, checked, items, out),
+        Engine::Runner => run_item_by_item(alloc, checked, items, out),
+        Engine::Slow => run_slow(alloc, checked, items, out),
     }
 }
 
@@ -45,7 +43,6 @@ fn run_item_by_item<S: Source, W: Sink>(
     items: &mut S,
     out: &mut W,
 ) -> Status
-    requires { CanRun (plain_of checked.now.main.shape) }
     ensures ended { let at = outside S.left S.ends W.taken in
         Ended (monitor_of checked.now) result (at items.old out.old) (at items.new out.new) }
     ensures handed_on { W.held out.old ≡ 0 → (result ≡ Status.SinkFault → ⊥)

@@ -1,15 +1,13 @@
-use Rattle.std.proofs.Common.{List, None, Option, Some, ap, arith, false, inl, refl, rules, subst, sym, true, w64, ℕ, ◌++◌, ◌-◌, ◌∙◌, ◌≡◌}
-use Rattle.std.specs.Prelude.{FitsSigned, IfNone, IfSome}
+use Rattle.std.proofs.Common.{List, None, Option, Some, ap, arith, false, inl, refl, rules, subst, sym, true, w64, ℕ, ◌++◌, ◌-◌, ◌∙◌, ◌≡◌, inr}
+use Rattle.std.specs.Prelude.{FitsSigned, IfNone, IfSome, IfOk}
 use Rattle.std.specs.Option.{is_some}
 use Rattle.std.proofs.lemmas.Bool.{false≢true}
 use Rattle.value_ops.specs.Expressions as values
-use Rattle.query_model.specs.declared.query.Shape.{Shape}
 use Rattle.query_model.specs.declared.query.Shape.TheViews.{the_lemmas}
-use Rattle.query_model.specs.declared.query.Shape.TheVariants.{Apply', Atom, Collect', Combine', Compose', Eps, Iter', Or', Split'}
 use Rattle.query_model.specs.Queries.{Qre, plain_of}
 use Rattle.eval_tree.specs.declared.hit.Hit.{Hit}
 use Rattle.eval_tree.specs.Lefts.{AreTypedWith, IsPut}
-use Rattle.eval_tree.specs.Plain.{holding_of, runners_of, seen_of}
+use Rattle.eval_tree.specs.Plain.{holding_of, runners_of, seen_of, tracks_of}
 use Rattle.eval_tree.proofs.Allowed.{started_split, stepped_atom, stepped_ended, stepped_joined}
 use Rattle.eval_tree.proofs.Arms.{can_start_as, can_step_as, ended_as, live_as, number_hit, same_query, soundly_started_as, soundly_stepped_as, started_as, stepped_as, where_ok}
 use Rattle.eval_tree.proofs.Combines.{start_combine, step_combine}
@@ -18,9 +16,8 @@ use Rattle.eval_tree.proofs.FoldsAllowed.{started_combine, stepped_combine, step
 use Rattle.eval_tree.proofs.IterArms.{iter_starts, iter_steps_none, iter_steps_some}
 use Rattle.eval_tree.proofs.Choices.{start_apply, start_choice, step_apply, step_choice}
 use Rattle.eval_tree.proofs.Items.{start_atom, step_atom, step_atom_none, step_atom_other, step_eps}
-use Rattle.eval_tree.proofs.Shaped.{HasNodes, shaped, soundly_shaped}
 use Rattle.eval_tree.proofs.Soundness.{sound_start_split_some, sound_step_apply, sound_step_atom, sound_step_split_none, sound_step_split_some}
-use Rattle.eval_tree.proofs.Unsound.{unsound_apply, unsound_atom, unsound_choice, unsound_combine, unsound_compose, unsound_eps, unsound_iter, unsound_split}
+use Rattle.eval_tree.proofs.Unsound.{unsound_apply, unsound_atom, unsound_choice, unsound_collect, unsound_combine, unsound_compose, unsound_eps, unsound_iter, unsound_split}
 use Rattle.eval_tree.proofs.SplitArms.{split_starts, split_steps_none, split_steps_some}
 use Rattle.eval_tree.proofs.SplitStarts.{start_split_none}
 use Rattle.value_ops.specs.declared.field.Field.{Field}
@@ -28,8 +25,8 @@ use Rattle.value_ops.specs.declared.value.ValueType.{ValueType}
 use Rattle.value_ops.specs.Evaluation.{given, value_of}
 use Rattle.value_ops.specs.Typing.{HasType, types_of}
 use Rattle.predicate_cells.specs.Plain as predicates
-use Rattle.eval_tree.specs.Holdings.{Holding, fed, operand, waiting}
-use Rattle.eval_tree.specs.declared.node.State.TheVariants.{Fed}
+use Rattle.eval_tree.specs.Holdings.{Holding, fed, operand, waiting, tracked}
+use Rattle.eval_tree.specs.declared.node.State.TheVariants.{Fed, Tracked}
 use Rattle.eval_tree.specs.declared.node.State.TheViews.{out-State, roll-State}
 use Rattle.eval_tree.specs.declared.progress.Progress.{Progress}
 use Rattle.split_eval.specs.Entries.{Contents, live_entries}
@@ -45,37 +42,27 @@ use Rattle.eval_tree.proofs.ComposeArms.{compose_starts, compose_steps, fed_is, 
 use Rattle.eval_tree.proofs.ComposeSoundness.{sound_start_compose, sound_step_compose}
 use Rattle.eval_tree.proofs.Carried.{begun_anew, carried_on}
 use Rattle.eval_tree.proofs.Feeding.{begin_last, fed_already, feeds_at_rest, feeds_awake, feeds_none, passed_one, renew_allowed, tell_allowed}
+use Rattle.symbolic_nfa.specs.Automata.{Automaton}
+use Rattle.map_collect.specs.Tracks as tracks
+use Rattle.eval_tree.specs.Pushes.{BeginsAt, CanMake, IsFirstTable, IsNew, CanPassBy, IsKeyPushed, IsTabled, PassesBy}
+use Rattle.eval_tree.proofs.CollectAllowed.{make_allowed, advanced_allowed, carried_end, carried_next, fallback_allowed, follower_allowed, next_carried, pass_allowed, push_allowed, pushed_end, pushed_next, with_allowed, with_length}
+use Rattle.eval_tree.proofs.CollectArms.{collect_starts, collect_starts_soundly, tracked_is, tracks_are, collect_steps, collect_steps_soundly}
+use Rattle.eval_tree.proofs.CollectBegun.{made_new, start_made}
+use Rattle.eval_tree.proofs.Served.{without_collect}
+use Rattle.std.proofs.lemmas.List.{length-set}
+use Rattle.std.proofs.lemmas.Option.{slice_get_within}
+use Rattle.map_collect.specs.Keys.{followers_of, names_of}
+use Rattle.map_collect.specs.Tracks.{KeepsExtending}
+use Rattle.eval_tree.proofs.KeysPushed.{pushed_all, pushed_key}
 use Rattle.eval_tree.proofs.+step.Goals as goal
-use Rattle.eval_tree.proofs.+step.Goals.{composing::step_compose-After-keep, iterating::step_iter-After-keep, splitting::step_split-After-keep, steps::start-In-Iter-Repeated, steps::step-in_default-take-via-in-Some+else-holds, steps::step-in_default-take-via-in_default-take, steps::start-in_default-via-in-Atom+in_default, steps::start-in_default-via-in-Eps+in_default, steps::start-in_default-via-in-Or+in_default, steps::start-in_default-via-in-Apply+in_default, steps::start-in_default-via-in-Split+in_default, steps::start-in_default-via-in-Combine+in_default, steps::start-in_default-via-in-Iter+in_default, steps::start-in_default-via-in-Compose+in_default, steps::start-in_default-via-in_default, steps::step-in_default-via-in-Atom+in_default, steps::step-in_default-via-in-Eps+in_default, steps::step-in_default-via-in-Or+in_default, steps::step-in_default-via-in-Apply+in_default, steps::step-in_default-via-in-Split+in_default, steps::step-in_default-via-in-Combine+in_default, steps::step-in_default-via-in-Iter+in_default, steps::step-in_default-via-in-Compose+in_default, steps::step-in_default-via-in_default, feeds::feed-then-idle-eq0-via-then-idle-eq0, feeds::feed-then-idle-eq0-via-else-idle-eq0+then-is_some, feeds::feed-then-live, feeds::feed-else-live}
+use Rattle.eval_tree.proofs.+step.Goals.{composing::step_compose-After-keep, iterating::step_iter-After-keep, splitting::step_split-After-keep, steps::start-In-Iter-Repeated, steps::step-in_default-take-via-in-Some+else-holds, steps::step-in_default-take-via-in_default-take, steps::start-in_default-via-in-Atom+in_default, steps::start-in_default-via-in-Eps+in_default, steps::start-in_default-via-in-Or+in_default, steps::start-in_default-via-in-Apply+in_default, steps::start-in_default-via-in-Split+in_default, steps::start-in_default-via-in-Combine+in_default, steps::start-in_default-via-in-Iter+in_default, steps::start-in_default-via-in-Compose+in_default, steps::start-in_default-via-in-Collect+in_default, steps::step-in_default-via-in-Atom+in_default, steps::step-in_default-via-in-Eps+in_default, steps::step-in_default-via-in-Or+in_default, steps::step-in_default-via-in-Apply+in_default, steps::step-in_default-via-in-Split+in_default, steps::step-in_default-via-in-Combine+in_default, steps::step-in_default-via-in-Iter+in_default, steps::step-in_default-via-in-Compose+in_default, steps::step-in_default-via-in-Collect+in_default, feeds::feed-then-idle-eq0-via-then-idle-eq0, feeds::feed-then-idle-eq0-via-else-idle-eq0+then-is_some, feeds::feed-then-live, feeds::feed-else-live}
 
--- the runners of a compose
+-- the runners of a compose, and the starts of a collect
 abbrev Runners : Type 0
 Runners = followers.Contents Progress
 
--- a shape without an arm of its own has no nodes
-no_nodes : (shape : Shape) → ((pred value : _) → shape ≡ Atom pred value → ⊥)
-    → ((number : _) → shape ≡ Eps number → ⊥) → ((p f a q g b : _) → shape ≡ Or' p f a q g b → ⊥)
-    → ((p f a q g b value : _) → shape ≡ Split' p f a q g b value → ⊥)
-    → ((p f a number value : _) → shape ≡ Iter' p f a number value → ⊥)
-    → ((p f a q g b value : _) → shape ≡ Combine' p f a q g b value → ⊥)
-    → ((p f a value : _) → shape ≡ Apply' p f a value → ⊥)
-    → ((p f a q g b : _) → shape ≡ Compose' p f a q g b → ⊥) → HasNodes (plain_of shape) → ⊥
-no_nodes (Atom pred value) no_atom no_eps no_or no_split no_iter no_combine no_apply no_compose run =
-    no_atom pred value refl
-no_nodes (Eps number) no_atom no_eps no_or no_split no_iter no_combine no_apply no_compose run = no_eps number refl
-no_nodes (Or' p f a q g b) no_atom no_eps no_or no_split no_iter no_combine no_apply no_compose run =
-    no_or p f a q g b refl
-no_nodes (Split' p f a q g b value) no_atom no_eps no_or no_split no_iter no_combine no_apply no_compose run =
-    no_split p f a q g b value refl
-no_nodes (Iter' p f a number value) no_atom no_eps no_or no_split no_iter no_combine no_apply no_compose run =
-    no_iter p f a number value refl
-no_nodes (Combine' p f a q g b value) no_atom no_eps no_or no_split no_iter no_combine no_apply no_compose run =
-    no_combine p f a q g b value refl
-no_nodes (Apply' p f a value) no_atom no_eps no_or no_split no_iter no_combine no_apply no_compose run =
-    no_apply p f a value refl
-no_nodes (Compose' p f a q g b) no_atom no_eps no_or no_split no_iter no_combine no_apply no_compose run =
-    no_compose p f a q g b refl
-no_nodes (Collect' key sync rate p f a) no_atom no_eps no_or no_split no_iter no_combine no_apply no_compose run = run
+abbrev Tracks : Type 0
+Tracks = tracks.Contents Progress
 
 -- what is said of a place that is there, and where there is none
 there_is : (place : Option ℕ) (P : ℕ → Type 0) → is_some place ≡ true → IfSome place P → (i : ℕ) × P i
@@ -248,11 +235,8 @@ steps::start-returns-in_default-clause-word t c = λ standing columns word start
           (ap plain_of w.in_default.is-0) w.in_default.not-Repeated-1 sound)
       | steps::start-in_default-via-in-Compose+in_default w ↦ absurd (unsound_compose stream c.args.at q state _ _
           (ap plain_of w.in_default.is-0) w.in_default.not-Fed-1 sound)
-      | steps::start-in_default-via-in_default w ↦ absurd (no_nodes c.args.query.now.shape
-          (λ pred value is. search rules) (λ number is. search rules) (λ p f a q g b is. search rules)
-          (λ p f a q g b value is. search rules) (λ p f a number value is. search rules)
-          (λ p f a q g b value is. search rules) (λ p f a value is. search rules) (λ p f a q g b is. search rules)
-          (shaped columns q state word starts rep))
+      | steps::start-in_default-via-in-Collect+in_default w ↦ absurd (unsound_collect stream c.args.at q state _ _ _ _
+          (ap plain_of w.in_default.is-0) w.in_default.not-Tracked-1 sound)
     ]
 
 pub steps::step-eval-requires : goal.steps::step-eval-requires
@@ -446,11 +430,8 @@ steps::step-returns-in_default-clause-word t c = λ standing columns word starts
       | steps::step-in_default-via-in-Compose+in_default w ↦
           absurd (unsound_compose stream c.requires.position q state _ _
           (ap plain_of w.in_default.is-0) w.in_default.not-Fed-1 sound)
-      | steps::step-in_default-via-in_default w ↦ absurd (no_nodes c.args.query.now.shape
-          (λ pred value is. search rules) (λ number is. search rules) (λ p f a q g b is. search rules)
-          (λ p f a q g b value is. search rules) (λ p f a number value is. search rules)
-          (λ p f a q g b value is. search rules) (λ p f a value is. search rules) (λ p f a q g b is. search rules)
-          (shaped columns q state word starts rep))
+      | steps::step-in_default-via-in-Collect+in_default w ↦ absurd (unsound_collect stream c.requires.position q state _ _ _ _
+          (ap plain_of w.in_default.is-0) w.in_default.not-Tracked-1 sound)
     ]
 
 pub steps::step-returns-in_default-clause-sound : goal.steps::step-returns-in_default-clause-sound
@@ -479,11 +460,8 @@ steps::step-returns-in_default-clause-sound t c = λ standing columns position b
       | steps::step-in_default-via-in-Compose+in_default w ↦
           absurd (unsound_compose stream c.requires.position q state _ _
           (ap plain_of w.in_default.is-0) w.in_default.not-Fed-1 sound)
-      | steps::step-in_default-via-in_default w ↦ absurd (no_nodes c.args.query.now.shape
-          (λ pred value is. search rules) (λ number is. search rules) (λ p f a q g b is. search rules)
-          (λ p f a q g b value is. search rules) (λ p f a number value is. search rules)
-          (λ p f a q g b value is. search rules) (λ p f a value is. search rules) (λ p f a q g b is. search rules)
-          (soundly_shaped columns q state position old))
+      | steps::step-in_default-via-in-Collect+in_default w ↦ absurd (unsound_collect stream c.requires.position q state _ _ _ _
+          (ap plain_of w.in_default.is-0) w.in_default.not-Tracked-1 sound)
     ]
 
 pub steps::start-feed-requires : goal.steps::start-feed-requires
@@ -681,8 +659,8 @@ feeds::renew-start-requires t c = (
 pub feeds::renew-returns : goal.feeds::renew-returns
 feeds::renew-returns t c =
     begun_anew seen_of (plain_of c.args.query.now.shape) c.args.runner.now _ (holding_of c.clear.new.node.state)
-    c.in_ok-hit.hit c.requires.columns c.requires.sound c.clear.ensures c.in_ok-hit.ensures.word
-    c.in_ok-hit.ensures.sound refl c.value_of.ensures
+    c.in_ok-hit.hit c.requires.columns c.requires.no_collect c.requires.sound c.clear.ensures
+    c.in_ok-hit.ensures.word c.in_ok-hit.ensures.sound refl c.value_of.ensures
 
 pub feeds::carry-step-requires : goal.feeds::carry-step-requires
 feeds::carry-step-requires t c = (
@@ -1156,3 +1134,277 @@ iterating::step_iter-returns-in-None-clause-sound t c =
     (soundly_stepped_as _ _ _ _ _ _ c.args.now c.args.item.now _ _ (same_query _ _ c.deref.ensures)
     refl refl refl c.in_ok-piece-in-Iter.ensures.sound)
     (chain_kept t (goal.at.iterating::step_iter-returns-in-None-clause-sound t c).After-keep) c.keep.ensures.room)
+
+pub steps::start-begin_at-requires : goal.steps::start-begin_at-requires
+unfolding roll-State out-State denote.Hole.Carrier.roll denote.Hole.Carrier.out
+steps::start-begin_at-requires t c =
+    let s = c.in-Collect-Tracked in (
+      search (rules, the_lemmas),
+      subst CanMake (same_query _ _ c.deref-in-Collect-Tracked.ensures)
+          (make_allowed seen_of _ _ _ (plain_of s.inner.value.shape) s.tracks c.args.at
+          (can_start_as _ _ _ _ c.args.at (sym (ap plain_of s.is-0)) (sym (ap holding_of s.is-1 ∙ tracked_is s.tracks))
+          c.requires)),
+    )
+
+pub steps::start-returns-in-Collect-Tracked-clause-word : goal.steps::start-returns-in-Collect-Tracked-clause-word
+unfolding roll-State out-State denote.Hole.Carrier.roll denote.Hole.Carrier.out
+steps::start-returns-in-Collect-Tracked-clause-word t c =
+    let s = c.in-Collect-Tracked in
+    where_ok c.begin_at.result
+    (BeginsAt seen_of (plain_of c.deref-in-Collect-Tracked.result.now.shape) (tracks_of (out-State (Tracked s.tracks)))
+    c.args.at c.begin_at.new.tracks)
+    _ (λ hit begins. started_as _ _ _ _ (tracked c.begin_at.new.tracks) _ c.args.at _ _ (ap plain_of s.is-0)
+    (ap holding_of s.is-1 ∙ tracked_is s.tracks) (rw s.is-1 (tracked_is c.begin_at.new.tracks)) refl
+    (collect_starts _ _ _ (plain_of s.inner.value.shape) s.tracks c.begin_at.new.tracks c.args.at hit
+    (subst (λ (q : Qre). BeginsAt seen_of q s.tracks c.args.at c.begin_at.new.tracks hit)
+    (sym (same_query _ _ c.deref-in-Collect-Tracked.ensures))
+    (subst (λ (all : Tracks). BeginsAt seen_of (plain_of c.deref-in-Collect-Tracked.result.now.shape) all
+    c.args.at c.begin_at.new.tracks hit) (tracks_are s.tracks) begins)))) (rw s.is-1 at c.begin_at.ensures)
+
+pub steps::start-returns-in-Collect-Tracked-clause-sound : goal.steps::start-returns-in-Collect-Tracked-clause-sound
+unfolding roll-State out-State denote.Hole.Carrier.roll denote.Hole.Carrier.out
+steps::start-returns-in-Collect-Tracked-clause-sound t c =
+    let s = c.in-Collect-Tracked in
+    where_ok c.begin_at.result
+    (BeginsAt seen_of (plain_of c.deref-in-Collect-Tracked.result.now.shape) (tracks_of (out-State (Tracked s.tracks)))
+    c.args.at c.begin_at.new.tracks)
+    _ (λ hit begins. soundly_started_as _ _ _ _ (tracked c.begin_at.new.tracks) _ c.args.at _ _ (ap plain_of s.is-0)
+    (ap holding_of s.is-1 ∙ tracked_is s.tracks) (rw s.is-1 (tracked_is c.begin_at.new.tracks)) refl
+    (collect_starts_soundly _ _ _ (plain_of s.inner.value.shape) s.tracks c.begin_at.new.tracks c.args.at hit
+    (subst (λ (q : Qre). BeginsAt seen_of q s.tracks c.args.at c.begin_at.new.tracks hit)
+    (sym (same_query _ _ c.deref-in-Collect-Tracked.ensures))
+    (subst (λ (all : Tracks). BeginsAt seen_of (plain_of c.deref-in-Collect-Tracked.result.now.shape) all
+    c.args.at c.begin_at.new.tracks hit) (tracks_are s.tracks) begins)))) (rw s.is-1 at c.begin_at.ensures)
+
+pub tracks::begin_at-returns : goal.tracks::begin_at-returns
+tracks::begin_at-returns t c = record {
+  puts = c.in_ok-track.ensures;
+  first = subst (λ (nfa : Automaton). IsFirstTable nfa.sets c.args.at c.first_table.result) c.in_ok-track.ensures.0
+      c.first_table.ensures;
+}
+
+pub tracks::track-returns-then-not-can_track : goal.tracks::track-returns-then-not-can_track
+tracks::track-returns-then-not-can_track t c = (
+  refl,
+  inr ((λ can. let is = c.can_track.ensures.1 can in let not_is = c.if-not-can_track.true in cc), refl),
+)
+
+pub tracks::track-returns : goal.tracks::track-returns
+tracks::track-returns t c = (
+  c.put.ensures.nfa,
+  inl (
+    c.can_track.ensures.0 (let not_is = c.if-not-can_track.false in search (rules, not_is)),
+    c.new-keys.result,
+    record {
+      keyed = c.new-keys.ensures.keyed;
+      fallback = subst (IsNew seen_of (plain_of c.args.query.now.shape)) (sym c.new-keys.ensures.fallback)
+          c.in_ok-fresh.ensures;
+    },
+    c.in_ok-put.ensures.ok,
+  ),
+)
+
+pub tracks::new_runner-new-requires-clause-cells : goal.tracks::new_runner-new-requires-clause-cells
+tracks::new_runner-new-requires-clause-cells t c =
+    without_collect (plain_of c.args.query.now.shape) c.requires.no_collect
+
+pub tracks::new_runner-start-requires : goal.tracks::new_runner-start-requires
+tracks::new_runner-start-requires t c = (
+  search rules,
+  start_made (plain_of c.args.query.now.shape) (holding_of c.in_ok-node.node.state) c.requires
+      (λ columns. c.in_ok-node.ensures.sound columns tt),
+)
+
+pub tracks::new_runner-returns : goal.tracks::new_runner-returns
+tracks::new_runner-returns t c =
+    made_new (plain_of c.args.query.now.shape) (holding_of c.in_ok-node.node.state) _ c.in_ok-hit.hit
+    (λ columns. c.in_ok-node.ensures.word columns tt) (λ columns. c.in_ok-node.ensures.sound columns tt)
+    c.in_ok-hit.ensures.word c.in_ok-hit.ensures.sound refl c.value_of.ensures
+
+-- an item of all keys, and one of one key
+pub keys::keys_push-returns-then-holds : goal.keys::keys_push-returns-then-holds
+keys::keys_push-returns-then-holds t c =
+    where_ok c.push_to_each.result _ _ (λ done takes. pushed_all seen_of (plain_of c.args.query.now.shape) c.args.column
+    (predicates.plain_of c.args.sync.now) c.args.item.now c.args.keys.now c.push_to_each.new.keys
+    (sym c.holds.ensures ∙ c.if-holds.true) takes)
+    c.push_to_each.ensures
+
+pub keys::keys_push-returns-else-holds : goal.keys::keys_push-returns-else-holds
+keys::keys_push-returns-else-holds t c =
+    where_ok c.push_to_key.result _ _ (λ done pushed. pushed_key seen_of (plain_of c.args.query.now.shape) c.args.column
+    (predicates.plain_of c.args.sync.now) c.args.item.now c.args.keys.now pushed.mid c.push_to_key.new.keys pushed.place
+    (sym c.holds.ensures ∙ c.if-holds.false) pushed.has pushed.takes) (subst (λ (key : List ℕ). IfOk c.push_to_key.result (λ done. IsKeyPushed seen_of (plain_of c.args.query.now.shape) key
+    c.args.item.now c.args.keys.now c.push_to_key.new.keys)) c.key_of.ensures c.push_to_key.ensures)
+
+pub keys::push_to_key-follower_mut-requires : goal.keys::push_to_key-follower_mut-requires
+keys::push_to_key-follower_mut-requires t c =
+    slice_get_within (names_of c.place_or_new.new.keys) c.in_ok-place.place c.args.key.now c.in_ok-place.ensures.there
+
+pub keys::push_to_key-carry-requires : goal.keys::push_to_key-carry-requires
+keys::push_to_key-carry-requires t c = (
+  search rules,
+  follower_allowed seen_of (plain_of c.args.query.now.shape) c.args.item.now c.place_or_new.new.keys c.in_ok-place.place
+      c.follower_mut.result.now
+      (with_allowed seen_of (plain_of c.args.query.now.shape) c.args.item.now c.args.key.now c.args.keys.now
+      c.place_or_new.new.keys c.in_ok-place.place c.in_ok-place.ensures c.requires) c.follower_mut.ensures.value,
+)
+
+pub keys::push_to_key-returns : goal.keys::push_to_key-returns
+keys::push_to_key-returns t c =
+    where_ok c.carry.result _ _ (λ done takes. record {
+      place = c.in_ok-place.place;
+      mid = c.place_or_new.new.keys;
+      has = c.in_ok-place.ensures;
+      takes = record {
+        runner = c.follower_mut.result.now;
+        carried = c.carry.new.runner;
+        read = c.follower_mut.ensures.value;
+        takes = takes;
+        fallback = refl;
+        is = refl;
+      };
+    }) c.carry.ensures
+
+pub keys::push_to_each-carry-requires : goal.keys::push_to_each-carry-requires
+keys::push_to_each-carry-requires t c = (
+  search rules,
+  subst (λ (runner : Progress). CanCarry seen_of (plain_of c.args.query.now.shape) runner c.args.item.now)
+      (sym c.fallback_mut.ensures.value)
+      (fallback_allowed seen_of (plain_of c.args.query.now.shape) c.args.item.now c.args.keys.now c.requires),
+)
+
+pub keys::push_to_each-returns : goal.keys::push_to_each-returns
+keys::push_to_each-returns t c =
+    let before = c.keys.invariant in
+    let over = c.keys-test.false in
+    let end = before.3 in
+    let many = before.4 in
+    record {
+      fallback = before.0;
+      names = before.1;
+      keyed = carried_end seen_of (plain_of c.args.query.now.shape) c.args.item.now c.keys.i _ _ before.2
+          (omega (arith, over, end, many));
+    }
+
+pub steps::step-pass_by-requires : goal.steps::step-pass_by-requires
+unfolding roll-State out-State denote.Hole.Carrier.roll denote.Hole.Carrier.out
+steps::step-pass_by-requires t c =
+    let s = c.in-Collect-Tracked in
+    let can = can_step_as _ _ _ _ c.args.now c.args.item.now (sym (ap plain_of s.is-0))
+    (sym (ap holding_of s.is-1 ∙ tracked_is s.tracks)) c.requires in (
+      search (rules, the_lemmas),
+      rw s.is-1 (subst (λ (all : Tracks).
+          CanPassBy seen_of (plain_of c.deref-in-Collect-Tracked.result.now.shape) all c.args.item.now)
+          (sym (tracks_are s.tracks))
+          (subst (λ (q : Qre). CanPassBy seen_of q s.tracks c.args.item.now)
+          (same_query _ _ c.deref-in-Collect-Tracked.ensures)
+          (pass_allowed seen_of _ _ _ (plain_of s.inner.value.shape) s.tracks c.args.now c.args.item.now can))),
+    )
+
+pub steps::step-returns-in-Collect-Tracked-clause-word : goal.steps::step-returns-in-Collect-Tracked-clause-word
+unfolding roll-State out-State denote.Hole.Carrier.roll denote.Hole.Carrier.out
+steps::step-returns-in-Collect-Tracked-clause-word t c =
+    let s = c.in-Collect-Tracked in
+    let sync = predicates.plain_of s.sync in
+    where_ok c.pass_by.result
+    (PassesBy seen_of (plain_of c.deref-in-Collect-Tracked.result.now.shape) s.column sync c.args.item.now
+    (tracks_of (out-State (Tracked s.tracks))) c.pass_by.new.tracks)
+    _ (λ hit passes. stepped_as _ _ _ _ (tracked c.pass_by.new.tracks) _ c.args.now c.args.item.now _ _ (ap plain_of s.is-0)
+    (ap holding_of s.is-1 ∙ tracked_is s.tracks) (rw s.is-1 (tracked_is c.pass_by.new.tracks)) refl
+    (collect_steps s.column sync _ (plain_of s.inner.value.shape) s.tracks
+    c.pass_by.new.tracks c.args.now c.args.item.now hit
+    (subst (λ (q : Qre). PassesBy seen_of q s.column sync c.args.item.now s.tracks c.pass_by.new.tracks hit)
+    (sym (same_query _ _ c.deref-in-Collect-Tracked.ensures))
+    (subst (λ (all : Tracks). PassesBy seen_of (plain_of c.deref-in-Collect-Tracked.result.now.shape) s.column
+    sync c.args.item.now all c.pass_by.new.tracks hit) (tracks_are s.tracks) passes)))) (rw s.is-1 at c.pass_by.ensures)
+
+pub steps::step-returns-in-Collect-Tracked-clause-sound : goal.steps::step-returns-in-Collect-Tracked-clause-sound
+unfolding roll-State out-State denote.Hole.Carrier.roll denote.Hole.Carrier.out
+steps::step-returns-in-Collect-Tracked-clause-sound t c =
+    let s = c.in-Collect-Tracked in
+    let sync = predicates.plain_of s.sync in
+    where_ok c.pass_by.result
+    (PassesBy seen_of (plain_of c.deref-in-Collect-Tracked.result.now.shape) s.column sync c.args.item.now
+    (tracks_of (out-State (Tracked s.tracks))) c.pass_by.new.tracks)
+    _ (λ hit passes. soundly_stepped_as _ _ _ _ (tracked c.pass_by.new.tracks) _ c.args.now c.args.item.now _ _ (ap plain_of s.is-0)
+    (ap holding_of s.is-1 ∙ tracked_is s.tracks) (rw s.is-1 (tracked_is c.pass_by.new.tracks)) refl
+    (collect_steps_soundly s.column sync _ (plain_of s.inner.value.shape) s.tracks
+    c.pass_by.new.tracks c.args.now c.args.item.now hit
+    (subst (λ (q : Qre). PassesBy seen_of q s.column sync c.args.item.now s.tracks c.pass_by.new.tracks hit)
+    (sym (same_query _ _ c.deref-in-Collect-Tracked.ensures))
+    (subst (λ (all : Tracks). PassesBy seen_of (plain_of c.deref-in-Collect-Tracked.result.now.shape) s.column
+    sync c.args.item.now all c.pass_by.new.tracks hit) (tracks_are s.tracks) passes)))) (rw s.is-1 at c.pass_by.ensures)
+
+pub tracks::pass_by-push_all-requires : goal.tracks::pass_by-push_all-requires
+tracks::pass_by-push_all-requires t c = (
+  search rules,
+  advanced_allowed seen_of (plain_of c.args.query.now.shape) c.args.item.now c.args.tracks.now.nfa.sets
+      c.args.tracks.now.tracks c.advance.new.self.tracks c.requires.keys c.advance.ensures.advanced,
+)
+
+pub tracks::pass_by-returns : goal.tracks::pass_by-returns
+tracks::pass_by-returns t c =
+    let pushed = c.push_all.new.tracks in
+    let same = c.in_ok-push_all.ensures.nfa ∙ c.advance.ensures.nfa in
+    record {
+      advanced = c.advance.new.self.tracks;
+      pushed = pushed.tracks;
+      advances = c.advance.ensures.advanced;
+      pushes = c.in_ok-push_all.ensures.pushed;
+      tabled = subst (λ (nfa : Automaton). IsTabled seen_of (record { nfa = nfa; tracks = pushed.tracks }) c.in_ok-hit.hit)
+          same c.in_ok-hit.ensures;
+      keeps = subst (λ (nfa : Automaton). KeepsExtending nfa pushed.tracks c.keep.new.self.tracks) same c.keep.ensures.kept;
+      nfa = c.keep.ensures.nfa ∙ same;
+    }
+
+pub tracks::push_all-keys_push-requires : goal.tracks::push_all-keys_push-requires
+tracks::push_all-keys_push-requires t c = (
+  search rules,
+  push_allowed seen_of (plain_of c.args.query.now.shape) c.args.column (predicates.plain_of c.args.sync.now)
+      c.args.item.now c.starts.i c.args.tracks.now.tracks c.starts.tracks.tracks c.keys_mut.result.now c.requires
+      c.starts.invariant.0 c.keys_mut.ensures.value,
+)
+
+pub tracks::push_all-starts-preserved : goal.tracks::push_all-starts-preserved
+tracks::push_all-starts-preserved t c =
+    let before = c.starts.invariant in (
+      pushed_next seen_of (plain_of c.args.query.now.shape) c.args.column (predicates.plain_of c.args.sync.now)
+          c.args.item.now c.starts.i c.args.tracks.now.tracks c.starts.tracks.tracks c.keys_mut.result.now
+          c.keys_push.new.keys before.0 c.keys_mut.ensures.value c.in_ok-keys_push.ensures,
+      before.1,
+      before.2,
+      with_length c.starts.tracks.tracks c.starts.i c.keys_push.new.keys ∙ before.3,
+    )
+
+pub tracks::push_all-returns-clause-pushed : goal.tracks::push_all-returns-clause-pushed
+tracks::push_all-returns-clause-pushed t c =
+    let before = c.starts.invariant in
+    let over = c.starts-test.false in
+    let end = before.2 in
+    let many = before.3 in
+    pushed_end seen_of (plain_of c.args.query.now.shape) c.args.column (predicates.plain_of c.args.sync.now)
+    c.args.item.now c.starts.i c.args.tracks.now.tracks c.starts.tracks.tracks before.0 (omega (arith, over, end, many))
+
+pub tracks::pass_by-advance-requires : goal.tracks::pass_by-advance-requires
+tracks::pass_by-advance-requires t c = c.requires.is_item
+
+pub keys::push_to_each-carry-requires-in-keys : goal.keys::push_to_each-carry-requires-in-keys
+keys::push_to_each-carry-requires-in-keys t c = (
+  search rules,
+  follower_allowed seen_of (plain_of c.args.query.now.shape) c.args.item.now c.args.keys.now c.keys.i
+      c.follower_mut.result.now c.requires
+      (next_carried seen_of (plain_of c.args.query.now.shape) c.args.item.now c.keys.i (followers_of c.args.keys.now)
+      (followers_of c.keys.keys) c.follower_mut.result.now c.keys.invariant.2 c.follower_mut.ensures.value),
+)
+
+pub keys::push_to_each-keys-preserved : goal.keys::push_to_each-keys-preserved
+keys::push_to_each-keys-preserved t c =
+    let before = c.keys.invariant in (
+      before.0,
+      before.1,
+      carried_next seen_of (plain_of c.args.query.now.shape) c.args.item.now c.keys.i (followers_of c.args.keys.now)
+          (followers_of c.keys.keys) c.follower_mut.result.now c.carry-in-keys.new.runner before.2
+          c.follower_mut.ensures.value c.in_ok-carry-2.ensures,
+      before.3,
+      length-set (followers_of c.keys.keys) c.keys.i c.carry-in-keys.new.runner ∙ before.4,
+    )

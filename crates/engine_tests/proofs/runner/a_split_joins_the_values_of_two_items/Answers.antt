@@ -3,7 +3,7 @@ use Rattle.std.specs.Prelude.{pos, FitsSigned}
 use Rattle.std.specs.Int.{w64}
 use Rattle.query_model.specs.Queries.{plain_of}
 use Rattle.eval_tree.specs.Plain.{holding_of}
-use Rattle.engine_tests.proofs.Tested.{can_run, can_start, can_step, numbers, started, stepped}
+use Rattle.engine_tests.proofs.Tested.{can_be_made, can_start, can_step, numbers, started, stepped}
 use Rattle.engine_tests.proofs.runner.a_split_joins_the_values_of_two_items.Goals as goal
 
 nine : FitsSigned w64 (pos 9)
@@ -12,13 +12,13 @@ nine = search rules
 four : FitsSigned w64 (pos 4)
 four = search rules
 
-pub new-requires-clause-run : goal.new-requires-clause-run
-new-requires-clause-run g c = can_run _ c.in_ok-query.ensures
+pub new-requires-clause-cells : goal.new-requires-clause-cells
+new-requires-clause-cells g c = can_be_made _ c.in_ok-query.ensures
 
 pub start-requires : goal.start-requires
 start-requires g c =
     can_start (plain_of c.in_ok-query.query.shape) c.in_ok-query.ensures (holding_of c.in_ok-node.node.state)
-    (c.in_ok-node.ensures.sound numbers)
+    (c.in_ok-node.ensures.sound numbers tt)
 
 pub step-requires : goal.step-requires
 step-requires g c =
@@ -26,7 +26,7 @@ step-requires g c =
     (pos 9) c.in_ok-nine.ensures nine
     (holding_of c.start.new.node.state) 0 (omega arith)
     (started (plain_of c.in_ok-query.query.shape) c.in_ok-query.ensures (holding_of c.in_ok-node.node.state)
-    (holding_of c.start.new.node.state) c.in_ok-begun.begun (c.in_ok-node.ensures.sound numbers)
+    (holding_of c.start.new.node.state) c.in_ok-begun.begun (c.in_ok-node.ensures.sound numbers tt)
     c.in_ok-begun.ensures.sound)
 
 pub step-requires-2 : goal.step-requires-2
@@ -38,6 +38,6 @@ step-requires-2 g c =
     (pos 9) c.in_ok-nine.ensures nine
     (holding_of c.start.new.node.state) (holding_of c.step.new.node.state) c.in_ok-left.left 0
     (started (plain_of c.in_ok-query.query.shape) c.in_ok-query.ensures (holding_of c.in_ok-node.node.state)
-    (holding_of c.start.new.node.state) c.in_ok-begun.begun (c.in_ok-node.ensures.sound numbers)
+    (holding_of c.start.new.node.state) c.in_ok-begun.begun (c.in_ok-node.ensures.sound numbers tt)
     c.in_ok-begun.ensures.sound)
     c.in_ok-left.ensures.sound)

@@ -13,7 +13,7 @@ use Rattle.eval_tree.proofs.Arms.{same_query}
 use Rattle.eval_tree.proofs.Cleared.{cleared_as, next_cleared, none_kept}
 use Rattle.eval_tree.proofs.Clearing.{clear_apply, clear_atom, clear_choice, clear_combine, clear_compose, clear_iter, clear_split}
 use Rattle.eval_tree.proofs.ComposeArms.{fed_is, runners_are}
-use Rattle.eval_tree.proofs.Others.{other_cleared, other_shape}
+use Rattle.eval_tree.proofs.Others.{left_cleared, left_shape}
 use Rattle.eval_tree.proofs.clear.+clear.Goals as goal
 
 pub clear-returns-in-Atom-Item : goal.clear-returns-in-Atom-Item
@@ -111,8 +111,8 @@ clear-returns-in-Compose-Fed t c =
 
 pub clear-returns-8 : goal.clear-returns-8
 clear-returns-8 t c =
-    other_cleared c.args.query.now.shape c.args.node.now.state
-    (other_shape c.args.query.now.shape (λ pred value is. search rules) (λ p f a q g b is. search rules)
+    left_cleared c.args.query.now.shape c.args.node.now.state
+    (left_shape c.args.query.now.shape (λ pred value is. search rules) (λ p f a q g b is. search rules)
     (λ p f a q g b value is. search rules) (λ p f a number value is. search rules)
     (λ p f a q g b value is. search rules) (λ p f a value is. search rules) (λ p f a q g b is. search rules))
 

@@ -1,22 +1,28 @@
 use Rattle.std.proofs.Common.{◌∙◌, ◌+◌, List, length, take, ap, arith, refl, rules, subst, sym}
 use Rattle.value_ops.specs.Expressions as values
 use Rattle.predicate_cells.specs.Plain as predicates
+use Rattle.rate_expr.specs.Plain as rates
 use Rattle.query_model.specs.Queries.{Qre, compose, plain_of}
 use Rattle.compose_eval.specs.declared.instance.Instance.{Instance}
 use Rattle.compose_eval.specs.Followers.{followers_of, outers_of}
 use Rattle.eval_tree.specs.declared.progress.Progress.{Progress}
 use Rattle.eval_tree.specs.declared.node.State.TheViews.{out-State, roll-State}
-use Rattle.eval_tree.specs.Copies.{AreAlike, AreCopied, IsCopy, IsCopyOf}
-use Rattle.eval_tree.specs.Holdings.{fed}
+use Rattle.eval_tree.specs.Copies.{AreAlike, AreCopied, IsCopy, IsCopyOf, AreCopiedTracks}
+use Rattle.eval_tree.specs.Holdings.{fed, tracked}
 use Rattle.eval_tree.specs.Plain.{holding_of, seen_of}
 use Rattle.eval_tree.proofs.Arms.{same_node, same_query}
 use Rattle.eval_tree.proofs.ComposeArms.{fed_is}
 use Rattle.eval_tree.proofs.Others.{other_copied, other_shape}
 use Rattle.eval_tree.proofs.RunnerCopies.{copied_as}
 use Rattle.eval_tree.proofs.Runners.{alike_more, as_many_taken, copied_fresh, copied_many, follower_put, start_put}
-use Rattle.eval_tree.proofs.Unlike.{unlike_apply, unlike_atom, unlike_choice, unlike_combine, unlike_compose, unlike_iter, unlike_split}
+use Rattle.rate_expr.specs.Behind.{IsStateOf}
+use Rattle.symbolic_nfa.specs.Automata.{Automaton}
+use Rattle.map_collect.specs.Keys.{fallback_of, followers_of as keyed_followers, keyed_of, names_of}
+use Rattle.eval_tree.proofs.CollectArms.{tracked_is}
+use Rattle.eval_tree.proofs.CollectCopying.{key_fresh, name_put, runner_put, start_fresh, state_at, track_put}
+use Rattle.eval_tree.proofs.Unlike.{unlike_apply, unlike_atom, unlike_choice, unlike_collect, unlike_combine, unlike_compose, unlike_iter, unlike_split}
 use Rattle.eval_tree.proofs.copies.+copy.Goals as goal
-use Rattle.eval_tree.proofs.copies.+copy.Goals.{copy-in_default-via-in-Atom+in_default, copy-in_default-via-in-Or+in_default, copy-in_default-via-in-Apply+in_default, copy-in_default-via-in-Split+in_default, copy-in_default-via-in-Combine+in_default, copy-in_default-via-in-Iter+in_default, copy-in_default-via-in-Compose+in_default, copy-in_default-via-in_default}
+use Rattle.eval_tree.proofs.copies.+copy.Goals.{copy-in_default-via-in-Atom+in_default, copy-in_default-via-in-Or+in_default, copy-in_default-via-in-Apply+in_default, copy-in_default-via-in-Split+in_default, copy-in_default-via-in-Combine+in_default, copy-in_default-via-in-Iter+in_default, copy-in_default-via-in-Compose+in_default, copy-in_default-via-in-Collect+in_default, copy-in_default-via-in_default}
 
 pub copied_live-put-requires-clause-room : goal.copied_live-put-requires-clause-room
 copied_live-put-requires-clause-room t c =
@@ -118,8 +124,63 @@ copy-returns-in_default t c = elim c.in_default.branch [
   | copy-in_default-via-in-Compose+in_default w ↦
       copied_as _ _ _ _ _ _ (ap plain_of w.in_default.is-0) refl refl
       (unlike_compose _ _ c.args.node.now.state w.in_default.not-Fed-1)
+  | copy-in_default-via-in-Collect+in_default w ↦
+      copied_as _ _ _ _ _ _ (ap plain_of w.in_default.is-0) refl refl
+      (unlike_collect w.in_default.field-0-0 (predicates.plain_of w.in_default.field-1-0)
+      (rates.plain_of w.in_default.field-2-0) _ c.args.node.now.state w.in_default.not-Tracked-1)
   | copy-in_default-via-in_default w ↦ other_copied c.args.query.now.shape c.args.node.now.state
       (other_shape c.args.query.now.shape (λ pred value is. search rules) (λ p f a q g b is. search rules)
       (λ p f a q g b value is. search rules) (λ p f a number value is. search rules)
-      (λ p f a q g b value is. search rules) (λ p f a value is. search rules) (λ p f a q g b is. search rules))
+      (λ p f a q g b value is. search rules) (λ p f a value is. search rules) (λ p f a q g b is. search rules)
+      (λ key sync rate p f a is. search rules))
 ]
+
+pub copied_keys-add-requires : goal.copied_keys-add-requires
+copied_keys-add-requires t c = record {
+  fresh = key_fresh (names_of c.args.keys.now) (names_of c.keys.copy) c.keys.i c.key.result.now
+      c.len-i-end.ensures.distinct c.keys.invariant.1 c.key.ensures;
+}
+
+pub copied_keys-keys-preserved : goal.copied_keys-keys-preserved
+copied_keys-keys-preserved t c =
+    let is_copy = IsCopy seen_of (plain_of c.args.query.now.shape) in
+    let before = c.keys.invariant in (
+      subst (IsCopyOf seen_of is_copy (fallback_of c.args.keys.now)) (sym c.add.ensures.fallback) before.0,
+      name_put seen_of is_copy (names_of c.args.keys.now) (keyed_of c.keys.copy) (keyed_of c.add.new.self) c.keys.i
+          c.key.result.now c.in_ok-follower.follower c.key.ensures before.1 c.in_ok-add.ensures.ok,
+      runner_put seen_of is_copy (keyed_followers c.args.keys.now) (keyed_of c.keys.copy) (keyed_of c.add.new.self) c.keys.i
+          c.key.result.now c.follower.result.now c.in_ok-follower.follower c.follower.ensures before.2
+          c.in_ok-follower.ensures c.in_ok-add.ensures.ok,
+      before.3,
+    )
+
+pub copied_tracks-put-requires-clause-fresh : goal.copied_tracks-put-requires-clause-fresh
+copied_tracks-put-requires-clause-fresh t c =
+    start_fresh seen_of (IsCopy seen_of (plain_of c.args.query.now.shape)) c.args.tracks.now.tracks c.starts.copy.tracks
+    c.starts.i c.start.result c.len-i-end.ensures.distinct c.starts.invariant.1 c.start.ensures
+
+pub copied_tracks-put-requires-clause-state : goal.copied_tracks-put-requires-clause-state
+copied_tracks-put-requires-clause-state t c =
+    subst (λ (nfa : Automaton). IsStateOf nfa.sets c.state.result) (sym c.starts.invariant.0)
+    (state_at c.args.tracks.now.nfa.sets c.args.tracks.now.tracks c.starts.i c.state.result c.len-i-end.ensures.states
+    c.state.ensures)
+
+pub copied_tracks-starts-preserved : goal.copied_tracks-starts-preserved
+copied_tracks-starts-preserved t c =
+    let before = c.starts.invariant in (
+      c.put.ensures.nfa ∙ before.0,
+      track_put seen_of (IsCopy seen_of (plain_of c.args.query.now.shape)) c.args.tracks.now.tracks c.starts.copy.tracks
+          c.put.new.self.tracks c.starts.i c.start.result c.state.result c.keys.result.now c.in_ok-keys.keys c.start.ensures
+          c.state.ensures c.keys.ensures before.1 c.in_ok-keys.ensures c.in_ok-put.ensures.ok,
+      before.2,
+    )
+
+pub copy-returns-in_ok-copied_tracks-in-Collect-Tracked : goal.copy-returns-in_ok-copied_tracks-in-Collect-Tracked
+unfolding roll-State out-State denote.Hole.Carrier.roll denote.Hole.Carrier.out
+copy-returns-in_ok-copied_tracks-in-Collect-Tracked t c =
+    let s = c.in-Collect-Tracked in
+    let all = c.in_ok-copied_tracks-in-Collect-Tracked.field-0 in
+    copied_as _ _ (tracked s.tracks) _ (tracked all) _ (ap plain_of s.is-0) (ap holding_of s.is-1 ∙ tracked_is s.tracks)
+    (tracked_is all)
+    (subst (λ (q : Qre). AreCopiedTracks seen_of (IsCopy seen_of q) s.tracks all)
+    (sym (same_query _ _ c.deref-in-Collect-Tracked.ensures)) c.in_ok-copied_tracks-in-Collect-Tracked.ensures)

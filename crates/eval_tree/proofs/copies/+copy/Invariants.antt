@@ -1,8 +1,9 @@
 use Rattle.std.proofs.Common.{◌≡◌, ◌≤◌, ◌+◌, [], length, take}
 use Rattle.query_model.specs.Queries.{plain_of}
 use Rattle.compose_eval.specs.Followers.{followers_of, outers_of}
-use Rattle.eval_tree.specs.Copies.{AreAlike, IsCopy, IsCopyOf}
+use Rattle.eval_tree.specs.Copies.{AreAlike, IsCopy, IsCopyOf, IsCopiedTrack}
 use Rattle.eval_tree.specs.Plain.{seen_of}
+use Rattle.map_collect.specs.Keys.{fallback_of, followers_of as keyed_followers, names_of}
 use Rattle.eval_tree.proofs.copies.+copy.Given as goal
 
 abbrev pub invariant-copied_live-live : goal.invariant-copied_live-live
@@ -19,3 +20,17 @@ invariant-copied_runners-idle l =
     (followers_of l.copy.live)
     × AreAlike (IsCopyOf seen_of (IsCopy seen_of (plain_of l.query.shape))) (take l.i l.runners.idle) l.copy.idle
     × (length l.copy.live + length l.runners.idle ≤ l.copy.room) × (l.i-end ≡ length l.runners.idle)
+
+abbrev pub invariant-copied_keys-keys : goal.invariant-copied_keys-keys
+invariant-copied_keys-keys l =
+    IsCopyOf seen_of (IsCopy seen_of (plain_of l.query.shape)) (fallback_of l.keys) (fallback_of l.copy)
+    × (names_of l.copy ≡ take l.i (names_of l.keys))
+    × AreAlike (IsCopyOf seen_of (IsCopy seen_of (plain_of l.query.shape))) (take l.i (keyed_followers l.keys))
+    (keyed_followers l.copy)
+    × (l.i-end ≡ length (names_of l.keys))
+
+abbrev pub invariant-copied_tracks-starts : goal.invariant-copied_tracks-starts
+invariant-copied_tracks-starts l =
+    (l.copy.nfa ≡ l.tracks.nfa)
+    × AreAlike (IsCopiedTrack seen_of (IsCopy seen_of (plain_of l.query.shape))) (take l.i l.tracks.tracks) l.copy.tracks
+    × (l.i-end ≡ length l.tracks.tracks)

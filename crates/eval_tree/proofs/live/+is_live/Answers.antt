@@ -1,18 +1,21 @@
-use Rattle.std.proofs.Common.{◌≡◌, ◌∙◌, ℕ, Option, None, Some, ap, rules, false, arith, sym, refl}
+use Rattle.std.proofs.Common.{◌≡◌, rules, false, arith, sym, refl, ◌∙◌, ap, ℕ, Option, None, Some}
 use Rattle.std.proofs.lemmas.Grind.{common_steps}
 use Rattle.query_model.specs.declared.query.Shape.{Shape}
 use Rattle.query_model.specs.declared.query.Shape.TheVariants.{Atom, Eps, Or', Split', Iter', Combine', Apply', Compose', Collect'}
-use Rattle.predicate_cells.specs.Plain as predicates
-use Rattle.value_ops.specs.Expressions as values
-use Rattle.query_model.specs.Queries.{Qre, atom, plain_of}
-use Rattle.eval_tree.specs.declared.node.State.TheVariants.{Item}
-use Rattle.eval_tree.specs.declared.node.State.TheViews.{out-State, roll-State}
-use Rattle.eval_tree.specs.declared.progress.Progress.{Progress}
-use Rattle.eval_tree.specs.Holdings.{Holding, waiting}
+use Rattle.query_model.specs.Queries.{plain_of, Qre, atom}
 use Rattle.eval_tree.specs.Live.{live_of}
 use Rattle.eval_tree.specs.Plain.{holding_of}
 use Rattle.eval_tree.proofs.Lived.{IsOther, lives_read, other_none}
-use Rattle.eval_tree.proofs.Unlike.{unlike_lives}
+use Rattle.eval_tree.specs.Holdings.{tracked, Holding, waiting}
+use Rattle.eval_tree.proofs.CollectArms.{tracked_is}
+use Rattle.eval_tree.proofs.CollectLiving.{place_read}
+use Rattle.predicate_cells.specs.Plain as predicates
+use Rattle.rate_expr.specs.Plain as rates
+use Rattle.value_ops.specs.Expressions as values
+use Rattle.eval_tree.specs.declared.node.State.TheVariants.{Item}
+use Rattle.eval_tree.specs.declared.node.State.TheViews.{out-State, roll-State}
+use Rattle.eval_tree.specs.declared.progress.Progress.{Progress}
+use Rattle.eval_tree.proofs.Unlike.{unlike_lives, unlike_tracked}
 use Rattle.eval_tree.proofs.live.+is_live.Goals as goal
 
 pub returns-in-Atom-Item-Some-clause-lives : goal.returns-in-Atom-Item-Some-clause-lives
@@ -69,6 +72,18 @@ returns-in_default-8 t c =
 
 pub returns-in_default-9 : goal.returns-in_default-9
 returns-in_default-9 t c =
+    let s = c.in_default in
+    let read : false ≡ live_of (plain_of c.args.query.now.shape) (holding_of c.args.node.now.state) c.args.start =
+    unlike_tracked s.field-0-0 (predicates.plain_of s.field-1-0) (rates.plain_of s.field-2-0)
+    (plain_of s.field-3-0.value.shape) c.args.node.now.state c.args.start s.not-Tracked-1
+    ∙ sym (ap (λ (q : Qre). live_of q (holding_of c.args.node.now.state) c.args.start) (ap plain_of s.is-0)) in
+    record {
+      lives = lives_read (plain_of c.args.query.now.shape) c.args.node.now.state c.args.start false read;
+      read = read;
+    }
+
+pub returns-in_default-10 : goal.returns-in_default-10
+returns-in_default-10 t c =
     let read : false ≡ live_of (plain_of c.args.query.now.shape) (holding_of c.args.node.now.state) c.args.start =
     sym (other_none c.args.query.now.shape c.args.node.now.state c.args.start (other c.args.query.now.shape refl)) in
     record {
@@ -85,4 +100,19 @@ returns-in_default-9 t c =
     other (Combine' p f a q g b value) is = search rules
     other (Apply' p f a value) is = search rules
     other (Compose' p f a q g b) is = search rules
-    other (Collect' key sync rate p f a) is = tt
+    other (Collect' key sync rate p f a) is = search rules
+
+pub returns-in-Collect-Tracked : goal.returns-in-Collect-Tracked
+returns-in-Collect-Tracked t c =
+    let s = c.in-Collect-Tracked in
+    let whole : live_of (plain_of c.args.query.now.shape) (holding_of c.args.node.now.state) c.args.start
+    ≡ live_of (plain_of c.args.query.now.shape) (tracked s.tracks) c.args.start =
+    ap (λ (h : _). live_of (plain_of c.args.query.now.shape) h c.args.start) (ap holding_of s.is-1 ∙ tracked_is s.tracks) in
+    let read : c.is_some.result ≡ live_of (plain_of c.args.query.now.shape) (holding_of c.args.node.now.state) c.args.start =
+    place_read s.tracks.tracks c.args.start c.place.result c.is_some.result c.is_some.ensures c.place.ensures.there
+    c.place.ensures.none
+    ∙ sym (whole ∙ ap (λ (q : Qre). live_of q (tracked s.tracks) c.args.start) (ap plain_of s.is-0)) in
+    record {
+      lives = lives_read (plain_of c.args.query.now.shape) c.args.node.now.state c.args.start _ read;
+      read = read;
+    }

@@ -21,7 +21,6 @@ returns-clause-ok c = λ word follows.
     let on = c.args.self.now.checked.now in
     let old = c.args.self.now.progress in
     record {
-      run = follows.run;
       found = refl;
       at = carried free on.layout.columns (plain_of on.main.shape) word c.args.item.now old c.carry.new.runner
           c.main.ensures.checked.clear c.requires.fits.is_item follows.at
@@ -37,7 +36,6 @@ returns-clause-sound c =
     subst (λ (query : Query). IsCarried seen_of (plain_of query.shape) runner.progress c.args.item.now c.carry.new.runner)
     c.main.ensures.main c.in_ok-carry.ensures in
     record {
-      run = c.requires.sound.run;
       sound = inr (one_more.sound free on.layout.columns c.main.ensures.checked.clear c.requires.fits.is_item
           (found_sound runner c.requires.sound c.requires.found));
     }

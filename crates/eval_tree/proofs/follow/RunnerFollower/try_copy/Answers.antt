@@ -15,7 +15,6 @@ returns-clause-words c = λ word follows.
     subst (λ (query : Query). IsCopyOf seen_of (IsCopy seen_of (plain_of query.shape)) runner.progress c.in_ok-progress.progress)
     c.main.ensures.main c.in_ok-progress.ensures in
     record {
-      run = follows.run;
       found = follows.found;
       at = copied_at (columns_of runner) (query_of runner) word runner.progress c.in_ok-progress.progress copied follows.at;
     }
@@ -35,7 +34,6 @@ returns-clause-sound c =
     subst (λ (query : Query). IsCopyOf seen_of (IsCopy seen_of (plain_of query.shape)) runner.progress c.in_ok-progress.progress)
     c.main.ensures.main c.in_ok-progress.ensures in (
       record {
-        run = c.requires.sound.run;
         sound = inr (copied_soundly (columns_of runner) (query_of runner) runner.progress c.in_ok-progress.progress copied
             (found_sound runner c.requires.sound c.requires.found));
       },

@@ -1,0 +1,59 @@
+-- A collect in memory.
+use Rattle.std.proofs.Common.{◌≡◌, ℕ, List, Option, refl, ap}
+use Rattle.value_ops.specs.declared.field.Field.{Field}
+use Rattle.predicate_cells.specs.Predicates.{Predicate}
+use Rattle.rate_expr.specs.Rates as rates
+use Rattle.query_model.specs.Queries.{Qre, collect}
+use Rattle.map_collect.specs.Tracks.{Contents}
+use Rattle.eval_tree.specs.declared.hit.Hit.{Hit}
+use Rattle.eval_tree.specs.declared.node.Node.{Node}
+use Rattle.eval_tree.specs.declared.node.State.{State, out-State}
+use Rattle.eval_tree.specs.declared.node.State.TheOpen.{State-F}
+use Rattle.eval_tree.specs.declared.node.State.TheVariants.{Tracked}
+use Rattle.eval_tree.specs.declared.node.State.TheViews.{out-roll-State, roll-State}
+use Rattle.eval_tree.specs.declared.progress.Progress.{Progress}
+use Rattle.eval_tree.specs.Holdings.{tracked}
+use Rattle.eval_tree.specs.Plain.{holding_of, seen_of, tracks_of}
+use Rattle.eval_tree.specs.Pushes.{BeginsAt, PassesBy}
+use Rattle.eval_tree.specs.Steps.{Starts, StartsSoundly, Steps, StepsSoundly}
+use Rattle.eval_tree.proofs.CollectSoundness.{sound_start_collect, sound_step_collect}
+use Rattle.eval_tree.proofs.CollectStarts.{start_collect}
+use Rattle.eval_tree.proofs.CollectSteps.{step_collect}
+
+-- what it holds
+pub tracked_is : (all : Contents Progress) → holding_of (Tracked all) ≡ tracked all
+unfolding roll-State denote.Hole.Carrier.roll
+tracked_is all =
+    ap (λ (x : State-F State Node Progress). tracked (tracks_of x)) (out-roll-State (State-F.Tracked all))
+
+-- and its starts
+pub tracks_are : (all : Contents Progress) → tracks_of (out-State (Tracked all)) ≡ all
+unfolding roll-State denote.Hole.Carrier.roll
+tracks_are all = ap (λ (x : State-F State Node Progress). tracks_of x) (out-roll-State (State-F.Tracked all))
+
+module _ (column : ℕ) (sync : Predicate) (rate : rates.Expression) (f : Qre) where
+  pub collect_starts : (old new : Contents Progress) (at : ℕ) (hit : Option Hit) → BeginsAt seen_of f old at new hit
+      → Starts seen_of (collect column sync rate f) (tracked old) at (tracked new) hit
+  collect_starts old new at hit begins = start_collect seen_of column sync rate f old new at hit begins.puts begins.first
+
+  pub collect_starts_soundly : (old new : Contents Progress) (at : ℕ) (hit : Option Hit)
+      → BeginsAt seen_of f old at new hit
+      → StartsSoundly seen_of (collect column sync rate f) (tracked old) at (tracked new) hit
+  collect_starts_soundly old new at hit begins =
+      sound_start_collect seen_of column sync rate f old new at hit begins.puts begins.first
+
+  pub collect_steps : (old new : Contents Progress) (now : ℕ) (item : List Field) (hit : Option Hit)
+      → PassesBy seen_of f column sync item old new hit
+      → Steps seen_of (collect column sync rate f) (tracked old) now item (tracked new) hit
+  collect_steps old new now item hit passes =
+      step_collect seen_of column sync rate f old (record { nfa = old.nfa; tracks = passes.advanced })
+      (record { nfa = old.nfa; tracks = passes.pushed }) new now item hit passes.advances refl passes.pushes passes.tabled
+      passes.keeps passes.nfa
+
+  pub collect_steps_soundly : (old new : Contents Progress) (now : ℕ) (item : List Field) (hit : Option Hit)
+      → PassesBy seen_of f column sync item old new hit
+      → StepsSoundly seen_of (collect column sync rate f) (tracked old) now item (tracked new) hit
+  collect_steps_soundly old new now item hit passes =
+      sound_step_collect seen_of column sync rate f old (record { nfa = old.nfa; tracks = passes.advanced })
+      (record { nfa = old.nfa; tracks = passes.pushed }) new now item hit passes.advances refl passes.pushes passes.tabled
+      passes.keeps passes.nfa

@@ -1,0 +1,58 @@
+//! The tables that runners for keys make.
+ghost use Rattle.std.specs.Prelude.{◌≡◌, IfOk};
+ghost use Rattle.eval_tree.specs.Collects.{IsTableOf};
+ghost use Rattle.eval_tree.specs.Plain.{seen_of};
+ghost use Rattle.eval_tree.specs.Pushes.{IsFirstTable, IsTabled, scalar_of};
+
+use crate::{Hit, Progress};
+use map_collect::{Keys, Tracks};
+use rate_expr::State;
+use std::alloc::{AllocError, Global};
+use value_ops::{Scalar, Table, Value};
+
+/// The keys whose runners answer a scalar, with it.
+pub fn keys_table(keys: &Keys<Progress>, alloc: Global) -> Result<Table, AllocError>
+    ensures { IfOk result (IsTableOf seen_of keys.now) }
+{
+    let mut table = Table::new(alloc);
+    'keys: for i in 0..keys.len() {
+        if let Some(scalar) = scalar_of(&keys.follower(i).answer) {
+            table.push(keys.key(i), scalar)?;
+        }
+    }
+    Ok(table)
+}
+
+fn scalar_of(answer: &Option<Value>) -> Option<Scalar>
+    ensures { result ≡ scalar_of answer.now }
+{
+    match answer {
+        Some(Value::Scalar(scalar)) => Some(*scalar),
+        Some(Value::Table(_entries)) => None,
+        None => None,
+    }
+}
+
+/// The first start from which the word is in the rate, with the table of its keys.
+pub(crate) fn tabled(tracks: &Tracks<Progress>, alloc: Global) -> Result<Option<Hit>, AllocError>
+    ensures { IfOk result (IsTabled seen_of tracks.now) }
+{
+    match tracks.accepted() {
+        Some(place) => {
+            let table = keys_table(tracks.keys(place), alloc)?;
+            Ok(Some(Hit::of_table(tracks.start(place), table)))
+        }
+        None => Ok(None),
+    }
+}
+
+/// The empty word has no keys.
+pub(crate) fn first_table(tracks: &Tracks<Progress>, alloc: Global, at: u64) -> Option<Hit>
+    ensures { IsFirstTable tracks.now.nfa.sets at result }
+{
+    if tracks.nfa().accepts(State::Initial) {
+        Some(Hit::of_table(at, Table::new(alloc)))
+    } else {
+        None
+    }
+}

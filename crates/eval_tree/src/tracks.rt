@@ -1,0 +1,118 @@
+//! The starts of a collect.
+ghost use Rattle.std.specs.Prelude.{◌≡◌, ◌↔◌, IfOk, IsTrue};
+ghost use Rattle.predicate_cells.specs.Plain as predicates;
+ghost use Rattle.query_model.specs.Queries.{plain_of};
+ghost use Rattle.eval_tree.specs.Plain.{seen_of};
+ghost use Rattle.eval_tree.specs.Pushes.{AddsStart, ArePushed, BeginsAt, CanMake, CanPassBy, CanPushAll, CanTrack, IsNew, PassesBy};
+
+use crate::keys::keys_push;
+use crate::runner::value_of;
+use crate::tables::{first_table, tabled};
+use crate::{Hit, Node, Progress, start};
+use item_schema::Item;
+use map_collect::{Keys, Tracks};
+use predicate_cells::Pred;
+use query_model::Query;
+use rate_expr::State;
+use std::alloc::{AllocError, Global};
+
+/// The item goes by at each start. The first from which the word is in the rate then has the table of
+/// its keys, and those from which it can go on stay.
+#[cycle(step)]
+pub(crate) fn pass_by(
+    query: &Query,
+    tracks: &mut Tracks<Progress>,
+    alloc: Global,
+    column: u32,
+    sync: &Pred,
+    item: &Item,
+) -> Result<Option<Hit>, AllocError>
+    requires { CanPassBy seen_of (plain_of query.now.shape) tracks.old item.now }
+    ensures { IfOk result (PassesBy seen_of (plain_of query.now.shape) column
+        (predicates.plain_of sync.now) item.now tracks.old tracks.new) }
+{
+    tracks.advance(item);
+    push_all(query, tracks, alloc, column, sync, item)?;
+    // A start may end here, so its table is made before what can't go on is given up.
+    let hit = tabled(tracks, alloc)?;
+    tracks.keep();
+    Ok(hit)
+}
+
+/// The item goes by at the keys of each start.
+#[cycle(step)]
+fn push_all(
+    query: &Query,
+    tracks: &mut Tracks<Progress>,
+    alloc: Global,
+    column: u32,
+    sync: &Pred,
+    item: &Item,
+) -> Result<(), AllocError>
+    requires { CanPushAll seen_of (plain_of query.now.shape) tracks.old.tracks item.now }
+    ensures pushed { IfOk result (λ done. ArePushed seen_of (plain_of query.now.shape) column
+        (predicates.plain_of sync.now) item.now tracks.old.tracks tracks.new.tracks) }
+    ensures nfa { IfOk result (λ done. tracks.new.nfa ≡ tracks.old.nfa) }
+{
+    'starts: for i in 0..tracks.len() {
+        keys_push(query, tracks.keys_mut(i), alloc, column, sync, item)?;
+    }
+    Ok(())
+}
+
+/// One more start. It has the empty table where the empty word is in the rate.
+#[cycle(step)]
+pub(crate) fn begin_at(
+    query: &Query,
+    tracks: &mut Tracks<Progress>,
+    alloc: Global,
+    at: u64,
+) -> Result<Option<Hit>, AllocError>
+    requires { CanMake (plain_of query.now.shape) }
+    ensures { IfOk result (BeginsAt seen_of (plain_of query.now.shape) tracks.old at tracks.new) }
+{
+    track(query, tracks, alloc, at)?;
+    Ok(first_table(tracks, alloc, at))
+}
+
+/// It is put where a word can begin. Where the starts are apart it is not there yet.
+#[cycle(step)]
+fn track(
+    query: &Query,
+    tracks: &mut Tracks<Progress>,
+    alloc: Global,
+    at: u64,
+) -> Result<(), AllocError>
+    requires { CanMake (plain_of query.now.shape) }
+    ensures { IfOk result (λ done. AddsStart seen_of (plain_of query.now.shape) tracks.old at
+        tracks.new) }
+{
+    if !can_track(tracks, at) {
+        return Ok(());
+    }
+    let fresh = new_runner(query, alloc)?;
+    let keys = Keys::new(alloc, fresh);
+    tracks.put(at, State::Initial, keys)?;
+    Ok(())
+}
+
+/// Whether a word can begin there, and none has yet.
+fn can_track(tracks: &Tracks<Progress>, at: u64) -> bool
+    ensures { IsTrue result ↔ CanTrack tracks.now at }
+{
+    tracks.nfa().extends(State::Initial) && tracks.place(at).is_none()
+}
+
+#[cycle(step)]
+fn new_runner(query: &Query, alloc: Global) -> Result<Progress, AllocError>
+    requires { CanMake (plain_of query.now.shape) }
+    ensures { IfOk result (IsNew seen_of (plain_of query.now.shape)) }
+{
+    let mut node = Node::new(alloc, query, None)?;
+    let hit = start(query, &mut node, alloc, 0)?;
+    Ok(Progress {
+        node,
+        position: 0,
+        answer: value_of(hit),
+    })
+}
