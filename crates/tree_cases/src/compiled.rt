@@ -10,9 +10,9 @@ use query_syntax::{Program, read_syntax};
 use std::alloc::Global;
 use type_checker::{CheckStop, check};
 
-/// The query on items of one number.
-pub(crate) fn compiled(alloc: Global, query: &str) -> Result<Checked, Stop> {
-    let text = format!(in alloc; "stream(plain, col(a, int)) main({query})")?;
+/// The query on items of the stream.
+pub(crate) fn compiled(alloc: Global, stream: &str, query: &str) -> Result<Checked, Stop> {
+    let text = format!(in alloc; "{stream} main({query})")?;
     let program = read(alloc, text.as_bytes())?;
     judged(alloc, &program)
 }

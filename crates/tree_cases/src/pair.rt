@@ -2,14 +2,14 @@
 
 use crate::stop::Stop;
 use crate::told::{Told, told_by};
-use eval_tree::{Runner, can_run};
+use eval_tree::Runner;
 use memory_bound::slots;
 use query_model::Checked;
 use slow_eval::Slow;
 use std::alloc::Global;
 
 /// What was seen on a word.
-#[derive(Clone, Copy)]
+#[derive(Clone, Copy, Default)]
 pub(crate) struct Seen {
     pub(crate) answers: u32,
     pub(crate) values: u32,
@@ -17,17 +17,20 @@ pub(crate) struct Seen {
     pub(crate) faults: u32,
 }
 
-/// Answers after each item, the empty word included.
-pub(crate) fn side_by_side(alloc: Global, checked: &Checked, items: &str) -> Result<Seen, Stop> {
-    if !can_run(checked.main()) {
-        return Err(Stop::Line);
-    }
+/// Answers after each item, the empty word included. Runners for so many keys at most are kept.
+pub(crate) fn side_by_side(
+    alloc: Global,
+    checked: &Checked,
+    items: &str,
+    keys: u32,
+) -> Result<Seen, Stop> {
     let slow = Slow::new(alloc, checked)?;
     let wanted = told_by(alloc, checked, slow, items)?;
     let runner = Runner::new(alloc, checked)?;
     let told = told_by(alloc, checked, runner, items)?;
     let mut seen = compared(&told, &wanted);
-    if told.kept > u64::from(slots(checked.main())) {
+    let bound = u64::from(slots(checked.main())).saturating_mul(u64::from(keys).saturating_add(1));
+    if told.kept > bound {
         seen.faults = seen.faults.saturating_add(1);
     }
     Ok(seen)
@@ -44,7 +47,7 @@ fn compared(told: &Told, wanted: &Told) -> Seen {
     }
     'answers: for (i, answer) in told.answers.iter().enumerate() {
         seen.answers = seen.answers.saturating_add(1);
-        if answer.is_some() {
+        if answer.as_slice() != b"undefined\n".as_slice() {
             seen.values = seen.values.saturating_add(1);
         }
         match wanted.answers.get(i) {

@@ -5,28 +5,26 @@ ghost use Rattle.sqre_run.specs.Sessions.{IsReady};
 
 use crate::stop::Stop;
 use query_model::{Checked, Follower};
+use report_writer::push_answer;
 use sqre_run::{Reply, Session};
 use std::alloc::{AllocError, Global};
-use value_ops::{Scalar, Value};
 
 /// The most items of a word.
 const MOST: u32 = 1_000;
 
-/// What an engine answered, and the most that it kept.
+/// The texts of what an engine answered, and the most that it kept.
 #[derive(Drop)]
 pub(crate) struct Told {
-    pub(crate) answers: Vec<Option<Scalar>>,
+    pub(crate) answers: Vec<Vec<u8>>,
     pub(crate) kept: u64,
 }
 
 impl Told {
-    fn add<F: Follower>(&mut self, follower: &F) -> Result<(), AllocError> {
+    fn add<F: Follower>(&mut self, alloc: Global, follower: &F) -> Result<(), AllocError> {
         self.kept = self.kept.max(follower.stored());
-        let answer = match follower.answer() {
-            Some(Value::Scalar(scalar)) => Some(*scalar),
-            _ => None,
-        };
-        self.answers.push(answer)?;
+        let mut text = Vec::new(alloc);
+        push_answer(follower.answer(), &mut text)?;
+        self.answers.push(text)?;
         Ok(())
     }
 }
@@ -48,7 +46,7 @@ pub(crate) fn told_by<F: Follower + Drop>(
         kept: 0,
     };
     let mut session = Session::begin(checked, follower);
-    told.add(session.follower())?;
+    told.add(alloc, session.follower())?;
     let mut left = MOST;
     'items: for item in items.split_whitespace() {
         if left == 0 {
@@ -85,9 +83,9 @@ fn tell<F: Follower + Drop>(
 ) -> Result<(), AllocError>
     requires { IsReady F.query F.columns F.lost F.sound session.now }
 {
-    told.add(session.follower())?;
+    told.add(alloc, session.follower())?;
     let copy = session.follower().try_copy(alloc)?;
-    told.add(&copy)
+    told.add(alloc, &copy)
 }
 
 // Adds the answer of a copy that goes back to the empty word.
@@ -100,5 +98,5 @@ fn tell_of_reset<F: Follower + Drop>(
 {
     let mut copy = session.follower().try_copy(alloc)?;
     copy.reset(alloc)?;
-    told.add(&copy)
+    told.add(alloc, &copy)
 }
