@@ -18,9 +18,15 @@ use std::alloc::{AllocError, Global};
 use std::marker::Model;
 use std::rc::Rc;
 
-/// A position automaton whose letters are cells, seen as the positions' sets and the cells.
+/// A position automaton whose letters are cells, seen as the positions' sets and the cells. It is
+/// one word, so that what may hold one is no larger for it.
 #[derive(Drop)]
 pub struct Nfa {
+    parts: Box<Parts>,
+}
+
+#[derive(Drop)]
+struct Parts {
     positions: Positions,
     cells: Rc<Cells>,
     // For each cell, the positions that its items meet.
@@ -41,11 +47,14 @@ impl Model for Nfa {
 
     ghost coded = { Prim.hlevel (codes, coded_predicate) };
 
-    ghost view = { λ n. record { sets = n.positions; cells = n.cells.value } };
+    ghost view = { λ n. record {
+      sets = n.parts.value.positions;
+      cells = n.parts.value.cells.value;
+    } };
 
-    ghost invariant = { λ n.
-        AreTables (record { sets = n.positions; cells = n.cells.value })
-        n.met.items n.growing n.begins };
+    ghost invariant = { λ n. let parts = n.parts.value in
+        AreTables (record { sets = parts.positions; cells = parts.cells.value })
+        parts.met.items parts.growing parts.begins };
 }
 
 impl Nfa {
@@ -58,12 +67,15 @@ impl Nfa {
         let useful = ending_through(&positions, union_of(&met));
         let growing = before(&positions, useful);
         let begins = overlap(positions.first(), useful);
-        Ok(Nfa {
+        let parts = Parts {
             positions,
             cells: cells.clone()?,
             met,
             growing,
             begins,
+        };
+        Ok(Nfa {
+            parts: Box::new(alloc, parts)?,
         })
     }
 
@@ -84,12 +96,15 @@ impl Nfa {
     pub fn try_copy(&self, alloc: Global) -> Result<Nfa, AllocError>
         ensures { IfOk result (λ copy. copy ≡ self.now) }
     {
+        let parts = Parts {
+            positions: self.parts.positions.try_copy(alloc)?,
+            cells: self.parts.cells.clone()?,
+            met: Vec::from_slice(alloc, &self.parts.met)?,
+            growing: self.parts.growing,
+            begins: self.parts.begins,
+        };
         Ok(Nfa {
-            positions: self.positions.try_copy(alloc)?,
-            cells: self.cells.clone()?,
-            met: Vec::from_slice(alloc, &self.met)?,
-            growing: self.growing,
-            begins: self.begins,
+            parts: Box::new(alloc, parts)?,
         })
     }
 
@@ -99,28 +114,28 @@ impl Nfa {
         ensures sets { AreSets self.now.sets }
         ensures decided { AreDecided self.now.sets self.now.cells }
     {
-        self.positions.count()
+        self.parts.positions.count()
     }
 
     /// The positions of the rate.
     pub fn positions(&self) -> &Positions
         ensures { result.now ≡ self.now.sets }
     {
-        &self.positions
+        &self.parts.positions
     }
 
     /// The positions of the rate, given back.
     pub fn into_positions(self) -> Positions
         ensures { result ≡ self.sets }
     {
-        self.positions
+        Box::into_inner(self.parts).positions
     }
 
     /// The cells that it reads.
     pub fn cells(&self) -> &Cells
         ensures { result.now ≡ self.now.cells }
     {
-        self.cells.as_ref()
+        self.parts.cells.as_ref()
     }
 
     /// The positions whose predicates the items of a cell meet.
@@ -128,7 +143,7 @@ impl Nfa {
         requires { cell < cell_count self.now.cells }
         ensures { IsMetBy self.now cell result }
     {
-        self.met[cell as usize]
+        self.parts.met[cell as usize]
     }
 
     /// Whether the state's positions exist.
@@ -146,7 +161,7 @@ impl Nfa {
         requires { IsStateOf self.now.sets state }
         ensures { AreWaysOn self.now.sets state result }
     {
-        ways_on(&self.positions, state)
+        ways_on(&self.parts.positions, state)
     }
 
     /// The state after one more item of the cell, from one whose ways on are these.
@@ -157,7 +172,7 @@ impl Nfa {
             → Steps self.now.sets state item result }
         ensures state { IsStateOf self.now.sets result }
     {
-        State::At(ways & self.met[cell as usize])
+        State::At(ways & self.parts.met[cell as usize])
     }
 
     /// The state after one more item of the cell.
@@ -176,8 +191,8 @@ impl Nfa {
         ensures { IsTrue result ↔ IsAccepted self.now.sets state }
     {
         match state {
-            State::Initial => self.positions.nullable(),
-            State::At(mask) => overlap(mask, self.positions.last()),
+            State::Initial => self.parts.positions.nullable(),
+            State::At(mask) => overlap(mask, self.parts.positions.last()),
         }
     }
 
@@ -186,8 +201,8 @@ impl Nfa {
         ensures { IsTrue result ↔ Extends self.now state }
     {
         match state {
-            State::Initial => self.begins,
-            State::At(mask) => overlap(mask, self.growing),
+            State::Initial => self.parts.begins,
+            State::At(mask) => overlap(mask, self.parts.growing),
         }
     }
 }

@@ -3,4 +3,5 @@ use Rattle.symbolic_nfa.proofs.nfa.Nfa.met_by.Goals as goal
 
 pub returns : goal.returns
 returns c =
-    met-at _ _ _ _ _ _ (tables_of _ _ _ _ _ c.self.view_is c.self.invariant) c.requires c.index.ensures
+    met-at _ _ _ _ _ _ (tables_of _ _ _ _ _ c.self.view_is c.self.invariant) c.requires
+    (rw c.deref.ensures at c.index.ensures)
