@@ -2,6 +2,7 @@ pub mod Agreeing
 pub mod Differing
 pub mod Gathered
 pub mod Going
+pub mod Gone
 pub mod Inserted
 pub mod Pigeons
 pub mod Searched

@@ -1,14 +1,15 @@
 -- What the search for pairs keeps, and that it ends with all of them.
-use Rattle.std.proofs.Common.{◌≡◌, ℕ, zero, suc, ◌+◌, ◌<◌, ◌≤◌, ◌∙◌, List, [], ◌∷◌, ◌++◌, length, get_or, slice_get, None, sym, ap, subst, inl, inr, arith, append_assoc, length-append}
+use Rattle.std.proofs.Common.{◌≡◌, ℕ, zero, suc, ◌+◌, ◌<◌, ◌≤◌, ◌∙◌, List, [], ◌∷◌, ◌++◌, length, get_or, slice_get, Some, None, sym, ap, subst, inl, inr, arith, append_assoc, length-append}
 use Rattle.std.specs.List.{Contains}
 use Rattle.std.proofs.lemmas.Bool.{cases_lt}
 use Rattle.std.proofs.lemmas.List.{append-nil, get_or_append_left}
 use Rattle.std.proofs.lemmas.List.Elements.{Contains-append_left}
+use Rattle.std.proofs.lemmas.Option.{get_or_from_slice_get, slice_get_within}
 use Rattle.rate_expr.specs.Words.{Word, IsWordOf}
 use Rattle.rate_expr.specs.declared.state.State.TheVariants.{Initial}
 use Rattle.symbolic_nfa.specs.Automata.{Automaton}
 use Rattle.symbolic_nfa.proofs.WordsBehind.{is_behind-step}
-use Rattle.rate_equal.specs.Pairs.{AreReached, AreAll, AreBehind, LeadsInto, IsExplored}
+use Rattle.rate_equal.specs.Pairs.{IsReached, AreReached, AreAll, AreBehind, LeadsInto, IsExplored}
 use Rattle.rate_equal.specs.declared.pair.Pair.{Pair}
 
 -- where a list has nothing, it has ended
@@ -28,6 +29,12 @@ module _ (first second : Automaton) where
     pub reached : AreReached first second pairs
     pub done : (k : ℕ) (d : Pair) → k < end → LeadsInto first second pairs (get_or pairs k d)
     pub within : end ≤ length pairs
+
+  -- words lead to the pair at the index
+  pub reached_at : (pairs : List Pair) (end : ℕ) (from : Pair) → IsSearched pairs end
+      → slice_get pairs end ≡ Some from → IsReached first second from
+  reached_at pairs end from searched found = searched.reached.each from
+      (end, slice_get_within pairs end from found, get_or_from_slice_get pairs end from from found)
 
   -- where it led into these, it leads into more
   leads_on : (pairs more : List Pair) (from : Pair) → LeadsInto first second pairs from

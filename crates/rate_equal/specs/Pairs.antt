@@ -8,7 +8,7 @@ use Rattle.rate_expr.specs.Words.{Word, IsWordOf}
 use Rattle.rate_expr.specs.declared.state.State.{State}
 use Rattle.rate_expr.specs.declared.state.State.TheVariants.{Initial, At}
 use Rattle.symbolic_nfa.specs.Automata.{Automaton}
-use Rattle.symbolic_nfa.specs.States.{Steps}
+use Rattle.symbolic_nfa.specs.States.{AreWaysOn, Steps}
 use Rattle.rate_equal.specs.Reach.{max_reach}
 use Rattle.rate_equal.specs.declared.pair.Pair.{Pair}
 
@@ -21,6 +21,11 @@ mask_of (At mask) = mask
 abbrev pub AreBehind : Automaton → Automaton → Word → Pair → Type 0
 AreBehind first second word pair =
     IsBehind first.sets word pair.first × IsBehind second.sets word pair.second
+
+-- the masks have the positions in which words may go on from the states of the pair
+abbrev pub AreWaysOnFrom : Automaton → Automaton → Pair → ℕ × ℕ → Type 0
+AreWaysOnFrom first second pair ways =
+    AreWaysOn first.sets pair.first ways.0 × AreWaysOn second.sets pair.second ways.1
 
 -- some word of items of the stream leads to the pair
 abbrev pub IsReached : Automaton → Automaton → Pair → Type 0

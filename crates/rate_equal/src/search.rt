@@ -3,7 +3,7 @@ ghost use Rattle.std.specs.Prelude.{◌≡◌, ◌+◌, Err, IfOk, OnOk};
 ghost use Rattle.rate_equal.specs.declared.stop.EqualStop.TheVariants.{Reach};
 ghost use Rattle.rate_equal.specs.Letters.{AreLetters};
 ghost use Rattle.rate_equal.specs.Reach.{max_reach, ReachPairs};
-ghost use Rattle.rate_equal.specs.Pairs.{AreAll, AreReached, IsExplored, IsReached};
+ghost use Rattle.rate_equal.specs.Pairs.{AreAll, AreReached, AreWaysOnFrom, IsExplored, IsReached};
 
 use crate::letters::letters;
 use crate::pair::Pair;
@@ -29,9 +29,14 @@ pub(crate) fn reach(alloc: Global, first: &Nfa, second: &Nfa) -> Result<IndexSet
         second: State::Initial,
     };
     pairs.insert(initial)?;
+    let mut gone = IndexSet::new(alloc);
     let mut next = 0;
     'pairs: while let Some(from) = pairs.get_index(next).copied() {
-        go_on(first, second, &letters, from, &mut pairs)?;
+        let ways = (first.ways_on(from.first), second.ways_on(from.second));
+        // Items lead from a pair with the same ways on to the same pairs.
+        if gone.insert(ways)? {
+            go_on(first, second, &letters, from, ways, &mut pairs)?;
+        }
         next += 1;
     }
     Ok(pairs)
@@ -43,22 +48,22 @@ fn go_on(
     second: &Nfa,
     letters: &[u32],
     from: Pair,
+    ways: (u128, u128),
     pairs: &mut IndexSet<Pair>,
 ) -> Result<(), EqualStop>
     requires letters { AreLetters first.now second.now letters.now }
     requires from { IsReached first.now second.now from }
+    requires ways { AreWaysOnFrom first.now second.now from ways }
     requires reached { AreReached first.now second.now pairs.old.keys }
     ensures explored { OnOk result
         (IsExplored first.now second.now from pairs.old.keys pairs.new.keys) }
     ensures too_many { result ≡ Err Reach → ReachPairs first.now.cells.layout.columns
         first.now.sets second.now.sets (max_reach + 1) }
 {
-    let first_ways = first.ways_on(from.first);
-    let second_ways = second.ways_on(from.second);
     'letters: for &letter in letters {
         let pair = Pair {
-            first: first.step_along(first_ways, letter),
-            second: second.step_along(second_ways, letter),
+            first: first.step_along(ways.0, letter),
+            second: second.step_along(ways.1, letter),
         };
         pairs.insert(pair)?;
         if pairs.len() > MAX_REACH {

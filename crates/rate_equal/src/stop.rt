@@ -1,6 +1,5 @@
 //! Why two rates are not compared.
 
-use crate::pair::Pair;
 use std::alloc::{AllocError, AllocFailed};
 
 #[derive(Clone, Copy, Debug, PartialEq, Eq)]
@@ -21,13 +20,13 @@ impl From<AllocError> for EqualStop {
     }
 }
 
-impl From<AllocFailed<Pair>> for EqualStop {
+impl<T: Drop> From<AllocFailed<T>> for EqualStop {
     ghost use Rattle.std.specs.Prelude.{◌≡◌};
     ghost use Rattle.rate_equal.specs.declared.stop.EqualStop.TheVariants.{Memory};
 
     ghost from_gives = { λ _ stop. stop ≡ Memory };
 
-    fn from(_failed: AllocFailed<Pair>) -> EqualStop {
+    fn from(_failed: AllocFailed<T>) -> EqualStop {
         EqualStop::Memory
     }
 }
