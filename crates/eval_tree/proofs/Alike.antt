@@ -20,18 +20,17 @@ all_alike P Q (x ∷ xs) (y ∷ ys) each alike all = (each x y alike.0 all.0, al
 all_alike P Q [] (y ∷ ys) each alike all = absurd alike
 all_alike P Q (x ∷ xs) [] each alike all = absurd alike
 
-pub sums_alike : {A : Type 0} (P : A → A → Type 0) (Q : A → Type 0) (size : A → ℕ) (xs ys : List A)
-    → ((x y : A) → P x y → Q x → size y ≡ size x) → AreAlike P xs ys → AllByRecursion Q xs
-    → sum_by size ys ≡ sum_by size xs
-sums_alike P Q size [] [] each alike all = refl
-sums_alike P Q size (x ∷ xs) (y ∷ ys) each alike all =
-    let first = each x y alike.0 all.0 in
-    let rest = sums_alike P Q size xs ys each alike.1 all.1 in
+pub sums_alike : {A : Type 0} (P : A → A → Type 0) (size : A → ℕ) (xs ys : List A)
+    → ((x y : A) → P x y → size y ≡ size x) → AreAlike P xs ys → sum_by size ys ≡ sum_by size xs
+sums_alike P size [] [] each alike = refl
+sums_alike P size (x ∷ xs) (y ∷ ys) each alike =
+    let first = each x y alike.0 in
+    let rest = sums_alike P size xs ys each alike.1 in
     let before = sum_by-cons size x xs in
     let after = sum_by-cons size y ys in
     omega (arith, first, rest, before, after)
-sums_alike P Q size [] (y ∷ ys) each alike all = absurd alike
-sums_alike P Q size (x ∷ xs) [] each alike all = absurd alike
+sums_alike P size [] (y ∷ ys) each alike = absurd alike
+sums_alike P size (x ∷ xs) [] each alike = absurd alike
 
 module _ {R : Type 0} where
   -- the instance whose follower was copied

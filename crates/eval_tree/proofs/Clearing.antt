@@ -1,5 +1,5 @@
 -- Nodes that are cleared: they stand for the empty word, without a start, and are sound.
-use Rattle.std.proofs.Common.{◌≡◌, ◌∙◌, ℕ, ◌+◌, zero, suc, false, List, [], ◌∷◌, ◌++◌, Option, Some, None, length, set, slice_get, refl, sym, ap, subst, arith}
+use Rattle.std.proofs.Common.{◌≡◌, ◌∙◌, ℕ, ◌+◌, ◌*◌, zero, suc, false, List, [], ◌∷◌, ◌++◌, Option, Some, None, length, set, slice_get, refl, sym, ap, subst, arith}
 use Rattle.std.specs.Prelude.{ℤ}
 use Rattle.std.specs.List.{AllByRecursion, Contains}
 use Rattle.std.proofs.lemmas.List.{length-append}
@@ -10,24 +10,27 @@ use Rattle.value_ops.specs.Types.{IsValueOf}
 use Rattle.predicate_cells.specs.Predicates.{Predicate}
 use Rattle.item_schema.specs.declared.column.Column.{Column}
 use Rattle.rate_expr.specs.Readings.{HasExtension}
-use Rattle.query_model.specs.Bounds.{places_of}
+use Rattle.query_model.specs.Bounds.{places_of, slots_of}
 use Rattle.query_model.specs.Denotation.{Den}
 use Rattle.query_model.specs.Queries.{Qre, atom, eps, choice, split, iter, combine, apply, compose}
 use Rattle.query_model.specs.QueryTypes.{derived_columns, type_of}
 use Rattle.query_model.specs.Rates.{rate_of}
 use Rattle.query_model.specs.Rules.{HasNoCollect}
+use Rattle.memory_bound.specs.KeysMet.{keys_met}
 use Rattle.split_eval.specs.Entries as entries
 use Rattle.split_eval.specs.declared.entry.Entry.{Entry}
 use Rattle.compose_eval.specs.Followers.{Contents, live_instances, outers_of, retired}
 use Rattle.compose_eval.specs.declared.instance.Instance.{Instance}
+use Rattle.eval_tree.specs.Counts.{size_of_answer, stored_in}
 use Rattle.eval_tree.specs.Feeds.{AreCleared, IsCleared, IsClearedIn, IsSoundOf}
 use Rattle.eval_tree.specs.Holdings.{Holding, waiting, nothing, both, paired, operand, pending, chained, fed, Seen}
-use Rattle.eval_tree.specs.Represents.{AreWaiting}
+use Rattle.eval_tree.specs.Represents.{AreWaiting, KeepsFew}
 use Rattle.eval_tree.specs.Sound.{AreEntriesOf, IsSound, IsSoundWithin, IsTyped}
 use Rattle.eval_tree.specs.Starts.{AreDifferent}
 use Rattle.eval_tree.proofs.Instances.{all_joined, all_mapped, all_retired, kept_count}
 use Rattle.eval_tree.proofs.Made.{new_chain, new_split}
 use Rattle.eval_tree.proofs.Members.{no_member}
+use Rattle.eval_tree.proofs.StoredNone.{silent_few}
 
 -- no entries, in the same room
 no_entries : (type : _) (places : ℕ) (old new : entries.Contents Value) → AreEntriesOf type places old
@@ -124,8 +127,31 @@ module _ {R : Type 0} (seen : R → Seen R) where
   cleared_soundly columns q old new no_collect is sound = record {
     node = subst (λ (n : ℕ). IsSound seen columns q n (seen new).node) (sym is.position)
         ((is.node no_collect columns (seen old).position sound.node).1 (seen old).position);
-    answer = subst (IsTyped (type_of columns q)) (sym is.answer) sound.answer;
+    answer = subst (IsTyped (type_of columns q)) (sym is.answer) tt;
   }
+
+  -- it keeps little
+  cleared_keeps : (columns : List Column) (q : Qre) (old new : R) → HasNoCollect q → IsClearedIn seen q old new
+      → IsSoundOf seen columns q old → KeepsFew seen (stored_in seen q) (slots_of q) new
+  cleared_keeps columns q old new no_collect is sound =
+      let node = silent_few seen columns q (seen new).node
+      ((is.node no_collect columns (seen old).position sound.node).0 columns) in
+      let none = ap size_of_answer is.answer in
+      omega (arith, node, none)
+
+  all_keep : (columns : List Column) (q : Qre) (count : ℕ) (old new : List R) → HasNoCollect q → count ≡ length old
+      → AreCleared seen q count old new → AllByRecursion (IsSoundOf seen columns q) old
+      → AllByRecursion (KeepsFew seen (stored_in seen q) (slots_of q)) new
+  all_keep columns q zero [] new no_collect many are all =
+      subst (AllByRecursion (KeepsFew seen (stored_in seen q) (slots_of q))) (sym are) tt
+  all_keep columns q zero (y ∷ old) new no_collect many are all = absurd (omega (arith, many))
+  all_keep columns q (suc count) [] [] no_collect many are all = tt
+  all_keep columns q (suc count) [] (z ∷ new) no_collect many are all = absurd are
+  all_keep columns q (suc count) (y ∷ old) [] no_collect many are all = absurd are
+  all_keep columns q (suc count) (y ∷ old) (z ∷ new) no_collect many are all = (
+    cleared_keeps columns q y z no_collect are.0 all.0,
+    all_keep columns q count old new no_collect (omega (arith, many)) are.1 all.1,
+  )
 
   all_cleared : (columns : List Column) (q : Qre) (count : ℕ) (old new : List R) → HasNoCollect q → count ≡ length old
       → AreCleared seen q count old new → AllByRecursion (IsSoundOf seen columns q) old
@@ -161,6 +187,10 @@ module _ {R : Type 0} (seen : R → Seen R) where
       (all_joined (IsSoundOf seen derived g) held.idle (retired (λ start. false) held.live) sound.4
       (all_retired (IsSoundOf seen derived g) (λ start. false) held.live each)) in
       let (after, many) = all_cleared derived g (length resting.idle) resting.idle new.idle no_collect.1 refl are all in
+      let few = all_mapped (KeepsFew seen (stored_in seen g) (slots_of g))
+      (KeepsFew seen (stored_in seen g) (slots_of g * (1 + keys_met (compose f g) []))) new.idle
+      (λ runner little. omega (arith, little))
+      (all_keep derived g (length resting.idle) resting.idle new.idle no_collect.1 refl are all) in
       let count : length held.live + length held.idle ≡ places_of f + 1 = sound.2 in
       let nobody = ap length none in
       let parts = kept_count (λ start. false) held.live in
@@ -183,6 +213,7 @@ module _ {R : Type 0} (seen : R → Seen R) where
                 (subst (λ (xs : List (Instance R)). Contains xs (record { outer = start; follower = runner })) none there));
             full = full;
           },
+          few,
         ),
         λ now. (
           x.1 now,

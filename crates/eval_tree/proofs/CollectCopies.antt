@@ -121,21 +121,18 @@ module _ {R : Type 0} (seen : R → Seen R) (is_copy : Holding R → Holding R �
   )
 
   -- they keep as much
-  pub tracks_stored : (is_sound : R → Type 0) (most : ℕ) (size : Holding R → ℕ) (old new : List (Track R))
-      → ((was runner : R) → IsCopyOf seen is_copy was runner → is_sound was
+  pub tracks_stored : (size : Holding R → ℕ) (old new : List (Track R))
+      → ((was runner : R) → IsCopyOf seen is_copy was runner
       → size_of_runner seen size runner ≡ size_of_runner seen size was)
       → AreAlike (IsCopiedTrack seen is_copy) old new
-      → AllByRecursion (λ (t : Track R). AreSoundKeys seen is_sound most t.keys) old
       → sum_by (λ (t : Track R). size_of_track seen size t) new ≡ sum_by (λ (t : Track R). size_of_track seen size t) old
-  tracks_stored is_sound most size old new each alike all =
-      sums_alike (IsCopiedTrack seen is_copy) (λ (t : Track R). AreSoundKeys seen is_sound most t.keys)
-      (λ (t : Track R). size_of_track seen size t) old new
-      (λ was track copied is.
+  tracks_stored size old new each alike =
+      sums_alike (IsCopiedTrack seen is_copy) (λ (t : Track R). size_of_track seen size t) old new
+      (λ was track copied.
       let state : size_of_state track.state ≡ size_of_state was.state = ap size_of_state copied.state in
-      let fallback = each (fallback_of was.keys) (fallback_of track.keys) copied.keys.fallback is.fallback.sound in
+      let fallback = each (fallback_of was.keys) (fallback_of track.keys) copied.keys.fallback in
       let keyed : sum_by (λ (r : R). 1 + size_of_runner seen size r) (followers_of track.keys)
       ≡ sum_by (λ (r : R). 1 + size_of_runner seen size r) (followers_of was.keys) =
-      sums_alike (IsCopyOf seen is_copy) (IsSoundWithin seen is_sound most)
-      (λ (r : R). 1 + size_of_runner seen size r) (followers_of was.keys) (followers_of track.keys)
-      (λ r s one is_one. let same = each r s one is_one.sound in omega (arith, same)) copied.keys.keyed is.keyed in
-      omega (arith, state, fallback, keyed)) alike all
+      sums_alike (IsCopyOf seen is_copy) (λ (r : R). 1 + size_of_runner seen size r) (followers_of was.keys)
+      (followers_of track.keys) (λ r s one. let same = each r s one in omega (arith, same)) copied.keys.keyed in
+      omega (arith, state, fallback, keyed)) alike

@@ -19,6 +19,7 @@ use Rattle.eval_tree.specs.Starts.{AreApart, AreDifferent, ArePositions, IsLive}
 use Rattle.eval_tree.specs.Steps.{IsFirstHit, Starts}
 use Rattle.eval_tree.proofs.ComposeHits.{composed_first, none_composed_first}
 use Rattle.eval_tree.proofs.Fed.{Row, Sees}
+use Rattle.eval_tree.proofs.FedFew.{idle_started}
 use Rattle.eval_tree.proofs.Few.{few_live}
 use Rattle.eval_tree.proofs.Instances.{different_more, none_fed}
 use Rattle.eval_tree.proofs.Living.{living}
@@ -176,13 +177,17 @@ module _ {R : Type 0} (seen : R → Seen R) where
             let (sees, hit_is) = begun_sees seen standing columns f g clear.0 clear.1 at left feeds_one.runner
             feeds_one.next hit x.hit feeds_one.begun in
             let (out, outputs, follows) = sees in
+            let sees_at : Sees seen standing columns f g clear.0 clear.1 word at feeds_one.next =
+            (out, subst (λ (u : Word). Outputs (Den f) [] u out) (sym (behind_end word at end)) outputs, follows) in
             record {
               after = (
                 x.after,
                 fed_from seen standing columns f g clear.0 clear.1 live word starts at held new left hit fresh rep.1
                     (λ goes_on. lives.0 (subst IsTrue is_live goes_on))
                     (λ goes_on. subst IsTrue (sym is_live) (lives.1 goes_on)) feeds_one
-                    (out, subst (λ (u : Word). Outputs (Den f) [] u out) (sym (behind_end word at end)) outputs, follows),
+                    sees_at,
+                idle_started seen standing columns f g clear.0 clear.1 clear.2 live word at held new left hit is rep.2
+                    feeds_one sees_at,
               );
               hit = hit_is;
             }

@@ -18,6 +18,7 @@ use Rattle.eval_tree.specs.Starts.{AreApart, ArePositions, IsLive}
 use Rattle.eval_tree.specs.Steps.{IsHit, Steps}
 use Rattle.eval_tree.proofs.ComposeHits.{composed, none_composed}
 use Rattle.eval_tree.proofs.Fed.{Row, fed_on, hit_feeds, narrowed}
+use Rattle.eval_tree.proofs.FedFew.{idle_passed, idle_stepped}
 use Rattle.eval_tree.proofs.Instances.{told_member}
 use Rattle.eval_tree.proofs.Living.{living}
 use Rattle.eval_tree.proofs.SplitSteps.{more_positions}
@@ -69,6 +70,8 @@ module _ {R : Type 0} (seen : R → Seen R) where
           narrowed seen standing columns f g clear.0 clear.1 word item starts is positions passed kept (live_of f a')
               (λ start. living seen standing columns f a' (word ++ item ∷ []) starts start clear.0 is
               (more_positions word item starts positions) x.after) live idle longer,
+          idle_stepped seen standing columns f g clear.0 clear.1 clear.2 (IsLive columns f word starts) word item held
+              passed kept (live_of f a') is (idle_passed seen g held passed left hit passes) idle longer rep.2,
         );
         hit = passed_hit standing columns f g clear.0 clear.1 word item starts is positions held passed left hit rep.1
             apart x.hit passes;

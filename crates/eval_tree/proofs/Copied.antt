@@ -1,5 +1,5 @@
 -- A copy of a node stands for what the node stands for, is sound, and keeps as much.
-use Rattle.std.proofs.Common.{◌≡◌, ◌∙◌, ℕ, ◌+◌, List, [], ◌∷◌, drop, length, sym, ap, subst, arith}
+use Rattle.std.proofs.Common.{◌≡◌, ◌∙◌, ℕ, ◌+◌, ◌*◌, List, [], ◌∷◌, drop, length, sym, ap, subst, arith}
 use Rattle.std.specs.List.{Contains}
 use Rattle.value_ops.specs.declared.value.Value.{Value}
 use Rattle.value_ops.specs.declared.value.ValueType.TheVariants.{Number}
@@ -8,7 +8,7 @@ use Rattle.rate_expr.specs.Behind.{IsBehind}
 use Rattle.rate_expr.specs.FirstLastFollow.{AreSetsOf}
 use Rattle.rate_expr.specs.Readings.{HasExtension}
 use Rattle.rate_expr.specs.Words.{Word}
-use Rattle.query_model.specs.Bounds.{places_of}
+use Rattle.query_model.specs.Bounds.{places_of, slots_of}
 use Rattle.query_model.specs.Denotation.{Den}
 use Rattle.query_model.specs.Following.{IsAnswer}
 use Rattle.query_model.specs.Queries.{Qre, atom, eps, choice, split, iter, combine, apply, compose, collect}
@@ -16,19 +16,18 @@ use Rattle.query_model.specs.QueryTypes.{derived_columns, type_of}
 use Rattle.query_model.specs.Rates.{rate_of}
 use Rattle.split_eval.specs.Entries as entries
 use Rattle.compose_eval.specs.Followers.{Contents, followers_of}
-use Rattle.compose_eval.specs.declared.instance.Instance.{Instance}
 use Rattle.symbolic_nfa.specs.Automata.{Automaton}
+use Rattle.memory_bound.specs.KeysMet.{keys_met}
 use Rattle.eval_tree.specs.Copies.{AreAlike, IsCopy, IsCopyOf}
 use Rattle.eval_tree.specs.Counts.{size_of_answer, size_of_runner, sizes_of, stored_in}
 use Rattle.eval_tree.specs.Feeds.{FollowsWord, IsSoundOf}
 use Rattle.eval_tree.specs.Holdings.{Holding, waiting, nothing, both, paired, operand, pending, chained, fed, tracked, Seen}
 use Rattle.eval_tree.specs.Keyed.{AreTracked, StandFor}
-use Rattle.eval_tree.specs.Represents.{AreWaiting, Represents}
+use Rattle.eval_tree.specs.Represents.{AreWaiting, KeepsFew, Represents}
 use Rattle.eval_tree.specs.Sound.{AreEntriesOf, IsSound, IsSoundWithin, IsTyped}
 use Rattle.eval_tree.specs.Starts.{AreDifferent, IsLive}
 use Rattle.eval_tree.proofs.Alike.{all_alike, all_followers, as_many_alike, followers_all, followers_many, original, sums_alike}
 use Rattle.eval_tree.proofs.CollectCopies.{track_stands, tracks_sound, tracks_stand, tracks_stored}
-use Rattle.eval_tree.proofs.Instances.{all_mapped}
 
 module _ {R : Type 0} (seen : R → Seen R) where
   all_copied : (q : Qre) (old new : Contents R) → AreAlike (IsCopyOf seen (IsCopy seen q)) (followers_of old.live) (followers_of new.live)
@@ -40,6 +39,55 @@ module _ {R : Type 0} (seen : R → Seen R) where
       let before = followers_many old.live in
       let after = followers_many new.live in
       omega (arith, lives, rests, before, after)
+
+  -- a runner keeps as much as its node does
+  pub size_same : (q : Qre) (was runner : R) → IsCopyOf seen (IsCopy seen q) was runner
+      → stored_in seen q (seen runner).node ≡ stored_in seen q (seen was).node
+      → size_of_runner seen (stored_in seen q) runner ≡ size_of_runner seen (stored_in seen q) was
+  size_same q was runner copied node =
+      let answer = ap size_of_answer copied.answer in omega (arith, node, answer)
+
+  pub copy_stored : (q : Qre) (old new : Holding R) → IsCopy seen q old new
+      → stored_in seen q new ≡ stored_in seen q old
+  copy_stored (atom pred e) (waiting found) new copy = ap (stored_in seen (atom pred e)) copy
+  copy_stored (eps number) nothing new copy = ap (stored_in seen (eps number)) copy
+  copy_stored (choice f g) (both a b) (both a' b') copy =
+      let x = copy_stored f a a' copy.0 in let y = copy_stored g b b' copy.1 in omega (arith, x, y)
+  copy_stored (choice f g) (both a b) new copy = absurd copy
+  copy_stored (combine f g e) (paired a b) (paired a' b') copy =
+      let x = copy_stored f a a' copy.0 in let y = copy_stored g b b' copy.1 in omega (arith, x, y)
+  copy_stored (combine f g e) (paired a b) new copy = absurd copy
+  copy_stored (apply f e) (operand a) (operand a') copy = copy_stored f a a' copy
+  copy_stored (apply f e) (operand a) new copy = absurd copy
+  copy_stored (split f g e) (pending a b left) (pending a' b' left') copy =
+      let x = copy_stored f a a' copy.0 in
+      let y = copy_stored g b b' copy.1 in
+      let z = ap (λ (s : entries.Contents Value). sizes_of s.entries) copy.2 in
+      omega (arith, x, y, z)
+  copy_stored (split f g e) (pending a b left) new copy = absurd copy
+  copy_stored (iter f number e) (chained a so_far) (chained a' so_far') copy =
+      let x = copy_stored f a a' copy.0 in
+      let z = ap (λ (s : entries.Contents Value). sizes_of s.entries) copy.1 in
+      omega (arith, x, z)
+  copy_stored (iter f number e) (chained a so_far) new copy = absurd copy
+  copy_stored (compose f g) (fed a held) (fed a' held') copy =
+      let x = copy_stored f a a' copy.0 in
+      let size : R → ℕ = (λ (runner : R). 1 + size_of_runner seen (stored_in seen g) runner) in
+      let one : (was runner : R) → IsCopyOf seen (IsCopy seen g) was runner → size runner ≡ size was =
+      (λ was runner copied.
+      let same = size_same g was runner copied (copy_stored g (seen was).node (seen runner).node copied.node) in
+      omega (arith, same)) in
+      let lives = sums_alike (IsCopyOf seen (IsCopy seen g)) size (followers_of held.live) (followers_of held'.live) one
+      copy.1.live in
+      let rests = sums_alike (IsCopyOf seen (IsCopy seen g)) size held.idle held'.idle one copy.1.idle in
+      omega (arith, x, lives, rests)
+  copy_stored (compose f g) (fed a held) new copy = absurd copy
+  copy_stored (collect column sync rate f) (tracked all) (tracked all') copy =
+      tracks_stored seen (IsCopy seen f) (stored_in seen f) all.tracks all'.tracks
+      (λ was runner copied. size_same f was runner copied
+      (copy_stored f (seen was).node (seen runner).node copied.node)) copy.tracks
+  copy_stored (collect column sync rate f) (tracked all) new copy = absurd copy
+  copy_stored q old new copy = ap (stored_in seen q) copy
 
   pub copy_represents : (columns : List Column) (q : Qre) (old new : Holding R) (word : Word) (starts : List ℕ)
       → IsCopy seen q old new → Represents seen columns q old word starts → Represents seen columns q new word starts
@@ -101,6 +149,11 @@ module _ {R : Type 0} (seen : R → Seen R) where
               );
           full = omega (arith, many, full);
         },
+        all_alike (IsCopyOf seen (IsCopy seen g))
+            (KeepsFew seen (stored_in seen g) (slots_of g * (1 + keys_met (compose f g) word))) held.idle held'.idle
+            (λ was runner copied few.
+            let same = size_same g was runner copied (copy_stored g (seen was).node (seen runner).node copied.node) in
+            omega (arith, few, same)) copy.1.idle rep.2,
       )
   copy_represents columns (compose f g) (fed a held) new word starts copy rep = absurd copy
   copy_represents columns (collect column sync rate f) (tracked all) (tracked all') word starts copy rep =
@@ -191,59 +244,3 @@ module _ {R : Type 0} (seen : R → Seen R) where
       )
   copy_sound columns (collect column sync rate f) position (tracked all) new copy sound = absurd copy
   copy_sound columns q position old new copy sound = absurd sound
-
-  pub copy_stored : (columns : List Column) (q : Qre) (position : ℕ) (old new : Holding R) → IsCopy seen q old new
-      → IsSound seen columns q position old → stored_in seen q new ≡ stored_in seen q old
-  copy_stored columns (atom pred e) position (waiting found) new copy sound = ap (stored_in seen (atom pred e)) copy
-  copy_stored columns (eps number) position nothing new copy sound = ap (stored_in seen (eps number)) copy
-  copy_stored columns (choice f g) position (both a b) (both a' b') copy sound =
-      let x = copy_stored columns f position a a' copy.0 sound.0 in
-      let y = copy_stored columns g position b b' copy.1 sound.1 in
-      omega (arith, x, y)
-  copy_stored columns (choice f g) position (both a b) new copy sound = absurd copy
-  copy_stored columns (combine f g e) position (paired a b) (paired a' b') copy sound =
-      let x = copy_stored columns f position a a' copy.0 sound.0 in
-      let y = copy_stored columns g position b b' copy.1 sound.1 in
-      omega (arith, x, y)
-  copy_stored columns (combine f g e) position (paired a b) new copy sound = absurd copy
-  copy_stored columns (apply f e) position (operand a) (operand a') copy sound =
-      copy_stored columns f position a a' copy sound
-  copy_stored columns (apply f e) position (operand a) new copy sound = absurd copy
-  copy_stored columns (split f g e) position (pending a b left) (pending a' b' left') copy sound =
-      let x = copy_stored columns f position a a' copy.0 sound.0 in
-      let y = copy_stored columns g position b b' copy.1 sound.1 in
-      let z = ap (λ (s : entries.Contents Value). sizes_of s.entries) copy.2 in
-      omega (arith, x, y, z)
-  copy_stored columns (split f g e) position (pending a b left) new copy sound = absurd copy
-  copy_stored columns (iter f number e) position (chained a so_far) (chained a' so_far') copy sound =
-      let x = copy_stored columns f position a a' copy.0 sound.0 in
-      let z = ap (λ (s : entries.Contents Value). sizes_of s.entries) copy.1 in
-      omega (arith, x, z)
-  copy_stored columns (iter f number e) position (chained a so_far) new copy sound = absurd copy
-  copy_stored columns (compose f g) position (fed a held) (fed a' held') copy sound =
-      let derived = derived_columns (type_of columns f) in
-      let x = copy_stored columns f position a a' copy.0 sound.0 in
-      let size : R → ℕ = (λ (runner : R). 1 + size_of_runner seen (stored_in seen g) runner) in
-      let one : (was runner : R) → IsCopyOf seen (IsCopy seen g) was runner → IsSoundOf seen derived g was
-      → size runner ≡ size was =
-      (λ was runner copied is.
-      let node = copy_stored derived g (seen was).position (seen was).node (seen runner).node copied.node is.node in
-      let answer = ap size_of_answer copied.answer in
-      omega (arith, node, answer)) in
-      let each = all_mapped
-      (λ (one : Instance R). IsSoundWithin seen (IsSoundOf seen derived g) (position + 1) one.follower)
-      (λ (one : Instance R). IsSoundOf seen derived g one.follower) held.live (λ one is. is.sound) sound.3 in
-      let lives = sums_alike (IsCopyOf seen (IsCopy seen g)) (IsSoundOf seen derived g) size (followers_of held.live)
-      (followers_of held'.live) one copy.1.live (all_followers (IsSoundOf seen derived g) held.live each) in
-      let rests = sums_alike (IsCopyOf seen (IsCopy seen g)) (IsSoundOf seen derived g) size held.idle held'.idle one
-      copy.1.idle sound.4 in
-      omega (arith, x, lives, rests)
-  copy_stored columns (compose f g) position (fed a held) new copy sound = absurd copy
-  copy_stored columns (collect column sync rate f) position (tracked all) (tracked all') copy sound =
-      tracks_stored seen (IsCopy seen f) (IsSoundOf seen columns f) position (stored_in seen f) all.tracks all'.tracks
-      (λ was runner copied is.
-      let node = copy_stored columns f (seen was).position (seen was).node (seen runner).node copied.node is.node in
-      let answer = ap size_of_answer copied.answer in
-      omega (arith, node, answer)) copy.tracks sound.4
-  copy_stored columns (collect column sync rate f) position (tracked all) new copy sound = absurd copy
-  copy_stored columns q position old new copy sound = absurd sound

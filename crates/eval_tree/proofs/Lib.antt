@@ -30,6 +30,7 @@ pub mod Copying
 pub mod Elsewhere
 pub mod Ends
 pub mod Fed
+pub mod FedFew
 pub mod FedSoundness
 pub mod Feeding
 pub mod Few
@@ -65,6 +66,11 @@ pub mod SplitHits
 pub mod SplitStarts
 pub mod SplitSteps
 pub mod Splits
+pub mod StoredEntries
+pub mod StoredFew
+pub mod StoredNone
+pub mod StoredTracks
+pub mod Totals
 pub mod Tracked
 pub mod Typed
 pub mod Unlike

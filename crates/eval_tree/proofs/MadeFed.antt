@@ -1,5 +1,5 @@
 -- A new node of a compose: all its runners are idle.
-use Rattle.std.proofs.Common.{◌≡◌, ◌≤◌, ℕ, ◌+◌, ◌-◌, ◌*◌, ◌^◌, min, List, [], length, sym, ap, subst, arith}
+use Rattle.std.proofs.Common.{◌≡◌, ◌≤◌, ℕ, ◌+◌, ◌-◌, ◌*◌, ◌^◌, min, List, [], None, length, sym, ap, subst, arith}
 use Rattle.std.specs.List.{AllByRecursion, Contains}
 use Rattle.std.proofs.Math.Nat.{add-mul}
 use Rattle.item_schema.specs.declared.column.Column.{Column}
@@ -7,15 +7,21 @@ use Rattle.query_model.specs.Bounds.{inner_of, places_of, slots_of}
 use Rattle.query_model.specs.Queries.{Qre, compose}
 use Rattle.query_model.specs.QueryTypes.{derived_columns, type_of}
 use Rattle.query_model.specs.Sizes.{max_slots}
+use Rattle.memory_bound.specs.KeysMet.{keys_met}
 use Rattle.compose_eval.specs.Followers.{Contents, outers_of}
 use Rattle.compose_eval.specs.declared.instance.Instance.{Instance}
+use Rattle.eval_tree.specs.declared.progress.Progress.{Progress}
+use Rattle.eval_tree.specs.Counts.{size_of_answer, stored_in}
 use Rattle.eval_tree.specs.Feeds.{IsSoundOf}
 use Rattle.eval_tree.specs.Holdings.{Holding, fed, Seen}
-use Rattle.eval_tree.specs.Represents.{Represents}
+use Rattle.eval_tree.specs.Plain.{holding_of, seen_of}
+use Rattle.eval_tree.specs.Represents.{KeepsFew, Represents}
 use Rattle.eval_tree.specs.Sound.{IsSound, IsSoundWithin}
 use Rattle.eval_tree.specs.Starts.{AreDifferent}
+use Rattle.eval_tree.proofs.Instances.{all_mapped}
 use Rattle.eval_tree.proofs.Made.{places_few}
 use Rattle.eval_tree.proofs.Members.{no_member}
+use Rattle.eval_tree.proofs.StoredNone.{silent_few}
 
 -- the right operand is not larger than the whole
 pub right_small : (f g : Qre) → slots_of (compose f g) ≤ max_slots → slots_of g ≤ max_slots
@@ -35,8 +41,9 @@ runners_fit f g places count small is all =
 module _ {R : Type 0} (seen : R → Seen R) where
   pub new_compose : (columns : List Column) (f g : Qre) (a : Holding R) (held : Contents R)
       → Represents seen columns f a [] [] → held.live ≡ [] → length held.idle ≡ places_of f + 1
+      → AllByRecursion (KeepsFew seen (stored_in seen g) (slots_of g)) held.idle
       → Represents seen columns (compose f g) (fed a held) [] []
-  new_compose columns f g a held first none count =
+  new_compose columns f g a held first none count few =
       let nobody = ap length none in (
         first,
         record {
@@ -50,6 +57,9 @@ module _ {R : Type 0} (seen : R → Seen R) where
               (subst (λ (xs : List (Instance R)). Contains xs (record { outer = start; follower = runner })) none there));
           full = omega (arith, nobody, count);
         },
+        all_mapped (KeepsFew seen (stored_in seen g) (slots_of g))
+            (KeepsFew seen (stored_in seen g) (slots_of g * (1 + keys_met (compose f g) []))) held.idle
+            (λ runner little. omega (arith, little)) few,
       )
 
   pub new_compose_sound : (columns : List Column) (f g : Qre) (a : Holding R) (held : Contents R)
@@ -72,3 +82,11 @@ module _ {R : Type 0} (seen : R → Seen R) where
   made_soundly_as columns q q' h h' query node is =
       subst (λ (x : Qre). IsSound seen columns x 0 h') (sym query)
       (subst (λ (x : Holding R). IsSound seen columns q 0 x) (sym node) is)
+
+-- a runner before its start keeps little
+pub fresh_few : (q : Qre) (runner : Progress) → Represents seen_of [] q (holding_of runner.node.state) [] []
+    → runner.answer ≡ None → KeepsFew seen_of (stored_in seen_of q) (slots_of q) runner
+fresh_few q runner rep none =
+    let node = silent_few seen_of [] q (holding_of runner.node.state) rep in
+    let answer = ap size_of_answer none in
+    omega (arith, node, answer)

@@ -54,7 +54,7 @@ pub other_copied : (shape : Shape) (state : State) → IsOther shape
     → IsCopy seen_of (plain_of shape) (holding_of state) nothing
 other_copied (Atom pred value) state other = absurd other
 other_copied (Eps number) Empty other = refl
-other_copied (Eps number) state other = tt
+other_copied (Eps number) state other = refl
 other_copied (Or' p f a q g b) state other = absurd other
 other_copied (Split' p f a q g b value) state other = absurd other
 other_copied (Iter' p f a number value) state other = absurd other

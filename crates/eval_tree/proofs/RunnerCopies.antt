@@ -1,6 +1,6 @@
 -- A node in memory and its copy; and of a runner, that it follows what the runner follows, is sound where this is, and takes
 -- as much.
-use Rattle.std.proofs.Common.{◌≡◌, ◌∙◌, ℕ, List, [], ◌∷◌, sym, ap, subst, arith}
+use Rattle.std.proofs.Common.{◌≡◌, ◌∙◌, ℕ, List, [], ◌∷◌, sym, subst}
 use Rattle.item_schema.specs.declared.column.Column.{Column}
 use Rattle.rate_expr.specs.Words.{Word}
 use Rattle.query_model.specs.Following.{IsAnswer}
@@ -8,13 +8,13 @@ use Rattle.query_model.specs.Queries.{Qre}
 use Rattle.query_model.specs.QueryTypes.{type_of}
 use Rattle.eval_tree.specs.declared.progress.Progress.{Progress}
 use Rattle.eval_tree.specs.Copies.{IsCopy, IsCopyOf}
-use Rattle.eval_tree.specs.Counts.{size_of_answer, size_of_runner, stored_in}
+use Rattle.eval_tree.specs.Counts.{size_of_runner, stored_in}
 use Rattle.eval_tree.specs.Feeds.{IsSoundOf}
 use Rattle.eval_tree.specs.Following.{IsAt}
 use Rattle.eval_tree.specs.Holdings.{Holding}
 use Rattle.eval_tree.specs.Plain.{holding_of, seen_of}
 use Rattle.eval_tree.specs.Sound.{IsSound, IsTyped}
-use Rattle.eval_tree.proofs.Copied.{copy_represents, copy_sound, copy_stored}
+use Rattle.eval_tree.proofs.Copied.{copy_represents, copy_sound, copy_stored, size_same}
 
 -- a fact on a query, a node and its copy
 pub copied_as : (q q' : Qre) (h h' k k' : Holding Progress) → q' ≡ q → h' ≡ h → k' ≡ k
@@ -46,11 +46,8 @@ copied_at columns q word old new copied at = record {
   };
 }
 
-pub copied_kept : (columns : List Column) (q : Qre) (old new : Progress) → IsCopyOf seen_of (IsCopy seen_of q) old new
-    → IsSoundOf seen_of columns q old
+pub copied_kept : (q : Qre) (old new : Progress) → IsCopyOf seen_of (IsCopy seen_of q) old new
     → size_of_runner seen_of (stored_in seen_of q) new ≡ size_of_runner seen_of (stored_in seen_of q) old
-copied_kept columns q old new copied is =
-    let node = copy_stored seen_of columns q old.position (holding_of old.node.state) (holding_of new.node.state)
-    copied.node is.node in
-    let answer = ap size_of_answer copied.answer in
-    omega (arith, node, answer)
+copied_kept q old new copied =
+    size_same seen_of q old new copied
+    (copy_stored seen_of q (holding_of old.node.state) (holding_of new.node.state) copied.node)

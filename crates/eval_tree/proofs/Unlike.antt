@@ -23,20 +23,20 @@ use Rattle.eval_tree.specs.Plain.{holding_of, runners_of, seen_of, tracks_of}
 pub unlike_atom : (pred : Predicate) (e : Expression) (state : State)
     → ((found : Option ℕ) → state ≡ Item found → ⊥) → IsCopy seen_of (atom pred e) (holding_of state) nothing
 unlike_atom pred e (Item found) unlike = absurd (unlike found refl)
-unlike_atom pred e state unlike = tt
+unlike_atom pred e state unlike = refl
 
 module _ (f : Qre) where
   pub unlike_apply : (e : Expression) (state : State) → ((a : Box Node Global) → state ≡ Operand a → ⊥)
       → IsCopy seen_of (apply f e) (holding_of state) nothing
   unlike_apply e (Operand' p a) unlike = absurd (unlike (record { ptr = p.ptr; alloc = p.alloc; value = record { state = a } }) refl)
-  unlike_apply e state unlike = tt
+  unlike_apply e state unlike = refl
 
   pub unlike_iter : (number : ℤ) (e : Expression) (state : State)
       → ((a : Box Node Global) (so_far : Contents Value) → state ≡ Repeated a so_far → ⊥)
       → IsCopy seen_of (iter f number e) (holding_of state) nothing
   unlike_iter number e (Repeated' p a so_far) unlike =
       absurd (unlike (record { ptr = p.ptr; alloc = p.alloc; value = record { state = a } }) so_far refl)
-  unlike_iter number e state unlike = tt
+  unlike_iter number e state unlike = refl
 
 module _ (f g : Qre) where
   pub unlike_choice : (state : State) → ((a b : Box Node Global) → state ≡ Both a b → ⊥)
@@ -44,14 +44,14 @@ module _ (f g : Qre) where
   unlike_choice (Both' p a q b) unlike =
       absurd (unlike (record { ptr = p.ptr; alloc = p.alloc; value = record { state = a } })
       (record { ptr = q.ptr; alloc = q.alloc; value = record { state = b } }) refl)
-  unlike_choice state unlike = tt
+  unlike_choice state unlike = refl
 
   pub unlike_combine : (e : Expression) (state : State) → ((a b : Box Node Global) → state ≡ Pair a b → ⊥)
       → IsCopy seen_of (combine f g e) (holding_of state) nothing
   unlike_combine e (Pair' p a q b) unlike =
       absurd (unlike (record { ptr = p.ptr; alloc = p.alloc; value = record { state = a } })
       (record { ptr = q.ptr; alloc = q.alloc; value = record { state = b } }) refl)
-  unlike_combine e state unlike = tt
+  unlike_combine e state unlike = refl
 
   pub unlike_split : (e : Expression) (state : State)
       → ((a b : Box Node Global) (held : Contents Value) → state ≡ Sequence a b held → ⊥)
@@ -59,7 +59,7 @@ module _ (f g : Qre) where
   unlike_split e (Sequence' p a q b held) unlike =
       absurd (unlike (record { ptr = p.ptr; alloc = p.alloc; value = record { state = a } })
       (record { ptr = q.ptr; alloc = q.alloc; value = record { state = b } }) held refl)
-  unlike_split e state unlike = tt
+  unlike_split e state unlike = refl
 
   pub unlike_compose : (state : State)
       → ((a : Box Node Global) (runners : instances.Contents Progress) → state ≡ Fed a runners → ⊥)
@@ -68,7 +68,7 @@ module _ (f g : Qre) where
   unlike_compose (Fed' p a held runners) unlike =
       absurd (unlike (record { ptr = p.ptr; alloc = p.alloc; value = record { state = a } })
       (runners_of (out-State (Fed' p a held runners))) (sym (roll-out-State (Fed' p a held runners))))
-  unlike_compose state unlike = tt
+  unlike_compose state unlike = refl
 
   pub unlike_lives : (state : State) (start : ℕ)
       → ((a : Box Node Global) (runners : instances.Contents Progress) → state ≡ Fed a runners → ⊥)
@@ -85,7 +85,7 @@ module _ (column : ℕ) (sync : Predicate) (rate : rates.Expression) (f : Qre) w
   unfolding roll-State out-State denote.Hole.Carrier.roll denote.Hole.Carrier.out
   unlike_collect (Tracked' all tracks) unlike =
       absurd (unlike (tracks_of (out-State (Tracked' all tracks))) (sym (roll-out-State (Tracked' all tracks))))
-  unlike_collect state unlike = tt
+  unlike_collect state unlike = refl
 
   pub unlike_tracked : (state : State) (start : ℕ) → ((all : tracks.Contents Progress) → state ≡ Tracked all → ⊥)
       → false ≡ live_of (collect column sync rate f) (holding_of state) start

@@ -45,7 +45,7 @@ module _ {R : Type 0} (seen : R → Seen R) where
     pub nfa : new.nfa ≡ old.nfa
     pub tracks : AreAlike (IsCopiedTrack is_copy) old.tracks new.tracks
 
-  -- for nodes of the query; of those of another shape nothing is said
+  -- for nodes of the query; of one of another shape nothing is kept
   abbrev pub IsCopy : Qre → Holding R → Holding R → Type 0
   IsCopy (atom pred expression) (waiting found) new = new ≡ waiting found
   IsCopy (eps number) nothing new = new ≡ nothing
@@ -67,4 +67,4 @@ module _ {R : Type 0} (seen : R → Seen R) where
   IsCopy (collect column sync rate f) (tracked all) (tracked all') =
       AreCopiedTracks (IsCopy f) all all'
   IsCopy (collect column sync rate f) (tracked all) new = ⊥
-  IsCopy query old new = Unit {0}
+  IsCopy query old new = new ≡ nothing

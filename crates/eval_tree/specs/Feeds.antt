@@ -54,10 +54,10 @@ module _ {R : Type 0} (seen : R → Seen R) where
       → ((others : List Column) → Represents seen others query new [] [])
       × ((now : ℕ) → IsSound seen columns query now new)
 
-  -- the node of a runner is cleared, and all else of it is as before
+  -- the node of a runner is cleared, it has no answer, and its position is as before
   pub record IsClearedIn (query : Qre) (old new : R) : Type 0 where
     pub position : (seen new).position ≡ (seen old).position
-    pub answer : (seen new).answer ≡ (seen old).answer
+    pub answer : (seen new).answer ≡ None
     pub node : IsCleared query (seen old).node (seen new).node
 
   -- the first so many runners are cleared, and the others are as before

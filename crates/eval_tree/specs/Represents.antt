@@ -1,7 +1,7 @@
 -- Statement. What it is that a node stands for a word and starts in it: its lists have exactly the
 -- readings of the word from these starts that can go on.
-use Rattle.std.specs.Prelude.{◌≡◌, ◌↔◌, ℕ, ◌+◌, List, [], ◌∷◌, Some, drop, length}
-use Rattle.std.specs.List.{Contains}
+use Rattle.std.specs.Prelude.{◌≡◌, ◌≤◌, ◌↔◌, ℕ, ◌+◌, ◌*◌, List, [], ◌∷◌, Some, drop, length}
+use Rattle.std.specs.List.{AllByRecursion, Contains}
 use Rattle.value_ops.specs.declared.value.Value.{Value}
 use Rattle.item_schema.specs.declared.column.Column.{Column}
 use Rattle.rate_expr.specs.Behind.{IsBehind}
@@ -10,7 +10,7 @@ use Rattle.rate_expr.specs.Language.{In}
 use Rattle.rate_expr.specs.Rates as rate
 use Rattle.rate_expr.specs.Readings.{HasExtension}
 use Rattle.rate_expr.specs.Words.{Word}
-use Rattle.query_model.specs.Bounds.{places_of}
+use Rattle.query_model.specs.Bounds.{places_of, slots_of}
 use Rattle.query_model.specs.Denotation.{Den, Outputs}
 use Rattle.query_model.specs.Following.{IsAnswer}
 use Rattle.query_model.specs.Queries.{Qre, atom, eps, choice, split, iter, combine, apply, compose, collect}
@@ -19,6 +19,8 @@ use Rattle.query_model.specs.Rates.{rate_of}
 use Rattle.split_eval.specs.Entries.{entry_at, AreDistinct}
 use Rattle.split_eval.specs.declared.entry.Entry.{Entry}
 use Rattle.compose_eval.specs.Followers.{Contents, outers_of}
+use Rattle.memory_bound.specs.KeysMet.{keys_met}
+use Rattle.eval_tree.specs.Counts.{size_of_runner, stored_in}
 use Rattle.eval_tree.specs.Holdings.{Holding, waiting, nothing, both, paired, operand, pending, chained, fed, tracked, Seen}
 use Rattle.eval_tree.specs.Keyed.{AreTracked, StandFor}
 use Rattle.eval_tree.specs.Starts.{IsLive, IsPiece, AreDifferent}
@@ -54,6 +56,10 @@ module _ {R : Type 0} (seen : R → Seen R) where
   -- it follows what comes out of the left operand on the word
   abbrev pub IsFed : (Word → Value → Type 0) → (Word → R → Type 0) → Word → R → Type 0
   IsFed D follows word runner = (out : Word) × Outputs D [] word out × follows out runner
+
+  -- it keeps at most so much
+  abbrev pub KeepsFew : (Holding R → ℕ) → ℕ → R → Type 0
+  KeepsFew size most runner = size_of_runner seen size runner ≤ most
 
   -- each start that can go on has one runner, which follows what it is to see; with the idle ones
   -- they are so many
@@ -95,6 +101,8 @@ module _ {R : Type 0} (seen : R → Seen R) where
       (IsFollowing (Represents (derived_columns (type_of columns f)) g) g)
       (drop start word) runner)
       (places_of f + 1) held
+      × AllByRecursion
+      (KeepsFew (stored_in seen g) (slots_of g * (1 + keys_met (compose f g) word))) held.idle
   Represents columns (collect column sync rate f) (tracked all) word starts =
       AreSetsOf all.nfa.sets rate × (all.nfa.cells.layout.columns ≡ columns)
       × AreTracked (IsLive columns (collect column sync rate f) word starts)

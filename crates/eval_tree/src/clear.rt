@@ -52,6 +52,8 @@ fn clear_idle(query: &Query, runners: &mut Instances<Progress>)
     ensures live { runners.new.live ≡ runners.old.live }
 {
     'idle: for i in 0..runners.idle() {
-        clear(query, &mut runners.resting_mut(i).node);
+        let runner = runners.resting_mut(i);
+        clear(query, &mut runner.node);
+        runner.answer = None;
     }
 }

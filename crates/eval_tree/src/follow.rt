@@ -10,6 +10,10 @@ use std::alloc::{AllocError, Global};
 use value_ops::Value;
 
 impl Follower for Runner<'_> {
+    ghost use Rattle.std.specs.Prelude.{◌≡◌, ◌≤◌, ◌+◌, ◌-◌, ◌*◌, ◌^◌, min};
+    ghost use Rattle.memory_bound.specs.KeysMet.{keys_met};
+    ghost use Rattle.query_model.specs.Bounds.{slots_of};
+    ghost use Rattle.rate_expr.specs.Words.{Word};
     ghost use Rattle.eval_tree.specs.Following.{columns_of, Follows, is_lost, IsSoundly, kept_of, position_of, query_of};
     ghost use Rattle.eval_tree.specs.Laws.{follows_ends, follows_found, follows_sound};
 
@@ -61,7 +65,11 @@ impl Follower for Runner<'_> {
         self.failed
     }
 
-    fn stored(&self) -> u64 {
+    fn stored(&self) -> u64
+        ensures count { result ≡ min (kept_of self.now) (2 ^ 64 - 1) }
+        ensures few { (word : Word) → Follows self.now word
+            → result ≤ slots_of (query_of self.now) * (1 + keys_met (query_of self.now) word) }
+    {
         size_of_runner(self.checked.main(), &self.progress)
     }
 

@@ -7,9 +7,10 @@ ghost use Rattle.item_schema.specs.declared.column.Column.{Column};
 ghost use Rattle.query_model.specs.Bounds.{slots_of};
 ghost use Rattle.query_model.specs.Queries.{plain_of};
 ghost use Rattle.query_model.specs.Sizes.{max_slots};
+ghost use Rattle.eval_tree.specs.Counts.{stored_in};
 ghost use Rattle.eval_tree.specs.Feeds.{IsSoundOf};
 ghost use Rattle.eval_tree.specs.Plain.{holding_of, seen_of};
-ghost use Rattle.eval_tree.specs.Represents.{Represents};
+ghost use Rattle.eval_tree.specs.Represents.{KeepsFew, Represents};
 ghost use Rattle.eval_tree.specs.Sound.{IsSound};
 ghost use Rattle.eval_tree.specs.Streams.{AreColumnsOf, CanBeMade};
 
@@ -103,6 +104,9 @@ fn idle_runners(alloc: Global, query: &Query, count: u32) -> Result<Instances<Pr
     ensures count { IfOk result (λ runners. length runners.idle ≡ count) }
     ensures sound { IfOk result (λ runners. (columns : List Column)
         → AllByRecursion (IsSoundOf seen_of columns (plain_of query.now.shape)) runners.idle) }
+    ensures few { IfOk result (λ runners. AllByRecursion (KeepsFew seen_of
+        (stored_in seen_of (plain_of query.now.shape)) (slots_of (plain_of query.now.shape)))
+        runners.idle) }
 {
     let mut runners = Instances::new(alloc, count)?;
     'idle: for _ in 0..count {

@@ -13,15 +13,17 @@ use Rattle.query_model.specs.Queries.{compose, plain_of}
 use Rattle.query_model.specs.Sizes.{max_slots}
 use Rattle.split_eval.specs.Entries.{Contents}
 use Rattle.eval_tree.specs.declared.node.State.TheViews.{out-State, roll-Progress, roll-State}
+use Rattle.eval_tree.specs.Counts.{stored_in}
 use Rattle.eval_tree.specs.Feeds.{IsSoundOf}
 use Rattle.eval_tree.specs.Holdings.{chained, fed, pending, tracked}
 use Rattle.eval_tree.specs.Plain.{holding_of, seen_of}
+use Rattle.eval_tree.specs.Represents.{KeepsFew}
 use Rattle.eval_tree.specs.Sound.{IsSound}
 use Rattle.eval_tree.proofs.Arms.{same_query}
 use Rattle.eval_tree.proofs.CollectArms.{tracked_is}
 use Rattle.eval_tree.proofs.CollectMade.{new_collect, new_collect_sound}
 use Rattle.eval_tree.proofs.ComposeArms.{fed_is}
-use Rattle.eval_tree.proofs.MadeFed.{made_soundly_as, new_compose, new_compose_sound, runners_fit}
+use Rattle.eval_tree.proofs.MadeFed.{fresh_few, made_soundly_as, new_compose, new_compose_sound, runners_fit}
 use Rattle.eval_tree.proofs.Instances.{all_joined}
 use Rattle.eval_tree.proofs.Made.{made_as, new_chain, new_split, room_fits, room_suits}
 use Rattle.eval_tree.proofs.Members.{no_member}
@@ -105,6 +107,9 @@ make::idle_runners-idle-preserved t c =
       λ columns. subst (AllByRecursion (IsSoundOf seen_of columns q)) (sym pushed)
           (all_joined (IsSoundOf seen_of columns q) c.idle.runners.idle (one ∷ []) (before.3 columns)
           (record { node = c.in_ok-node.ensures.sound columns tt; answer = tt }, tt)),
+      subst (AllByRecursion (KeepsFew seen_of (stored_in seen_of q) (slots_of q))) (sym pushed)
+          (all_joined (KeepsFew seen_of (stored_in seen_of q) (slots_of q)) c.idle.runners.idle (one ∷ []) before.4
+          (fresh_few q one (c.in_ok-node.ensures.word [] tt) refl, tt)),
     )
 
 pub node::Node::new-returns-in-Compose-clause-sound : goal.node::Node::new-returns-in-Compose-clause-sound
@@ -148,7 +153,10 @@ node::Node::new-returns-in-Compose-clause-word t c = λ columns on.
     (subst (λ (shape : Shape). slots_of (plain_of shape) ≤ max_slots) s.is c.requires.small)
     (c.places-in-Compose.ensures
     ∙ ap (λ (query : Query). min (places_of (plain_of query.shape)) (2 ^ 32 - 1)) c.deref-in-Compose-2.ensures)
-    c.saturating_add.ensures))
+    c.saturating_add.ensures)
+    (subst (λ (q : Query). AllByRecursion
+    (KeepsFew seen_of (stored_in seen_of (plain_of q.shape)) (slots_of (plain_of q.shape))) runners.idle)
+    c.deref-in-Compose.ensures c.in_ok-runners-in-Compose.ensures.few))
 
 pub node::Node::new-returns-in-Collect-clause-word : goal.node::Node::new-returns-in-Collect-clause-word
 unfolding roll-State out-State denote.Hole.Carrier.roll denote.Hole.Carrier.out

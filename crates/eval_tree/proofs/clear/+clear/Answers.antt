@@ -120,11 +120,11 @@ pub clear_idle-idle-preserved : goal.clear_idle-idle-preserved
 clear_idle-idle-preserved t c =
     let one = roll-Progress (record {
       node = c.clear.new.node;
-      position = c.resting_mut.result.now.position;
-      answer = c.resting_mut.result.now.answer;
+      position = c.resting_mut-runner.result.now.position;
+      answer = None;
     }) in (
       next_cleared (plain_of c.args.query.now.shape) c.idle.i c.args.runners.now.idle c.idle.runners.idle
-          c.resting_mut.result.now one c.idle.invariant.0 c.resting_mut.ensures.value
+          c.resting_mut-runner.result.now one c.idle.invariant.0 c.resting_mut-runner.ensures.value
           (record { position = refl; answer = refl; node = c.clear.ensures }),
       c.idle.invariant.1,
       length-set c.idle.runners.idle c.idle.i one ∙ c.idle.invariant.2,

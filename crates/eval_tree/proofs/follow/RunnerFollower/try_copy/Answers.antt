@@ -22,10 +22,9 @@ returns-clause-words c = λ word follows.
 pub returns-clause-kept : goal.returns-clause-kept
 returns-clause-kept c =
     let runner = c.args.self.now in
-    copied_kept (columns_of runner) (query_of runner) runner.progress c.in_ok-progress.progress
+    copied_kept (query_of runner) runner.progress c.in_ok-progress.progress
     (subst (λ (query : Query). IsCopyOf seen_of (IsCopy seen_of (plain_of query.shape)) runner.progress c.in_ok-progress.progress)
     c.main.ensures.main c.in_ok-progress.ensures)
-    (found_sound runner c.requires.sound c.requires.found)
 
 pub returns-clause-sound : goal.returns-clause-sound
 returns-clause-sound c =
