@@ -13,7 +13,7 @@ pub record Held : Type 0 where
   pub faults : ℕ
   pub ends : ℕ
 
--- the most bytes of the read after so many others: its room, or its cut where that is less, a 0
+-- the most bytes of the call after so many others: its room, or its cut where that is less, a 0
 -- being a 1
 abbrev pub room_at_call : List ℕ → ℕ → ℕ → ℕ
 room_at_call cuts calls room =
@@ -29,11 +29,12 @@ pub record ReadsHeld {E : Type 0} (old new : Held) (result : Result ℕ E) (room
   pub cuts : new.cuts ≡ old.cuts
   pub fail_at : new.fail_at ≡ old.fail_at
 
--- What a sink holds: the bytes that it took, how many it takes in all, the numbers of the writes that
--- fail, and its counts. The writes of some bytes are numbered, from 1.
+-- What a sink holds: the bytes that it took, how many it takes in all, the most bytes of each write,
+-- the numbers of the writes that fail, and its counts. The writes of some bytes are numbered, from 1.
 pub record Filled : Type 0 where
   pub taken : List ℕ
   pub room : ℕ
+  pub cuts : List ℕ
   pub fail_at : List ℕ
   pub calls : ℕ
   pub faults : ℕ
@@ -43,7 +44,9 @@ pub record WritesFilled {E : Type 0} (old new : Filled) (result : Result ℕ E) 
     : Type 0 where
   pub calls : new.calls ≡ next_count old.calls
   pub fails : IsErr result ↔ (Contains old.fail_at new.calls ⊎ (old.room ≡ length old.taken))
-  pub count : IfOk result (λ n. n ≡ min size (old.room - length old.taken))
+  pub count : IfOk result (λ n. n ≡ min (room_at_call old.cuts old.calls size)
+      (old.room - length old.taken))
   pub faults : CountsFault old.faults new.faults result
   pub room : new.room ≡ old.room
+  pub cuts : new.cuts ≡ old.cuts
   pub fail_at : new.fail_at ≡ old.fail_at

@@ -2,6 +2,7 @@
 #![tactic(auto)]
 
 mod chunk;
+mod cuts;
 mod held_bytes;
 mod laws;
 mod lazy_file;

@@ -1,4 +1,4 @@
-//! A sink over memory of a fixed size, whose writes may fail.
+//! A sink over memory of a fixed size, whose writes may be cut short or fail.
 ghost use Rattle.std.specs.Prelude.{◌≡◌, ◌<◌, ◌≤◌, ℕ, List, [], Option, Ok, Some, length, vec_len, vec_capacity, IfOk, IsOk};
 ghost use Rattle.std.specs.Io.{WritesAtMost};
 ghost use Rattle.std.specs.Io.KnownBytes.{WriteAppends};
@@ -6,6 +6,7 @@ ghost use Rattle.io_edge.specs.Counts.{FailsByFault, next_count};
 ghost use Rattle.io_edge.specs.Memory.{WritesFilled};
 ghost use Rattle.io_edge.specs.Written.{HoldsNoMore};
 
+use crate::cuts::room_at_call;
 use crate::{Failed, Sink};
 use std::alloc::{AllocError, Global};
 use std::marker::Model;
@@ -15,6 +16,7 @@ use std::marker::Model;
 pub struct MemorySink {
     bytes: Vec<u8>,
     room: usize,
+    cuts: Vec<usize>,
     fail_at: Vec<u64>,
     calls: u64,
     faults: u64,
@@ -29,6 +31,7 @@ impl Model for MemorySink {
     ghost view = { λ s. record {
       taken = s.bytes.items;
       room = s.room;
+      cuts = s.cuts.items;
       fail_at = s.fail_at.items;
       calls = s.calls;
       faults = s.faults;
@@ -38,10 +41,31 @@ impl Model for MemorySink {
 }
 
 impl MemorySink {
+    /// Its writes are not cut.
     pub fn new(alloc: Global, room: usize, fail_at: &[u64]) -> Result<Self, AllocError>
         ensures { IfOk result (λ s. s ≡ record {
           taken = [];
           room = room;
+          cuts = [];
+          fail_at = fail_at.now;
+          calls = 0;
+          faults = 0;
+        }) }
+    {
+        MemorySink::with_cuts(alloc, room, &[], fail_at)
+    }
+
+    /// The k-th write takes at most `cuts[k - 1]` bytes, or one where that is zero.
+    pub fn with_cuts(
+        alloc: Global,
+        room: usize,
+        cuts: &[usize],
+        fail_at: &[u64],
+    ) -> Result<Self, AllocError>
+        ensures { IfOk result (λ s. s ≡ record {
+          taken = [];
+          room = room;
+          cuts = cuts.now;
           fail_at = fail_at.now;
           calls = 0;
           faults = 0;
@@ -50,6 +74,7 @@ impl MemorySink {
         Ok(MemorySink {
             bytes: Vec::with_capacity(alloc, room)?,
             room,
+            cuts: Vec::from_slice(alloc, cuts)?,
             fail_at: Vec::from_slice(alloc, fail_at)?,
             calls: 0,
             faults: 0,
@@ -90,11 +115,12 @@ impl Sink for MemorySink {
         if bytes.is_empty() {
             return Ok(0);
         }
+        let most = room_at_call(&self.cuts, self.calls, bytes.len());
         self.calls = self.calls.saturating_add(1);
         if self.fail_at.contains(&self.calls) {
             return Err(self.fault());
         }
-        let count = bytes.len().min(self.room - self.bytes.len());
+        let count = most.min(self.room - self.bytes.len());
         if count == 0 {
             return Err(self.fault());
         }
@@ -126,6 +152,17 @@ mod tests {
         }
         assert_eq!(rt; sink.bytes(), b"abcab".as_slice());
         assert_eq!(rt; sink.faults, 2);
+        Ok(())
+    }
+
+    #[test]
+    fn writes_are_cut_by_their_numbers(rt: HostRuntime) -> Result<(), Fail> {
+        let mut sink = MemorySink::with_cuts(rt.alloc(), 7, &[2, 0, 1, 9], &[3])?;
+        for want in [Ok(2), Ok(1), Err(Failed), Ok(3), Ok(1)] {
+            assert_eq!(rt; sink.write(b""), Ok(0));
+            assert_eq!(rt; sink.write(b"abc"), want);
+        }
+        assert_eq!(rt; sink.bytes(), b"abaabca".as_slice());
         Ok(())
     }
 }

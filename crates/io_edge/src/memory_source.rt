@@ -3,8 +3,9 @@ ghost use Rattle.std.specs.Prelude.{◌≡◌, ◌<◌, ℕ, List, Option, Ok, S
 ghost use Rattle.std.specs.Io.{ReadsAtMost};
 ghost use Rattle.std.specs.Io.KnownBytes.{ReadConsumes};
 ghost use Rattle.io_edge.specs.Counts.{FailsByFault, EndsByEnd};
-ghost use Rattle.io_edge.specs.Memory.{ReadsHeld, room_at_call};
+ghost use Rattle.io_edge.specs.Memory.{ReadsHeld};
 
+use crate::cuts::room_at_call;
 use crate::remaining::Remaining;
 use crate::{Failed, Source};
 use std::alloc::{AllocError, Global};
@@ -91,15 +92,6 @@ impl Source for MemorySource {
             self.ends = self.ends.saturating_add(1);
         }
         Ok(given)
-    }
-}
-
-fn room_at_call(cuts: &[usize], calls: u64, room: usize) -> usize
-    ensures { result ≡ room_at_call cuts.now calls room }
-{
-    match cuts.get(calls as usize) {
-        Some(&cut) => room.min(cut.max(1)),
-        None => room,
     }
 }
 
