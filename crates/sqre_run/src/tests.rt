@@ -2,7 +2,9 @@
 // `query_cases` shows more lines, queries and refusals.
 mod commands;
 mod engines;
+mod faults;
 mod handing;
+mod long_runs;
 mod sessions;
 
 use crate::{Status, run_into_room, sqre};
@@ -19,7 +21,8 @@ main(iter(atom(any, price), 0, add(x, y)))
 // More reads than one for each byte of a source take.
 const READS: usize = 80;
 
-// What a run is given. Each read takes at most `cut` bytes, and the calls of these numbers fail.
+// What a run is given. Each read takes at most `cut` bytes, each write its cut, and the calls of these
+// numbers fail.
 #[derive(Clone, Copy)]
 struct Given<'a> {
     words: &'a str,
@@ -29,6 +32,7 @@ struct Given<'a> {
     item_fails: &'a [u64],
     cut: usize,
     room: usize,
+    write_cuts: &'a [usize],
     writes_fail: &'a [u64],
 }
 
@@ -47,6 +51,7 @@ fn run_of<'a>(query: &'a [u8], items: &'a [u8]) -> Given<'a> {
         item_fails: &[],
         cut: 4_096,
         room: 4_096,
+        write_cuts: &[],
         writes_fail: &[],
     }
 }
@@ -65,7 +70,7 @@ fn outcome(alloc: Global, given: Given<'_>) -> Result<(Status, Vec<u8>), AllocEr
     let cuts = [given.cut; READS];
     let mut query = MemorySource::new(alloc, given.query, &cuts, given.query_fails)?;
     let mut items = MemorySource::new(alloc, given.items, &cuts, given.item_fails)?;
-    let mut out = MemorySink::new(alloc, given.room, given.writes_fail)?;
+    let mut out = MemorySink::with_cuts(alloc, given.room, given.write_cuts, given.writes_fail)?;
     let status = sqre(alloc, &words, &mut query, &mut items, &mut out);
     Ok((status, Vec::from_slice(alloc, out.bytes())?))
 }
