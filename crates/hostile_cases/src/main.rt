@@ -1,0 +1,90 @@
+//! Draws queries and streams that are made to hurt from a number, runs them over memory, and tells
+//! where a run is not as each run is to be.
+#![tactic(auto)]
+
+mod answers;
+mod bound;
+mod call;
+mod case;
+mod compiled;
+mod draft;
+mod draws;
+mod engines;
+mod grammar;
+mod judge;
+mod kept;
+mod lines;
+mod reading;
+mod refusals;
+mod spelling;
+mod spoil;
+mod stop;
+mod tally;
+mod texts;
+mod told;
+
+use crate::case::Case;
+use crate::draft::case_of;
+use crate::grammar::Grammar;
+use crate::judge::judge;
+use crate::reading::grammar_of;
+use crate::spelling::push_spelled;
+use crate::stop::Stop;
+use crate::tally::Tally;
+use std::alloc::{AllocError, Global};
+use std::{env, fs, io};
+
+/// The words are how many cases there are, and the seed of the first; each later one has the next.
+fn main(rt: HostRuntime) -> io::Result<()> {
+    let alloc = rt.alloc();
+    let words: Vec<String> = env::args(&rt)?.skip(1).collect(alloc)?;
+    let (count, first) = (number(&words, 0), number(&words, 1));
+    let text = fs::read_to_string(&rt, "grammar")?;
+    let Some(grammar) = grammar_of(alloc, text.as_str())? else {
+        return println!(rt; "the grammar has a line that is no rule, or a name of none");
+    };
+    let mut tally = Tally::new();
+    for number in 0..count {
+        let seed = first.wrapping_add(number);
+        let told = told_of(alloc, &grammar, seed, &mut tally)?;
+        print!(rt; "{told}")?;
+    }
+    let summary = tally.summary(alloc)?;
+    print!(rt; "{summary}")
+}
+
+fn number(words: &[String], at: usize) -> u64 {
+    words
+        .get(at)
+        .and_then(|word| word.as_str().parse::<u64>().ok())
+        .unwrap_or(1)
+}
+
+/// What was found in the case of the seed, if anything was.
+fn told_of(
+    alloc: Global,
+    grammar: &Grammar,
+    seed: u64,
+    tally: &mut Tally,
+) -> Result<String, AllocError> {
+    let case = case_of(alloc, grammar, seed)?;
+    match judge(alloc, &case, tally) {
+        Ok(()) => Ok(String::new(alloc)),
+        Err(Stop::Memory) => Err(AllocError),
+        Err(Stop::Found(finding)) => {
+            tally.add_finding();
+            let shown = shown(alloc, &case)?;
+            format!(in alloc; "seed {seed}: {finding}\n{shown}")
+        }
+    }
+}
+
+/// The query and the items of the case, spelled.
+fn shown(alloc: Global, case: &Case) -> Result<String, AllocError> {
+    let mut text = String::from_str(alloc, "  ")?;
+    push_spelled(&mut text, case.query())?;
+    text.push_str("\n  ")?;
+    push_spelled(&mut text, case.items())?;
+    text.push('\n')?;
+    Ok(text)
+}
