@@ -2,7 +2,7 @@
 // which name and which second place are told.
 use crate::{program_explanation, text_explanation};
 use language_base::{Bytes, Refusal, Rule, Span};
-use query_syntax::read_syntax;
+use query_syntax::{Program, read_syntax};
 use std::alloc::{AllocError, Global};
 use std::test::Fail;
 
@@ -121,9 +121,17 @@ fn hints_are_for_what_stands_there(rt: HostRuntime) -> Result<(), Fail> {
 fn explained(alloc: Global, rule: Rule, text: &str, (from, to): (u32, u32)) -> Result<Bytes, Fail> {
     let program = read_syntax(alloc, text.as_bytes())?;
     let span = Span { from, to };
-    let refusal = Refusal { rule, span };
-    let shown = program_explanation(alloc, "q", text.as_bytes(), &program, refusal)?;
-    Ok(shown)
+    Ok(shown(alloc, text, program, Refusal { rule, span })?)
+}
+
+// The program is dropped here, at the one way out.
+fn shown(
+    alloc: Global,
+    text: &str,
+    program: Program,
+    refusal: Refusal,
+) -> Result<Bytes, AllocError> {
+    program_explanation(alloc, "q", text.as_bytes(), &program, refusal)
 }
 
 // Whether it ends with these lines.

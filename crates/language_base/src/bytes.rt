@@ -1,13 +1,21 @@
 //! A list of bytes of its own, as the name of a column or a text.
-ghost use Rattle.std.specs.Prelude.{◌≡◌, IfOk};
+ghost use Rattle.std.specs.Prelude.{◌≡◌, IfOk, nat_eq};
+ghost use Rattle.std.specs.Hash as fed;
+ghost use Rattle.std.specs.Cmp.{partial_equiv_from_equiv};
+ghost use Rattle.std.specs.Cmp.Lexicographic.{pointwise, nat_list_eq_equiv};
+ghost use Rattle.std.specs.Cmp.Rules.{hashing};
+ghost use Rattle.std.proofs.Common.{rules};
 
+use indexmap::Equivalent;
+use smallvec::SmallVec;
 use std::alloc::{AllocError, Global};
+use std::hash::{Hash, Hasher};
 use std::marker::Model;
 
-/// Bytes that it owns, seen as their list.
+/// Bytes that it owns, seen as their list. Up to sixteen stand in the value itself.
 #[derive(Drop)]
 pub struct Bytes {
-    bytes: Vec<u8>,
+    bytes: SmallVec<u8, 16>,
 }
 
 impl Model for Bytes {
@@ -23,14 +31,16 @@ impl Bytes {
     pub fn from_slice(alloc: Global, bytes: &[u8]) -> Result<Bytes, AllocError>
         ensures { IfOk result (λ copy. copy ≡ bytes.now) }
     {
-        let bytes = Vec::from_slice(alloc, bytes)?;
+        let bytes = SmallVec::from_slice(alloc, bytes)?;
         Ok(Bytes { bytes })
     }
 
     pub fn from_vec(bytes: Vec<u8>) -> Bytes
         ensures { result ≡ bytes.items }
     {
-        Bytes { bytes }
+        Bytes {
+            bytes: SmallVec::from_vec(bytes),
+        }
     }
 
     pub fn as_slice(&self) -> &[u8]
@@ -46,19 +56,78 @@ impl Bytes {
     }
 }
 
+impl PartialEq for Bytes {
+    ghost eq = { pointwise nat_eq };
+
+    ghost laws = { partial_equiv_from_equiv nat_list_eq_equiv };
+
+    fn eq(&self, other: &Bytes) -> bool {
+        self.as_slice() == other.as_slice()
+    }
+}
+
+impl Eq for Bytes {
+    ghost laws = { nat_list_eq_equiv };
+}
+
+impl Hash for Bytes {
+    ghost hash_input = { fed.slice fed.u8 };
+
+    ghost respects_eq = { Prim.search (hashing, rules) };
+
+    fn hash<H: Hasher>(&self, state: &mut H) {
+        self.as_slice().hash(state);
+    }
+}
+
+/// So a set of bytes is searched for a slice.
+impl Equivalent<Bytes> for &[u8] {
+    ghost equivalent = { λ sought bytes. pointwise nat_eq sought.now bytes };
+
+    ghost respects_hash = { λ sought bytes. Prim.search (hashing, rules) };
+
+    ghost respects_eq = { λ sought x y. nat_list_eq_equiv.congr sought.now x y };
+
+    fn equivalent(&self, bytes: &Bytes) -> bool {
+        *self == bytes.as_slice()
+    }
+}
+
 #[cfg(test)]
 mod tests {
     use super::*;
+    use indexmap::IndexSet;
     use std::test::Fail;
 
     #[test]
     fn copies_keep_the_bytes(rt: HostRuntime) -> Result<(), Fail> {
-        let name = Bytes::from_slice(rt.alloc(), b"price")?;
-        let copy = name.try_copy(rt.alloc())?;
-        let taken = Bytes::from_vec(b"price".to_vec(rt.alloc())?);
-        assert_eq!(rt; name.as_slice(), b"price".as_slice());
-        assert_eq!(rt; copy.as_slice(), b"price".as_slice());
-        assert_eq!(rt; taken.as_slice(), b"price".as_slice());
+        for text in [
+            b"price".as_slice(),
+            b"sixteen bytes 16",
+            b"seventeen bytes 17",
+        ] {
+            let name = Bytes::from_slice(rt.alloc(), text)?;
+            let copy = name.try_copy(rt.alloc())?;
+            let taken = Bytes::from_vec(text.to_vec(rt.alloc())?);
+            assert_eq!(rt; name.as_slice(), text);
+            assert_eq!(rt; copy.as_slice(), text);
+            assert_eq!(rt; taken.as_slice(), text);
+        }
+        Ok(())
+    }
+
+    #[test]
+    fn bytes_are_found_by_a_slice(rt: HostRuntime) -> Result<(), Fail> {
+        let mut names = IndexSet::new(rt.alloc());
+        for text in [b"a".as_slice(), b"", b"ab", b"a name of some length"] {
+            names.insert(Bytes::from_slice(rt.alloc(), text)?)?;
+        }
+        assert_eq!(rt; names.get_index_of(b"ab".as_slice()), Some(2));
+        assert_eq!(rt;
+            names.get_index_of(b"a name of some length".as_slice()),
+            Some(3)
+        );
+        assert_eq!(rt; names.get_index_of(b"b".as_slice()), None);
         Ok(())
     }
 }

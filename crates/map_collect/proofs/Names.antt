@@ -3,29 +3,23 @@ use Rattle.std.proofs.Common.{◌≡◌, ◌+◌, ◌<◌, ◌||◌, ◌∙◌, 
 use Rattle.std.specs.Prelude.{IfNone, IfSome}
 use Rattle.std.specs.List.{list_any, position, position_from, slice_get, Contains, IsDistinct}
 use Rattle.std.specs.Str.{bytes_eq}
-use Rattle.std.specs.declared.vec.Vec.{Vec}
-use Rattle.std.specs.declared.alloc.Global.{Global}
 use Rattle.std.proofs.lemmas.Bool.{false≢true}
 use Rattle.std.proofs.lemmas.Cmp.{nat_list_eq_equiv}
 use Rattle.std.proofs.lemmas.Iterator.Adapters.{position_from-zero}
-use Rattle.std.proofs.lemmas.List.{length-append, map-append}
+use Rattle.std.proofs.lemmas.List.{length-append}
 use Rattle.std.proofs.lemmas.Map.Keys.{IsDistinct-push}
 use Rattle.std.proofs.lemmas.Option.{none-some, same_Some}
 use Rattle.std.proofs.lemmas.Slice.Eq.{bytes_eq-Decides}
-use Rattle.map_collect.specs.Followers.{texts_of, with_key, AreKept, Followers}
+use Rattle.map_collect.specs.Followers.{with_key, AreKept, Followers}
 
--- whether a name has the bytes of the key
-abbrev pub is_named : List ℕ → Vec ℕ Global → Bool
-is_named key name = bytes_eq key name.items
-
-there_first : (same : Bool) (key : List ℕ) (name : Vec ℕ Global) (names : List (Vec ℕ Global)) (from i : ℕ)
-    → is_named key name ≡ same
-    → (position_from (is_named key) (from + 1) names ≡ Some i
-    → (k : ℕ) × (i ≡ from + 1 + k) × (slice_get (texts_of names) k ≡ Some key))
-    → cond same (Some from) (position_from (is_named key) (from + 1) names) ≡ Some i
-    → (k : ℕ) × (i ≡ from + k) × (slice_get (texts_of (name ∷ names)) k ≡ Some key)
+there_first : (same : Bool) (key : List ℕ) (name : List ℕ) (names : List (List ℕ)) (from i : ℕ)
+    → bytes_eq key name ≡ same
+    → (position_from (bytes_eq key) (from + 1) names ≡ Some i
+    → (k : ℕ) × (i ≡ from + 1 + k) × (slice_get names k ≡ Some key))
+    → cond same (Some from) (position_from (bytes_eq key) (from + 1) names) ≡ Some i
+    → (k : ℕ) × (i ≡ from + k) × (slice_get (name ∷ names) k ≡ Some key)
 there_first true key name names from i same behind some =
-    let is : key ≡ name.items = (bytes_eq-Decides key name.items).0 same in
+    let is : key ≡ name = (bytes_eq-Decides key name).0 same in
     let first : from ≡ i = same_Some from i some in
     (zero, omega (arith, first), ap (λ (text : List ℕ). Some text) (sym is))
 there_first false key name names from i same behind some =
@@ -33,20 +27,20 @@ there_first false key name names from i same behind some =
     let is = rest.1 in
     (suc rest.0, omega (arith, is), rest.2)
 
-there_from : (key : List ℕ) (names : List (Vec ℕ Global)) (from i : ℕ)
-    → position_from (is_named key) from names ≡ Some i
-    → (k : ℕ) × (i ≡ from + k) × (slice_get (texts_of names) k ≡ Some key)
+there_from : (key : List ℕ) (names : List (List ℕ)) (from i : ℕ)
+    → position_from (bytes_eq key) from names ≡ Some i
+    → (k : ℕ) × (i ≡ from + k) × (slice_get names k ≡ Some key)
 there_from key [] from i some = absurd (none-some i some)
 there_from key (name ∷ names) from i some =
-    there_first (is_named key name) key name names from i refl (there_from key names (from + 1) i) some
+    there_first (bytes_eq key name) key name names from i refl (there_from key names (from + 1) i) some
 
 -- the key stands at the place that is found
-pub there : (key : List ℕ) (names : List (Vec ℕ Global)) (i : ℕ)
-    → position_from (is_named key) 0 names ≡ Some i → slice_get (texts_of names) i ≡ Some key
+pub there : (key : List ℕ) (names : List (List ℕ)) (i : ℕ)
+    → position_from (bytes_eq key) 0 names ≡ Some i → slice_get names i ≡ Some key
 there key names i some =
     let found = there_from key names 0 i some in
     let is = found.1 in
-    subst (λ (k : ℕ). slice_get (texts_of names) k ≡ Some key) (omega (arith, is)) found.2
+    subst (λ (k : ℕ). slice_get names k ≡ Some key) (omega (arith, is)) found.2
 
 nowhere_first : (same : Bool) (from : ℕ) (place : Option ℕ) (among : Bool)
     → (place ≡ None → among ≡ false) → cond same (Some from) place ≡ None → (same || among) ≡ false
@@ -54,46 +48,38 @@ nowhere_first true from place among behind none = absurd (none-some from (sym no
 nowhere_first false from place among behind none = behind none
 
 -- where no place is found, no name has the bytes of the key
-pub nowhere : (key : List ℕ) (names : List (Vec ℕ Global)) (from : ℕ)
-    → position_from (is_named key) from names ≡ None → list_any (is_named key) names ≡ false
+pub nowhere : (key : List ℕ) (names : List (List ℕ)) (from : ℕ)
+    → position_from (bytes_eq key) from names ≡ None → list_any (bytes_eq key) names ≡ false
 nowhere key [] from none = refl
 nowhere key (name ∷ names) from none =
-    nowhere_first (is_named key name) from (position_from (is_named key) (from + 1) names)
-    (list_any (is_named key) names) (nowhere key names (from + 1)) none
+    nowhere_first (bytes_eq key name) from (position_from (bytes_eq key) (from + 1) names)
+    (list_any (bytes_eq key) names) (nowhere key names (from + 1)) none
 
 first_absent : (same : Bool) (among : Bool) → (same || among) ≡ false → (same ≡ false) × (among ≡ false)
 first_absent true among none = absurd (false≢true (sym none))
 first_absent false among none = (refl, none)
 
-absent_at : (key : List ℕ) (names : List (Vec ℕ Global)) (k : ℕ)
-    → list_any (is_named key) names ≡ false → k < length (texts_of names)
-    → (d : List ℕ) → get_or (texts_of names) k d ≡ key → ⊥
+absent_at : (key : List ℕ) (names : List (List ℕ)) (k : ℕ)
+    → list_any (bytes_eq key) names ≡ false → k < length names
+    → (d : List ℕ) → get_or names k d ≡ key → ⊥
 absent_at key [] k none inside d is = absurd (omega (arith, inside))
 absent_at key (name ∷ names) zero none inside d is =
-    let other = (first_absent (is_named key name) (list_any (is_named key) names) none).0 in
-    false≢true (sym other ∙ (bytes_eq-Decides key name.items).1 (sym is))
+    let other = (first_absent (bytes_eq key name) (list_any (bytes_eq key) names) none).0 in
+    false≢true (sym other ∙ (bytes_eq-Decides key name).1 (sym is))
 absent_at key (name ∷ names) (suc k) none inside d is =
-    absent_at key names k (first_absent (is_named key name) (list_any (is_named key) names) none).1
+    absent_at key names k (first_absent (bytes_eq key name) (list_any (bytes_eq key) names) none).1
     (omega (arith, inside)) d is
 
 -- so it is no key
-pub absent : (key : List ℕ) (names : List (Vec ℕ Global))
-    → list_any (is_named key) names ≡ false → Contains (texts_of names) key → ⊥
+pub absent : (key : List ℕ) (names : List (List ℕ))
+    → list_any (bytes_eq key) names ≡ false → Contains names key → ⊥
 absent key names none found = absent_at key names found.0 none found.1 _ found.2
 
 fresh_first : (same among : Bool) → (same ≡ true → ⊥) → among ≡ false → (same || among) ≡ false
 fresh_first true among differs none = absurd (differs refl)
 fresh_first false among differs none = none
 
--- and the other way round, also of the bytes alone
-pub none_named : (key : List ℕ) (names : List (Vec ℕ Global))
-    → (Contains (texts_of names) key → ⊥) → list_any (is_named key) names ≡ false
-none_named key [] fresh = refl
-none_named key (name ∷ names) fresh =
-    fresh_first (is_named key name) (list_any (is_named key) names)
-    (λ same. fresh (zero, omega arith, sym ((bytes_eq-Decides key name.items).0 same)))
-    (none_named key names (λ found. fresh (suc found.0, (let inside = found.1 in omega (arith, inside)), found.2)))
-
+-- and the other way round
 pub none_among : (key : List ℕ) (texts : List (List ℕ))
     → (Contains texts key → ⊥) → list_any (bytes_eq key) texts ≡ false
 none_among key [] fresh = refl
@@ -103,17 +89,14 @@ none_among key (text ∷ texts) fresh =
     (none_among key texts (λ found. fresh (suc found.0, (let inside = found.1 in omega (arith, inside)), found.2)))
 
 -- one more key, which was not there
-pub more_names : (key : List ℕ) (name : Vec ℕ Global) (names now : List (Vec ℕ Global))
-    → name.items ≡ key → (Contains (texts_of names) key → ⊥)
-    → now ≡ cond (list_any (is_named name.items) names) names (names ++ name ∷ [])
-    → texts_of now ≡ texts_of names ++ key ∷ []
+pub more_names : (key name : List ℕ) (names now : List (List ℕ))
+    → name ≡ key → (Contains names key → ⊥)
+    → now ≡ cond (list_any (bytes_eq name) names) names (names ++ name ∷ []) → now ≡ names ++ key ∷ []
 more_names key name names now is fresh inserted =
-    let none : list_any (is_named name.items) names ≡ false
-    = ap (λ (text : List ℕ). list_any (is_named text) names) is ∙ none_named key names fresh in
-    ap (λ (xs : List (Vec ℕ Global)). texts_of xs)
-    (inserted ∙ ap (λ (b : Bool). cond b names (names ++ name ∷ [])) none)
-    ∙ map-append (λ (n : Vec ℕ Global). n.items) names (name ∷ [])
-    ∙ ap (λ (text : List ℕ). texts_of names ++ text ∷ []) is
+    let none : list_any (bytes_eq name) names ≡ false
+    = ap (λ (text : List ℕ). list_any (bytes_eq text) names) is ∙ none_among key names fresh in
+    inserted ∙ ap (λ (b : Bool). cond b names (names ++ name ∷ [])) none
+    ∙ ap (λ (text : List ℕ). names ++ text ∷ []) is
 
 module _ {R : Type 0} where
   -- it and its follower
@@ -134,29 +117,29 @@ module _ {R : Type 0} where
       }
 
 -- an answer by the places of names is one by the keys
-pub found_there : (place : Option ℕ) (key : List ℕ) (names : List (Vec ℕ Global)) (texts : List (List ℕ))
-    → place ≡ position (is_named key) names → texts_of names ≡ texts
+pub found_there : (place : Option ℕ) (key : List ℕ) (names : List (List ℕ)) (texts : List (List ℕ))
+    → place ≡ position (bytes_eq key) names → names ≡ texts
     → IfSome place (λ i. slice_get texts i ≡ Some key)
 found_there None key names texts is same = tt
 found_there (Some i) key names texts is same =
     subst (λ (xs : List (List ℕ)). slice_get xs i ≡ Some key) same
-    (there key names i (sym (position_from-zero (is_named key) names) ∙ sym is))
+    (there key names i (sym (position_from-zero (bytes_eq key) names) ∙ sym is))
 
-pub none_there : (place : Option ℕ) (key : List ℕ) (names : List (Vec ℕ Global)) (texts : List (List ℕ))
-    → place ≡ position (is_named key) names → texts_of names ≡ texts
+pub none_there : (place : Option ℕ) (key : List ℕ) (names : List (List ℕ)) (texts : List (List ℕ))
+    → place ≡ position (bytes_eq key) names → names ≡ texts
     → IfNone place (Contains texts key → ⊥)
 none_there None key names texts is same =
     subst (λ (xs : List (List ℕ)). Contains xs key → ⊥) same
-    (absent key names (nowhere key names 0 (sym (position_from-zero (is_named key) names) ∙ sym is)))
+    (absent key names (nowhere key names 0 (sym (position_from-zero (bytes_eq key) names) ∙ sym is)))
 none_there (Some i) key names texts is same = tt
 
 module _ {R : Type 0} where
   -- no key yet
-  pub AreKept-none : (names : List (Vec ℕ Global)) (followers : List R)
-      → names ≡ [] → followers ≡ [] → AreKept (texts_of names) followers
+  pub AreKept-none : (names : List (List ℕ)) (followers : List R)
+      → names ≡ [] → followers ≡ [] → AreKept names followers
   unfolding IsDistinct
   AreKept-none names followers no_names no_followers =
-      subst (λ (xs : List (Vec ℕ Global)). AreKept (texts_of xs) followers) (sym no_names)
+      subst (λ (xs : List (List ℕ)). AreKept xs followers) (sym no_names)
       (subst (λ (ys : List R). AreKept [] ys) (sym no_followers) (record { distinct = tt; each = refl }))
 
   -- the lists with one more key and its follower

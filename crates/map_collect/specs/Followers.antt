@@ -1,19 +1,13 @@
 -- Statement. Followers by the bytes of their keys.
-use Rattle.std.specs.Prelude.{◌≡◌, ℕ, List, [], ◌∷◌, ◌++◌, length, map, refl}
+use Rattle.std.specs.Prelude.{◌≡◌, ℕ, List, [], ◌∷◌, ◌++◌, length, refl}
 use Rattle.std.specs.List.{IsDistinct}
 use Rattle.std.specs.Str.{bytes_eq}
 use Rattle.std.specs.Coded.{Coded, code_by, coded×, coded_list, coded_ℕ}
-use Rattle.std.specs.declared.vec.Vec.{Vec}
-use Rattle.std.specs.declared.alloc.Global.{Global}
 
 -- keys in the order in which they came first, and their followers in the same order
 pub record Followers (R : Type 0) : Type 0 where
   pub names : List (List ℕ)
   pub followers : List R
-
--- the bytes of each
-abbrev pub texts_of : List (Vec ℕ Global) → List (List ℕ)
-texts_of names = map (λ name. name.items) names
 
 -- no two have the same bytes
 abbrev pub AreDistinct : List (List ℕ) → Type 0

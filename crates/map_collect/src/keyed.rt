@@ -6,26 +6,27 @@ ghost use Rattle.map_collect.specs.Followers.{with_key, AreDistinct};
 ghost use Rattle.map_collect.specs.Lending.{LendsKeyed};
 
 use indexmap::IndexSet;
+use language_base::Bytes;
 use std::alloc::{AllocError, Global};
 use std::marker::Model;
 
 /// A list of keys in the order in which they came first, and a follower for each.
 #[derive(Drop)]
 pub struct Keyed<R> {
-    names: IndexSet<Vec<u8>>,
+    names: IndexSet<Bytes>,
     followers: Vec<R>,
 }
 
 impl<R> Model for Keyed<R> {
-    ghost use Rattle.map_collect.specs.Followers.{code_of_followers, texts_of, AreKept, Followers};
+    ghost use Rattle.map_collect.specs.Followers.{code_of_followers, AreKept, Followers};
 
     ghost Value = { Followers R };
 
     ghost coded = { code_of_followers R.code };
 
-    ghost view = { λ k. record { names = texts_of k.names.keys; followers = k.followers.items } };
+    ghost view = { λ k. record { names = k.names.keys; followers = k.followers.items } };
 
-    ghost invariant = { λ k. AreKept (texts_of k.names.keys) k.followers.items };
+    ghost invariant = { λ k. AreKept k.names.keys k.followers.items };
 }
 
 impl<R: Drop> Keyed<R> {
@@ -53,7 +54,7 @@ impl<R: Drop> Keyed<R> {
         ensures err { OnErr result (self.new ≡ self.old) }
     {
         self.followers.reserve(1)?;
-        let name = Vec::from_slice(*self.names.allocator(), key)?;
+        let name = Bytes::from_slice(*self.names.allocator(), key)?;
         self.names.insert(name)?;
         self.followers.push_reserved(follower);
         Ok(())

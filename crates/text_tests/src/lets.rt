@@ -3,7 +3,7 @@ use language_base::Span;
 use query_lets::{Outline, unfold, unfolded_outline, wrong_name};
 use query_parser::ReadStop;
 use query_syntax::{Program, Query, read_syntax};
-use std::alloc::Global;
+use std::alloc::{AllocError, Global};
 use std::test::Fail;
 
 /// A program on a stream with the column `a`, with these lets and this main query.
@@ -27,13 +27,18 @@ fn the_first_wrong_name_is_told(rt: HostRuntime) -> Result<(), Fail> {
     Ok(())
 }
 
+/// What a program's lets come to. The program is dropped here, at the one way out.
+fn outline_of(alloc: Global, program: Program) -> Result<Outline, AllocError> {
+    unfolded_outline(alloc, &program)
+}
+
 #[test]
 fn nodes_are_counted_wherever_a_name_stands(rt: HostRuntime) -> Result<(), Fail> {
     let program = program(
         rt.alloc(),
         b"let(a, eps(1))let(b, or(a, a))let(c, b)main(c)",
     )?;
-    let outline = unfolded_outline(rt.alloc(), &program)?;
+    let outline = outline_of(rt.alloc(), program)?;
     let wanted = Outline {
         nodes: 3,
         span: span(47, 55),

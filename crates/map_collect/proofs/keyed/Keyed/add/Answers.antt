@@ -7,7 +7,7 @@ pub invariant_of-self-2 : goal.invariant_of-self-2
 invariant_of-self-2 g c =
     let fresh = subst (λ seen. Contains seen.names c.args.key.now → ⊥) (sym c.self.view_is) c.requires.fresh in
     let named = more_names c.args.key.now c.in_ok-name.name c.self.inside.names.keys _
-    c.in_ok-name.ensures.items fresh c.in_ok-insert.ensures.keys in
+    c.in_ok-name.ensures fresh c.in_ok-insert.ensures.keys in
     AreKept-more _ _ _ _ _ c.args.key.now c.args.follower c.self.invariant fresh named
     c.push_reserved.ensures.items c.reserve.ensures.items
 
@@ -15,6 +15,6 @@ pub returns-clause-ok : goal.returns-clause-ok
 returns-clause-ok g c =
     let fresh = subst (λ seen. Contains seen.names c.args.key.now → ⊥) (sym c.self.view_is) c.requires.fresh in
     let named = more_names c.args.key.now c.in_ok-name.name c.self.inside.names.keys _
-    c.in_ok-name.ensures.items fresh c.in_ok-insert.ensures.keys in
+    c.in_ok-name.ensures fresh c.in_ok-insert.ensures.keys in
     grown _ _ _ _ _ c.args.key.now c.args.follower c.self.view_is named
     c.push_reserved.ensures.items c.reserve.ensures.items
