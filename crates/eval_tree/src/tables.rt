@@ -14,7 +14,7 @@ use value_ops::{Scalar, Table, Value};
 pub fn keys_table(keys: &Keys<Progress>, alloc: Global) -> Result<Table, AllocError>
     ensures { IfOk result (IsTableOf seen_of keys.now) }
 {
-    let mut table = Table::new(alloc);
+    let mut table = Table::with_capacity(alloc, keys.len())?;
     'keys: for i in 0..keys.len() {
         if let Some(scalar) = scalar_of(&keys.follower(i).answer) {
             table.push(keys.key(i), scalar)?;

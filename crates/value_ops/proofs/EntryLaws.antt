@@ -1,46 +1,18 @@
 -- How the entries of a table are found, and how they grow.
-use Rattle.std.proofs.Common.{◌≡◌, ◌<◌, ℕ, Bool, true, false, cond, ◌||◌, List, [], ◌∷◌, ◌++◌, length, get_or, map, Option, None, Some, refl, ◌∙◌, ap, arith, sym, subst}
-use Rattle.std.specs.List.{IsDistinct, list_any, slice_get, Contains}
-use Rattle.std.specs.Option.{option_map}
+use Rattle.std.proofs.Common.{◌≡◌, ℕ, Bool, true, false, cond, ◌||◌, List, [], ◌∷◌, ◌++◌, Option, None, Some, refl, ◌∙◌, ap, arith, sym, subst}
+use Rattle.std.specs.List.{IsDistinct, list_any, Contains}
 use Rattle.std.specs.Str.{bytes_eq}
 use Rattle.std.proofs.lemmas.Cmp.{nat_list_eq_equiv}
-use Rattle.std.proofs.lemmas.List.{length-map, map_push}
+use Rattle.std.proofs.lemmas.List.{map_push}
 use Rattle.std.proofs.lemmas.List.Elements.{All-push, Contains-append_right, Contains-get_or}
 use Rattle.std.proofs.lemmas.Bool.{false≢true}
 use Rattle.std.proofs.lemmas.Map.Views.{list_any-from_Contains}
 use Rattle.std.proofs.lemmas.Slice.Eq.{bytes_eq-Decides}
 use Rattle.std.proofs.lemmas.Map.Keys.{IsDistinct-push}
-use Rattle.std.proofs.lemmas.Option.{slice_get-map, slice_get_read}
 use Rattle.value_ops.specs.declared.scalar.Scalar.{Scalar}
-use Rattle.value_ops.specs.declared.table.Entry.{Entry}
-use Rattle.value_ops.specs.Entries.{entry_of, keys_of, values_of, HasDistinctKeys, value_at}
+use Rattle.value_ops.specs.Entries.{keys_of, values_of, HasDistinctKeys, value_at}
 use Rattle.value_ops.specs.Texts.{IsText}
 use Rattle.value_ops.specs.Types.{IsScalar, IsTable}
-
--- an entry that was read at a place is the pair there
-entry_at : (entries : List Entry) (pairs : List (List ℕ × Scalar)) (i : ℕ) (entry : Entry)
-    → map entry_of entries ≡ pairs → i < length pairs → entry ≡ get_or entries i entry
-    → slice_get pairs i ≡ Some (entry_of entry)
-entry_at entries pairs i entry seen within is =
-    let inside : i < length entries = omega (arith, length-map entries entry_of, ap length seen) in
-    rw (← seen) (slice_get-map entry_of entries i
-    ∙ ap (option_map entry_of) (slice_get_read entries (length entries) i entry refl inside is))
-
--- its key is the key there
-pub key_at : (entries : List Entry) (pairs : List (List ℕ × Scalar)) (i : ℕ) (entry : Entry)
-    → map entry_of entries ≡ pairs → i < length pairs → entry ≡ get_or entries i entry
-    → slice_get (keys_of pairs) i ≡ Some entry.key
-key_at entries pairs i entry seen within is =
-    slice_get-map (λ (e : List ℕ × Scalar). e.0) pairs i
-    ∙ ap (option_map (λ (e : List ℕ × Scalar). e.0)) (entry_at entries pairs i entry seen within is)
-
--- and its scalar the scalar there
-pub scalar_at : (entries : List Entry) (pairs : List (List ℕ × Scalar)) (i : ℕ) (entry : Entry)
-    → map entry_of entries ≡ pairs → i < length pairs → entry ≡ get_or entries i entry
-    → slice_get (values_of pairs) i ≡ Some entry.value
-scalar_at entries pairs i entry seen within is =
-    slice_get-map (λ (e : List ℕ × Scalar). e.1) pairs i
-    ∙ ap (option_map (λ (e : List ℕ × Scalar). e.1)) (entry_at entries pairs i entry seen within is)
 
 -- where nothing is found, the first key is another one, and so are the others
 neither_from_none : (first others : Bool) (value : Scalar) (rest : Option Scalar)

@@ -1,4 +1,5 @@
 pub mod EntryLaws
 pub mod Folds
+pub mod KeyBytesLaws
 pub mod Texts
 pub mod TypedExpressions

@@ -3,11 +3,6 @@ use Rattle.std.specs.Prelude.{ℕ, List, [], ◌∷◌, map, Option, None, Some,
 use Rattle.std.specs.List.{IsDistinct}
 use Rattle.std.specs.Str.{bytes_eq}
 use Rattle.value_ops.specs.declared.scalar.Scalar.{Scalar}
-use Rattle.value_ops.specs.declared.table.Entry.{Entry}
-
--- an entry as a pair
-abbrev pub entry_of : Entry → List ℕ × Scalar
-entry_of entry = (entry.key, entry.value)
 
 -- the keys, in order
 abbrev pub keys_of : List (List ℕ × Scalar) → List (List ℕ)

@@ -2,6 +2,7 @@ pub mod Entries
 pub mod Evaluation
 pub mod Expressions
 pub mod Fields
+pub mod KeyBytes
 pub mod Operators
 pub mod Scalar
 pub mod Shown

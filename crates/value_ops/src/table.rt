@@ -3,47 +3,36 @@ ghost use Rattle.std.specs.Prelude.{◌≡◌, ◌<◌, ◌↔◌, ℕ, List, []
 ghost use Rattle.value_ops.specs.Entries.{keys_of, values_of, value_at};
 ghost use Rattle.value_ops.specs.declared.scalar.Scalar.{Scalar};
 
-use crate::{Bytes, Scalar, ValueType};
+use crate::entries::Entries;
+use crate::{Scalar, ValueType};
 use std::alloc::{AllocError, Global};
 use std::marker::Model;
 
-/// A scalar under its key.
-#[derive(Drop)]
-struct Entry {
-    key: Bytes,
-    value: Scalar,
-}
-
-impl Entry {
-    fn try_copy(&self, alloc: Global) -> Result<Entry, AllocError>
-        ensures { IfOk result (λ copy. copy ≡ self.now) }
-    {
-        Ok(Entry {
-            key: self.key.try_copy(alloc)?,
-            value: self.value,
-        })
-    }
-}
-
 /// Scalars under keys in the order in which they came, no two under one key; seen as the list of
-/// keys and scalars.
+/// keys and scalars. It is no larger than a scalar, as each value has the size of the larger.
 #[derive(Drop)]
 pub struct Table {
-    entries: Vec<Entry>,
+    alloc: Global,
+    // A table without them has none.
+    entries: Option<Box<Entries>>,
 }
 
 impl Model for Table {
-    ghost use Rattle.std.specs.Prelude.{List, ℕ, map};
+    ghost use Rattle.std.specs.Prelude.{List, ℕ, []};
+    ghost use Rattle.std.specs.Option.{option_map_or};
     ghost use Rattle.value_ops.specs.declared.scalar.Scalar.{Scalar};
 
     ghost Value = { List (List ℕ × Scalar) };
 
-    ghost use Rattle.value_ops.specs.Entries.{entry_of};
-    ghost use Rattle.value_ops.specs.Types.{IsTable};
+    ghost view = { λ t. option_map_or (λ entries. entries.value) t.entries [] };
+}
 
-    ghost view = { λ t. map entry_of t.entries.items };
-
-    ghost invariant = { λ t. IsTable (map entry_of t.entries.items) };
+fn first_entry(alloc: Global, key: &[u8], value: Scalar) -> Result<Box<Entries>, AllocError>
+    ensures { IfOk result (λ entries. entries.value ≡ (key.now, value) ∷ []) }
+{
+    let mut entries = Entries::new(alloc);
+    entries.push(key, value)?;
+    Ok(Box::new(alloc, entries)?)
 }
 
 impl Table {
@@ -54,21 +43,39 @@ impl Table {
         ensures { result ≡ [] }
     {
         Table {
-            entries: Vec::new(alloc),
+            alloc,
+            entries: None,
         }
+    }
+
+    /// The empty table, with room for so many entries whose keys are short.
+    pub fn with_capacity(alloc: Global, entries: usize) -> Result<Table, AllocError>
+        ensures { IfOk result (λ table. table ≡ []) }
+    {
+        let entries = Entries::with_capacity(alloc, entries)?;
+        Ok(Table {
+            alloc,
+            entries: Some(Box::new(alloc, entries)?),
+        })
     }
 
     /// How many entries there are.
     pub fn len(&self) -> usize
         ensures { result ≡ length self.now }
     {
-        self.entries.len()
+        match &self.entries {
+            Some(entries) => entries.len(),
+            None => 0,
+        }
     }
 
     pub fn is_empty(&self) -> bool
         ensures { IsTrue result ↔ (self.now ≡ []) }
     {
-        self.entries.is_empty()
+        match &self.entries {
+            Some(entries) => entries.is_empty(),
+            None => true,
+        }
     }
 
     /// The key of the entry at `i`.
@@ -76,7 +83,10 @@ impl Table {
         requires { i < length self.now }
         ensures { slice_get (keys_of self.now) i ≡ Some result.now }
     {
-        self.entries[i].key.as_slice()
+        match &self.entries {
+            Some(entries) => entries.key(i),
+            None => unreachable!(),
+        }
     }
 
     /// The scalar of the entry at `i`.
@@ -84,7 +94,10 @@ impl Table {
         requires { i < length self.now }
         ensures { slice_get (values_of self.now) i ≡ Some result }
     {
-        self.entries[i].value
+        match &self.entries {
+            Some(entries) => entries.value(i),
+            None => unreachable!(),
+        }
     }
 
     /// The type of all tables.
@@ -92,21 +105,20 @@ impl Table {
         ensures ty { result ≡ ValueType.Table }
         ensures entries { IsTable self.now }
     {
-        // Reading the entries tells that they are those of a table.
-        let _entries = &self.entries;
-        ValueType::Table
+        match &self.entries {
+            Some(entries) => entries.ty(),
+            None => ValueType::Table,
+        }
     }
 
     /// What stands under the key.
     pub fn get(&self, key: &[u8]) -> Option<Scalar>
         ensures { result ≡ value_at key.now self.now }
     {
-        'entries: for entry in &self.entries {
-            if entry.key.as_slice() == key {
-                return Some(entry.value);
-            }
+        match &self.entries {
+            Some(entries) => entries.get(key),
+            None => None,
         }
-        None
     }
 
     /// Appends an entry.
@@ -115,20 +127,28 @@ impl Table {
         ensures ok { OnOk result (self.new ≡ self.old ++ (key.now, value) ∷ []) }
         ensures err { OnErr result (self.new ≡ self.old) }
     {
-        let key = Bytes::from_slice(*self.entries.allocator(), key)?;
-        let value = value.known();
-        self.entries.push(Entry { key, value })?;
-        Ok(())
+        match &mut self.entries {
+            Some(entries) => entries.push(key, value),
+            None => {
+                self.entries = Some(first_entry(self.alloc, key, value)?);
+                Ok(())
+            }
+        }
     }
 
     pub fn try_copy(&self, alloc: Global) -> Result<Table, AllocError>
         ensures { IfOk result (λ copy. copy ≡ self.now) }
     {
-        let mut entries = Vec::with_capacity(alloc, self.entries.len())?;
-        'entries: for entry in &self.entries {
-            entries.push(entry.try_copy(alloc)?)?;
+        match &self.entries {
+            Some(entries) => {
+                let entries = entries.try_copy(alloc)?;
+                Ok(Table {
+                    alloc,
+                    entries: Some(Box::new(alloc, entries)?),
+                })
+            }
+            None => Ok(Table::new(alloc)),
         }
-        Ok(Table { entries })
     }
 }
 

@@ -41,3 +41,18 @@ fn a_table_has_a_thousand_keys(rt: HostRuntime) -> Result<(), Fail> {
     assert_eq!(rt; table.get(&[3, 231]), Some(Scalar::Number(999)));
     Ok(())
 }
+
+#[test]
+fn a_table_takes_more_keys_than_it_has_room_for(rt: HostRuntime) -> Result<(), Fail> {
+    let mut table = Table::with_capacity(rt.alloc(), 1)?;
+    assert!(rt; table.is_empty());
+    for key in [b"north-east".as_slice(), b"south".as_slice()] {
+        if table.get(key).is_none() {
+            table.push(key, Scalar::DivZero)?;
+        }
+    }
+    assert_eq!(rt; table.len(), 2);
+    assert_eq!(rt; table.key(1), b"south".as_slice());
+    assert_eq!(rt; table.get(b"north-east"), Some(Scalar::DivZero));
+    Ok(())
+}

@@ -23,7 +23,7 @@ use Rattle.slow_eval.proofs.Joining.{joined_items, read_answer}
 use Rattle.slow_eval.proofs.Reading.{of_rest}
 use Rattle.slow_eval.proofs.Splitting.{IsSplit, split_ended, split_joined, split_skipped, split_typed}
 use Rattle.slow_eval.proofs.search.+search.Goals as goal
-use Rattle.slow_eval.proofs.search.+search.Goals.{iter_answers-in-Some+in_ok-so_far+in_ok-pieces+in_ok-join+in-Table-1, iter_answers-in-Some+in_ok-so_far+in_ok-pieces+in_ok-join+in-Scalar-1, iter_answers-in_default, split_answers-in-Some+in_ok-rights+in_ok-join, split_answers-in_default}
+use Rattle.slow_eval.proofs.search.+search.Goals.{iter_answers-in-Some+in_ok-so_far+in_ok-pieces+in_ok-join+in-Table+in-None-1, iter_answers-in-Some+in_ok-so_far+in_ok-pieces+in_ok-join+in-Table+in-Some-1, iter_answers-in-Some+in_ok-so_far+in_ok-pieces+in_ok-join+in-Scalar-1, iter_answers-in_default, split_answers-in-Some+in_ok-rights+in_ok-join, split_answers-in_default}
 
 pub answers_on_fronts-combined-requires-clause-typed :
     goal.answers_on_fronts-combined-requires-clause-typed
@@ -92,7 +92,13 @@ iter_answers-places-preserved t c =
     let read = read_answer row at c.index.result.now c.index.ensures below in
     subst (λ n. IsIterated f n e word (at + 1) new) (sym number_is)
     (elim c.match-index.branch [
-      | iter_answers-in-Some+in_ok-so_far+in_ok-pieces+in_ok-join+in-Table-1 w ↦
+      | iter_answers-in-Some+in_ok-so_far+in_ok-pieces+in_ok-join+in-Table+in-None-1 w ↦
+          iter_joined f c.args.number e word at row new w.in_ok-pieces.pieces.items w.in_ok-so_far.so_far c.requires so_far
+          (omega arith) (cc (read, w.in_ok-so_far.ensures.equal, w.in-Some.is))
+          (subst (λ rest. AreAnswers f rest w.in_ok-pieces.pieces.items) (rest_is word at) (w.in_ok-pieces.ensures))
+          (joined_items e w.in_ok-so_far.so_far w.deref.result.now w.in_ok-pieces.pieces.items at w.deref_mut.result.now row w.join.new.row new
+          w.in_ok-join.ensures w.deref.ensures.value w.deref_mut.ensures.value (sym (take_at w.join.new.row (drop (length w.join.new.row) c.places.row.items) c.places.row.len (w.in_ok-join.ensures.count ∙ w.deref_mut.ensures.len)) ∙ sym (ap (λ v. v.items) w.row-is)))
+      | iter_answers-in-Some+in_ok-so_far+in_ok-pieces+in_ok-join+in-Table+in-Some-1 w ↦
           iter_joined f c.args.number e word at row new w.in_ok-pieces.pieces.items w.in_ok-so_far.so_far c.requires so_far
           (omega arith) (cc (read, w.in_ok-so_far.ensures.equal, w.in-Some.is))
           (subst (λ rest. AreAnswers f rest w.in_ok-pieces.pieces.items) (rest_is word at) (w.in_ok-pieces.ensures))
