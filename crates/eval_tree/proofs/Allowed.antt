@@ -21,7 +21,7 @@ use Rattle.eval_tree.proofs.Typed.{all_typed_with, hit_of, typed_on_hit, typed_w
 
 module _ {R : Type 0} (seen : R → Seen R) where
   -- starts
-  pub start_first : (f g : Qre) (a b : Holding R) (at : ℕ) → CanStart seen (choice f g) (both a b) at
+  unfoldable pub start_first : (f g : Qre) (a b : Holding R) (at : ℕ) → CanStart seen (choice f g) (both a b) at
       → CanStart seen f a at
   start_first f g a b at can =
       let room : at + (composes_of f + composes_of g) < 2 ^ 64 = can.room in record {
@@ -32,7 +32,7 @@ module _ {R : Type 0} (seen : R → Seen R) where
         room = omega (arith, room);
       }
 
-  pub start_second : (f g : Qre) (a b : Holding R) (at : ℕ) → CanStart seen (choice f g) (both a b) at
+  unfoldable pub start_second : (f g : Qre) (a b : Holding R) (at : ℕ) → CanStart seen (choice f g) (both a b) at
       → CanStart seen g b at
   start_second f g a b at can =
       let room : at + (composes_of f + composes_of g) < 2 ^ 64 = can.room in record {
@@ -43,7 +43,8 @@ module _ {R : Type 0} (seen : R → Seen R) where
         room = omega (arith, room);
       }
 
-  pub start_operand : (f : Qre) (e : Expression) (a : Holding R) (at : ℕ) → CanStart seen (apply f e) (operand a) at
+  unfoldable pub start_operand : (f : Qre) (e : Expression) (a : Holding R) (at : ℕ)
+      → CanStart seen (apply f e) (operand a) at
       → CanStart seen f a at
   start_operand f e a at can = record {
     standing = bound;
@@ -53,7 +54,7 @@ module _ {R : Type 0} (seen : R → Seen R) where
     room = can.room;
   }
 
-  pub start_left : (f g : Qre) (e : Expression) (a b : Holding R) (held : Contents Value) (at : ℕ)
+  unfoldable pub start_left : (f g : Qre) (e : Expression) (a b : Holding R) (held : Contents Value) (at : ℕ)
       → CanStart seen (split f g e) (pending a b held) at → CanStart seen f a at
   start_left f g e a b held at can =
       let room : at + (composes_of f + composes_of g) < 2 ^ 64 = can.room in record {
@@ -64,7 +65,7 @@ module _ {R : Type 0} (seen : R → Seen R) where
         room = omega (arith, room);
       }
 
-  pub start_right : (f g : Qre) (e : Expression) (a b : Holding R) (held : Contents Value) (at : ℕ)
+  unfoldable pub start_right : (f g : Qre) (e : Expression) (a b : Holding R) (held : Contents Value) (at : ℕ)
       → CanStart seen (split f g e) (pending a b held) at → CanStart seen g b at
   start_right f g e a b held at can =
       let room : at + (composes_of f + composes_of g) < 2 ^ 64 = can.room in record {
@@ -92,7 +93,7 @@ module _ {R : Type 0} (seen : R → Seen R) where
       (hit_of (type_of can.columns g) at right y.hit) can.clear.2
 
   -- steps
-  pub step_first : (f g : Qre) (a b : Holding R) (now : ℕ) (item : List Field)
+  unfoldable pub step_first : (f g : Qre) (a b : Holding R) (now : ℕ) (item : List Field)
       → CanStep seen (choice f g) (both a b) now item → CanStep seen f a now item
   step_first f g a b now item can =
       let room : now + (composes_of f + composes_of g) < 2 ^ 64 = can.room in record {
@@ -106,7 +107,7 @@ module _ {R : Type 0} (seen : R → Seen R) where
         room = omega (arith, room);
       }
 
-  pub step_second : (f g : Qre) (a b : Holding R) (now : ℕ) (item : List Field)
+  unfoldable pub step_second : (f g : Qre) (a b : Holding R) (now : ℕ) (item : List Field)
       → CanStep seen (choice f g) (both a b) now item → CanStep seen g b now item
   step_second f g a b now item can =
       let room : now + (composes_of f + composes_of g) < 2 ^ 64 = can.room in record {
@@ -120,7 +121,7 @@ module _ {R : Type 0} (seen : R → Seen R) where
         room = omega (arith, room);
       }
 
-  pub step_operand : (f : Qre) (e : Expression) (a : Holding R) (now : ℕ) (item : List Field)
+  unfoldable pub step_operand : (f : Qre) (e : Expression) (a : Holding R) (now : ℕ) (item : List Field)
       → CanStep seen (apply f e) (operand a) now item → CanStep seen f a now item
   step_operand f e a now item can = record {
     standing = bound;
@@ -133,7 +134,8 @@ module _ {R : Type 0} (seen : R → Seen R) where
     room = can.room;
   }
 
-  pub step_left : (f g : Qre) (e : Expression) (a b : Holding R) (held : Contents Value) (now : ℕ) (item : List Field)
+  unfoldable pub step_left : (f g : Qre) (e : Expression) (a b : Holding R) (held : Contents Value) (now : ℕ)
+      (item : List Field)
       → CanStep seen (split f g e) (pending a b held) now item → CanStep seen f a now item
   step_left f g e a b held now item can =
       let room : now + (composes_of f + composes_of g) < 2 ^ 64 = can.room in record {
@@ -147,7 +149,8 @@ module _ {R : Type 0} (seen : R → Seen R) where
         room = omega (arith, room);
       }
 
-  pub step_right : (f g : Qre) (e : Expression) (a b : Holding R) (held : Contents Value) (now : ℕ) (item : List Field)
+  unfoldable pub step_right : (f g : Qre) (e : Expression) (a b : Holding R) (held : Contents Value) (now : ℕ)
+      (item : List Field)
       → CanStep seen (split f g e) (pending a b held) now item → CanStep seen g b now item
   step_right f g e a b held now item can =
       let room : now + (composes_of f + composes_of g) < 2 ^ 64 = can.room in record {
@@ -162,7 +165,7 @@ module _ {R : Type 0} (seen : R → Seen R) where
       }
 
   -- the right operand is started behind the item that it has just seen
-  pub start_behind : (f g : Qre) (e : Expression) (a b b' : Holding R) (held : Contents Value) (now : ℕ)
+  unfoldable pub start_behind : (f g : Qre) (e : Expression) (a b b' : Holding R) (held : Contents Value) (now : ℕ)
       (item : List Field) (right : Option Hit) → CanStep seen (split f g e) (pending a b held) now item
       → StepsSoundly seen g b now item b' right → CanStart seen g b' now
   start_behind f g e a b b' held now item right can second =

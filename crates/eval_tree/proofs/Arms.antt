@@ -16,6 +16,7 @@ use Rattle.eval_tree.specs.declared.progress.Progress.{Progress}
 use Rattle.eval_tree.specs.Holdings.{Holding}
 use Rattle.eval_tree.specs.Lefts.{IsEnded}
 use Rattle.eval_tree.specs.Live.{live_of}
+use Rattle.eval_tree.specs.Numbers.{StartsNumbers, StepsNumbers}
 use Rattle.eval_tree.specs.Plain.{holding_of, seen_of}
 use Rattle.eval_tree.specs.Steps.{CanStart, CanStep, Starts, StartsSoundly, Steps, StepsSoundly}
 
@@ -85,6 +86,18 @@ pub can_step_as : (q q' : Qre) (h h' : Holding Progress) (now : ℕ) (item : Lis
 can_step_as q q' h h' now item query before is =
     subst (λ (x : Qre). CanStep seen_of x h' now item) (sym query)
     (subst (λ (x : Holding Progress). CanStep seen_of q x now item) (sym before) is)
+
+pub numbers_start_as : (q q' : Qre) (h h' : Holding Progress) (at : ℕ) → q' ≡ q → h' ≡ h
+    → StartsNumbers seen_of q h at → StartsNumbers seen_of q' h' at
+numbers_start_as q q' h h' at query before is =
+    subst (λ (x : Qre). StartsNumbers seen_of x h' at) (sym query)
+    (subst (λ (x : Holding Progress). StartsNumbers seen_of q x at) (sym before) is)
+
+pub numbers_step_as : (q q' : Qre) (h h' : Holding Progress) (now : ℕ) (item : List Field) → q' ≡ q → h' ≡ h
+    → StepsNumbers seen_of q h now item → StepsNumbers seen_of q' h' now item
+numbers_step_as q q' h h' now item query before is =
+    subst (λ (x : Qre). StepsNumbers seen_of x h' now item) (sym query)
+    (subst (λ (x : Holding Progress). StepsNumbers seen_of q x now item) (sym before) is)
 
 pub ended_as : (e : Expression) (held so_far : Contents Value) (right hit hit' : Option Hit) → held ≡ so_far
     → hit ≡ hit' → IsEnded e held.entries right hit → IsEnded e so_far.entries right hit'

@@ -1,5 +1,6 @@
 -- A runner takes one more item, or begins anew: what it follows then, and that it stays sound.
-use Rattle.std.proofs.Common.{◌≡◌, ℕ, ◌+◌, ◌∙◌, true, false, List, [], ◌∷◌, ◌++◌, Option, Some, None, option_map, length, refl, sym, ap, subst, arith, inl, inr}
+use Rattle.std.proofs.Common.{◌≡◌, ℕ, ◌+◌, ◌∙◌, true, false, List, [], ◌∷◌, ◌++◌, Option, Some, None, Result, Ok, Err, option_map, length, refl, sym, ap, subst, arith, inl, inr}
+use Rattle.std.specs.Prelude.{IfOk, IsOk, is_err}
 use Rattle.std.proofs.lemmas.Bool.{false≢true}
 use Rattle.value_ops.specs.declared.field.Field.{Field}
 use Rattle.value_ops.specs.declared.value.ValueType.{ValueType}
@@ -9,11 +10,12 @@ use Rattle.rate_expr.specs.Words.{Word}
 use Rattle.query_model.specs.Following.{FitsNext, IsAnswer}
 use Rattle.query_model.specs.Queries.{Qre}
 use Rattle.query_model.specs.QueryTypes.{type_of}
+use Rattle.query_model.specs.Sizes.{IsSmall}
 use Rattle.query_model.specs.Rules.{Standing, free, HasNoCollect, IsClear}
 use Rattle.eval_tree.specs.declared.hit.Hit.{Hit}
 use Rattle.eval_tree.specs.declared.progress.Progress.{Progress}
 use Rattle.eval_tree.specs.declared.runner.Runner.{Runner}
-use Rattle.eval_tree.specs.Feeds.{CanCarry, IsCarried, IsCleared, IsRenewed, IsSoundOf}
+use Rattle.eval_tree.specs.Feeds.{CanBegin, CanCarry, IsCarried, IsCleared, IsRenewed, IsSoundOf}
 use Rattle.eval_tree.specs.Following.{columns_of, IsAt, IsSoundly, query_of}
 use Rattle.eval_tree.specs.Holdings.{Holding, Seen}
 use Rattle.eval_tree.specs.Plain.{holding_of, seen_of}
@@ -21,6 +23,7 @@ use Rattle.eval_tree.specs.Represents.{Represents}
 use Rattle.eval_tree.specs.Sound.{IsSound, IsTyped}
 use Rattle.eval_tree.specs.Steps.{IsHitOf, Starts, StartsSoundly, Steps, StepsSoundly}
 use Rattle.eval_tree.proofs.Followed.{first_answers, hit_answers, one_apart, one_position}
+use Rattle.eval_tree.proofs.Made.{composes_few}
 use Rattle.eval_tree.proofs.Members.{no_member}
 use Rattle.eval_tree.proofs.Pieces.{length_more, word_join}
 use Rattle.eval_tree.proofs.Typed.{hit_of}
@@ -121,12 +124,21 @@ begun standing columns q old new hit clear rep is_sound starts soundly position 
 pub found_sound : (runner : Runner) → IsSoundly runner → runner.failed ≡ false
     → IsSoundOf seen_of (columns_of runner) (query_of runner) runner.progress
 found_sound runner is found = elim is.sound [
-  | inl lost ↦ let wrong : false ≡ true = sym found ∙ lost in absurd (false≢true wrong)
+  | inl lost ↦ let wrong : false ≡ true = sym found ∙ lost.0 in absurd (false≢true wrong)
+  | inr sound ↦ sound
+]
+
+-- and so is one without a collect
+pub bare_sound : (runner : Runner) → IsSoundly runner → HasNoCollect (query_of runner)
+    → IsSoundOf seen_of (columns_of runner) (query_of runner) runner.progress
+bare_sound runner is bare = elim is.sound [
+  | inl lost ↦ absurd (lost.1 bare)
   | inr sound ↦ sound
 ]
 
 -- and may take the next item
-pub carry_next : (columns : List Column) (q : Qre) (progress : Progress) (item : List Field) → IsClear free columns q
+unfoldable pub carry_next : (columns : List Column) (q : Qre) (progress : Progress) (item : List Field)
+    → IsClear free columns q
     → IsSoundOf seen_of columns q progress → FitsNext columns q progress.position item
     → CanCarry seen_of q progress item
 carry_next columns q progress item clear sound fits =
@@ -139,3 +151,37 @@ carry_next columns q progress item clear sound fits =
       is_item = fits.is_item;
       room = omega (arith, room);
     }
+
+-- and may begin anew
+unfoldable pub renew_next : (columns : List Column) (q : Qre) (progress : Progress) → IsClear free columns q
+    → IsSmall columns q → HasNoCollect q → IsSoundOf seen_of columns q progress → CanBegin seen_of q progress None
+renew_next columns q progress clear small bare sound =
+    let few = composes_few q in
+    let nodes = small.nodes in
+    record {
+      standing = free;
+      columns = columns;
+      clear = clear;
+      no_collect = bare;
+      sound = sound;
+      is_item = tt;
+      room = omega (arith, few, nodes);
+    }
+
+-- what was done, where it was not refused
+pub when_ok : {T E : Type 0} → (result : Result T E) (P : Type 0) → is_err result ≡ false → IfOk result (λ x. P) → P
+when_ok (Ok x) P found is = is
+when_ok (Err e) P found is = absurd (false≢true (sym found))
+
+pub never_err : {T E : Type 0} → (result : Result T E) → IsOk result → is_err result ≡ true → ⊥
+never_err (Ok x) ok err = false≢true err
+never_err (Err e) ok err = false≢true ok
+
+-- it follows the empty word then
+pub renewed_at : (columns : List Column) (q : Qre) (old new : Progress) → IsClear free columns q
+    → IsSoundOf seen_of columns q old → IsRenewed seen_of q old new → IsAt columns q [] new
+renewed_at columns q old new clear sound renewed = record {
+  is_word = tt;
+  sound = renewed.sound free columns clear sound;
+  follows = renewed.word free columns clear;
+}

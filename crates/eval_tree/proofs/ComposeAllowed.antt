@@ -13,7 +13,8 @@ use Rattle.eval_tree.proofs.Outputs.{hit_item}
 use Rattle.eval_tree.proofs.Typed.{hit_of}
 
 module _ {R : Type 0} (seen : R → Seen R) where
-  pub start_fed : (f g : Qre) (a : Holding R) (held : Contents R) (at : ℕ) → CanStart seen (compose f g) (fed a held) at
+  unfoldable pub start_fed : (f g : Qre) (a : Holding R) (held : Contents R) (at : ℕ)
+      → CanStart seen (compose f g) (fed a held) at
       → CanStart seen f a at
   start_fed f g a held at can =
       let room : at + (composes_of f + composes_of g + 1) < 2 ^ 64 = can.room in record {
@@ -24,7 +25,7 @@ module _ {R : Type 0} (seen : R → Seen R) where
         room = omega (arith, room);
       }
 
-  pub step_fed : (f g : Qre) (a : Holding R) (held : Contents R) (now : ℕ) (item : List Field)
+  unfoldable pub step_fed : (f g : Qre) (a : Holding R) (held : Contents R) (now : ℕ) (item : List Field)
       → CanStep seen (compose f g) (fed a held) now item → CanStep seen f a now item
   step_fed f g a held now item can =
       let room : now + (composes_of f + composes_of g + 1) < 2 ^ 64 = can.room in record {
@@ -39,7 +40,7 @@ module _ {R : Type 0} (seen : R → Seen R) where
       }
 
   -- the runners may take the value of the left hit
-  pub passes_allowed : (f g : Qre) (a a' : Holding R) (held : Contents R) (now : ℕ) (item : List Field)
+  unfoldable pub passes_allowed : (f g : Qre) (a a' : Holding R) (held : Contents R) (now : ℕ) (item : List Field)
       (left : Option Hit) → CanStep seen (compose f g) (fed a held) now item → StepsSoundly seen f a now item a' left
       → CanPassOn seen g held left
   passes_allowed f g a a' held now item left can first =
@@ -56,7 +57,7 @@ module _ {R : Type 0} (seen : R → Seen R) where
         room = omega (arith, room, behind);
       }
 
-  pub feeds_allowed : (f g : Qre) (a a' : Holding R) (held : Contents R) (at : ℕ) (left : Option Hit)
+  unfoldable pub feeds_allowed : (f g : Qre) (a a' : Holding R) (held : Contents R) (at : ℕ) (left : Option Hit)
       → CanStart seen (compose f g) (fed a held) at → StartsSoundly seen f a at a' left → CanFeed seen g held left
   feeds_allowed f g a a' held at left can first =
       let room : at + (composes_of f + composes_of g + 1) < 2 ^ 64 = can.room in
@@ -72,7 +73,7 @@ module _ {R : Type 0} (seen : R → Seen R) where
       }
 
   -- a runner that has begun anew may take the value
-  pub carry_begun : (g : Qre) (runner between : R) (found : Hit) → CanBegin seen g runner (Some found)
+  unfoldable pub carry_begun : (g : Qre) (runner between : R) (found : Hit) → CanBegin seen g runner (Some found)
       → IsRenewed seen g runner between → CanCarry seen g between (item_of found.value)
   carry_begun g runner between found can renewed =
       let position = renewed.position in
@@ -87,7 +88,7 @@ module _ {R : Type 0} (seen : R → Seen R) where
       }
 
   -- its node may take the item
-  pub step_carried : (q : Qre) (runner : R) (item : List Field) → CanCarry seen q runner item
+  unfoldable pub step_carried : (q : Qre) (runner : R) (item : List Field) → CanCarry seen q runner item
       → CanStep seen q (seen runner).node ((seen runner).position + 1) item
   step_carried q runner item can = record {
     standing = can.standing;
@@ -101,7 +102,8 @@ module _ {R : Type 0} (seen : R → Seen R) where
   }
 
   -- its cleared node may start
-  pub start_cleared : (q : Qre) (runner : R) (left : Option Hit) (cleared : Holding R) → CanBegin seen q runner left
+  unfoldable pub start_cleared : (q : Qre) (runner : R) (left : Option Hit) (cleared : Holding R)
+      → CanBegin seen q runner left
       → IsCleared seen q (seen runner).node cleared → CanStart seen q cleared 0
   start_cleared q runner left cleared can is =
       let room = can.room in

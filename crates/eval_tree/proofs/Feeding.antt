@@ -91,10 +91,12 @@ module _ {R : Type 0} (seen : R → Seen R) (g : Qre) where
         tells = tells;
       }
 
-  pub tell_allowed : (old : Contents R) (found : Hit) (place : ℕ) (runner : R) → CanPassOn seen g old (Some found)
+  unfoldable pub tell_allowed : (old : Contents R) (found : Hit) (place : ℕ) (runner : R)
+      → CanPassOn seen g old (Some found)
       → slice_get (followers_of old.live) place ≡ Some runner → CanCarry seen g runner (item_of found.value)
   tell_allowed old found place runner can read =
-      let is = all_read (IsSoundWithin seen (IsSoundOf seen can.columns g) can.most) (followers_of old.live) place runner
+      let is = all_read (IsSoundWithin seen (IsSoundOf seen can.columns g) can.most)
+      (followers_of old.live) place runner
       (all_followers (IsSoundWithin seen (IsSoundOf seen can.columns g) can.most) old.live can.live) read in
       let within = is.within in
       let room = can.room in
@@ -108,7 +110,7 @@ module _ {R : Type 0} (seen : R → Seen R) (g : Qre) where
       }
 
   -- the last idle one
-  pub begin_last : (old : Contents R) (left : Option Hit) (i : ℕ) (runner : R) → CanFeed seen g old left
+  unfoldable pub begin_last : (old : Contents R) (left : Option Hit) (i : ℕ) (runner : R) → CanFeed seen g old left
       → slice_get old.idle i ≡ Some runner → CanBegin seen g runner left
   begin_last old left i runner can read = record {
     standing = can.standing;
@@ -120,7 +122,8 @@ module _ {R : Type 0} (seen : R → Seen R) (g : Qre) where
     room = can.room;
   }
 
-  pub renew_allowed : (runner : R) (left : Option Hit) → CanBegin seen g runner left → CanBegin seen g runner None
+  unfoldable pub renew_allowed : (runner : R) (left : Option Hit) → CanBegin seen g runner left
+      → CanBegin seen g runner None
   renew_allowed runner left can = record {
     standing = can.standing;
     columns = can.columns;

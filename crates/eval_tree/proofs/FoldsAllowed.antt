@@ -18,7 +18,7 @@ use Rattle.eval_tree.proofs.Typed.{all_typed_with, hit_of, typed_on_hits}
 
 module _ {R : Type 0} (seen : R → Seen R) where
   -- starts
-  pub start_one : (f g : Qre) (e : Expression) (a b : Holding R) (at : ℕ)
+  unfoldable pub start_one : (f g : Qre) (e : Expression) (a b : Holding R) (at : ℕ)
       → CanStart seen (combine f g e) (paired a b) at → CanStart seen f a at
   start_one f g e a b at can =
       let room : at + (composes_of f + composes_of g) < 2 ^ 64 = can.room in record {
@@ -29,7 +29,7 @@ module _ {R : Type 0} (seen : R → Seen R) where
         room = omega (arith, room);
       }
 
-  pub start_other : (f g : Qre) (e : Expression) (a b : Holding R) (at : ℕ)
+  unfoldable pub start_other : (f g : Qre) (e : Expression) (a b : Holding R) (at : ℕ)
       → CanStart seen (combine f g e) (paired a b) at → CanStart seen g b at
   start_other f g e a b at can =
       let room : at + (composes_of f + composes_of g) < 2 ^ 64 = can.room in record {
@@ -49,7 +49,8 @@ module _ {R : Type 0} (seen : R → Seen R) where
       typed_on_hits (type_of can.columns f) (type_of can.columns g) _ e left right
       (hit_of (type_of can.columns f) at left x.hit) (hit_of (type_of can.columns g) at right y.hit) can.clear.2
 
-  pub start_piece : (f : Qre) (number : ℤ) (e : Expression) (a : Holding R) (so_far : Contents Value) (at : ℕ)
+  unfoldable pub start_piece : (f : Qre) (number : ℤ) (e : Expression) (a : Holding R) (so_far : Contents Value)
+      (at : ℕ)
       → CanStart seen (iter f number e) (chained a so_far) at → CanStart seen f a at
   start_piece f number e a so_far at can = record {
     standing = bound;
@@ -60,7 +61,7 @@ module _ {R : Type 0} (seen : R → Seen R) where
   }
 
   -- steps
-  pub step_one : (f g : Qre) (e : Expression) (a b : Holding R) (now : ℕ) (item : List Field)
+  unfoldable pub step_one : (f g : Qre) (e : Expression) (a b : Holding R) (now : ℕ) (item : List Field)
       → CanStep seen (combine f g e) (paired a b) now item → CanStep seen f a now item
   step_one f g e a b now item can =
       let room : now + (composes_of f + composes_of g) < 2 ^ 64 = can.room in record {
@@ -74,7 +75,7 @@ module _ {R : Type 0} (seen : R → Seen R) where
         room = omega (arith, room);
       }
 
-  pub step_other : (f g : Qre) (e : Expression) (a b : Holding R) (now : ℕ) (item : List Field)
+  unfoldable pub step_other : (f g : Qre) (e : Expression) (a b : Holding R) (now : ℕ) (item : List Field)
       → CanStep seen (combine f g e) (paired a b) now item → CanStep seen g b now item
   step_other f g e a b now item can =
       let room : now + (composes_of f + composes_of g) < 2 ^ 64 = can.room in record {
@@ -96,7 +97,8 @@ module _ {R : Type 0} (seen : R → Seen R) where
       let y = second bound can.columns can.position can.behind can.clear.1 can.is_item can.sound.1 in
       typed_on_hits (type_of can.columns f) (type_of can.columns g) _ e left right x.hit y.hit can.clear.2
 
-  pub step_piece : (f : Qre) (number : ℤ) (e : Expression) (a : Holding R) (so_far : Contents Value) (now : ℕ)
+  unfoldable pub step_piece : (f : Qre) (number : ℤ) (e : Expression) (a : Holding R) (so_far : Contents Value)
+      (now : ℕ)
       (item : List Field) → CanStep seen (iter f number e) (chained a so_far) now item → CanStep seen f a now item
   step_piece f number e a so_far now item can = record {
     standing = bound;
@@ -118,7 +120,8 @@ module _ {R : Type 0} (seen : R → Seen R) where
       can.clear.2
 
   -- the next piece begins behind the item that has just gone by
-  pub start_next : (f : Qre) (number : ℤ) (e : Expression) (a a' : Holding R) (so_far : Contents Value) (now : ℕ)
+  unfoldable pub start_next : (f : Qre) (number : ℤ) (e : Expression) (a a' : Holding R) (so_far : Contents Value)
+      (now : ℕ)
       (item : List Field) (piece : Option Hit) → CanStep seen (iter f number e) (chained a so_far) now item
       → StepsSoundly seen f a now item a' piece → CanStart seen f a' now
   start_next f number e a a' so_far now item piece can first =

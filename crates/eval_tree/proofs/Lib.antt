@@ -51,6 +51,10 @@ pub mod Living
 pub mod Made
 pub mod MadeFed
 pub mod Members
+pub mod NumberQueries
+pub mod NumberRunners
+pub mod NumbersAllowed
+pub mod NumbersTyped
 pub mod Others
 pub mod Outputs
 pub mod Pieces

@@ -43,11 +43,11 @@ derived_texts ty = record { none = λ column texts word is. absurd (by ty column
     by ty (suc column) texts = true≢false (sym texts)
 
 -- one that is read from lines has no tables
-and_first : (a b : Bool) → IsTrue (a && b) → IsTrue a
+pub and_first : (a b : Bool) → IsTrue (a && b) → IsTrue a
 and_first true b is = refl
 and_first false b is = is
 
-and_second : (a b : Bool) → IsTrue (a && b) → IsTrue b
+pub and_second : (a b : Bool) → IsTrue (a && b) → IsTrue b
 and_second true b is = is
 and_second false b is = absurd (true≢false (sym is))
 

@@ -4,6 +4,7 @@ use Rattle.item_schema.specs.declared.column.Column.{Column}
 use Rattle.rate_expr.specs.Words.{Word, IsWordOf}
 use Rattle.query_model.specs.Queries.{Qre, plain_of}
 use Rattle.query_model.specs.QueryTypes.{type_of}
+use Rattle.query_model.specs.Rules.{HasNoCollect}
 use Rattle.eval_tree.specs.Counts.{size_of_runner, stored_in}
 use Rattle.eval_tree.specs.Plain.{seen_of}
 use Rattle.eval_tree.specs.Represents.{IsFollowing, Represents}
@@ -38,9 +39,9 @@ pub record IsAt (columns : List Column) (query : Qre) (word : Word)
   pub sound : IsSoundRunner seen_of (IsSound seen_of columns query) (type_of columns query) progress
   pub follows : IsFollowing seen_of (Represents seen_of columns query) query word progress
 
--- where it is not lost it is sound
+-- where it is not lost it is sound, and one without a collect is never lost
 pub record IsSoundly (runner : Runner) : Type 0 where
-  pub sound : (runner.failed ≡ true) ⊎ IsSoundRunner seen_of
+  pub sound : ((runner.failed ≡ true) × (HasNoCollect (query_of runner) → ⊥)) ⊎ IsSoundRunner seen_of
       (IsSound seen_of (columns_of runner) (query_of runner))
       (type_of (columns_of runner) (query_of runner)) runner.progress
 

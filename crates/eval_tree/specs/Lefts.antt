@@ -5,7 +5,7 @@ use Rattle.value_ops.specs.declared.value.Value.{Value}
 use Rattle.value_ops.specs.declared.value.ValueType.{ValueType}
 use Rattle.value_ops.specs.Evaluation.{given}
 use Rattle.value_ops.specs.Expressions.{Expression}
-use Rattle.value_ops.specs.Typing.{HasType, types_of}
+use Rattle.value_ops.specs.Typing.{HasType, IsNumber, types_of}
 use Rattle.query_model.specs.Denotation.{on_both, on_one}
 use Rattle.split_eval.specs.Entries.{Contents, entry_at}
 use Rattle.split_eval.specs.declared.entry.Entry.{Entry}
@@ -79,3 +79,29 @@ AreTypedOnHits expression left right =
 abbrev pub AreTypedWith : Expression → List (Entry Value) → Option Hit → Type 0
 AreTypedWith expression entries right = MatchOption right (Unit {0}) (λ found. (entry : Entry Value)
     → entry_at entries found.start ≡ Some entry → IsTypedOnBoth expression entry.value found.value)
+
+-- it is a number on a value, and on two
+abbrev pub IsNumberOnOne : Expression → Value → Type 0
+IsNumberOnOne expression left = IsNumber (types_of (given [] (Some left) None)) expression
+
+abbrev pub IsNumberOnBoth : Expression → Value → Value → Type 0
+IsNumberOnBoth expression left right =
+    IsNumber (types_of (given [] (Some left) (Some right))) expression
+
+-- and on the same of hits and of what waits
+abbrev pub IsNumberOnHit : Expression → Option Hit → Type 0
+IsNumberOnHit expression inner =
+    MatchOption inner (Unit {0}) (λ found. IsNumberOnOne expression found.value)
+
+abbrev pub IsNumberWith : Expression → Value → Option Hit → Type 0
+IsNumberWith expression left right =
+    MatchOption right (Unit {0}) (λ found. IsNumberOnBoth expression left found.value)
+
+abbrev pub AreNumbersOnHits : Expression → Option Hit → Option Hit → Type 0
+AreNumbersOnHits expression left right =
+    MatchOption left (Unit {0}) (λ found. IsNumberWith expression found.value right)
+
+abbrev pub AreNumbersWith : Expression → List (Entry Value) → Option Hit → Type 0
+AreNumbersWith expression entries right = MatchOption right (Unit {0}) (λ found.
+    (entry : Entry Value) → entry_at entries found.start ≡ Some entry
+    → IsNumberOnBoth expression entry.value found.value)

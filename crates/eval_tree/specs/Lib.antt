@@ -8,6 +8,7 @@ pub mod Keyed
 pub mod Laws
 pub mod Lefts
 pub mod Live
+pub mod Numbers
 pub mod Plain
 pub mod Pushes
 pub mod Represents

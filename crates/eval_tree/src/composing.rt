@@ -1,7 +1,8 @@
 //! The step of a compose: the values of its left operand go to the runners of the right one.
-ghost use Rattle.std.specs.Prelude.{IfOk};
+ghost use Rattle.std.specs.Prelude.{IfOk, IsOk};
 ghost use Rattle.query_model.specs.Queries.{plain_of};
 ghost use Rattle.eval_tree.specs.Holdings.{fed};
+ghost use Rattle.eval_tree.specs.Numbers.{StepsNumbers};
 ghost use Rattle.eval_tree.specs.Plain.{holding_of, seen_of};
 ghost use Rattle.eval_tree.specs.Steps.{CanStep, Steps, StepsSoundly};
 
@@ -30,6 +31,8 @@ pub(crate) fn step_compose(
     ensures sound { IfOk result (StepsSoundly seen_of (plain_of query.now.shape)
         (fed (holding_of a.old.state) runners.old) now item.now
         (fed (holding_of a.new.state) runners.new)) }
+    ensures no_memory { StepsNumbers seen_of (plain_of query.now.shape)
+        (fed (holding_of a.old.state) runners.old) now item.now → IsOk result }
 {
     match &query.shape {
         Shape::Compose(first, second) => {

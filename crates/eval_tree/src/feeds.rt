@@ -1,7 +1,8 @@
 //! Runners of the right operand of a compose. The values of the left operand are their items.
-ghost use Rattle.std.specs.Prelude.{IfOk, None};
+ghost use Rattle.std.specs.Prelude.{IfOk, None, IsOk};
 ghost use Rattle.query_model.specs.Queries.{plain_of};
 ghost use Rattle.eval_tree.specs.Feeds.{CanBegin, CanCarry, CanFeed, CanPassOn, Feeds, IsBegun, IsCarried, IsRenewed, IsTold, PassesOn, item_of};
+ghost use Rattle.eval_tree.specs.Numbers.{BeginsNumbers, CarriesNumbers, FeedsNumbers, PassesNumbers};
 ghost use Rattle.eval_tree.specs.Plain.{seen_of};
 
 use crate::clear::clear;
@@ -24,8 +25,10 @@ pub(crate) fn feed(
     left: Option<Hit>,
 ) -> Result<Option<Hit>, AllocError>
     requires { CanFeed seen_of (plain_of query.now.shape) runners.old left }
-    ensures { IfOk result (Feeds seen_of (plain_of query.now.shape) runners.old live at left
+    ensures fed { IfOk result (Feeds seen_of (plain_of query.now.shape) runners.old live at left
         runners.new) }
+    ensures no_memory { FeedsNumbers seen_of (plain_of query.now.shape) runners.old left
+        → IsOk result }
 {
     if runners.idle() == 0 || runners.place(at).is_some() {
         return Ok(None);
@@ -48,8 +51,10 @@ pub(crate) fn pass_on(
     left: Option<Hit>,
 ) -> Result<Option<Hit>, AllocError>
     requires { CanPassOn seen_of (plain_of query.now.shape) runners.old left }
-    ensures { IfOk result (PassesOn seen_of (plain_of query.now.shape) runners.old left
+    ensures passed { IfOk result (PassesOn seen_of (plain_of query.now.shape) runners.old left
         runners.new) }
+    ensures no_memory { PassesNumbers seen_of (plain_of query.now.shape) runners.old left
+        → IsOk result }
 {
     match left {
         Some(hit) => match runners.place(hit.start) {
@@ -68,7 +73,10 @@ fn begin(
     left: Option<Hit>,
 ) -> Result<Option<Hit>, AllocError>
     requires { CanBegin seen_of (plain_of query.now.shape) runner.old left }
-    ensures { IfOk result (IsBegun seen_of (plain_of query.now.shape) runner.old left runner.new) }
+    ensures begun { IfOk result (IsBegun seen_of (plain_of query.now.shape) runner.old left
+        runner.new) }
+    ensures no_memory { BeginsNumbers seen_of (plain_of query.now.shape) runner.old left
+        → IsOk result }
 {
     renew(query, runner, alloc)?;
     match left {
@@ -85,7 +93,10 @@ fn tell(
     left: Hit,
 ) -> Result<Option<Hit>, AllocError>
     requires { CanCarry seen_of (plain_of query.now.shape) runner.old (item_of left.value) }
-    ensures { IfOk result (IsTold seen_of (plain_of query.now.shape) runner.old left runner.new) }
+    ensures told { IfOk result (IsTold seen_of (plain_of query.now.shape) runner.old left
+        runner.new) }
+    ensures no_memory { CarriesNumbers seen_of (plain_of query.now.shape) runner.old
+        (item_of left.value) → IsOk result }
 {
     let start = left.start;
     carry(query, runner, alloc, &Item::from_value(left.value))?;
@@ -107,8 +118,10 @@ pub(crate) fn carry(
     item: &Item,
 ) -> Result<(), AllocError>
     requires { CanCarry seen_of (plain_of query.now.shape) runner.old item.now }
-    ensures { IfOk result (λ done. IsCarried seen_of (plain_of query.now.shape) runner.old item.now
-        runner.new) }
+    ensures carried { IfOk result (λ done. IsCarried seen_of (plain_of query.now.shape) runner.old
+        item.now runner.new) }
+    ensures no_memory { CarriesNumbers seen_of (plain_of query.now.shape) runner.old item.now
+        → IsOk result }
 {
     let now = runner.position + 1;
     let hit = step(query, &mut runner.node, alloc, now, item)?;
@@ -119,10 +132,12 @@ pub(crate) fn carry(
 
 /// Before the first item.
 #[cycle(step)]
-fn renew(query: &Query, runner: &mut Progress, alloc: Global) -> Result<(), AllocError>
+pub(crate) fn renew(query: &Query, runner: &mut Progress, alloc: Global) -> Result<(), AllocError>
     requires { CanBegin seen_of (plain_of query.now.shape) runner.old None }
-    ensures { IfOk result (λ done. IsRenewed seen_of (plain_of query.now.shape) runner.old
+    ensures renewed { IfOk result (λ done. IsRenewed seen_of (plain_of query.now.shape) runner.old
         runner.new) }
+    ensures no_memory { BeginsNumbers seen_of (plain_of query.now.shape) runner.old None
+        → IsOk result }
 {
     clear(query, &mut runner.node);
     let hit = start(query, &mut runner.node, alloc, 0)?;

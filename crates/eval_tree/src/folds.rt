@@ -1,6 +1,7 @@
 //! Values of an iteration so far: each goes on with the next piece.
-ghost use Rattle.std.specs.Prelude.{◌≡◌, None, IfOk};
+ghost use Rattle.std.specs.Prelude.{◌≡◌, None, IfOk, IsOk};
 ghost use Rattle.split_eval.specs.Entries.{entry_at};
+ghost use Rattle.value_ops.specs.Values.{IsNoTable};
 ghost use Rattle.eval_tree.specs.Lefts.{IsPut};
 
 use crate::Hit;
@@ -19,8 +20,9 @@ pub(crate) fn go_on(
     hit: &Hit,
 ) -> Result<(), AllocError>
     requires { entry_at so_far.old.entries at ≡ None }
-    ensures { IfOk result (λ done. IsPut live so_far.old
+    ensures put { IfOk result (λ done. IsPut live so_far.old
         (record { inner = at; outer = hit.now.start; value = hit.now.value }) so_far.new) }
+    ensures no_memory { IsNoTable hit.now.value → IsOk result }
 {
     if live && so_far.len() < so_far.room() as usize {
         so_far.put(at, hit.start, hit.value.try_copy(alloc)?);
@@ -36,8 +38,9 @@ pub(crate) fn go_on_if_new(
     at: u64,
     hit: &Hit,
 ) -> Result<(), AllocError>
-    ensures { IfOk result (λ done. IsPut live so_far.old
+    ensures put { IfOk result (λ done. IsPut live so_far.old
         (record { inner = at; outer = hit.now.start; value = hit.now.value }) so_far.new) }
+    ensures no_memory { IsNoTable hit.now.value → IsOk result }
 {
     if live && so_far.find(at).is_none() {
         return go_on(alloc, so_far, live, at, hit);

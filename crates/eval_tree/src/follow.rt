@@ -3,6 +3,7 @@
 use crate::copies::copy_of_runner;
 use crate::counts::size_of_runner;
 use crate::feeds::carry;
+use crate::stream_cells::has_no_collect;
 use crate::{Progress, Runner};
 use item_schema::Item;
 use query_model::Follower;
@@ -10,9 +11,11 @@ use std::alloc::{AllocError, Global};
 use value_ops::Value;
 
 impl Follower for Runner<'_> {
-    ghost use Rattle.std.specs.Prelude.{◌≡◌, ◌≤◌, ◌+◌, ◌-◌, ◌*◌, ◌^◌, min};
+    ghost use Rattle.std.specs.Prelude.{◌≡◌, ◌≤◌, ◌+◌, ◌-◌, ◌*◌, ◌^◌, min, false, true, [], IsOk, OnErr, OnOk};
     ghost use Rattle.memory_bound.specs.KeysMet.{keys_met};
     ghost use Rattle.query_model.specs.Bounds.{slots_of};
+    ghost use Rattle.query_model.specs.Following.{Carries, FitsNext};
+    ghost use Rattle.query_model.specs.Rules.{HasNoCollect};
     ghost use Rattle.rate_expr.specs.Words.{Word};
     ghost use Rattle.eval_tree.specs.Following.{columns_of, Follows, is_lost, IsSoundly, kept_of, position_of, query_of};
     ghost use Rattle.eval_tree.specs.Laws.{follows_ends, follows_found, follows_sound};
@@ -31,7 +34,20 @@ impl Follower for Runner<'_> {
 
     ghost kept = { kept_of };
 
-    fn step(&mut self, alloc: Global, item: &Item) -> Result<(), AllocError> {
+    fn step(&mut self, alloc: Global, item: &Item) -> Result<(), AllocError>
+        requires sound { IsSoundly self.old }
+        requires found { is_lost self.old ≡ false }
+        requires fits { FitsNext (columns_of self.old) (query_of self.old) (position_of self.old)
+            item.now }
+        ensures ok { OnOk result (Carries Follows self.old item.now self.new) }
+        ensures position { OnOk result (position_of self.new ≡ position_of self.old + 1) }
+        ensures found { OnOk result (is_lost self.new ≡ false) }
+        ensures err { OnErr result (is_lost self.new ≡ true) }
+        ensures sound { IsSoundly self.new }
+        ensures same { (query_of self.new ≡ query_of self.old)
+            × (columns_of self.new ≡ columns_of self.old) }
+        ensures no_memory { HasNoCollect (query_of self.old) → IsOk result }
+    {
         self.failed = true;
         carry(self.checked.main(), &mut self.progress, alloc, item)?;
         self.failed = false;
@@ -54,7 +70,21 @@ impl Follower for Runner<'_> {
         })
     }
 
-    fn reset(&mut self, alloc: Global) -> Result<(), AllocError> {
+    fn reset(&mut self, alloc: Global) -> Result<(), AllocError>
+        requires sound { IsSoundly self.old }
+        ensures ok { OnOk result (Follows self.new []) }
+        ensures position { OnOk result (position_of self.new ≡ 0) }
+        ensures found { OnOk result (is_lost self.new ≡ false) }
+        ensures err { OnErr result (is_lost self.new ≡ true) }
+        ensures sound { IsSoundly self.new }
+        ensures same { (query_of self.new ≡ query_of self.old)
+            × (columns_of self.new ≡ columns_of self.old) }
+        ensures no_memory { HasNoCollect (query_of self.old) → IsOk result }
+    {
+        if has_no_collect(self.checked.main()) {
+            self.begin_anew(alloc);
+            return Ok(());
+        }
         self.failed = true;
         self.progress = Progress::new(alloc, self.checked)?;
         self.failed = false;

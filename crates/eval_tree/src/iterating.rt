@@ -1,6 +1,7 @@
 //! The step of an iteration: values so far wait for a further piece.
-ghost use Rattle.std.specs.Prelude.{IfOk};
+ghost use Rattle.std.specs.Prelude.{IfOk, IsOk};
 ghost use Rattle.query_model.specs.Queries.{plain_of};
+ghost use Rattle.eval_tree.specs.Numbers.{StepsNumbers};
 ghost use Rattle.eval_tree.specs.Plain.{chained_of, seen_of};
 ghost use Rattle.eval_tree.specs.Steps.{CanStep, Steps, StepsSoundly};
 
@@ -30,6 +31,8 @@ pub(crate) fn step_iter(
         (chained_of a.old so_far.old) now item.now (chained_of a.new so_far.new)) }
     ensures sound { IfOk result (StepsSoundly seen_of (plain_of query.now.shape)
         (chained_of a.old so_far.old) now item.now (chained_of a.new so_far.new)) }
+    ensures no_memory { StepsNumbers seen_of (plain_of query.now.shape)
+        (chained_of a.old so_far.old) now item.now → IsOk result }
 {
     match &query.shape {
         Shape::Iter(inner, _, expression) => {

@@ -1,9 +1,9 @@
 //! Left values of a split: they wait, and are joined with the right values behind them.
-ghost use Rattle.std.specs.Prelude.{◌≡◌, ◌<◌, ◌++◌, ◌∷◌, [], ℕ, Bool, None, length, IfOk};
+ghost use Rattle.std.specs.Prelude.{◌≡◌, ◌<◌, ◌++◌, ◌∷◌, [], ℕ, Bool, None, length, IfOk, IsOk};
 ghost use Rattle.std.specs.Option.{option_copied};
 ghost use Rattle.value_ops.specs.Expressions.{plain_of};
 ghost use Rattle.split_eval.specs.Entries.{entry_at};
-ghost use Rattle.eval_tree.specs.Lefts.{AreCombined, AreTypedOnHits, AreTypedWith, IsApplied, IsEnded, IsJoined, IsPut, IsTypedOnHit, IsTypedWith};
+ghost use Rattle.eval_tree.specs.Lefts.{AreCombined, AreTypedOnHits, AreTypedWith, IsApplied, IsEnded, IsJoined, IsPut, IsTypedOnHit, IsTypedWith, AreNumbersOnHits, AreNumbersWith, IsNumberOnHit, IsNumberWith};
 ghost use Rattle.eval_tree.specs.Live.{is_outer};
 
 use crate::Hit;
@@ -52,7 +52,8 @@ pub(crate) fn applied(
     inner: Option<Hit>,
 ) -> Result<Option<Hit>, AllocError>
     requires { IsTypedOnHit (plain_of expression.now) inner }
-    ensures { IfOk result (IsApplied (plain_of expression.now) inner) }
+    ensures applied { IfOk result (IsApplied (plain_of expression.now) inner) }
+    ensures no_memory { IsNumberOnHit (plain_of expression.now) inner → IsOk result }
 {
     match inner {
         Some(hit) => {
@@ -74,7 +75,8 @@ pub(crate) fn combined(
     right: Option<Hit>,
 ) -> Result<Option<Hit>, AllocError>
     requires { AreTypedOnHits (plain_of expression.now) left right }
-    ensures { IfOk result (AreCombined (plain_of expression.now) left right) }
+    ensures combined { IfOk result (AreCombined (plain_of expression.now) left right) }
+    ensures no_memory { AreNumbersOnHits (plain_of expression.now) left right → IsOk result }
 {
     match left {
         Some(left) => joined(alloc, expression, &left, right),
@@ -90,7 +92,9 @@ pub(crate) fn joined(
     right: Option<Hit>,
 ) -> Result<Option<Hit>, AllocError>
     requires { IsTypedWith (plain_of expression.now) left.now.value right }
-    ensures { IfOk result (IsJoined (plain_of expression.now) left.now.start left.now.value right) }
+    ensures joined { IfOk result
+        (IsJoined (plain_of expression.now) left.now.start left.now.value right) }
+    ensures no_memory { IsNumberWith (plain_of expression.now) left.now.value right → IsOk result }
 {
     with_left(alloc, expression, left.start, &left.value, right)
 }
@@ -104,7 +108,9 @@ pub(crate) fn ended(
     right: Option<Hit>,
 ) -> Result<Option<Hit>, AllocError>
     requires { AreTypedWith (plain_of expression.now) held.now.entries right }
-    ensures { IfOk result (IsEnded (plain_of expression.now) held.now.entries right) }
+    ensures ended { IfOk result (IsEnded (plain_of expression.now) held.now.entries right) }
+    ensures no_memory { AreNumbersWith (plain_of expression.now) held.now.entries right
+        → IsOk result }
 {
     match right {
         Some(hit) => match held.find(hit.start) {
@@ -124,7 +130,8 @@ fn with_left(
     right: Option<Hit>,
 ) -> Result<Option<Hit>, AllocError>
     requires { IsTypedWith (plain_of expression.now) left.now right }
-    ensures { IfOk result (IsJoined (plain_of expression.now) start left.now right) }
+    ensures joined { IfOk result (IsJoined (plain_of expression.now) start left.now right) }
+    ensures no_memory { IsNumberWith (plain_of expression.now) left.now right → IsOk result }
 {
     match right {
         Some(hit) => {

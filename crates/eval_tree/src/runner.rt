@@ -4,6 +4,7 @@ ghost use Rattle.std.specs.Option.{option_map};
 ghost use Rattle.query_model.specs.Queries.{plain_of};
 ghost use Rattle.eval_tree.specs.declared.hit.Hit.{Hit};
 
+use crate::feeds::renew;
 use crate::stream_cells::stream_cells;
 use crate::{Hit, Node, Progress, start};
 use query_model::Checked;
@@ -20,7 +21,8 @@ pub struct Runner<'q> {
 
 impl<'q> Runner<'q> {
     ghost use Rattle.std.specs.Prelude.{[], false, IfOk};
-    ghost use Rattle.eval_tree.specs.Following.{columns_of, Follows, is_lost, position_of, query_of};
+    ghost use Rattle.query_model.specs.Rules.{HasNoCollect};
+    ghost use Rattle.eval_tree.specs.Following.{columns_of, Follows, is_lost, IsSoundly, position_of, query_of};
 
     /// It follows the empty word.
     pub fn new(alloc: Global, checked: &'q Checked) -> Result<Runner<'q>, AllocError>
@@ -36,6 +38,20 @@ impl<'q> Runner<'q> {
             progress,
             failed: false,
         })
+    }
+
+    /// Back before the first item, in place: this takes no memory.
+    pub(crate) fn begin_anew(&mut self, alloc: Global)
+        requires sound { IsSoundly self.old }
+        requires no_collect { HasNoCollect (query_of self.old) }
+        ensures word { Follows self.new [] }
+        ensures query { query_of self.new ≡ query_of self.old }
+        ensures columns { columns_of self.new ≡ columns_of self.old }
+    {
+        if renew(self.checked.main(), &mut self.progress, alloc).is_err() {
+            unreachable!()
+        }
+        self.failed = false;
     }
 }
 

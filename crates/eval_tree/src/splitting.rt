@@ -1,6 +1,7 @@
 //! The calls of a split: values of the left operand wait for those of the right one.
-ghost use Rattle.std.specs.Prelude.{IfOk};
+ghost use Rattle.std.specs.Prelude.{IfOk, IsOk};
 ghost use Rattle.query_model.specs.Queries.{plain_of};
+ghost use Rattle.eval_tree.specs.Numbers.{StartsNumbers, StepsNumbers};
 ghost use Rattle.eval_tree.specs.Plain.{pending_of, seen_of};
 ghost use Rattle.eval_tree.specs.Steps.{CanStart, CanStep, Starts, StartsSoundly, Steps, StepsSoundly};
 
@@ -27,6 +28,8 @@ pub(crate) fn start_split(
         (pending_of a.old b.old held.old) at (pending_of a.new b.new held.new)) }
     ensures sound { IfOk result (StartsSoundly seen_of (plain_of query.now.shape)
         (pending_of a.old b.old held.old) at (pending_of a.new b.new held.new)) }
+    ensures no_memory { StartsNumbers seen_of (plain_of query.now.shape)
+        (pending_of a.old b.old held.old) at → IsOk result }
 {
     match &query.shape {
         Shape::Split(first, second, expression) => {
@@ -60,6 +63,8 @@ pub(crate) fn step_split(
         (pending_of a.old b.old held.old) now item.now (pending_of a.new b.new held.new)) }
     ensures sound { IfOk result (StepsSoundly seen_of (plain_of query.now.shape)
         (pending_of a.old b.old held.old) now item.now (pending_of a.new b.new held.new)) }
+    ensures no_memory { StepsNumbers seen_of (plain_of query.now.shape)
+        (pending_of a.old b.old held.old) now item.now → IsOk result }
 {
     match &query.shape {
         Shape::Split(first, second, expression) => {

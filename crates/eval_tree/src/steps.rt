@@ -1,6 +1,7 @@
 //! The calls that carry a node along its word.
-ghost use Rattle.std.specs.Prelude.{IfOk};
+ghost use Rattle.std.specs.Prelude.{IfOk, IsOk};
 ghost use Rattle.query_model.specs.Queries.{plain_of};
+ghost use Rattle.eval_tree.specs.Numbers.{StartsNumbers, StepsNumbers};
 ghost use Rattle.eval_tree.specs.Plain.{holding_of, seen_of};
 ghost use Rattle.eval_tree.specs.Steps.{CanStart, CanStep, Starts, StartsSoundly, Steps, StepsSoundly};
 
@@ -31,6 +32,8 @@ pub fn start(
         (holding_of node.old.state) at (holding_of node.new.state)) }
     ensures sound { IfOk result (StartsSoundly seen_of (plain_of query.now.shape)
         (holding_of node.old.state) at (holding_of node.new.state)) }
+    ensures no_memory { StartsNumbers seen_of (plain_of query.now.shape)
+        (holding_of node.old.state) at → IsOk result }
 {
     match (&query.shape, &mut node.state) {
         (Shape::Atom(..), State::Item(found)) => {
@@ -87,6 +90,8 @@ pub fn step(
         (holding_of node.old.state) now item.now (holding_of node.new.state)) }
     ensures sound { IfOk result (StepsSoundly seen_of (plain_of query.now.shape)
         (holding_of node.old.state) now item.now (holding_of node.new.state)) }
+    ensures no_memory { StepsNumbers seen_of (plain_of query.now.shape)
+        (holding_of node.old.state) now item.now → IsOk result }
 {
     match (&query.shape, &mut node.state) {
         (Shape::Atom(pred, expression), State::Item(found)) => match found.take() {

@@ -34,7 +34,7 @@ pub(crate) fn stream_cells(
     }
 }
 
-fn has_no_collect(query: &Query) -> bool
+pub(crate) fn has_no_collect(query: &Query) -> bool
     ensures { IsTrue result ↔ HasNoCollect (plain_of query.now.shape) }
 {
     match &query.shape {

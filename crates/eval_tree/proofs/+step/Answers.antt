@@ -6,10 +6,10 @@ use Rattle.value_ops.specs.Expressions as values
 use Rattle.query_model.specs.declared.query.Shape.TheViews.{the_lemmas}
 use Rattle.query_model.specs.Queries.{Qre, plain_of}
 use Rattle.eval_tree.specs.declared.hit.Hit.{Hit}
-use Rattle.eval_tree.specs.Lefts.{AreTypedWith, IsPut}
+use Rattle.eval_tree.specs.Lefts.{AreTypedWith, IsPut, AreNumbersWith}
 use Rattle.eval_tree.specs.Plain.{holding_of, runners_of, seen_of, tracks_of}
 use Rattle.eval_tree.proofs.Allowed.{started_split, stepped_atom, stepped_ended, stepped_joined}
-use Rattle.eval_tree.proofs.Arms.{can_start_as, can_step_as, ended_as, live_as, number_hit, same_query, soundly_started_as, soundly_stepped_as, started_as, stepped_as, where_ok}
+use Rattle.eval_tree.proofs.Arms.{can_start_as, can_step_as, ended_as, live_as, number_hit, same_query, soundly_started_as, soundly_stepped_as, started_as, stepped_as, where_ok, numbers_start_as, numbers_step_as}
 use Rattle.eval_tree.proofs.Combines.{start_combine, step_combine}
 use Rattle.eval_tree.proofs.FoldSoundness.{sound_start_combine, sound_start_iter, sound_step_combine, sound_step_iter_none, sound_step_iter_some}
 use Rattle.eval_tree.proofs.FoldsAllowed.{started_combine, stepped_combine, stepped_iter}
@@ -23,7 +23,7 @@ use Rattle.eval_tree.proofs.SplitStarts.{start_split_none}
 use Rattle.value_ops.specs.declared.field.Field.{Field}
 use Rattle.value_ops.specs.declared.value.ValueType.{ValueType}
 use Rattle.value_ops.specs.Evaluation.{given, value_of}
-use Rattle.value_ops.specs.Typing.{HasType, types_of}
+use Rattle.value_ops.specs.Typing.{HasType, types_of, IsNumber}
 use Rattle.predicate_cells.specs.Plain as predicates
 use Rattle.eval_tree.specs.Holdings.{Holding, fed, operand, waiting, tracked}
 use Rattle.eval_tree.specs.declared.node.State.TheVariants.{Fed, Tracked}
@@ -35,7 +35,7 @@ use Rattle.eval_tree.specs.Live.{live_of}
 use Rattle.eval_tree.proofs.Elsewhere.{elsewhere, fresh_elsewhere}
 use Rattle.compose_eval.specs.Followers as followers
 use Rattle.compose_eval.specs.Followers.{instance_at, live_instances, retired, with_follower, IsAt}
-use Rattle.eval_tree.specs.Feeds.{CanBegin, CanCarry, CanFeed, CanPassOn, Feeds, HasIdle, IsBegun, IsCarried, PassesOn, hit_at}
+use Rattle.eval_tree.specs.Feeds.{CanBegin, CanCarry, CanFeed, CanPassOn, Feeds, HasIdle, IsBegun, IsCarried, PassesOn, hit_at, item_of}
 use Rattle.eval_tree.specs.Steps.{CanStep, Steps, StepsSoundly}
 use Rattle.eval_tree.proofs.ComposeAllowed.{carry_begun, feeds_allowed, passes_allowed, start_cleared, step_carried}
 use Rattle.eval_tree.proofs.ComposeArms.{compose_starts, compose_steps, fed_is, runners_are}
@@ -54,6 +54,11 @@ use Rattle.std.proofs.lemmas.Option.{slice_get_within}
 use Rattle.map_collect.specs.Keys.{followers_of, names_of}
 use Rattle.map_collect.specs.Tracks.{KeepsExtending}
 use Rattle.eval_tree.proofs.KeysPushed.{pushed_all, pushed_key}
+use Rattle.value_ops.specs.Values.{IsNoTable}
+use Rattle.query_model.specs.Rules.{HasNoCollect}
+use Rattle.eval_tree.specs.Numbers.{BeginsNumbers, CarriesNumbers, FeedsNumbers, PassesNumbers, StepsNumbers}
+use Rattle.eval_tree.proofs.NumbersAllowed.{begun_carries, cleared_starts, fed_starts, fed_steps, feeds_on, first_starts, first_steps, last_begins, left_starts, left_steps, one_starts, one_steps, operand_starts, operand_steps, other_starts, other_steps, passes_on, piece_begins, piece_starts, piece_steps, place_tells, right_begins, right_starts, right_steps, runner_renews, runner_steps, second_starts, second_steps}
+use Rattle.eval_tree.proofs.NumbersTyped.{answer_no_table, applied_started, applied_stepped, combined_started, combined_stepped, ended_no_table, ended_piece, ended_stepped, given_stepped, joined_started, joined_stepped}
 use Rattle.eval_tree.proofs.+step.Goals as goal
 use Rattle.eval_tree.proofs.+step.Goals.{composing::step_compose-After-keep, iterating::step_iter-After-keep, splitting::step_split-After-keep, steps::start-In-Iter-Repeated, steps::step-in_default-take-via-in-Some+else-holds, steps::step-in_default-take-via-in_default-take, steps::start-in_default-via-in-Atom+in_default, steps::start-in_default-via-in-Eps+in_default, steps::start-in_default-via-in-Or+in_default, steps::start-in_default-via-in-Apply+in_default, steps::start-in_default-via-in-Split+in_default, steps::start-in_default-via-in-Combine+in_default, steps::start-in_default-via-in-Iter+in_default, steps::start-in_default-via-in-Compose+in_default, steps::start-in_default-via-in-Collect+in_default, steps::step-in_default-via-in-Atom+in_default, steps::step-in_default-via-in-Eps+in_default, steps::step-in_default-via-in-Or+in_default, steps::step-in_default-via-in-Apply+in_default, steps::step-in_default-via-in-Split+in_default, steps::step-in_default-via-in-Combine+in_default, steps::step-in_default-via-in-Iter+in_default, steps::step-in_default-via-in-Compose+in_default, steps::step-in_default-via-in-Collect+in_default, feeds::feed-then-idle-eq0-via-then-idle-eq0, feeds::feed-then-idle-eq0-via-else-idle-eq0+then-is_some, feeds::feed-then-live, feeds::feed-else-live}
 
@@ -108,7 +113,7 @@ steps::start-returns-in_ok-hit-in-Apply-Operand-clause-word t c =
     (started_as _ _ (holding_of c.deref_mut-in-Apply-Operand.result.now.state)
     (holding_of s.a.value.state) _ _ c.args.at _ _ (same_query _ _ c.deref-in-Apply-Operand.ensures)
     (search rules) refl refl c.in_ok-hit-in-Apply-Operand.ensures.word)
-    applied)) c.applied.ensures
+    applied)) c.applied.ensures.applied
 
 pub steps::start-combined-requires : goal.steps::start-combined-requires
 steps::start-combined-requires t c =
@@ -143,7 +148,7 @@ steps::start-returns-in_ok-right-in-Combine-Pair-clause-word t c =
     (started_as _ _ (holding_of c.deref_mut-in-Combine-Pair-2.result.now.state)
     (holding_of s.b.value.state) _ _ c.args.at _ _ (same_query _ _ c.deref-in-Combine-Pair-2.ensures)
     (search rules) refl refl c.in_ok-right-in-Combine-Pair.ensures.word)
-    combined)) c.combined.ensures
+    combined)) c.combined.ensures.combined
 
 pub steps::start-returns-in_ok-right-in-Combine-Pair-clause-sound :
     goal.steps::start-returns-in_ok-right-in-Combine-Pair-clause-sound
@@ -162,7 +167,7 @@ steps::start-returns-in_ok-right-in-Combine-Pair-clause-sound t c =
     (soundly_started_as _ _ (holding_of c.deref_mut-in-Combine-Pair-2.result.now.state)
     (holding_of s.b.value.state) _ _ c.args.at _ _ (same_query _ _ c.deref-in-Combine-Pair-2.ensures)
     (search rules) refl refl
-    c.in_ok-right-in-Combine-Pair.ensures.sound) combined)) c.combined.ensures
+    c.in_ok-right-in-Combine-Pair.ensures.sound) combined)) c.combined.ensures.combined
 
 -- the number of no piece
 number_fits : (t : ℕ) (c : steps::start-In-Iter-Repeated t) → FitsSigned w64 c.in-Iter-Repeated.number
@@ -178,7 +183,7 @@ steps::start-returns-in_ok-go_on_if_new-in-Iter-Repeated-clause-word t c =
     c.of_number-hit.ensures in
     let put = subst (λ (hit : Hit). IsPut c.is_live.result s.so_far
     (record { inner = c.args.at; outer = hit.start; value = hit.value }) c.go_on_if_new.new.so_far)
-    first (rw s.is-1 at c.in_ok-go_on_if_new-in-Iter-Repeated.ensures) in
+    first (rw s.is-1 at c.in_ok-go_on_if_new-in-Iter-Repeated.ensures.put) in
     started_as _ _ _ _ _ _ c.args.at _ _ (ap plain_of s.is-0) (ap holding_of s.is-1) refl
     (ap (λ (hit : Hit). Some hit) first)
     (iter_starts (plain_of s.inner.value.shape) s.number _ s.a.value.state
@@ -201,7 +206,7 @@ steps::start-returns-in_ok-go_on_if_new-in-Iter-Repeated-clause-sound t c =
     c.of_number-hit.ensures in
     let put = subst (λ (hit : Hit). IsPut c.is_live.result s.so_far
     (record { inner = c.args.at; outer = hit.start; value = hit.value }) c.go_on_if_new.new.so_far)
-    first (rw s.is-1 at c.in_ok-go_on_if_new-in-Iter-Repeated.ensures) in
+    first (rw s.is-1 at c.in_ok-go_on_if_new-in-Iter-Repeated.ensures.put) in
     soundly_started_as _ _ _ _ _ _ c.args.at _ _ (ap plain_of s.is-0) (ap holding_of s.is-1) refl
     (ap (λ (hit : Hit). Some hit) first)
     (sound_start_iter seen_of (plain_of s.inner.value.shape) s.number _ (holding_of s.a.value.state)
@@ -332,7 +337,7 @@ steps::step-returns-in_ok-hit-in-Apply-Operand-clause-word t c =
     (stepped_as _ _ (holding_of c.deref_mut-in-Apply-Operand.result.now.state)
     (holding_of s.a.value.state) _ _ c.args.now c.args.item.now _ _ (same_query _ _ c.deref-in-Apply-Operand.ensures)
     (search rules) refl refl c.in_ok-hit-in-Apply-Operand.ensures.word)
-    applied)) c.applied.ensures
+    applied)) c.applied.ensures.applied
 
 pub steps::step-returns-in_ok-hit-in-Apply-Operand-clause-sound :
     goal.steps::step-returns-in_ok-hit-in-Apply-Operand-clause-sound
@@ -348,7 +353,7 @@ steps::step-returns-in_ok-hit-in-Apply-Operand-clause-sound t c =
     (soundly_stepped_as _ _ (holding_of c.deref_mut-in-Apply-Operand.result.now.state)
     (holding_of s.a.value.state) _ _ c.args.now c.args.item.now _ _ (same_query _ _ c.deref-in-Apply-Operand.ensures)
     (search rules) refl refl c.in_ok-hit-in-Apply-Operand.ensures.sound)
-    applied)) c.applied.ensures
+    applied)) c.applied.ensures.applied
 
 pub steps::step-combined-requires : goal.steps::step-combined-requires
 steps::step-combined-requires t c =
@@ -383,7 +388,7 @@ steps::step-returns-in_ok-right-in-Combine-Pair-clause-word t c =
     (stepped_as _ _ (holding_of c.deref_mut-in-Combine-Pair-2.result.now.state)
     (holding_of s.b.value.state) _ _ c.args.now c.args.item.now _ _ (same_query _ _ c.deref-in-Combine-Pair-2.ensures)
     (search rules) refl refl c.in_ok-right-in-Combine-Pair.ensures.word)
-    combined)) c.combined.ensures
+    combined)) c.combined.ensures.combined
 
 pub steps::step-returns-in_ok-right-in-Combine-Pair-clause-sound :
     goal.steps::step-returns-in_ok-right-in-Combine-Pair-clause-sound
@@ -402,7 +407,7 @@ steps::step-returns-in_ok-right-in-Combine-Pair-clause-sound t c =
     (soundly_stepped_as _ _ (holding_of c.deref_mut-in-Combine-Pair-2.result.now.state)
     (holding_of s.b.value.state) _ _ c.args.now c.args.item.now _ _ (same_query _ _ c.deref-in-Combine-Pair-2.ensures)
     (search rules) refl refl
-    c.in_ok-right-in-Combine-Pair.ensures.sound) combined)) c.combined.ensures
+    c.in_ok-right-in-Combine-Pair.ensures.sound) combined)) c.combined.ensures.combined
 
 pub steps::step-returns-in_default-clause-word : goal.steps::step-returns-in_default-clause-word
 steps::step-returns-in_default-clause-word t c = λ standing columns word starts clear is positions rep end apart.
@@ -508,7 +513,7 @@ steps::start-returns-in_ok-left-in-Compose-Fed-clause-word t c =
     (subst (λ (q : Qre). Feeds seen_of q s.runners live c.args.at left c.feed.new.runners hit)
     (sym (same_query _ _ c.deref-in-Compose-Fed-2.ensures))
     (subst (λ (held : Runners). Feeds seen_of (plain_of c.deref-in-Compose-Fed-2.result.now.shape) held live c.args.at
-    left c.feed.new.runners hit) (runners_are s.a s.runners) feeds)))) (rw s.is-1 at c.feed.ensures)
+    left c.feed.new.runners hit) (runners_are s.a s.runners) feeds)))) (rw s.is-1 at c.feed.ensures.fed)
 
 pub steps::start-returns-in_ok-left-in-Compose-Fed-clause-sound :
     goal.steps::start-returns-in_ok-left-in-Compose-Fed-clause-sound
@@ -533,7 +538,7 @@ steps::start-returns-in_ok-left-in-Compose-Fed-clause-sound t c =
     (subst (λ (q : Qre). Feeds seen_of q s.runners live c.args.at left c.feed.new.runners hit)
     (sym (same_query _ _ c.deref-in-Compose-Fed-2.ensures))
     (subst (λ (held : Runners). Feeds seen_of (plain_of c.deref-in-Compose-Fed-2.result.now.shape) held live c.args.at
-    left c.feed.new.runners hit) (runners_are s.a s.runners) feeds)))) (rw s.is-1 at c.feed.ensures)
+    left c.feed.new.runners hit) (runners_are s.a s.runners) feeds)))) (rw s.is-1 at c.feed.ensures.fed)
 
 pub steps::step-step_compose-requires : goal.steps::step-step_compose-requires
 unfolding roll-State out-State denote.Hole.Carrier.roll denote.Hole.Carrier.out
@@ -629,7 +634,7 @@ composing::step_compose-returns-in_ok-hit-in-Compose-clause-word t c =
     (stepped_as _ _ _ _ _ _ c.args.now c.args.item.now _ _ (same_query _ _ c.deref.ensures)
     refl refl refl c.in_ok-left-in-Compose.ensures.word)
     (subst (λ (q : Qre). PassesOn seen_of q c.args.runners.now c.in_ok-left-in-Compose.left c.pass_on.new.runners
-    c.in_ok-hit-in-Compose.hit) (sym (same_query _ _ c.deref-in-Compose.ensures)) c.in_ok-hit-in-Compose.ensures)
+    c.in_ok-hit-in-Compose.hit) (sym (same_query _ _ c.deref-in-Compose.ensures)) c.in_ok-hit-in-Compose.ensures.passed)
     kept.0 kept.1)
 
 pub composing::step_compose-returns-in_ok-hit-in-Compose-clause-sound :
@@ -646,7 +651,7 @@ composing::step_compose-returns-in_ok-hit-in-Compose-clause-sound t c =
     (soundly_stepped_as _ _ _ _ _ _ c.args.now c.args.item.now _ _ (same_query _ _ c.deref.ensures)
     refl refl refl c.in_ok-left-in-Compose.ensures.sound)
     (subst (λ (q : Qre). PassesOn seen_of q c.args.runners.now c.in_ok-left-in-Compose.left c.pass_on.new.runners
-    c.in_ok-hit-in-Compose.hit) (sym (same_query _ _ c.deref-in-Compose.ensures)) c.in_ok-hit-in-Compose.ensures)
+    c.in_ok-hit-in-Compose.hit) (sym (same_query _ _ c.deref-in-Compose.ensures)) c.in_ok-hit-in-Compose.ensures.passed)
     kept.0 kept.1)
 
 pub feeds::renew-start-requires : goal.feeds::renew-start-requires
@@ -656,8 +661,8 @@ feeds::renew-start-requires t c = (
       c.requires c.clear.ensures,
 )
 
-pub feeds::renew-returns : goal.feeds::renew-returns
-feeds::renew-returns t c =
+pub feeds::renew-returns-clause-renewed : goal.feeds::renew-returns-clause-renewed
+feeds::renew-returns-clause-renewed t c =
     begun_anew seen_of (plain_of c.args.query.now.shape) c.args.runner.now _ (holding_of c.clear.new.node.state)
     c.in_ok-hit.hit c.requires.columns c.requires.no_collect c.requires.sound c.clear.ensures
     c.in_ok-hit.ensures.word c.in_ok-hit.ensures.sound refl c.value_of.ensures
@@ -668,8 +673,8 @@ feeds::carry-step-requires t c = (
   step_carried seen_of (plain_of c.args.query.now.shape) c.args.runner.now c.args.item.now c.requires,
 )
 
-pub feeds::carry-returns : goal.feeds::carry-returns
-feeds::carry-returns t c =
+pub feeds::carry-returns-clause-carried : goal.feeds::carry-returns-clause-carried
+feeds::carry-returns-clause-carried t c =
     carried_on seen_of (plain_of c.args.query.now.shape) c.args.runner.now _ c.args.item.now c.in_ok-hit.hit
     c.in_ok-hit.ensures.word c.in_ok-hit.ensures.sound refl c.value_of.ensures
 
@@ -679,19 +684,19 @@ feeds::tell-carry-requires t c = (
   subst (CanCarry seen_of (plain_of c.args.query.now.shape) c.args.runner.now) (sym c.from_value.ensures) c.requires,
 )
 
-pub feeds::tell-returns-in_ok-value-in-Some : goal.feeds::tell-returns-in_ok-value-in-Some
-feeds::tell-returns-in_ok-value-in-Some t c = record {
+pub feeds::tell-returns-in_ok-value-in-Some-clause-told : goal.feeds::tell-returns-in_ok-value-in-Some-clause-told
+feeds::tell-returns-in_ok-value-in-Some-clause-told t c = record {
   carried = subst (λ (item : List Field). IsCarried seen_of (plain_of c.args.query.now.shape) c.args.runner.now item
-      c.carry-2.new.runner) c.from_value.ensures c.in_ok-carry.ensures;
+      c.carry-2.new.runner) c.from_value.ensures c.in_ok-carry.ensures.carried;
   answers = ap (λ (v : Value). Some (record { start = c.args.left.start; value = v }))
       c.in_ok-value-in-Some.ensures.equal
       ∙ ap (hit_at c.args.left.start) (sym c.in-Some.is);
 }
 
-pub feeds::tell-returns-in-None : goal.feeds::tell-returns-in-None
-feeds::tell-returns-in-None t c = record {
+pub feeds::tell-returns-in-None-clause-told : goal.feeds::tell-returns-in-None-clause-told
+feeds::tell-returns-in-None-clause-told t c = record {
   carried = subst (λ (item : List Field). IsCarried seen_of (plain_of c.args.query.now.shape) c.args.runner.now item
-      c.carry-2.new.runner) c.from_value.ensures c.in_ok-carry.ensures;
+      c.carry-2.new.runner) c.from_value.ensures c.in_ok-carry.ensures.carried;
   answers = ap (hit_at c.args.left.start) (sym c.in-None.is);
 }
 
@@ -706,19 +711,19 @@ feeds::begin-tell-requires t c = (
   search rules,
   carry_begun seen_of (plain_of c.args.query.now.shape) c.args.runner.now c.renew.new.runner c.in-Some.hit
       (subst (CanBegin seen_of (plain_of c.args.query.now.shape) c.args.runner.now) c.in-Some.is c.requires)
-      c.in_ok-renew.ensures,
+      c.in_ok-renew.ensures.renewed,
 )
 
-pub feeds::begin-returns-in-Some : goal.feeds::begin-returns-in-Some
-feeds::begin-returns-in-Some t c =
+pub feeds::begin-returns-in-Some-clause-begun : goal.feeds::begin-returns-in-Some-clause-begun
+feeds::begin-returns-in-Some-clause-begun t c =
     where_ok c.tell.result _ _ (λ hit told. subst (λ (left : Option Hit).
     IsBegun seen_of (plain_of c.args.query.now.shape) c.args.runner.now left c.tell.new.runner hit) (sym c.in-Some.is)
-    (c.renew.new.runner, c.in_ok-renew.ensures, told)) c.tell.ensures
+    (c.renew.new.runner, c.in_ok-renew.ensures.renewed, told)) c.tell.ensures.told
 
-pub feeds::begin-returns-in-None : goal.feeds::begin-returns-in-None
-feeds::begin-returns-in-None t c =
+pub feeds::begin-returns-in-None-clause-begun : goal.feeds::begin-returns-in-None-clause-begun
+feeds::begin-returns-in-None-clause-begun t c =
     subst (λ (left : Option Hit). IsBegun seen_of (plain_of c.args.query.now.shape) c.args.runner.now left
-    c.renew.new.runner None) (sym c.in-None.is) (c.in_ok-renew.ensures, refl)
+    c.renew.new.runner None) (sym c.in-None.is) (c.in_ok-renew.ensures.renewed, refl)
 
 pub feeds::pass_on-tell-requires : goal.feeds::pass_on-tell-requires
 feeds::pass_on-tell-requires t c = (
@@ -729,8 +734,8 @@ feeds::pass_on-tell-requires t c = (
       c.follower_mut.ensures.value,
 )
 
-pub feeds::pass_on-returns-in-Some-place : goal.feeds::pass_on-returns-in-Some-place
-feeds::pass_on-returns-in-Some-place t c =
+pub feeds::pass_on-returns-in-Some-place-clause-passed : goal.feeds::pass_on-returns-in-Some-place-clause-passed
+feeds::pass_on-returns-in-Some-place-clause-passed t c =
     where_ok c.tell.result _ _ (λ hit tells. subst (λ (left : Option Hit).
     PassesOn seen_of (plain_of c.args.query.now.shape) c.args.runners.now left (record {
       live = with_follower c.args.runners.now.live c.in-Some-place.place c.tell.new.runner;
@@ -739,7 +744,7 @@ feeds::pass_on-returns-in-Some-place t c =
     }) hit) (sym c.in-Some.is)
     (inl (passed_one seen_of (plain_of c.args.query.now.shape) c.args.runners.now c.in-Some.hit c.in-Some-place.place
     c.follower_mut.result.now c.tell.new.runner hit c.in-Some-place.ensures.there c.follower_mut.ensures.value tells)))
-    c.tell.ensures
+    c.tell.ensures.told
 
 pub feeds::feed-begin-requires : goal.feeds::feed-begin-requires
 feeds::feed-begin-requires t c = (
@@ -748,8 +753,8 @@ feeds::feed-begin-requires t c = (
       c.requires c.resting_mut.ensures.value,
 )
 
-pub feeds::feed-returns-then-idle-eq0 : goal.feeds::feed-returns-then-idle-eq0
-feeds::feed-returns-then-idle-eq0 t c =
+pub feeds::feed-returns-then-idle-eq0-clause-fed : goal.feeds::feed-returns-then-idle-eq0-clause-fed
+feeds::feed-returns-then-idle-eq0-clause-fed t c =
     let count = c.idle.ensures in
     elim c.then-idle-eq0.branch [
       | feeds::feed-then-idle-eq0-via-then-idle-eq0 w ↦
@@ -762,8 +767,8 @@ feeds::feed-returns-then-idle-eq0 t c =
           fed_already c.args.runners.now.live found.0 c.args.at found.1 has.fresh)
     ]
 
-pub feeds::feed-returns : goal.feeds::feed-returns
-feeds::feed-returns t c =
+pub feeds::feed-returns-clause-fed : goal.feeds::feed-returns-clause-fed
+feeds::feed-returns-clause-fed t c =
     let q = plain_of c.args.query.now.shape in
     let old = c.args.runners.now in
     let count = c.idle.ensures in
@@ -779,12 +784,12 @@ feeds::feed-returns t c =
           c.in_ok-hit.hit) (sym w.runners-is)
           (feeds_awake seen_of q old w.wake.new.self c.args.live c.args.at _ c.args.left c.in_ok-hit.hit
           c.resting_mut.result.now c.begin.new.runner w.if-live.true has (ap (λ (n : ℕ). n - 1) last)
-          c.resting_mut.ensures.value c.in_ok-hit.ensures w.wake.ensures.wakes w.wake.ensures.room)
+          c.resting_mut.ensures.value c.in_ok-hit.ensures.begun w.wake.ensures.wakes w.wake.ensures.room)
       | feeds::feed-else-live w ↦ subst (λ (new : Runners). Feeds seen_of q old c.args.live c.args.at c.args.left new
           c.in_ok-hit.hit) (sym w.runners-is)
           (feeds_at_rest seen_of q old c.args.live c.args.at _ c.args.left c.in_ok-hit.hit
           c.resting_mut.result.now c.begin.new.runner w.if-live.false has (ap (λ (n : ℕ). n - 1) last)
-          c.resting_mut.ensures.value c.in_ok-hit.ensures)
+          c.resting_mut.ensures.value c.in_ok-hit.ensures.begun)
     ]
 
 pub steps::start-start_split-requires : goal.steps::start-start_split-requires
@@ -866,7 +871,7 @@ splitting::start_split-returns-in_ok-hit-in-Some-clause-word t c =
     c.in_ok-left-in-Split.ensures.word)
     (started_as _ _ _ _ _ _ c.args.at _ _ (same_query _ _ c.deref-in-Some.ensures)
     refl refl refl c.in_ok-right-in-Some.ensures.word)
-    c.in_ok-hit-in-Some.ensures
+    c.in_ok-hit-in-Some.ensures.joined
     (live_as _ _ _ _ c.args.at c.is_live.result c.deref-in-Some-2.ensures refl
     c.is_live.ensures.read)
     c.wait_if_new.ensures)
@@ -885,7 +890,7 @@ splitting::start_split-returns-in_ok-hit-in-Some-clause-sound t c =
     c.in_ok-left-in-Split.ensures.sound)
     (soundly_started_as _ _ _ _ _ _ c.args.at _ _ (same_query _ _ c.deref-in-Some.ensures)
     refl refl refl c.in_ok-right-in-Some.ensures.sound)
-    c.in_ok-hit-in-Some.ensures c.wait_if_new.ensures)
+    c.in_ok-hit-in-Some.ensures.joined c.wait_if_new.ensures)
 
 pub splitting::start_split-returns-in-None-clause-word : goal.splitting::start_split-returns-in-None-clause-word
 splitting::start_split-returns-in-None-clause-word t c =
@@ -962,12 +967,12 @@ splitting::step_split-returns-in_ok-begun-in-Some-clause-word t c =
     c.in_ok-left-in-Split.ensures.word)
     (stepped_as _ _ _ _ _ _ c.args.now c.args.item.now _ _ (same_query _ _ c.deref-in-Split.ensures)
     refl refl refl
-    c.in_ok-right-in-Split.ensures.word) c.in_ok-hit-in-Split.ensures
+    c.in_ok-right-in-Split.ensures.word) c.in_ok-hit-in-Split.ensures.ended
     (split_kept t (goal.at.splitting::step_split-returns-in_ok-begun-in-Some-clause-word t c).After-keep)
     c.keep.ensures.room
     (started_as _ _ _ _ _ _ c.args.now _ _ (same_query _ _ c.deref-in-Some.ensures)
     refl refl refl c.in_ok-right-in-Some.ensures.word)
-    c.in_ok-begun-in-Some.ensures
+    c.in_ok-begun-in-Some.ensures.joined
     (live_as _ _ _ _ c.args.now c.is_live.result c.deref-in-Some-2.ensures refl
     c.is_live.ensures.read) c.wait.ensures)
 
@@ -992,12 +997,12 @@ splitting::step_split-returns-in_ok-begun-in-Some-clause-sound t c =
     c.in_ok-left-in-Split.ensures.sound)
     (soundly_stepped_as _ _ _ _ _ _ c.args.now c.args.item.now _ _ (same_query _ _ c.deref-in-Split.ensures)
     refl refl refl
-    c.in_ok-right-in-Split.ensures.sound) c.in_ok-hit-in-Split.ensures
+    c.in_ok-right-in-Split.ensures.sound) c.in_ok-hit-in-Split.ensures.ended
     (split_kept t (goal.at.splitting::step_split-returns-in_ok-begun-in-Some-clause-sound t c).After-keep)
     c.keep.ensures.room
     (soundly_started_as _ _ _ _ _ _ c.args.now _ _ (same_query _ _ c.deref-in-Some.ensures)
     refl refl refl c.in_ok-right-in-Some.ensures.sound)
-    c.in_ok-begun-in-Some.ensures c.wait.ensures)
+    c.in_ok-begun-in-Some.ensures.joined c.wait.ensures)
 
 pub splitting::step_split-returns-in-None-clause-word : goal.splitting::step_split-returns-in-None-clause-word
 splitting::step_split-returns-in-None-clause-word t c =
@@ -1012,7 +1017,7 @@ splitting::step_split-returns-in-None-clause-word t c =
     c.in_ok-left-in-Split.ensures.word)
     (stepped_as _ _ _ _ _ _ c.args.now c.args.item.now _ _ (same_query _ _ c.deref-in-Split.ensures)
     refl refl refl
-    c.in_ok-right-in-Split.ensures.word) c.in_ok-hit-in-Split.ensures
+    c.in_ok-right-in-Split.ensures.word) c.in_ok-hit-in-Split.ensures.ended
     (split_kept t (goal.at.splitting::step_split-returns-in-None-clause-word t c).After-keep) c.keep.ensures.room)
 
 pub splitting::step_split-returns-in-None-clause-sound : goal.splitting::step_split-returns-in-None-clause-sound
@@ -1032,7 +1037,7 @@ splitting::step_split-returns-in-None-clause-sound t c =
     c.in_ok-left-in-Split.ensures.sound)
     (soundly_stepped_as _ _ _ _ _ _ c.args.now c.args.item.now _ _ (same_query _ _ c.deref-in-Split.ensures)
     refl refl refl
-    c.in_ok-right-in-Split.ensures.sound) c.in_ok-hit-in-Split.ensures
+    c.in_ok-right-in-Split.ensures.sound) c.in_ok-hit-in-Split.ensures.ended
     (split_kept t (goal.at.splitting::step_split-returns-in-None-clause-sound t c).After-keep) c.keep.ensures.room)
 
 -- the values so far that are kept
@@ -1078,13 +1083,13 @@ iterating::step_iter-returns-in_ok-go_on-in-Some-clause-word t c =
     (stepped_as _ _ _ _ _ _ c.args.now c.args.item.now _ _ (same_query _ _ c.deref.ensures)
     refl refl refl c.in_ok-piece-in-Iter.ensures.word)
     (ended_as (values.plain_of s.expression) _ _ c.in_ok-piece-in-Iter.piece _ _ c.as_pending.ensures c.in-Some.is
-    c.in_ok-hit-in-Iter.ensures)
+    c.in_ok-hit-in-Iter.ensures.ended)
     (chain_kept t (goal.at.iterating::step_iter-returns-in_ok-go_on-in-Some-clause-word t c).After-keep)
     c.keep.ensures.room
     (started_as _ _ _ _ _ _ c.args.now _ _ (same_query _ _ c.deref-in-Some.ensures)
     refl refl refl c.in_ok-start-in-Some.ensures.word)
     (live_as _ _ _ _ c.args.now c.is_live.result c.deref-in-Some-2.ensures refl c.is_live.ensures.read)
-    c.in_ok-go_on-in-Some.ensures)
+    c.in_ok-go_on-in-Some.ensures.put)
 
 pub iterating::step_iter-returns-in_ok-go_on-in-Some-clause-sound :
     goal.iterating::step_iter-returns-in_ok-go_on-in-Some-clause-sound
@@ -1101,12 +1106,12 @@ iterating::step_iter-returns-in_ok-go_on-in-Some-clause-sound t c =
     (soundly_stepped_as _ _ _ _ _ _ c.args.now c.args.item.now _ _ (same_query _ _ c.deref.ensures)
     refl refl refl c.in_ok-piece-in-Iter.ensures.sound)
     (ended_as (values.plain_of s.expression) _ _ c.in_ok-piece-in-Iter.piece _ _ c.as_pending.ensures c.in-Some.is
-    c.in_ok-hit-in-Iter.ensures)
+    c.in_ok-hit-in-Iter.ensures.ended)
     (chain_kept t (goal.at.iterating::step_iter-returns-in_ok-go_on-in-Some-clause-sound t c).After-keep)
     c.keep.ensures.room
     (soundly_started_as _ _ _ _ _ _ c.args.now _ _ (same_query _ _ c.deref-in-Some.ensures)
     refl refl refl c.in_ok-start-in-Some.ensures.sound)
-    c.in_ok-go_on-in-Some.ensures)
+    c.in_ok-go_on-in-Some.ensures.put)
 
 pub iterating::step_iter-returns-in-None-clause-word : goal.iterating::step_iter-returns-in-None-clause-word
 iterating::step_iter-returns-in-None-clause-word t c =
@@ -1118,7 +1123,7 @@ iterating::step_iter-returns-in-None-clause-word t c =
     (stepped_as _ _ _ _ _ _ c.args.now c.args.item.now _ _ (same_query _ _ c.deref.ensures)
     refl refl refl c.in_ok-piece-in-Iter.ensures.word)
     (ended_as (values.plain_of s.expression) _ _ c.in_ok-piece-in-Iter.piece _ _ c.as_pending.ensures c.in-None.is
-    c.in_ok-hit-in-Iter.ensures)
+    c.in_ok-hit-in-Iter.ensures.ended)
     (chain_kept t (goal.at.iterating::step_iter-returns-in-None-clause-word t c).After-keep) c.keep.ensures.room)
 
 pub iterating::step_iter-returns-in-None-clause-sound : goal.iterating::step_iter-returns-in-None-clause-sound
@@ -1263,7 +1268,7 @@ keys::push_to_key-returns t c =
         fallback = refl;
         is = refl;
       };
-    }) c.carry.ensures
+    }) c.carry.ensures.carried
 
 pub keys::push_to_each-carry-requires : goal.keys::push_to_each-carry-requires
 keys::push_to_each-carry-requires t c = (
@@ -1404,7 +1409,556 @@ keys::push_to_each-keys-preserved t c =
       before.1,
       carried_next seen_of (plain_of c.args.query.now.shape) c.args.item.now c.keys.i (followers_of c.args.keys.now)
           (followers_of c.keys.keys) c.follower_mut.result.now c.carry-in-keys.new.runner before.2
-          c.follower_mut.ensures.value c.in_ok-carry-2.ensures,
+          c.follower_mut.ensures.value c.in_ok-carry-2.ensures.carried,
       before.3,
       length-set (followers_of c.keys.keys) c.keys.i c.carry-in-keys.new.runner ∙ before.4,
     )
+
+pub steps::start-returns-in_err-left-in-Or-Both-clause-no_memory :
+    goal.steps::start-returns-in_err-left-in-Or-Both-clause-no_memory
+steps::start-returns-in_err-left-in-Or-Both-clause-no_memory t c = λ free.
+    let s = c.in-Or-Both in
+    let same : holding_of s.a.value.state ≡ holding_of c.deref_mut.result.now.state = search rules in
+    absurd (false≢true (c.in_err-left-in-Or-Both.ensures.no_memory
+    (numbers_start_as _ _ _ _ c.args.at (sym (same_query _ _ c.deref.ensures)) (sym same)
+    (first_starts seen_of (plain_of s.first.value.shape) (plain_of s.second.value.shape)
+    (holding_of s.a.value.state) (holding_of s.b.value.state) c.args.at
+    (numbers_start_as _ _ _ _ c.args.at (sym (ap plain_of s.is-0)) (sym (ap holding_of s.is-1)) free)))))
+
+pub steps::start-returns-in_err-right-in-Or-Both-clause-no_memory :
+    goal.steps::start-returns-in_err-right-in-Or-Both-clause-no_memory
+steps::start-returns-in_err-right-in-Or-Both-clause-no_memory t c = λ free.
+    let s = c.in-Or-Both in
+    let same : holding_of s.b.value.state ≡ holding_of c.deref_mut-in-Or-Both.result.now.state = search rules in
+    absurd (false≢true (c.in_err-right-in-Or-Both.ensures.no_memory
+    (numbers_start_as _ _ _ _ c.args.at (sym (same_query _ _ c.deref-in-Or-Both.ensures)) (sym same)
+    (second_starts seen_of (plain_of s.first.value.shape) (plain_of s.second.value.shape)
+    (holding_of s.a.value.state) (holding_of s.b.value.state) c.args.at
+    (numbers_start_as _ _ _ _ c.args.at (sym (ap plain_of s.is-0)) (sym (ap holding_of s.is-1)) free)))))
+
+pub steps::start-returns-in_err-hit-in-Apply-Operand-clause-no_memory :
+    goal.steps::start-returns-in_err-hit-in-Apply-Operand-clause-no_memory
+steps::start-returns-in_err-hit-in-Apply-Operand-clause-no_memory t c = λ free.
+    let s = c.in-Apply-Operand in
+    let same : holding_of s.a.value.state ≡ holding_of c.deref_mut-in-Apply-Operand.result.now.state = search rules
+    in
+    absurd (false≢true (c.in_err-hit-in-Apply-Operand.ensures.no_memory
+    (numbers_start_as _ _ _ _ c.args.at (sym (same_query _ _ c.deref-in-Apply-Operand.ensures)) (sym same)
+    (operand_starts seen_of (plain_of s.inner.value.shape) (values.plain_of s.expression)
+    (holding_of s.a.value.state) c.args.at
+    (numbers_start_as _ _ _ _ c.args.at (sym (ap plain_of s.is-0)) (sym (ap holding_of s.is-1)) free)))))
+
+pub steps::start-returns-in_err-left-in-Combine-Pair-clause-no_memory :
+    goal.steps::start-returns-in_err-left-in-Combine-Pair-clause-no_memory
+steps::start-returns-in_err-left-in-Combine-Pair-clause-no_memory t c = λ free.
+    let s = c.in-Combine-Pair in
+    let same : holding_of s.a.value.state ≡ holding_of c.deref_mut-in-Combine-Pair.result.now.state = search rules
+    in
+    absurd (false≢true (c.in_err-left-in-Combine-Pair.ensures.no_memory
+    (numbers_start_as _ _ _ _ c.args.at (sym (same_query _ _ c.deref-in-Combine-Pair.ensures)) (sym same)
+    (one_starts seen_of (plain_of s.first.value.shape) (plain_of s.second.value.shape)
+    (values.plain_of s.expression) (holding_of s.a.value.state) (holding_of s.b.value.state) c.args.at
+    (numbers_start_as _ _ _ _ c.args.at (sym (ap plain_of s.is-0)) (sym (ap holding_of s.is-1)) free)))))
+
+pub steps::start-returns-in_err-right-in-Combine-Pair-clause-no_memory :
+    goal.steps::start-returns-in_err-right-in-Combine-Pair-clause-no_memory
+steps::start-returns-in_err-right-in-Combine-Pair-clause-no_memory t c = λ free.
+    let s = c.in-Combine-Pair in
+    let same : holding_of s.b.value.state ≡ holding_of c.deref_mut-in-Combine-Pair-2.result.now.state = search rules
+    in
+    absurd (false≢true (c.in_err-right-in-Combine-Pair.ensures.no_memory
+    (numbers_start_as _ _ _ _ c.args.at (sym (same_query _ _ c.deref-in-Combine-Pair-2.ensures)) (sym same)
+    (other_starts seen_of (plain_of s.first.value.shape) (plain_of s.second.value.shape)
+    (values.plain_of s.expression) (holding_of s.a.value.state) (holding_of s.b.value.state) c.args.at
+    (numbers_start_as _ _ _ _ c.args.at (sym (ap plain_of s.is-0)) (sym (ap holding_of s.is-1)) free)))))
+
+pub steps::start-returns-in_ok-hit-in-Apply-Operand-clause-no_memory :
+    goal.steps::start-returns-in_ok-hit-in-Apply-Operand-clause-no_memory
+steps::start-returns-in_ok-hit-in-Apply-Operand-clause-no_memory t c = λ free.
+    let s = c.in-Apply-Operand in
+    c.applied.ensures.no_memory (applied_started seen_of (plain_of s.inner.value.shape)
+    (values.plain_of s.expression) (holding_of s.a.value.state)
+    (holding_of c.start-in-Apply-Operand.new.node.state) c.args.at c.in_ok-hit-in-Apply-Operand.hit
+    (numbers_start_as _ _ _ _ c.args.at (sym (ap plain_of s.is-0)) (sym (ap holding_of s.is-1)) free)
+    (soundly_started_as _ _ (holding_of c.deref_mut-in-Apply-Operand.result.now.state) (holding_of s.a.value.state)
+    _ _ c.args.at _ _
+    (same_query _ _ c.deref-in-Apply-Operand.ensures) (search rules) refl refl
+    c.in_ok-hit-in-Apply-Operand.ensures.sound))
+
+pub steps::start-returns-in_ok-right-in-Combine-Pair-clause-no_memory :
+    goal.steps::start-returns-in_ok-right-in-Combine-Pair-clause-no_memory
+steps::start-returns-in_ok-right-in-Combine-Pair-clause-no_memory t c = λ free.
+    let s = c.in-Combine-Pair in
+    c.combined.ensures.no_memory (combined_started seen_of (plain_of s.first.value.shape)
+    (plain_of s.second.value.shape) (values.plain_of s.expression) (holding_of s.a.value.state)
+    (holding_of s.b.value.state)
+    (holding_of c.start-in-Combine-Pair.new.node.state) (holding_of c.start-in-Combine-Pair-2.new.node.state)
+    c.args.at
+    c.in_ok-left-in-Combine-Pair.left c.in_ok-right-in-Combine-Pair.right
+    (numbers_start_as _ _ _ _ c.args.at (sym (ap plain_of s.is-0)) (sym (ap holding_of s.is-1)) free)
+    (soundly_started_as _ _ (holding_of c.deref_mut-in-Combine-Pair.result.now.state) (holding_of s.a.value.state) _
+    _ c.args.at _ _
+    (same_query _ _ c.deref-in-Combine-Pair.ensures) (search rules) refl refl
+    c.in_ok-left-in-Combine-Pair.ensures.sound)
+    (soundly_started_as _ _ (holding_of c.deref_mut-in-Combine-Pair-2.result.now.state) (holding_of s.b.value.state)
+    _ _ c.args.at _ _
+    (same_query _ _ c.deref-in-Combine-Pair-2.ensures) (search rules) refl refl
+    c.in_ok-right-in-Combine-Pair.ensures.sound))
+
+pub steps::start-returns-in-Split-Sequence-clause-no_memory :
+    goal.steps::start-returns-in-Split-Sequence-clause-no_memory
+unfolding roll-State out-State denote.Hole.Carrier.roll denote.Hole.Carrier.out
+steps::start-returns-in-Split-Sequence-clause-no_memory t c = λ free.
+    let s = c.in-Split-Sequence in
+    c.start_split.ensures.no_memory (numbers_start_as _ _ _ _ c.args.at refl (search rules) free)
+
+pub steps::start-returns-in-Collect-Tracked-clause-no_memory :
+    goal.steps::start-returns-in-Collect-Tracked-clause-no_memory
+steps::start-returns-in-Collect-Tracked-clause-no_memory t c = λ free.
+    let s = c.in-Collect-Tracked in
+    absurd (subst HasNoCollect (ap plain_of s.is-0) free.1.no_collect)
+
+pub steps::step-returns-in_err-left-in-Or-Both-clause-no_memory :
+    goal.steps::step-returns-in_err-left-in-Or-Both-clause-no_memory
+steps::step-returns-in_err-left-in-Or-Both-clause-no_memory t c = λ free.
+    let s = c.in-Or-Both in
+    let same : holding_of s.a.value.state ≡ holding_of c.deref_mut.result.now.state = search rules in
+    absurd (false≢true (c.in_err-left-in-Or-Both.ensures.no_memory
+    (numbers_step_as _ _ _ _ c.args.now c.args.item.now (sym (same_query _ _ c.deref.ensures)) (sym same)
+    (first_steps seen_of (plain_of s.first.value.shape) (plain_of s.second.value.shape) (holding_of s.a.value.state)
+    (holding_of s.b.value.state) c.args.now c.args.item.now
+    (numbers_step_as _ _ _ _ c.args.now c.args.item.now (sym (ap plain_of s.is-0)) (sym (ap holding_of s.is-1))
+    free)))))
+
+pub steps::step-returns-in_err-right-in-Or-Both-clause-no_memory :
+    goal.steps::step-returns-in_err-right-in-Or-Both-clause-no_memory
+steps::step-returns-in_err-right-in-Or-Both-clause-no_memory t c = λ free.
+    let s = c.in-Or-Both in
+    let same : holding_of s.b.value.state ≡ holding_of c.deref_mut-in-Or-Both.result.now.state = search rules in
+    absurd (false≢true (c.in_err-right-in-Or-Both.ensures.no_memory
+    (numbers_step_as _ _ _ _ c.args.now c.args.item.now (sym (same_query _ _ c.deref-in-Or-Both.ensures)) (sym same)
+    (second_steps seen_of (plain_of s.first.value.shape) (plain_of s.second.value.shape)
+    (holding_of s.a.value.state) (holding_of s.b.value.state) c.args.now c.args.item.now
+    (numbers_step_as _ _ _ _ c.args.now c.args.item.now (sym (ap plain_of s.is-0)) (sym (ap holding_of s.is-1))
+    free)))))
+
+pub steps::step-returns-in_err-hit-in-Apply-Operand-clause-no_memory :
+    goal.steps::step-returns-in_err-hit-in-Apply-Operand-clause-no_memory
+steps::step-returns-in_err-hit-in-Apply-Operand-clause-no_memory t c = λ free.
+    let s = c.in-Apply-Operand in
+    let same : holding_of s.a.value.state ≡ holding_of c.deref_mut-in-Apply-Operand.result.now.state = search rules
+    in
+    absurd (false≢true (c.in_err-hit-in-Apply-Operand.ensures.no_memory
+    (numbers_step_as _ _ _ _ c.args.now c.args.item.now (sym (same_query _ _ c.deref-in-Apply-Operand.ensures))
+    (sym same)
+    (operand_steps seen_of (plain_of s.inner.value.shape) (values.plain_of s.expression)
+    (holding_of s.a.value.state) c.args.now c.args.item.now
+    (numbers_step_as _ _ _ _ c.args.now c.args.item.now (sym (ap plain_of s.is-0)) (sym (ap holding_of s.is-1))
+    free)))))
+
+pub steps::step-returns-in_err-left-in-Combine-Pair-clause-no_memory :
+    goal.steps::step-returns-in_err-left-in-Combine-Pair-clause-no_memory
+steps::step-returns-in_err-left-in-Combine-Pair-clause-no_memory t c = λ free.
+    let s = c.in-Combine-Pair in
+    let same : holding_of s.a.value.state ≡ holding_of c.deref_mut-in-Combine-Pair.result.now.state = search rules
+    in
+    absurd (false≢true (c.in_err-left-in-Combine-Pair.ensures.no_memory
+    (numbers_step_as _ _ _ _ c.args.now c.args.item.now (sym (same_query _ _ c.deref-in-Combine-Pair.ensures))
+    (sym same)
+    (one_steps seen_of (plain_of s.first.value.shape) (plain_of s.second.value.shape) (values.plain_of s.expression)
+    (holding_of s.a.value.state) (holding_of s.b.value.state) c.args.now c.args.item.now
+    (numbers_step_as _ _ _ _ c.args.now c.args.item.now (sym (ap plain_of s.is-0)) (sym (ap holding_of s.is-1))
+    free)))))
+
+pub steps::step-returns-in_err-right-in-Combine-Pair-clause-no_memory :
+    goal.steps::step-returns-in_err-right-in-Combine-Pair-clause-no_memory
+steps::step-returns-in_err-right-in-Combine-Pair-clause-no_memory t c = λ free.
+    let s = c.in-Combine-Pair in
+    let same : holding_of s.b.value.state ≡ holding_of c.deref_mut-in-Combine-Pair-2.result.now.state = search rules
+    in
+    absurd (false≢true (c.in_err-right-in-Combine-Pair.ensures.no_memory
+    (numbers_step_as _ _ _ _ c.args.now c.args.item.now (sym (same_query _ _ c.deref-in-Combine-Pair-2.ensures))
+    (sym same)
+    (other_steps seen_of (plain_of s.first.value.shape) (plain_of s.second.value.shape)
+    (values.plain_of s.expression) (holding_of s.a.value.state) (holding_of s.b.value.state) c.args.now
+    c.args.item.now
+    (numbers_step_as _ _ _ _ c.args.now c.args.item.now (sym (ap plain_of s.is-0)) (sym (ap holding_of s.is-1))
+    free)))))
+
+pub steps::step-returns-in_ok-hit-in-Apply-Operand-clause-no_memory :
+    goal.steps::step-returns-in_ok-hit-in-Apply-Operand-clause-no_memory
+steps::step-returns-in_ok-hit-in-Apply-Operand-clause-no_memory t c = λ free.
+    let s = c.in-Apply-Operand in
+    c.applied.ensures.no_memory (applied_stepped seen_of (plain_of s.inner.value.shape)
+    (values.plain_of s.expression) (holding_of s.a.value.state)
+    (holding_of c.step-in-Apply-Operand.new.node.state) c.args.now c.args.item.now c.in_ok-hit-in-Apply-Operand.hit
+    (numbers_step_as _ _ _ _ c.args.now c.args.item.now (sym (ap plain_of s.is-0)) (sym (ap holding_of s.is-1))
+    free)
+    (soundly_stepped_as _ _ (holding_of c.deref_mut-in-Apply-Operand.result.now.state) (holding_of s.a.value.state)
+    _ _ c.args.now c.args.item.now _ _
+    (same_query _ _ c.deref-in-Apply-Operand.ensures) (search rules) refl refl
+    c.in_ok-hit-in-Apply-Operand.ensures.sound))
+
+pub steps::step-returns-in_ok-right-in-Combine-Pair-clause-no_memory :
+    goal.steps::step-returns-in_ok-right-in-Combine-Pair-clause-no_memory
+steps::step-returns-in_ok-right-in-Combine-Pair-clause-no_memory t c = λ free.
+    let s = c.in-Combine-Pair in
+    c.combined.ensures.no_memory (combined_stepped seen_of (plain_of s.first.value.shape)
+    (plain_of s.second.value.shape) (values.plain_of s.expression) (holding_of s.a.value.state)
+    (holding_of s.b.value.state)
+    (holding_of c.step-in-Combine-Pair.new.node.state) (holding_of c.step-in-Combine-Pair-2.new.node.state)
+    c.args.now c.args.item.now
+    c.in_ok-left-in-Combine-Pair.left c.in_ok-right-in-Combine-Pair.right
+    (numbers_step_as _ _ _ _ c.args.now c.args.item.now (sym (ap plain_of s.is-0)) (sym (ap holding_of s.is-1))
+    free)
+    (soundly_stepped_as _ _ (holding_of c.deref_mut-in-Combine-Pair.result.now.state) (holding_of s.a.value.state) _
+    _ c.args.now c.args.item.now _ _
+    (same_query _ _ c.deref-in-Combine-Pair.ensures) (search rules) refl refl
+    c.in_ok-left-in-Combine-Pair.ensures.sound)
+    (soundly_stepped_as _ _ (holding_of c.deref_mut-in-Combine-Pair-2.result.now.state) (holding_of s.b.value.state)
+    _ _ c.args.now c.args.item.now _ _
+    (same_query _ _ c.deref-in-Combine-Pair-2.ensures) (search rules) refl refl
+    c.in_ok-right-in-Combine-Pair.ensures.sound))
+
+pub steps::step-returns-in-Split-Sequence-clause-no_memory :
+    goal.steps::step-returns-in-Split-Sequence-clause-no_memory
+unfolding roll-State out-State denote.Hole.Carrier.roll denote.Hole.Carrier.out
+steps::step-returns-in-Split-Sequence-clause-no_memory t c = λ free.
+    let s = c.in-Split-Sequence in
+    c.step_split.ensures.no_memory (numbers_step_as _ _ _ _ c.args.now c.args.item.now refl (search rules) free)
+
+pub steps::step-returns-in-Collect-Tracked-clause-no_memory :
+    goal.steps::step-returns-in-Collect-Tracked-clause-no_memory
+steps::step-returns-in-Collect-Tracked-clause-no_memory t c = λ free.
+    let s = c.in-Collect-Tracked in
+    absurd (subst HasNoCollect (ap plain_of s.is-0) free.1.no_collect)
+
+pub steps::start-returns-in_err-start-in-Iter-Repeated-clause-no_memory :
+    goal.steps::start-returns-in_err-start-in-Iter-Repeated-clause-no_memory
+steps::start-returns-in_err-start-in-Iter-Repeated-clause-no_memory t c = λ free.
+    let s = c.in-Iter-Repeated in
+    let same : holding_of s.a.value.state ≡ holding_of c.deref_mut-in-Iter-Repeated.result.now.state = search rules
+    in
+    absurd (false≢true (c.in_err-start-in-Iter-Repeated.ensures.no_memory
+    (numbers_start_as _ _ _ _ c.args.at (sym (same_query _ _ c.deref-in-Iter-Repeated.ensures)) (sym same)
+    (piece_starts seen_of (plain_of s.inner.value.shape) _ _ (holding_of s.a.value.state) s.so_far c.args.at
+    (numbers_start_as _ _ _ _ c.args.at (sym (ap plain_of s.is-0)) (sym (ap holding_of s.is-1)) free)))))
+
+pub steps::start-returns-in_err-go_on_if_new-in-Iter-Repeated-clause-no_memory :
+    goal.steps::start-returns-in_err-go_on_if_new-in-Iter-Repeated-clause-no_memory
+steps::start-returns-in_err-go_on_if_new-in-Iter-Repeated-clause-no_memory t c = λ free.
+    absurd (false≢true (c.in_err-go_on_if_new-in-Iter-Repeated.ensures.no_memory
+    (subst (λ (hit : Hit). IsNoTable hit.value) (sym c.of_number-hit.ensures) tt)))
+
+pub steps::step-returns-in-Iter-Repeated-clause-no_memory :
+    goal.steps::step-returns-in-Iter-Repeated-clause-no_memory
+unfolding roll-State out-State denote.Hole.Carrier.roll denote.Hole.Carrier.out
+steps::step-returns-in-Iter-Repeated-clause-no_memory t c = λ free.
+    let s = c.in-Iter-Repeated in
+    c.step_iter.ensures.no_memory (numbers_step_as _ _ _ _ c.args.now c.args.item.now refl (search rules) free)
+
+pub steps::step-returns-in_err-value-in-Some-clause-no_memory :
+    goal.steps::step-returns-in_err-value-in-Some-clause-no_memory
+steps::step-returns-in_err-value-in-Some-clause-no_memory t c = λ free.
+    let s = c.in-Atom-Item in
+    absurd (false≢true (c.in_err-value-in-Some.ensures.no_memory
+    (subst (λ (fields : List Field). IsNumber (types_of (given fields None None)) (values.plain_of s.expression))
+    (sym c.fields.ensures)
+    (given_stepped seen_of (predicates.plain_of s.pred) (values.plain_of s.expression) _ c.args.now c.args.item.now
+    (numbers_step_as _ _ _ _ c.args.now c.args.item.now (sym (ap plain_of s.is-0)) (sym (ap holding_of s.is-1))
+    free)))))
+
+pub steps::start-returns-in_err-left-in-Compose-Fed-clause-no_memory :
+    goal.steps::start-returns-in_err-left-in-Compose-Fed-clause-no_memory
+steps::start-returns-in_err-left-in-Compose-Fed-clause-no_memory t c = λ free.
+    let s = c.in-Compose-Fed in
+    let same : holding_of s.a.value.state ≡ holding_of c.deref_mut-in-Compose-Fed.result.now.state = search rules in
+    absurd (false≢true (c.in_err-left-in-Compose-Fed.ensures.no_memory
+    (numbers_start_as _ _ _ _ c.args.at (sym (same_query _ _ c.deref-in-Compose-Fed.ensures)) (sym same)
+    (fed_starts seen_of (plain_of s.first.value.shape) (plain_of s.second.value.shape) (holding_of s.a.value.state)
+    s.runners c.args.at
+    (numbers_start_as _ _ _ _ c.args.at (sym (ap plain_of s.is-0))
+    (sym (ap holding_of s.is-1 ∙ fed_is s.a s.runners)) free)))))
+
+pub steps::start-returns-in_ok-left-in-Compose-Fed-clause-no_memory :
+    goal.steps::start-returns-in_ok-left-in-Compose-Fed-clause-no_memory
+unfolding roll-State out-State denote.Hole.Carrier.roll denote.Hole.Carrier.out
+steps::start-returns-in_ok-left-in-Compose-Fed-clause-no_memory t c = λ free.
+    let s = c.in-Compose-Fed in
+    let left = c.in_ok-left-in-Compose-Fed.left in
+    let feeds : FeedsNumbers seen_of (plain_of c.deref-in-Compose-Fed-2.result.now.shape) s.runners left =
+    subst (λ (q : Qre). FeedsNumbers seen_of q s.runners left) (same_query _ _ c.deref-in-Compose-Fed-2.ensures)
+    (feeds_on seen_of (plain_of s.first.value.shape) (plain_of s.second.value.shape) (holding_of s.a.value.state)
+    (holding_of c.start-in-Compose-Fed.new.node.state) s.runners c.args.at left
+    (numbers_start_as _ _ _ _ c.args.at (sym (ap plain_of s.is-0))
+    (sym (ap holding_of s.is-1 ∙ fed_is s.a s.runners)) free)
+    (soundly_started_as _ _ (holding_of c.deref_mut-in-Compose-Fed.result.now.state) (holding_of s.a.value.state) _
+    _ c.args.at _ _
+    (same_query _ _ c.deref-in-Compose-Fed.ensures) (search rules) refl refl
+    c.in_ok-left-in-Compose-Fed.ensures.sound)) in
+    (rw s.is-1 at c.feed.ensures.no_memory)
+    (subst (λ (held : Runners). FeedsNumbers seen_of (plain_of c.deref-in-Compose-Fed-2.result.now.shape) held left)
+    (sym (runners_are s.a s.runners)) feeds)
+
+pub steps::step-returns-in-Compose-Fed-clause-no_memory :
+    goal.steps::step-returns-in-Compose-Fed-clause-no_memory
+unfolding roll-State out-State denote.Hole.Carrier.roll denote.Hole.Carrier.out
+steps::step-returns-in-Compose-Fed-clause-no_memory t c = λ free.
+    let s = c.in-Compose-Fed in
+    let node = c.deref_mut-in-Compose-Fed.result.now in
+    let left : holding_of s.a.value.state ≡ holding_of node.state = search rules in
+    (rw s.is-1 at c.step_compose.ensures.no_memory)
+    (subst (λ (held : Runners). StepsNumbers seen_of (plain_of c.args.query.now.shape)
+    (fed (holding_of node.state) held) c.args.now c.args.item.now) (sym (runners_are s.a s.runners))
+    (numbers_step_as _ _ _ _ c.args.now c.args.item.now refl
+    (ap (λ (h : Holding Progress). fed h s.runners) (sym left)
+    ∙ sym (ap holding_of s.is-1 ∙ fed_is s.a s.runners)) free))
+
+pub splitting::start_split-returns-in_err-left-in-Split-clause-no_memory :
+    goal.splitting::start_split-returns-in_err-left-in-Split-clause-no_memory
+splitting::start_split-returns-in_err-left-in-Split-clause-no_memory t c = λ free.
+    let s = c.in-Split in
+    absurd (false≢true (c.in_err-left-in-Split.ensures.no_memory (numbers_start_as _ _ _ _ c.args.at
+    (sym (same_query _ _ c.deref.ensures)) refl
+    (left_starts seen_of (plain_of s.first.value.shape) (plain_of s.second.value.shape)
+    (values.plain_of s.expression) (holding_of c.args.a.now.state) (holding_of c.args.b.now.state) c.args.held.now
+    c.args.at (numbers_start_as _ _ _ _ c.args.at (sym (ap plain_of s.is)) refl free)))))
+
+pub splitting::start_split-returns-in_err-right-in-Some-clause-no_memory :
+    goal.splitting::start_split-returns-in_err-right-in-Some-clause-no_memory
+splitting::start_split-returns-in_err-right-in-Some-clause-no_memory t c = λ free.
+    let s = c.in-Split in
+    absurd (false≢true (c.in_err-right-in-Some.ensures.no_memory (numbers_start_as _ _ _ _ c.args.at
+    (sym (same_query _ _ c.deref-in-Some.ensures)) refl
+    (right_starts seen_of (plain_of s.first.value.shape) (plain_of s.second.value.shape)
+    (values.plain_of s.expression) (holding_of c.args.a.now.state) (holding_of c.args.b.now.state) c.args.held.now
+    c.args.at (numbers_start_as _ _ _ _ c.args.at (sym (ap plain_of s.is)) refl free)))))
+
+pub splitting::start_split-returns-in_err-hit-in-Some-clause-no_memory :
+    goal.splitting::start_split-returns-in_err-hit-in-Some-clause-no_memory
+splitting::start_split-returns-in_err-hit-in-Some-clause-no_memory t c = λ free.
+    let s = c.in-Split in
+    absurd (false≢true (c.in_err-hit-in-Some.ensures.no_memory
+    (joined_started seen_of (plain_of s.first.value.shape)
+    (plain_of s.second.value.shape) (values.plain_of s.expression) (holding_of c.args.a.now.state)
+    (holding_of c.args.b.now.state)
+    (holding_of c.start.new.node.state) (holding_of c.start-in-Some.new.node.state) c.args.held.now c.args.at
+    c.in-Some.left c.in_ok-right-in-Some.right (numbers_start_as _ _ _ _ c.args.at (sym (ap plain_of s.is)) refl
+    free)
+    (soundly_started_as _ _ _ _ _ _ c.args.at _ _ (same_query _ _ c.deref.ensures) refl refl (sym c.in-Some.is)
+    c.in_ok-left-in-Split.ensures.sound)
+    (soundly_started_as _ _ _ _ _ _ c.args.at _ _ (same_query _ _ c.deref-in-Some.ensures) refl refl refl
+    c.in_ok-right-in-Some.ensures.sound))))
+
+pub splitting::step_split-returns-in_err-left-in-Split-clause-no_memory :
+    goal.splitting::step_split-returns-in_err-left-in-Split-clause-no_memory
+splitting::step_split-returns-in_err-left-in-Split-clause-no_memory t c = λ free.
+    let s = c.in-Split in
+    absurd (false≢true (c.in_err-left-in-Split.ensures.no_memory (numbers_step_as _ _ _ _ c.args.now c.args.item.now
+    (sym (same_query _ _ c.deref.ensures)) refl
+    (left_steps seen_of (plain_of s.first.value.shape) (plain_of s.second.value.shape)
+    (values.plain_of s.expression) (holding_of c.args.a.now.state) (holding_of c.args.b.now.state) c.args.held.now
+    c.args.now c.args.item.now (numbers_step_as _ _ _ _ c.args.now c.args.item.now (sym (ap plain_of s.is)) refl
+    free)))))
+
+pub splitting::step_split-returns-in_err-right-in-Split-clause-no_memory :
+    goal.splitting::step_split-returns-in_err-right-in-Split-clause-no_memory
+splitting::step_split-returns-in_err-right-in-Split-clause-no_memory t c = λ free.
+    let s = c.in-Split in
+    absurd (false≢true (c.in_err-right-in-Split.ensures.no_memory
+    (numbers_step_as _ _ _ _ c.args.now c.args.item.now
+    (sym (same_query _ _ c.deref-in-Split.ensures)) refl
+    (right_steps seen_of (plain_of s.first.value.shape) (plain_of s.second.value.shape)
+    (values.plain_of s.expression) (holding_of c.args.a.now.state) (holding_of c.args.b.now.state) c.args.held.now
+    c.args.now c.args.item.now (numbers_step_as _ _ _ _ c.args.now c.args.item.now (sym (ap plain_of s.is)) refl
+    free)))))
+
+pub splitting::step_split-returns-in_err-hit-in-Split-clause-no_memory :
+    goal.splitting::step_split-returns-in_err-hit-in-Split-clause-no_memory
+splitting::step_split-returns-in_err-hit-in-Split-clause-no_memory t c = λ free.
+    let s = c.in-Split in
+    absurd (false≢true (c.in_err-hit-in-Split.ensures.no_memory
+    (ended_stepped seen_of (plain_of s.first.value.shape)
+    (plain_of s.second.value.shape) (values.plain_of s.expression) (holding_of c.args.a.now.state)
+    (holding_of c.args.b.now.state)
+    (holding_of c.step-in-Split.new.node.state) c.args.held.now c.args.now c.args.item.now
+    c.in_ok-right-in-Split.right (numbers_step_as _ _ _ _ c.args.now c.args.item.now (sym (ap plain_of s.is)) refl
+    free)
+    (soundly_stepped_as _ _ _ _ _ _ c.args.now c.args.item.now _ _ (same_query _ _ c.deref-in-Split.ensures) refl
+    refl refl
+    c.in_ok-right-in-Split.ensures.sound))))
+
+pub splitting::step_split-returns-in_err-right-in-Some-clause-no_memory :
+    goal.splitting::step_split-returns-in_err-right-in-Some-clause-no_memory
+splitting::step_split-returns-in_err-right-in-Some-clause-no_memory t c = λ free.
+    let s = c.in-Split in
+    absurd (false≢true (c.in_err-right-in-Some.ensures.no_memory (numbers_start_as _ _ _ _ c.args.now
+    (sym (same_query _ _ c.deref-in-Some.ensures)) refl
+    (right_begins seen_of (plain_of s.first.value.shape) (plain_of s.second.value.shape)
+    (values.plain_of s.expression) (holding_of c.args.a.now.state) (holding_of c.args.b.now.state)
+    (holding_of c.step-in-Split.new.node.state) c.args.held.now c.args.now c.args.item.now
+    c.in_ok-right-in-Split.right (numbers_step_as _ _ _ _ c.args.now c.args.item.now (sym (ap plain_of s.is)) refl
+    free)
+    (soundly_stepped_as _ _ _ _ _ _ c.args.now c.args.item.now _ _ (same_query _ _ c.deref-in-Split.ensures) refl
+    refl refl
+    c.in_ok-right-in-Split.ensures.sound)))))
+
+pub splitting::step_split-returns-in_err-begun-in-Some-clause-no_memory :
+    goal.splitting::step_split-returns-in_err-begun-in-Some-clause-no_memory
+splitting::step_split-returns-in_err-begun-in-Some-clause-no_memory t c = λ free.
+    let s = c.in-Split in
+    absurd (false≢true (c.in_err-begun-in-Some.ensures.no_memory
+    (joined_stepped seen_of (plain_of s.first.value.shape)
+    (plain_of s.second.value.shape) (values.plain_of s.expression) (holding_of c.args.a.now.state)
+    (holding_of c.args.b.now.state)
+    (holding_of c.step.new.node.state) (holding_of c.step-in-Split.new.node.state)
+    (holding_of c.start.new.node.state)
+    c.args.held.now c.args.now c.args.item.now c.in-Some.left c.in_ok-right-in-Split.right
+    c.in_ok-right-in-Some.right (numbers_step_as _ _ _ _ c.args.now c.args.item.now (sym (ap plain_of s.is)) refl
+    free)
+    (soundly_stepped_as _ _ _ _ _ _ c.args.now c.args.item.now _ _ (same_query _ _ c.deref.ensures) refl refl
+    (sym c.in-Some.is)
+    c.in_ok-left-in-Split.ensures.sound)
+    (soundly_stepped_as _ _ _ _ _ _ c.args.now c.args.item.now _ _ (same_query _ _ c.deref-in-Split.ensures) refl
+    refl refl
+    c.in_ok-right-in-Split.ensures.sound)
+    (soundly_started_as _ _ _ _ _ _ c.args.now _ _ (same_query _ _ c.deref-in-Some.ensures) refl refl refl
+    c.in_ok-right-in-Some.ensures.sound))))
+
+pub iterating::step_iter-returns-in_err-piece-in-Iter-clause-no_memory :
+    goal.iterating::step_iter-returns-in_err-piece-in-Iter-clause-no_memory
+iterating::step_iter-returns-in_err-piece-in-Iter-clause-no_memory t c = λ free.
+    let s = c.in-Iter in
+    absurd (false≢true (c.in_err-piece-in-Iter.ensures.no_memory (numbers_step_as _ _ _ _ c.args.now c.args.item.now
+    (sym (same_query _ _ c.deref.ensures)) refl
+    (piece_steps seen_of (plain_of s.inner.value.shape) _ (values.plain_of s.expression)
+    (holding_of c.args.a.now.state) c.args.so_far.now c.args.now c.args.item.now
+    (numbers_step_as _ _ _ _ c.args.now c.args.item.now (sym (ap plain_of s.is)) refl free)))))
+
+pub iterating::step_iter-returns-in_err-hit-in-Iter-clause-no_memory :
+    goal.iterating::step_iter-returns-in_err-hit-in-Iter-clause-no_memory
+iterating::step_iter-returns-in_err-hit-in-Iter-clause-no_memory t c = λ free.
+    let s = c.in-Iter in
+    absurd (false≢true (c.in_err-hit-in-Iter.ensures.no_memory
+    (subst (λ (held : Contents Value). AreNumbersWith (values.plain_of s.expression) held.entries
+    c.in_ok-piece-in-Iter.piece)
+    (sym c.as_pending.ensures)
+    (ended_piece seen_of (plain_of s.inner.value.shape) _ (values.plain_of s.expression)
+    (holding_of c.args.a.now.state) (holding_of c.step.new.node.state) c.args.so_far.now c.args.now c.args.item.now
+    c.in_ok-piece-in-Iter.piece (numbers_step_as _ _ _ _ c.args.now c.args.item.now (sym (ap plain_of s.is)) refl
+    free)
+    (soundly_stepped_as _ _ _ _ _ _ c.args.now c.args.item.now _ _ (same_query _ _ c.deref.ensures) refl refl refl
+    c.in_ok-piece-in-Iter.ensures.sound)))))
+
+pub iterating::step_iter-returns-in_err-start-in-Some-clause-no_memory :
+    goal.iterating::step_iter-returns-in_err-start-in-Some-clause-no_memory
+iterating::step_iter-returns-in_err-start-in-Some-clause-no_memory t c = λ free.
+    let s = c.in-Iter in
+    absurd (false≢true (c.in_err-start-in-Some.ensures.no_memory (numbers_start_as _ _ _ _ c.args.now
+    (sym (same_query _ _ c.deref-in-Some.ensures)) refl
+    (piece_begins seen_of (plain_of s.inner.value.shape) _ (values.plain_of s.expression)
+    (holding_of c.args.a.now.state) (holding_of c.step.new.node.state) c.args.so_far.now c.args.now c.args.item.now
+    c.in_ok-piece-in-Iter.piece (numbers_step_as _ _ _ _ c.args.now c.args.item.now (sym (ap plain_of s.is)) refl
+    free)
+    (soundly_stepped_as _ _ _ _ _ _ c.args.now c.args.item.now _ _ (same_query _ _ c.deref.ensures) refl refl refl
+    c.in_ok-piece-in-Iter.ensures.sound)))))
+
+pub iterating::step_iter-returns-in_err-go_on-in-Some-clause-no_memory :
+    goal.iterating::step_iter-returns-in_err-go_on-in-Some-clause-no_memory
+iterating::step_iter-returns-in_err-go_on-in-Some-clause-no_memory t c = λ free.
+    let s = c.in-Iter in
+    absurd (false≢true (c.in_err-go_on-in-Some.ensures.no_memory
+    (ended_no_table seen_of (plain_of s.inner.value.shape) _ (values.plain_of s.expression)
+    (holding_of c.args.a.now.state) (holding_of c.step.new.node.state) c.args.so_far.now c.args.now c.args.item.now
+    c.in_ok-piece-in-Iter.piece c.in-Some.hit (numbers_step_as _ _ _ _ c.args.now c.args.item.now
+    (sym (ap plain_of s.is)) refl free)
+    (soundly_stepped_as _ _ _ _ _ _ c.args.now c.args.item.now _ _ (same_query _ _ c.deref.ensures) refl refl refl
+    c.in_ok-piece-in-Iter.ensures.sound)
+    (ended_as (values.plain_of s.expression) _ _ c.in_ok-piece-in-Iter.piece _ _ c.as_pending.ensures c.in-Some.is
+    c.in_ok-hit-in-Iter.ensures.ended))))
+
+pub composing::step_compose-returns-in_err-left-in-Compose-clause-no_memory :
+    goal.composing::step_compose-returns-in_err-left-in-Compose-clause-no_memory
+composing::step_compose-returns-in_err-left-in-Compose-clause-no_memory t c = λ free.
+    let s = c.in-Compose in
+    absurd (false≢true (c.in_err-left-in-Compose.ensures.no_memory
+    (numbers_step_as _ _ _ _ c.args.now c.args.item.now
+    (sym (same_query _ _ c.deref.ensures)) refl
+    (fed_steps seen_of (plain_of s.first.value.shape) (plain_of s.second.value.shape)
+    (holding_of c.args.a.now.state) c.args.runners.now c.args.now c.args.item.now
+    (numbers_step_as _ _ _ _ c.args.now c.args.item.now (sym (ap plain_of s.is)) refl free)))))
+
+pub composing::step_compose-returns-in_err-hit-in-Compose-clause-no_memory :
+    goal.composing::step_compose-returns-in_err-hit-in-Compose-clause-no_memory
+composing::step_compose-returns-in_err-hit-in-Compose-clause-no_memory t c = λ free.
+    let s = c.in-Compose in
+    absurd (false≢true (c.in_err-hit-in-Compose.ensures.no_memory
+    (subst (λ (q : Qre). PassesNumbers seen_of q c.args.runners.now c.in_ok-left-in-Compose.left)
+    (same_query _ _ c.deref-in-Compose.ensures)
+    (passes_on seen_of (plain_of s.first.value.shape) (plain_of s.second.value.shape)
+    (holding_of c.args.a.now.state) (holding_of c.step.new.node.state) c.args.runners.now c.args.now c.args.item.now
+    c.in_ok-left-in-Compose.left (numbers_step_as _ _ _ _ c.args.now c.args.item.now (sym (ap plain_of s.is)) refl
+    free)
+    (soundly_stepped_as _ _ _ _ _ _ c.args.now c.args.item.now _ _ (same_query _ _ c.deref.ensures) refl refl refl
+    c.in_ok-left-in-Compose.ensures.sound)))))
+
+pub feeds::renew-returns-in_err-hit-clause-no_memory :
+    goal.feeds::renew-returns-in_err-hit-clause-no_memory
+feeds::renew-returns-in_err-hit-clause-no_memory t c = λ free.
+    absurd (false≢true (c.in_err-hit.ensures.no_memory
+    (cleared_starts seen_of (plain_of c.args.query.now.shape) c.args.runner.now None
+    (holding_of c.clear.new.node.state) free c.clear.ensures)))
+
+pub feeds::carry-returns-in_err-hit-clause-no_memory :
+    goal.feeds::carry-returns-in_err-hit-clause-no_memory
+feeds::carry-returns-in_err-hit-clause-no_memory t c = λ free.
+    absurd (false≢true (c.in_err-hit.ensures.no_memory
+    (runner_steps seen_of (plain_of c.args.query.now.shape) c.args.runner.now c.args.item.now free)))
+
+pub feeds::tell-returns-in_err-carry-clause-no_memory :
+    goal.feeds::tell-returns-in_err-carry-clause-no_memory
+feeds::tell-returns-in_err-carry-clause-no_memory t c = λ free.
+    absurd (false≢true (c.in_err-carry.ensures.no_memory
+    (subst (CarriesNumbers seen_of (plain_of c.args.query.now.shape) c.args.runner.now) (sym c.from_value.ensures)
+    free)))
+
+pub feeds::tell-returns-in_err-value-in-Some-clause-no_memory :
+    goal.feeds::tell-returns-in_err-value-in-Some-clause-no_memory
+feeds::tell-returns-in_err-value-in-Some-clause-no_memory t c = λ free.
+    absurd (false≢true (c.in_err-value-in-Some.ensures.no_memory
+    (answer_no_table seen_of (plain_of c.args.query.now.shape) c.args.runner.now c.carry-2.new.runner
+    (item_of c.args.left.value) _ free
+    (subst (λ (item : List Field). IsCarried seen_of (plain_of c.args.query.now.shape) c.args.runner.now item
+    c.carry-2.new.runner)
+    c.from_value.ensures c.in_ok-carry.ensures.carried) c.in-Some.is)))
+
+pub feeds::begin-returns-in_err-renew-clause-no_memory :
+    goal.feeds::begin-returns-in_err-renew-clause-no_memory
+feeds::begin-returns-in_err-renew-clause-no_memory t c = λ free.
+    absurd (false≢true (c.in_err-renew.ensures.no_memory
+    (runner_renews seen_of (plain_of c.args.query.now.shape) c.args.runner.now c.args.left free)))
+
+pub feeds::begin-returns-in-Some-clause-no_memory :
+    goal.feeds::begin-returns-in-Some-clause-no_memory
+feeds::begin-returns-in-Some-clause-no_memory t c = λ free.
+    c.tell.ensures.no_memory
+    (begun_carries seen_of (plain_of c.args.query.now.shape) c.args.runner.now c.renew.new.runner c.in-Some.hit
+    (subst (BeginsNumbers seen_of (plain_of c.args.query.now.shape) c.args.runner.now) c.in-Some.is free)
+    c.in_ok-renew.ensures.renewed)
+
+pub feeds::pass_on-returns-in-Some-place-clause-no_memory :
+    goal.feeds::pass_on-returns-in-Some-place-clause-no_memory
+feeds::pass_on-returns-in-Some-place-clause-no_memory t c = λ free.
+    c.tell.ensures.no_memory
+    (place_tells seen_of (plain_of c.args.query.now.shape) c.args.runners.now c.in-Some.hit c.in-Some-place.place
+    c.follower_mut.result.now
+    (subst (PassesNumbers seen_of (plain_of c.args.query.now.shape) c.args.runners.now) c.in-Some.is free)
+    c.follower_mut.ensures.value)
+
+pub feeds::feed-returns-in_err-hit-clause-no_memory :
+    goal.feeds::feed-returns-in_err-hit-clause-no_memory
+feeds::feed-returns-in_err-hit-clause-no_memory t c = λ free.
+    absurd (false≢true (c.in_err-hit.ensures.no_memory
+    (last_begins seen_of (plain_of c.args.query.now.shape) c.args.runners.now c.args.left _ c.resting_mut.result.now
+    free
+    c.resting_mut.ensures.value)))

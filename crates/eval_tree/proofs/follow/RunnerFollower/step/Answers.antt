@@ -1,10 +1,12 @@
-use Rattle.std.proofs.Common.{inr, refl, subst, sym}
+use Rattle.std.proofs.Common.{inl, inr, refl, subst, sym}
+use Rattle.std.proofs.lemmas.Bool.{false≢true}
 use Rattle.query_model.specs.declared.query.Query.{Query}
 use Rattle.query_model.specs.Queries.{plain_of}
 use Rattle.query_model.specs.Rules.{free}
 use Rattle.eval_tree.specs.Feeds.{CanCarry, IsCarried}
 use Rattle.eval_tree.specs.Plain.{seen_of}
 use Rattle.eval_tree.proofs.Carried.{carried, carry_next, found_sound}
+use Rattle.eval_tree.proofs.NumberRunners.{runner_carries}
 use Rattle.eval_tree.proofs.follow.RunnerFollower.step.Goals as goal
 
 pub carry-requires : goal.carry-requires
@@ -25,7 +27,7 @@ returns-clause-ok c = λ word follows.
       at = carried free on.layout.columns (plain_of on.main.shape) word c.args.item.now old c.carry.new.runner
           c.main.ensures.checked.clear c.requires.fits.is_item follows.at
           (subst (λ (query : Query). IsCarried seen_of (plain_of query.shape) old c.args.item.now c.carry.new.runner)
-          c.main.ensures.main c.in_ok-carry.ensures);
+          c.main.ensures.main c.in_ok-carry.ensures.carried);
     }
 
 pub returns-clause-sound : goal.returns-clause-sound
@@ -34,8 +36,23 @@ returns-clause-sound c =
     let on = runner.checked.now in
     let one_more =
     subst (λ (query : Query). IsCarried seen_of (plain_of query.shape) runner.progress c.args.item.now c.carry.new.runner)
-    c.main.ensures.main c.in_ok-carry.ensures in
+    c.main.ensures.main c.in_ok-carry.ensures.carried in
     record {
       sound = inr (one_more.sound free on.layout.columns c.main.ensures.checked.clear c.requires.fits.is_item
           (found_sound runner c.requires.sound c.requires.found));
     }
+
+pub returns-in_err-carry-clause-sound : goal.returns-in_err-carry-clause-sound
+returns-in_err-carry-clause-sound c =
+    record {
+      sound = inl (
+        refl,
+        λ bare. false≢true (c.in_err-carry.ensures.no_memory (runner_carries c.args.self.now _
+            c.args.item.now c.main.ensures.main c.main.ensures.checked c.requires.sound c.requires.fits bare)),
+      );
+    }
+
+pub returns-in_err-carry-clause-no_memory : goal.returns-in_err-carry-clause-no_memory
+returns-in_err-carry-clause-no_memory c = λ bare.
+    absurd (false≢true (c.in_err-carry.ensures.no_memory (runner_carries c.args.self.now _ c.args.item.now
+    c.main.ensures.main c.main.ensures.checked c.requires.sound c.requires.fits bare)))
