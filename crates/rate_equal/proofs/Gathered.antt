@@ -1,53 +1,52 @@
--- How cells that stand for all others are gathered.
-use Rattle.std.proofs.Common.{◌≡◌, ℕ, ◌+◌, ◌<◌, Bool, true, List, [], ◌∷◌, ◌++◌, sym, subst, inl, inr, arith, All}
+-- How letters are gathered.
+use Rattle.std.proofs.Common.{◌≡◌, ℕ, ◌+◌, ◌<◌, ◌≤◌, length, length-append, Bool, true, List, [], ◌∷◌, ◌++◌, sym, subst, inl, inr, arith, All}
 use Rattle.std.specs.List.{Contains, IsDistinct, list_any}
 use Rattle.std.proofs.lemmas.Bool.{cases_lt}
 use Rattle.std.proofs.lemmas.List.Elements.{All-push, Contains-append_left, Contains-push}
+use Rattle.std.specs.List.Sorted.{IsPermutation}
+use Rattle.std.proofs.lemmas.List.Sorted.{All-permutation, Contains-permutation}
 use Rattle.predicate_cells.specs.Cells.{cell_count}
 use Rattle.symbolic_nfa.specs.Automata.{Automaton}
 use Rattle.symbolic_nfa.specs.States.{IsMetBy}
-use Rattle.rate_equal.specs.Letters.{AreLetters, MeetAlike}
+use Rattle.rate_equal.specs.Letters.{AreLetters, IsLetter}
+use Rattle.rate_equal.specs.declared.letters.Letter.{Letter}
 use Rattle.indexmap.specs.IndexSet.{insert_key}
 use Rattle.indexmap.proofs.CallerLemmas.{Contains-list_any, Contains-insert_key}
 use Rattle.rate_equal.proofs.Inserted.{put_behind}
-
--- items of cells with one mask meet the same positions
-meet_alike : (nfa : Automaton) (cell other mask : ℕ) → IsMetBy nfa cell mask → IsMetBy nfa other mask
-    → MeetAlike nfa cell other
-meet_alike nfa cell other mask met met' = λ x y in_cell in_other position. (
-  λ meets. met'.sound position y in_other (met.whole position x in_cell meets),
-  λ meets. met.sound position x in_cell (met'.whole position y in_other meets),
-)
 
 module _ (first second : Automaton) where
   -- these are the positions of both automata that the items of the cell meet
   abbrev pub AreMetBy : ℕ → ℕ × ℕ → Type 0
   AreMetBy cell met = IsMetBy first cell met.0 × IsMetBy second cell met.1
 
-  -- the cells below one are like letters for which their masks are known
-  pub record IsGathered (cell : ℕ) (known : List (ℕ × ℕ)) (letters : List ℕ) : Type 0 where
-    pub within : All (λ letter. letter < cell_count first.cells) letters
+  -- the letter has these positions
+  abbrev pub HasThese : Letter → ℕ × ℕ → Type 0
+  HasThese letter met = (letter.first ≡ met.0) × (letter.second ≡ met.1)
+
+  -- the cells below one have letters for which their masks are known
+  pub record IsGathered (cell : ℕ) (known : List (ℕ × ℕ)) (letters : List Letter) : Type 0 where
+    pub sound : All (IsLetter first second) letters
     pub stands : (met : ℕ × ℕ) → Contains known met
-        → (letter : ℕ) × Contains letters letter × AreMetBy letter met
+        → (letter : Letter) × Contains letters letter × HasThese letter met
     pub below : (other : ℕ) → other < cell → (met : ℕ × ℕ) × Contains known met × AreMetBy other met
 
-  module _ (eq : ℕ × ℕ → ℕ × ℕ → Bool) (cell : ℕ) (known known' : List (ℕ × ℕ)) (letters : List ℕ)
+  module _ (eq : ℕ × ℕ → ℕ × ℕ → Bool) (cell : ℕ) (known known' : List (ℕ × ℕ)) (letters : List Letter)
       (met : ℕ × ℕ) (distinct : IsDistinct eq known') (put_in : known' ≡ insert_key eq known met)
       (same : (x y : ℕ × ℕ) → eq x y ≡ true → x ≡ y)
       (before : IsGathered cell known letters) (here : AreMetBy cell met) where
     -- one more cell, for whose masks some letter stands
-    gathered_next : (letters' : List ℕ) → All (λ letter. letter < cell_count first.cells) letters'
-        → ((letter : ℕ) → Contains letters letter → Contains letters' letter)
-        → (letter : ℕ) × Contains letters' letter × AreMetBy letter met
+    gathered_next : (letters' : List Letter) → All (IsLetter first second) letters'
+        → ((letter : Letter) → Contains letters letter → Contains letters' letter)
+        → (letter : Letter) × Contains letters' letter × HasThese letter met
         → IsGathered (cell + 1) known' letters'
-    gathered_next letters' within kept one =
+    gathered_next letters' sound kept one =
         let put = put_behind eq known met in
         subst (λ l. IsGathered (cell + 1) l letters') (sym put_in) record {
-          within = within;
+          sound = sound;
           stands = λ other c. elim (put.2 other c) [
             | inl was ↦ let old = before.stands other was in (old.0, kept old.0 old.1, old.2)
             | inr is ↦ subst
-                (λ m. (letter : ℕ) × Contains letters' letter × AreMetBy letter m) is one
+                (λ m. (letter : Letter) × Contains letters' letter × HasThese letter m) is one
           ];
           below = λ other lt. elim (cases_lt other cell) [
             | inl less ↦ let old = before.below other less in (
@@ -66,29 +65,53 @@ module _ (first second : Automaton) where
     -- its masks are known
     pub gathered_known : list_any (eq met) known ≡ true
         → IsGathered (cell + 1) known' letters
-    gathered_known is = gathered_next letters before.within (λ letter c. c)
+    gathered_known is = gathered_next letters before.sound (λ letter c. c)
         (before.stands met (Contains-list_any eq same known met is))
 
-    -- it is a letter itself
-    pub gathered_new : cell < cell_count first.cells
-        → IsGathered (cell + 1) known' (letters ++ cell ∷ [])
-    gathered_new lt = gathered_next (letters ++ cell ∷ [])
-        (All-push (λ letter. letter < cell_count first.cells) letters cell before.within lt)
-        (λ letter c. Contains-append_left letters (cell ∷ []) letter c)
-        (cell, Contains-push letters cell, here)
+    -- it has a letter of its own
+    pub gathered_new : (letter : Letter) → HasThese letter met → cell < cell_count first.cells
+        → IsGathered (cell + 1) known' (letters ++ letter ∷ [])
+    gathered_new letter has lt = gathered_next (letters ++ letter ∷ [])
+        (All-push (IsLetter first second) letters letter before.sound (
+          cell,
+          lt,
+          (
+            subst (λ (m : ℕ). IsMetBy first cell m) (sym has.0) here.0,
+            subst (λ (m : ℕ). IsMetBy second cell m) (sym has.1) here.1,
+          ),
+        ))
+        (λ other c. Contains-append_left letters (letter ∷ []) other c)
+        (letter, Contains-push letters letter, has)
 
   -- all cells
-  pub gathered_all : first.cells ≡ second.cells → (known : List (ℕ × ℕ)) (letters : List ℕ)
+  pub gathered_all : first.cells ≡ second.cells → (known : List (ℕ × ℕ)) (letters : List Letter)
       → IsGathered (cell_count first.cells) known letters → AreLetters first second letters
   gathered_all same known letters all = record {
     same = same;
-    within = all.within;
+    sound = all.sound;
     whole = λ cell lt.
         let (met, c, (one, two)) = all.below cell lt in
-        let (letter, c', (one', two')) = all.stands met c in (
+        let (letter, c', (has, has')) = all.stands met c in (
           letter,
           c',
-          meet_alike first cell letter met.0 one one',
-          meet_alike second cell letter met.1 two two',
+          (
+            subst (λ (m : ℕ). IsMetBy first cell m) (sym has) one,
+            subst (λ (m : ℕ). IsMetBy second cell m) (sym has') two,
+          ),
         );
   }
+
+-- with one more letter there are at most as many as with one more cell
+pub few_more : (letters : List Letter) (letter : Letter) (cell : ℕ) → length letters ≤ cell
+    → length (letters ++ letter ∷ []) ≤ cell + 1
+few_more letters letter cell few = omega (arith, length-append letters (letter ∷ []), few)
+
+-- in whatever order
+pub letters_moved : (first second : Automaton) (letters letters' : List Letter) → IsPermutation letters letters'
+    → AreLetters first second letters → AreLetters first second letters'
+letters_moved first second letters letters' moved are = record {
+  same = are.same;
+  sound = All-permutation (IsLetter first second) letters letters' moved are.sound;
+  whole = λ cell lt. let (letter, c, of) = are.whole cell lt in
+      (letter, Contains-permutation letters letters' letter moved c, of);
+}

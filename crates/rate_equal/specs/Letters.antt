@@ -1,19 +1,24 @@
--- For the prover. Cells that stand for all others.
-use Rattle.std.specs.Prelude.{◌≡◌, ◌<◌, ◌↔◌, ℕ, List, All}
+-- For the prover. What the items of cells meet.
+use Rattle.std.specs.Prelude.{◌≡◌, ◌<◌, ℕ, List, All}
 use Rattle.std.specs.List.{Contains}
-use Rattle.value_ops.specs.declared.field.Field.{Field}
-use Rattle.predicate_cells.specs.Cells.{cell_count, IsIn}
-use Rattle.rate_expr.specs.Paths.{Meets}
+use Rattle.predicate_cells.specs.Cells.{cell_count}
 use Rattle.symbolic_nfa.specs.Automata.{Automaton}
+use Rattle.symbolic_nfa.specs.States.{IsMetBy}
+use Rattle.rate_equal.specs.declared.letters.Letter.{Letter}
 
--- the items of both cells meet the same positions
-abbrev pub MeetAlike : Automaton → ℕ → ℕ → Type 0
-MeetAlike nfa cell other = (x y : List Field) → IsIn nfa.cells cell x → IsIn nfa.cells other y
-    → (position : ℕ) → Meets nfa.sets position x ↔ Meets nfa.sets position y
+-- the letter has the positions of both automata that the items of the cell meet
+abbrev pub IsLetterOf : Automaton → Automaton → ℕ → Letter → Type 0
+IsLetterOf first second cell letter =
+    IsMetBy first cell letter.first × IsMetBy second cell letter.second
 
--- these are cells of both automata, and each cell is like one of them for both
-pub record AreLetters (first second : Automaton) (letters : List ℕ) : Type 0 where
+-- it is the letter of some cell
+abbrev pub IsLetter : Automaton → Automaton → Letter → Type 0
+IsLetter first second letter = (cell : ℕ) × (cell < cell_count first.cells)
+    × IsLetterOf first second cell letter
+
+-- these are letters of cells of both automata, and each cell has one
+pub record AreLetters (first second : Automaton) (letters : List Letter) : Type 0 where
   pub same : first.cells ≡ second.cells
-  pub within : All (λ letter. letter < cell_count first.cells) letters
-  pub whole : (cell : ℕ) → cell < cell_count first.cells → (letter : ℕ) × Contains letters letter
-      × MeetAlike first cell letter × MeetAlike second cell letter
+  pub sound : All (IsLetter first second) letters
+  pub whole : (cell : ℕ) → cell < cell_count first.cells
+      → (letter : Letter) × Contains letters letter × IsLetterOf first second cell letter

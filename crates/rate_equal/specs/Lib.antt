@@ -1,5 +1,10 @@
+pub mod Added
 pub mod Differences
 pub mod Endings
+pub mod Holding
 pub mod Letters
+pub mod Narrowed
 pub mod Pairs
+pub mod PlaceSets
 pub mod Reach
+pub mod Targets

@@ -1,23 +1,54 @@
-//! Cells that stand for all others.
-ghost use Rattle.std.specs.Prelude.{◌≡◌, IfOk};
+//! What items meet.
+ghost use Rattle.std.specs.Prelude.{◌≡◌, ◌≤◌, IfOk, length};
 ghost use Rattle.rate_equal.specs.Letters.{AreLetters};
+ghost use Rattle.rate_equal.specs.Reach.{max_reach};
+ghost use Rattle.rate_equal.specs.Targets.{target};
 
+use crate::pair::Pair;
 use indexmap::IndexSet;
 use std::alloc::{AllocError, Global};
-use symbolic_nfa::Nfa;
+use symbolic_nfa::{Nfa, State};
 
-/// One cell for each two sets of positions that the items of some cell meet.
-pub(crate) fn letters(alloc: Global, first: &Nfa, second: &Nfa) -> Result<Vec<u32>, AllocError>
+/// The positions of two automata that the items of a cell meet, and those of all cells like it.
+#[derive(Clone, Copy, Debug, PartialEq, Eq, PartialOrd, Ord)]
+pub(crate) struct Letter {
+    // How many positions they miss.
+    pub(crate) missed: u32,
+    pub(crate) first: u128,
+    pub(crate) second: u128,
+}
+
+impl Letter {
+    /// The pair to which it leads along the ways.
+    pub(crate) fn target(&self, ways: (u128, u128)) -> Pair
+        ensures { result ≡ target ways self.now }
+    {
+        Pair {
+            first: State::At(ways.0 & self.first),
+            second: State::At(ways.1 & self.second),
+        }
+    }
+}
+
+/// One letter for each two sets of positions that the items of some cell meet.
+pub(crate) fn letters(alloc: Global, first: &Nfa, second: &Nfa) -> Result<Vec<Letter>, AllocError>
     requires { first.now.cells ≡ second.now.cells }
-    ensures { IfOk result (λ letters. AreLetters first.now second.now letters.items) }
+    ensures letters { IfOk result (λ letters. AreLetters first.now second.now letters.items) }
+    ensures few { IfOk result (λ letters. length letters.items ≤ max_reach) }
 {
     let mut letters = Vec::new(alloc);
     let mut known = IndexSet::new(alloc);
     'cells: for cell in 0..first.cells().count() {
         let met = (first.met_by(cell), second.met_by(cell));
         if known.insert(met)? {
-            letters.push(cell)?;
+            letters.push(Letter {
+                missed: met.0.count_zeros() + met.1.count_zeros(),
+                first: met.0,
+                second: met.1,
+            })?;
         }
     }
+    // Pairs with more ways on are to come before those with fewer.
+    letters.sort_unstable();
     Ok(letters)
 }

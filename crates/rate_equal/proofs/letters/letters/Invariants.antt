@@ -1,5 +1,9 @@
+use Rattle.std.proofs.Common.{◌≤◌, length}
 use Rattle.rate_equal.proofs.Gathered.{IsGathered}
 use Rattle.rate_equal.proofs.letters.letters.Given as goal
 
 abbrev pub invariant-cells : goal.invariant-cells
-invariant-cells l = IsGathered l.first l.second l.cell l.known.keys l.letters.items
+invariant-cells l = record {
+  gathered : IsGathered l.first l.second l.cell l.known.keys l.letters.items;
+  few : length l.letters.items ≤ l.cell;
+}

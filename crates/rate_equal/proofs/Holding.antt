@@ -1,0 +1,290 @@
+-- How the places of pairs are put into the rows of their positions, and gathered from these.
+use Rattle.std.proofs.Common.{◌≡◌, ℕ, ◌+◌, ◌*◌, ◌/◌, ◌%◌, ◌^◌, ◌<◌, ◌≤◌, ◌∙◌, ◌↔◌, ◌⊎◌, List, Some, bit_and, bit_or, get_or, length, set, slice_get, sym, ap, subst, inl, inr, arith}
+use Rattle.std.specs.Int.{bit_at, bit_not, w128}
+use Rattle.std.proofs.lemmas.Bool.{cases_lt}
+use Rattle.std.proofs.lemmas.Bool.Decides.{eqb_tells}
+use Rattle.std.proofs.lemmas.List.{get_or-set_same, get_or-set_other}
+use Rattle.std.proofs.lemmas.Option.{same_Some}
+use Rattle.rate_expr.specs.Sets.{Has, IsLowest}
+use Rattle.rate_expr.proofs.MaskMembers.{has_first, has_one, has_only_one, has_or, has_second, has_zero}
+use Rattle.rate_equal.specs.Holding.{AreHeld, HasRow, KeepsRows}
+use Rattle.rate_equal.specs.Pairs.{IsGrown, mask_of}
+use Rattle.rate_equal.specs.PlaceSets.{block_count}
+use Rattle.rate_equal.specs.Reach.{max_reach}
+use Rattle.rate_equal.specs.declared.pair.Pair.{Pair}
+use Rattle.rate_expr.proofs.MaskSets.{has-and_both}
+use Rattle.rate_equal.proofs.Added.{found_before}
+use Rattle.rate_equal.proofs.PlaceSets.{in-or-not}
+
+-- a position that is left is the lowest, or is left behind it
+pub low_or_left : (rest low after position : ℕ) → IsLowest rest low
+    → ((other : ℕ) → Has after other ↔ (Has rest other × (IsLowest rest other → ⊥)))
+    → Has rest position → (position ≡ low) ⊎ Has after position
+low_or_left rest low after position is exact has = elim (eqb_tells position low) [
+  | inl here ↦ inl here.1
+  | inr other ↦ inr ((exact position).1 (has, λ lowest. other.1 (one_lowest position lowest)))
+]
+  where
+    one_lowest : (other : ℕ) → IsLowest rest other → other ≡ low
+    one_lowest other also =
+        let below = is.least other also.has in let above = also.least low is.has in omega arith
+
+-- a list of masks with one that has more has more
+set_keeps : (rows : List ℕ) (at mask : ℕ) → at < length rows → ((bit : ℕ) → Has (get_or rows at 0) bit → Has mask bit)
+    → (other bit : ℕ) → Has (get_or rows other 0) bit → Has (get_or (set rows at mask) other 0) bit
+set_keeps rows at mask within more other bit has = elim (eqb_tells other at) [
+  | inl here ↦
+      let now : get_or (set rows at mask) other 0 ≡ mask =
+      ap (λ (i : ℕ). get_or (set rows at mask) i 0) here.1 ∙ get_or-set_same rows at mask 0 within in
+      subst (λ (m : ℕ). Has m bit) (sym now) (more bit (subst (λ (i : ℕ). Has (get_or rows i 0) bit) here.1 has))
+  | inr apart ↦ subst (λ (m : ℕ). Has m bit) (sym (get_or-set_other rows at other mask 0 apart.1)) has
+]
+
+module _ (old : List ℕ) (place mask : ℕ) where
+  -- the rows of the positions have the place but for those that are left
+  pub record IsHolding (rest : ℕ) (rows : List ℕ) : Type 0 where
+    pub left : (position : ℕ) → Has rest position → Has mask position
+    pub kept : KeepsRows old rows
+    pub held : (position : ℕ) → Has mask position → Has rest position ⊎ HasRow rows position place
+    pub only : (position other : ℕ) → other < max_reach → HasRow rows position other
+        → HasRow old position other ⊎ ((place ≡ other) × Has mask position)
+
+  -- all are left
+  pub holding_begun : IsHolding mask old
+  holding_begun = record {
+    left = λ position has. has;
+    kept = λ position other has. has;
+    held = λ position has. inl has;
+    only = λ position other lt row. inl row;
+  }
+
+  module _ (low word : ℕ) (rows : List ℕ) (within : low * block_count + place / 128 < length rows)
+      (read : word ≡ get_or rows (low * block_count + place / 128) 0) where
+    -- the rows with the place in one of them
+    abbrev rows' : List ℕ
+    rows' = set rows (low * block_count + place / 128) (bit_or word (2 ^ (place % 128)))
+
+    -- they have what they had
+    kept_rows : KeepsRows rows rows'
+    kept_rows position other has = record {
+      bit = set_keeps rows (low * block_count + place / 128) (bit_or word (2 ^ (place % 128))) within
+          (λ bit was. has_first word (2 ^ (place % 128)) bit (subst (λ (m : ℕ). Has m bit) (sym read) was))
+          (position * block_count + other / 128) (other % 128) has.bit;
+    }
+
+    -- and the place
+    row_has : HasRow rows' low place
+    row_has = record {
+      bit = subst (λ (m : ℕ). Has m (place % 128))
+          (sym (get_or-set_same rows (low * block_count + place / 128) (bit_or word (2 ^ (place % 128))) 0 within))
+          (has_second word (2 ^ (place % 128)) (place % 128) (has_one (place % 128)));
+    }
+
+    -- and no other
+    only_row : (position other : ℕ) → place < max_reach → other < max_reach → HasRow rows' position other
+        → HasRow rows position other ⊎ ((place ≡ other) × (position ≡ low))
+    only_row position other below lt row =
+        elim (eqb_tells (position * block_count + other / 128) (low * block_count + place / 128)) [
+          | inl (test, here) ↦
+              let now : get_or rows' (position * block_count + other / 128) 0 ≡ bit_or word (2 ^ (place % 128)) =
+              ap (λ (i : ℕ). get_or rows' i 0) here
+              ∙ get_or-set_same rows (low * block_count + place / 128) (bit_or word (2 ^ (place % 128))) 0 within in
+              elim (has_or word (2 ^ (place % 128)) (other % 128)
+              (subst (λ (m : ℕ). Has m (other % 128)) now row.bit)) [
+                | inl was ↦ inl (record {
+                  bit = subst (λ (m : ℕ). Has m (other % 128))
+                      (read ∙ sym (ap (λ (i : ℕ). get_or rows i 0) here)) was;
+                })
+                | inr one ↦
+                    let same : place % 128 ≡ other % 128 = has_only_one (place % 128) (other % 128) one in
+                    inr (omega arith, omega arith)
+              ]
+          | inr (test, apart) ↦ inl (record {
+            bit = subst (λ (m : ℕ). Has m (other % 128))
+                (get_or-set_other rows (low * block_count + place / 128) (position * block_count + other / 128)
+                (bit_or word (2 ^ (place % 128))) 0 apart) row.bit;
+          })
+        ]
+
+    -- the lowest of them
+    pub holding_next : (rest after : ℕ) → place < max_reach → IsHolding rest rows → IsLowest rest low
+        → ((other : ℕ) → Has after other ↔ (Has rest other × (IsLowest rest other → ⊥))) → IsHolding after rows'
+    holding_next rest after below before is exact = record {
+      left = λ position has. before.left position ((exact position).0 has).0;
+      kept = λ position other has. kept_rows position other (before.kept position other has);
+      held = λ position has. elim (before.held position has) [
+        | inr done ↦ inr (kept_rows position place done)
+        | inl waits ↦ elim (low_or_left rest low after position is exact waits) [
+          | inl here ↦ inr (subst (λ (p : ℕ). HasRow rows' p place) (sym here) row_has)
+          | inr still ↦ inl still
+        ]
+      ];
+      only = λ position other lt row. elim (only_row position other below lt row) [
+        | inl was ↦ before.only position other lt was
+        | inr (same, here) ↦ inr (same, subst (Has mask) (sym here) (before.left low is.has))
+      ];
+    }
+
+  -- all are done
+  pub holding_all : (rows : List ℕ) → IsHolding 0 rows → (position : ℕ) → Has mask position → HasRow rows position place
+  holding_all rows all position has = elim (all.held position has) [
+    | inl waits ↦ absurd (has_zero position waits)
+    | inr done ↦ done
+  ]
+
+module _ (rows : List ℕ) (mask block : ℕ) where
+  -- what is in the rows of the positions was found, but for those that are left
+  pub record IsGathering (rest found : ℕ) : Type 0 where
+    pub left : (position : ℕ) → Has rest position → Has mask position
+    pub found_in : (position place : ℕ) → Has mask position → place / 128 ≡ block → HasRow rows position place
+        → Has rest position ⊎ Has found (place % 128)
+
+  -- all are left
+  pub gathering_begun : (found : ℕ) → IsGathering mask found
+  gathering_begun found = record {
+    left = λ position has. has;
+    found_in = λ position place has here row. inl has;
+  }
+
+  -- the lowest of them
+  pub gathering_next : (rest low after word found : ℕ) → IsGathering rest found → IsLowest rest low
+      → ((other : ℕ) → Has after other ↔ (Has rest other × (IsLowest rest other → ⊥)))
+      → word ≡ get_or rows (low * block_count + block) 0 → IsGathering after (bit_or found word)
+  gathering_next rest low after word found before is exact read = record {
+    left = λ position has. before.left position ((exact position).0 has).0;
+    found_in = λ position place has here row. elim (before.found_in position place has here row) [
+      | inr done ↦ inr (has_first found word (place % 128) done)
+      | inl waits ↦ elim (low_or_left rest low after position is exact waits) [
+        | inl lowest ↦
+            let same : get_or rows (position * block_count + place / 128) 0 ≡ word =
+            ap (λ (p : ℕ). get_or rows (p * block_count + place / 128) 0) lowest
+            ∙ ap (λ (b : ℕ). get_or rows (low * block_count + b) 0) here ∙ sym read in
+            inr (has_second found word (place % 128) (subst (λ (m : ℕ). Has m (place % 128)) same row.bit))
+        | inr still ↦ inl still
+      ]
+    ];
+  }
+
+  -- all are done
+  pub gathering_all : (found : ℕ) → IsGathering 0 found → (position place : ℕ) → Has mask position
+      → place / 128 ≡ block → HasRow rows position place → Has found (place % 128)
+  gathering_all found all position place has here row = elim (all.found_in position place has here row) [
+    | inl waits ↦ absurd (has_zero position waits)
+    | inr done ↦ done
+  ]
+
+module _ (rows : List ℕ) (mask block : ℕ) where
+  -- what is not in the rows of the positions was found, but for those that are left
+  pub record IsLacking (rest found : ℕ) : Type 0 where
+    pub left : (position : ℕ) → Has rest position → Has mask position
+    pub lacks : (position place : ℕ) → Has mask position → place / 128 ≡ block
+        → Has rest position ⊎ (Has found (place % 128) ⊎ HasRow rows position place)
+
+  -- all are left
+  pub lacking_begun : (found : ℕ) → IsLacking mask found
+  lacking_begun found = record {
+    left = λ position has. has;
+    lacks = λ position place has here. inl has;
+  }
+
+  -- the lowest of them
+  pub lacking_next : (rest low after word found : ℕ) → IsLacking rest found → IsLowest rest low
+      → ((other : ℕ) → Has after other ↔ (Has rest other × (IsLowest rest other → ⊥))) → word < 2 ^ 128
+      → word ≡ get_or rows (low * block_count + block) 0 → IsLacking after (bit_or found (bit_not w128 word))
+  lacking_next rest low after word found before is exact fits read = record {
+    left = λ position has. before.left position ((exact position).0 has).0;
+    lacks = λ position place has here. elim (before.lacks position place has here) [
+      | inr done ↦ inr (elim done [
+        | inl found' ↦ inl (has_first found (bit_not w128 word) (place % 128) found')
+        | inr row ↦ inr row
+      ])
+      | inl waits ↦ elim (low_or_left rest low after position is exact waits) [
+        | inl lowest ↦
+            let same : get_or rows (position * block_count + place / 128) 0 ≡ word =
+            ap (λ (p : ℕ). get_or rows (p * block_count + place / 128) 0) lowest
+            ∙ ap (λ (b : ℕ). get_or rows (low * block_count + b) 0) here ∙ sym read in
+            inr (elim (in-or-not word (place % 128) fits (omega arith)) [
+              | inl one ↦ inr (record { bit = subst (λ (m : ℕ). Has m (place % 128)) (sym same) one })
+              | inr none ↦ inl (has_second found (bit_not w128 word) (place % 128) none)
+            ])
+        | inr still ↦ inl still
+      ]
+    ];
+  }
+
+  -- all are done
+  pub lacking_all : (found : ℕ) → IsLacking 0 found → (position place : ℕ) → Has mask position
+      → place / 128 ≡ block → Has found (place % 128) ⊎ HasRow rows position place
+  lacking_all found all position place has here = elim (all.lacks position place has here) [
+    | inl waits ↦ absurd (has_zero position waits)
+    | inr done ↦ done
+  ]
+
+-- what is in other rows of the ways than the mask has was found
+pub unlike_found : (rows : List ℕ) (ways mask block apart gathered lacking : ℕ)
+    → ((position : ℕ) → Has apart position ↔ (Has ways position × (Has mask position → ⊥)))
+    → ((position place : ℕ) → Has apart position → place / 128 ≡ block → HasRow rows position place
+    → Has gathered (place % 128))
+    → ((position place : ℕ) → Has (bit_and ways mask) position → place / 128 ≡ block
+    → Has lacking (place % 128) ⊎ HasRow rows position place)
+    → (position place : ℕ) → Has ways position → place / 128 ≡ block
+    → Has (bit_or gathered lacking) (place % 128) ⊎ (Has mask position ↔ HasRow rows position place)
+unlike_found rows ways mask block apart gathered lacking exact gathers lacks position place has here =
+    elim (eqb_tells (bit_at mask position) 1) [
+      | inl (test, one) ↦ elim (lacks position place (has-and_both ways mask position has one) here) [
+        | inl found ↦ inl (has_second gathered lacking (place % 128) found)
+        | inr row ↦ inr (λ is. row, λ is. one)
+      ]
+      | inr (test, none) ↦ elim (eqb_tells (bit_at gathered (place % 128)) 1) [
+        | inl (test', found) ↦ inl (has_first gathered lacking (place % 128) found)
+        | inr (test', missed) ↦ inr (
+          λ is. absurd (none is),
+          λ row. absurd (missed (gathers position place ((exact position).1 (has, none)) here row)),
+        )
+      ]
+    ]
+
+-- more pairs behind the others change none
+pub held_grown : (first second : List ℕ) (pairs pairs' : List Pair) (end : ℕ) → AreHeld first second pairs end
+    → end ≤ length pairs → IsGrown pairs pairs' → AreHeld first second pairs' end
+held_grown first second pairs pairs' end before within grown = record {
+  one = λ place position pair lt found has. before.one place position pair lt
+      (found_before pairs pairs' place pair grown (omega arith) found) has;
+  two = λ place position pair lt found has. before.two place position pair lt
+      (found_before pairs pairs' place pair grown (omega arith) found) has;
+}
+
+-- nor do fewer
+pub held_less : (first second : List ℕ) (pairs : List Pair) (end less : ℕ) → AreHeld first second pairs end
+    → less ≤ end → AreHeld first second pairs less
+held_less first second pairs end less before le = record {
+  one = λ place position pair lt found has. before.one place position pair (omega arith) found has;
+  two = λ place position pair lt found has. before.two place position pair (omega arith) found has;
+}
+
+-- one more pair is held
+pub held_next : (first second first' second' : List ℕ) (pairs : List Pair) (place : ℕ) (pair : Pair)
+    → AreHeld first second pairs place → slice_get pairs place ≡ Some pair
+    → KeepsRows first first' → ((position : ℕ) → Has (mask_of pair.first) position → HasRow first' position place)
+    → KeepsRows second second' → ((position : ℕ) → Has (mask_of pair.second) position → HasRow second' position place)
+    → AreHeld first' second' pairs (place + 1)
+held_next first second first' second' pairs place pair before found kept held kept' held' = record {
+  one = λ other position pair' lt found' has. elim (cases_lt other place) [
+    | inl less ↦ kept position other (before.one other position pair' less found' has)
+    | inr most ↦
+        let here : place ≡ other = omega arith in
+        let same : pair' ≡ pair = same_Some pair' pair
+        (sym found' ∙ subst (λ (p : ℕ). slice_get pairs p ≡ Some pair) here found) in
+        subst (λ (p : ℕ). HasRow first' position p) here
+        (held position (subst (λ q. Has (mask_of q.first) position) same has))
+  ];
+  two = λ other position pair' lt found' has. elim (cases_lt other place) [
+    | inl less ↦ kept' position other (before.two other position pair' less found' has)
+    | inr most ↦
+        let here : place ≡ other = omega arith in
+        let same : pair' ≡ pair = same_Some pair' pair
+        (sym found' ∙ subst (λ (p : ℕ). slice_get pairs p ≡ Some pair) here found) in
+        subst (λ (p : ℕ). HasRow second' position p) here
+        (held' position (subst (λ q. Has (mask_of q.second) position) same has))
+  ];
+}

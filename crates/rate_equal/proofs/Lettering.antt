@@ -1,0 +1,174 @@
+-- How letters are entered into rows, and told apart by these.
+use Rattle.std.proofs.Common.{◌≡◌, ℕ, ◌+◌, ◌*◌, ◌/◌, ◌%◌, ◌<◌, ◌≤◌, ◌∙◌, ◌↔◌, ◌⊎◌, List, Some, bit_and, bit_or, get_or, length, replicate, slice_get, ap, arith, sym, subst, inl, inr}
+use Rattle.std.proofs.lemmas.Bool.{cases_lt}
+use Rattle.std.proofs.lemmas.Bool.Decides.{eqb_tells}
+use Rattle.std.proofs.lemmas.Option.{same_Some, slice_get-get_or, slice_get_within}
+use Rattle.std.specs.Int.{bit_at}
+use Rattle.rate_expr.specs.Sets.{Has}
+use Rattle.rate_expr.specs.declared.state.State.TheVariants.{At}
+use Rattle.rate_expr.proofs.MaskMembers.{has_first, has_second, has_zero}
+use Rattle.rate_expr.proofs.MaskSets.{has-and, has-and_both, same-has}
+use Rattle.rate_equal.specs.Holding.{AreRows, HasRow, KeepsRows}
+use Rattle.rate_equal.specs.PlaceSets.{AddsBlock, HasPlace, KeepsBlock, block_count}
+use Rattle.rate_equal.specs.Reach.{max_reach}
+use Rattle.rate_equal.specs.Targets.{target}
+use Rattle.rate_equal.specs.declared.letters.Letter.{Letter}
+use Rattle.rate_equal.proofs.PlaceSets.{zero_there}
+
+-- what a list without the letter would give
+abbrev pub no_letter : Letter
+no_letter = record { missed = 0; first = 0; second = 0 }
+
+-- the letter below the end of a list
+pub letter_at : (letters : List Letter) (place : ℕ) → place < length letters
+    → slice_get letters place ≡ Some (get_or letters place no_letter)
+letter_at letters place within = slice_get-get_or letters place no_letter within
+
+module _ (mask : Letter → ℕ) (letters : List Letter) where
+  -- none is in rows of zeros
+  pub rows_begun : (count : ℕ) → AreRows mask (replicate count 0) letters 0
+  rows_begun count = record {
+    has = λ place position letter lt found has. absurd (omega (arith, lt));
+    only = λ place position letter lt found row. absurd (has_zero (place % 128)
+        (subst (λ (m : ℕ). Has m (place % 128)) (zero_there count (position * block_count + place / 128)) row.bit));
+  }
+
+  -- one more letter
+  pub rows_next : (rows rows' : List ℕ) (place : ℕ) (letter : Letter) → AreRows mask rows letters place
+      → slice_get letters place ≡ Some letter → KeepsRows rows rows'
+      → ((position : ℕ) → Has (mask letter) position → HasRow rows' position place)
+      → ((position other : ℕ) → other < max_reach → HasRow rows' position other
+      → HasRow rows position other ⊎ ((place ≡ other) × Has (mask letter) position))
+      → AreRows mask rows' letters (place + 1)
+  rows_next rows rows' place letter before found kept held only = record {
+    has = λ other position letter' lt found' has. elim (cases_lt other place) [
+      | inl less ↦ kept position other (before.has other position letter' less found' has)
+      | inr most ↦
+          let here : place ≡ other = omega arith in
+          subst (λ (p : ℕ). HasRow rows' position p) here
+          (held position (subst (λ (l : Letter). Has (mask l) position) (same other letter' found' here) has))
+    ];
+    only = λ other position letter' lt found' row. elim (only position other lt row) [
+      | inl was ↦ let (less, has) = before.only other position letter' lt found' was in (omega (arith, less), has)
+      | inr (here, has) ↦ (
+        omega (arith, here),
+        subst (λ (l : Letter). Has (mask l) position) (sym (same other letter' found' here)) has,
+      )
+    ];
+  }
+    where
+      same : (other : ℕ) (letter' : Letter) → slice_get letters other ≡ Some letter' → place ≡ other → letter' ≡ letter
+      same other letter' found' here = same_Some letter' letter
+          (sym found' ∙ subst (λ (p : ℕ). slice_get letters p ≡ Some letter) here found)
+
+-- masks that have the same positions on the ways have the same in common with them
+same_on : (ways met met' : ℕ) → ((position : ℕ) → Has ways position → Has met position ↔ Has met' position)
+    → bit_and ways met ≡ bit_and ways met'
+same_on ways met met' same = same-has (bit_and ways met) (bit_and ways met') (λ position. (
+  λ has. let both = has-and ways met position has in
+      has-and_both ways met' position both.0 ((same position both.0).0 both.1),
+  λ has. let both = has-and ways met' position has in
+      has-and_both ways met position both.0 ((same position both.0).1 both.1),
+))
+
+-- a letter that is in the same rows of the ways as another leads where that one does
+pub same_target : (first second : List ℕ) (letters : List Letter) (ways : ℕ × ℕ) (letter other : Letter)
+    (one two place : ℕ) → AreRows (λ l. l.first) first letters (length letters)
+    → AreRows (λ l. l.second) second letters (length letters)
+    → length letters ≤ max_reach → slice_get letters place ≡ Some other
+    → ((position : ℕ) → Has ways.0 position
+    → Has one (place % 128) ⊎ (Has letter.first position ↔ HasRow first position place))
+    → ((position : ℕ) → Has ways.1 position
+    → Has two (place % 128) ⊎ (Has letter.second position ↔ HasRow second position place))
+    → Has (bit_or one two) (place % 128) ⊎ (target ways other ≡ target ways letter)
+same_target first second letters ways letter other one two place in_first in_second few found alike alike' =
+    elim (eqb_tells (bit_at (bit_or one two) (place % 128)) 1) [
+      | inl (test, has) ↦ inl has
+      | inr (test, none) ↦ inr (λ j. record {
+        first = ap At (same_on ways.0 other.first letter.first (λ position on. elim (alike position on) [
+          | inl has ↦ absurd (none (has_first one two (place % 128) has))
+          | inr is ↦ (
+            λ has. is.1 (in_first.has place position other within found has),
+            λ has. (in_first.only place position other below found (is.0 has)).1,
+          )
+        ])) j;
+        second = ap At (same_on ways.1 other.second letter.second (λ position on. elim (alike' position on) [
+          | inl has ↦ absurd (none (has_second one two (place % 128) has))
+          | inr is ↦ (
+            λ has. is.1 (in_second.has place position other within found has),
+            λ has. (in_second.only place position other below found (is.0 has)).1,
+          )
+        ])) j;
+      })
+    ]
+  where
+    within : place < length letters
+    within = slice_get_within letters place other found
+
+    below : place < max_reach
+    below = omega (arith, within)
+
+module _ (letters : List Letter) (target_of : Letter → Type 0) (start : List ℕ) where
+  -- the places that were taken out of the set are those of letters of a kind
+  pub record IsPassing (places : List ℕ) : Type 0 where
+    pub kept : (place : ℕ) (other : Letter) → HasPlace start place → slice_get letters place ≡ Some other
+        → HasPlace places place ⊎ target_of other
+
+  -- none was
+  pub passing_begun : IsPassing start
+  passing_begun = record { kept = λ place other has found. inl has }
+
+  -- those of a block
+  pub passing_next : (block others : ℕ) (places places' : List ℕ) → IsPassing places
+      → KeepsBlock places places' block others
+      → ((place : ℕ) (other : Letter) → place / 128 ≡ block → slice_get letters place ≡ Some other
+      → Has others (place % 128) ⊎ target_of other) → IsPassing places'
+  passing_next block others places places' before keeps unlike = record {
+    kept = λ place other has found. elim (before.kept place other has found) [
+      | inr is ↦ inr is
+      | inl there ↦ elim (eqb_tells (place / 128) block) [
+        | inl (test, here) ↦ elim (unlike place other here found) [
+          | inl bit ↦ inl (keeps place there (λ same. bit))
+          | inr is ↦ inr is
+        ]
+        | inr (test, apart) ↦ inl (keeps place there (λ same. absurd (apart same)))
+      ]
+    ];
+  }
+
+module _ (mask : Letter → ℕ) (letters : List Letter) (positions : ℕ) where
+  -- the set has the places in the blocks below one of the letters that have one of the positions
+  pub record IsHaving (block : ℕ) (places : List ℕ) : Type 0 where
+    pub has : (place position : ℕ) (letter : Letter) → slice_get letters place ≡ Some letter → Has positions position
+        → Has (mask letter) position → place / 128 < block → HasPlace places place
+
+  -- of none
+  pub having_begun : (places : List ℕ) → IsHaving 0 places
+  having_begun places = record { has = λ place position letter found on met lt. absurd (omega (arith, lt)) }
+
+  -- of one block more
+  pub having_next : (rows : List ℕ) (block bits : ℕ) (places places' : List ℕ)
+      → AreRows mask rows letters (length letters)
+      → IsHaving block places → AddsBlock places places' block bits
+      → ((position place : ℕ) → Has positions position → place / 128 ≡ block → HasRow rows position place
+      → Has bits (place % 128)) → IsHaving (block + 1) places'
+  having_next rows block bits places places' are before adds gathers = record {
+    has = λ place position letter found on met lt. elim (cases_lt (place / 128) block) [
+      | inl less ↦ (adds place).1 (inl (before.has place position letter found on met less))
+      | inr most ↦
+          let here : place / 128 ≡ block = omega arith in
+          (adds place).1 (inr (
+            here,
+            gathers position place on here
+                (are.has place position letter (slice_get_within letters place letter found) found met),
+          ))
+    ];
+  }
+
+  -- of all
+  pub having_all : (places : List ℕ) → length letters ≤ max_reach → IsHaving block_count places
+      → (place position : ℕ) (letter : Letter) → slice_get letters place ≡ Some letter → Has positions position
+      → Has (mask letter) position → HasPlace places place
+  having_all places few all place position letter found on met =
+      let within = slice_get_within letters place letter found in
+      all.has place position letter found on met (omega arith)

@@ -1,0 +1,34 @@
+-- For the prover. Which pairs have a position in their states, and which letters.
+use Rattle.std.specs.Prelude.{◌≡◌, ◌<◌, ◌+◌, ◌*◌, ◌/◌, ◌%◌, ℕ, List, Some, slice_get, slice_index}
+use Rattle.rate_expr.specs.Sets.{Has}
+use Rattle.rate_equal.specs.Pairs.{mask_of}
+use Rattle.rate_equal.specs.PlaceSets.{block_count}
+use Rattle.rate_equal.specs.Reach.{max_reach}
+use Rattle.rate_equal.specs.declared.letters.Letter.{Letter}
+use Rattle.rate_equal.specs.declared.pair.Pair.{Pair}
+
+-- a row of blocks for each position; the place is in the row of the position
+pub record HasRow (rows : List ℕ) (position place : ℕ) : Type 0 where
+  pub bit : Has (slice_index rows (position * block_count + place / 128)) (place % 128)
+
+-- the rows have at least the places that they had
+abbrev pub KeepsRows : List ℕ → List ℕ → Type 0
+KeepsRows old new = (position place : ℕ) → HasRow old position place → HasRow new position place
+
+-- the place of each pair below a number is in the rows of its positions
+pub record AreHeld (first second : List ℕ) (pairs : List Pair) (end : ℕ) : Type 0 where
+  pub one : (place position : ℕ) (pair : Pair) → place < end → slice_get pairs place ≡ Some pair
+      → Has (mask_of pair.first) position → HasRow first position place
+  pub two : (place position : ℕ) (pair : Pair) → place < end → slice_get pairs place ≡ Some pair
+      → Has (mask_of pair.second) position → HasRow second position place
+
+-- the place of each letter below a number is in the rows of the positions in its mask, and in no
+-- other row
+pub record AreRows (mask : Letter → ℕ) (rows : List ℕ) (letters : List Letter)
+    (end : ℕ) : Type 0 where
+  pub has : (place position : ℕ) (letter : Letter) → place < end
+      → slice_get letters place ≡ Some letter → Has (mask letter) position
+      → HasRow rows position place
+  pub only : (place position : ℕ) (letter : Letter) → place < max_reach
+      → slice_get letters place ≡ Some letter → HasRow rows position place
+      → (place < end) × Has (mask letter) position

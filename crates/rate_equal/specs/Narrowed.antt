@@ -1,0 +1,28 @@
+-- For the prover. What pairs have in common with ways on.
+use Rattle.std.specs.Prelude.{ℕ, bit_and}
+use Rattle.rate_expr.specs.Sets.{Has}
+use Rattle.rate_expr.specs.declared.state.State.{State}
+use Rattle.rate_expr.specs.declared.state.State.TheVariants.{Initial, At}
+use Rattle.rate_equal.specs.Pairs.{mask_of}
+use Rattle.rate_equal.specs.declared.pair.Pair.{Pair}
+
+-- all positions of the one mask are in the other
+abbrev pub IsWithin : ℕ → ℕ → Type 0
+IsWithin mask wider = (position : ℕ) → Has mask position → Has wider position
+
+-- the states of a pair have no positions but these
+abbrev pub AreStatesWithin : ℕ × ℕ → Pair → Type 0
+AreStatesWithin ways pair =
+    IsWithin (mask_of pair.first) ways.0 × IsWithin (mask_of pair.second) ways.1
+
+-- what the state has in common with the ways
+abbrev pub narrowed_state : ℕ → State → State
+narrowed_state ways Initial = Initial
+narrowed_state ways (At mask) = At (bit_and mask ways)
+
+-- and the states of a pair with those of both automata
+abbrev pub narrowed : ℕ × ℕ → Pair → Pair
+narrowed ways pair = record {
+  first = narrowed_state ways.0 pair.first;
+  second = narrowed_state ways.1 pair.second;
+}

@@ -1,0 +1,29 @@
+-- For the prover. Sets of places in a list, as blocks of 128 bits.
+use Rattle.std.specs.Prelude.{◌≡◌, ◌⊎◌, ◌↔◌, ◌/◌, ◌%◌, ℕ, List, slice_index}
+use Rattle.rate_expr.specs.Sets.{Has}
+
+-- how many blocks a set has
+abbrev pub block_count : ℕ
+block_count = 32
+
+-- the place is in the set
+pub record HasPlace (places : List ℕ) (place : ℕ) : Type 0 where
+  pub bit : Has (slice_index places (place / 128)) (place % 128)
+
+-- the set has one more place
+abbrev pub AddsPlace : List ℕ → List ℕ → ℕ → Type 0
+AddsPlace old new place = (other : ℕ) → HasPlace new other ↔ (HasPlace old other ⊎ (place ≡ other))
+
+-- it has those of a block that are in a mask
+abbrev pub AddsBlock : List ℕ → List ℕ → ℕ → ℕ → Type 0
+AddsBlock old new block mask = (other : ℕ)
+    → HasPlace new other ↔ (HasPlace old other ⊎ ((other / 128 ≡ block) × Has mask (other % 128)))
+
+-- it has at least those that it had in other blocks, and in a block those in a mask
+abbrev pub KeepsBlock : List ℕ → List ℕ → ℕ → ℕ → Type 0
+KeepsBlock old new block mask = (place : ℕ) → HasPlace old place
+    → (place / 128 ≡ block → Has mask (place % 128)) → HasPlace new place
+
+-- the bit of the place is in the mask of the block
+abbrev pub IsIn : ℕ → ℕ → ℕ → Type 0
+IsIn block mask place = (place / 128 ≡ block) × Has mask (place % 128)

@@ -1,0 +1,137 @@
+//! The letters of two automata, and which have a position.
+ghost use Rattle.std.specs.Prelude.{◌≡◌, ◌≤◌, ◌<◌, ◌/◌, ◌%◌, ◌⊎◌, ℕ, IfOk, IfSome, Some, length, slice_get};
+ghost use Rattle.std.specs.List.{Contains};
+ghost use Rattle.rate_expr.specs.Sets.{Has};
+ghost use Rattle.rate_equal.specs.Holding.{AreRows};
+ghost use Rattle.rate_equal.specs.PlaceSets.{block_count, HasPlace};
+ghost use Rattle.rate_equal.specs.Reach.{max_reach};
+ghost use Rattle.rate_equal.specs.Targets.{target};
+ghost use Rattle.rate_equal.specs.declared.letters.Letter.{Letter as LetterOf};
+
+use crate::letters::Letter;
+use crate::places::{BLOCKS, Places};
+use crate::rows::{ROWS, gather, hold, unlike};
+use std::alloc::{AllocError, Global};
+
+/// The letters, and for each position of either automaton the places of those that have it.
+#[derive(Drop)]
+pub(crate) struct Alphabet {
+    pub(crate) letters: Vec<Letter>,
+    first: Vec<u128>,
+    second: Vec<u128>,
+    ghost few: { length letters.items ≤ max_reach },
+    ghost rows_of_first: { length first.items ≡ max_reach },
+    ghost rows_of_second: { length second.items ≡ max_reach },
+    ghost in_first: { AreRows (λ l. l.first) first.items letters.items (length letters.items) },
+    ghost in_second: { AreRows (λ l. l.second) second.items letters.items (length letters.items) },
+}
+
+impl Alphabet {
+    /// That of the letters.
+    pub(crate) fn new(alloc: Global, letters: Vec<Letter>) -> Result<Alphabet, AllocError>
+        requires { length letters.items ≤ max_reach }
+        ensures { IfOk result (λ alphabet. alphabet.letters.items ≡ letters.items) }
+    {
+        let mut first = vec![in alloc; 0; ROWS]?;
+        let mut second = vec![in alloc; 0; ROWS]?;
+        enter(&mut first, &mut second, &letters);
+        Ok(Alphabet {
+            letters,
+            first,
+            second,
+        })
+    }
+
+    /// The places of all letters.
+    pub(crate) fn all(&self, alloc: Global) -> Result<Places, AllocError>
+        ensures { IfOk result (λ places. (place : ℕ) (letter : LetterOf)
+            → slice_get self.now.letters.items place ≡ Some letter → HasPlace places place) }
+    {
+        let mut places = Places::none(alloc)?;
+        'letters: for place in 0..self.letters.len() {
+            places.insert(place);
+        }
+        Ok(places)
+    }
+
+    /// The places of the letters that have one of the positions.
+    pub(crate) fn having(
+        &self,
+        alloc: Global,
+        positions: (u128, u128),
+    ) -> Result<Places, AllocError>
+        ensures first { IfOk result (λ places. (place position : ℕ) (letter : LetterOf)
+            → slice_get self.now.letters.items place ≡ Some letter → Has positions.0 position
+            → Has letter.first position → HasPlace places place) }
+        ensures second { IfOk result (λ places. (place position : ℕ) (letter : LetterOf)
+            → slice_get self.now.letters.items place ≡ Some letter → Has positions.1 position
+            → Has letter.second position → HasPlace places place) }
+    {
+        let mut places = Places::none(alloc)?;
+        'parts: for block in 0..BLOCKS {
+            let first = gather(&self.first, positions.0, block);
+            let second = gather(&self.second, positions.1, block);
+            places.insert_all(block, first | second);
+        }
+        Ok(places)
+    }
+
+    /// How many letters have one of the positions.
+    pub(crate) fn count_having(&self, positions: (u128, u128)) -> u32 {
+        let mut count: u32 = 0;
+        'parts: for block in 0..BLOCKS {
+            let first = gather(&self.first, positions.0, block);
+            let second = gather(&self.second, positions.1, block);
+            count = count.saturating_add((first | second).count_ones());
+        }
+        count
+    }
+
+    /// A letter whose place is in the set.
+    pub(crate) fn first_of(&self, places: &Places) -> Option<Letter>
+        ensures { IfSome result (λ letter. Contains self.now.letters.items letter) }
+    {
+        self.letters.get(places.first()?).copied()
+    }
+
+    /// Takes the places of the letters out of the set that lead where this one does.
+    pub(crate) fn pass(&self, places: &mut Places, letter: Letter, ways: (u128, u128))
+        ensures { (place : ℕ) (other : LetterOf) → HasPlace places.old place
+            → slice_get self.now.letters.items place ≡ Some other
+            → HasPlace places.new place ⊎ (target ways other ≡ target ways letter) }
+    {
+        'parts: for block in 0..BLOCKS {
+            let others = self.unlike(letter, ways, block);
+            places.keep(block, others);
+        }
+    }
+
+    // The bits, in a block, of the places of letters that lead elsewhere.
+    fn unlike(&self, letter: Letter, ways: (u128, u128), block: usize) -> u128
+        requires { block < block_count }
+        ensures { (place : ℕ) (other : LetterOf) → place / 128 ≡ block
+            → slice_get self.now.letters.items place ≡ Some other
+            → Has result (place % 128) ⊎ (target ways other ≡ target ways letter) }
+    {
+        let first = unlike(&self.first, ways.0, letter.first, block);
+        let second = unlike(&self.second, ways.1, letter.second, block);
+        first | second
+    }
+}
+
+// Enters the letters into empty rows.
+fn enter(first: &mut [u128], second: &mut [u128], letters: &[Letter])
+    requires few { length letters.now ≤ max_reach }
+    requires rows_of_first { length first.old ≡ max_reach }
+    requires rows_of_second { length second.old ≡ max_reach }
+    requires first { AreRows (λ l. l.first) first.old letters.now 0 }
+    requires second { AreRows (λ l. l.second) second.old letters.now 0 }
+    ensures first { AreRows (λ l. l.first) first.new letters.now (length letters.now) }
+    ensures second { AreRows (λ l. l.second) second.new letters.now (length letters.now) }
+{
+    'letters: for place in 0..letters.len() {
+        let letter = letters[place];
+        hold(first, letter.first, place);
+        hold(second, letter.second, place);
+    }
+}

@@ -1,0 +1,74 @@
+//! Which pairs have a position in their states.
+ghost use Rattle.std.specs.Prelude.{◌≡◌, ◌≤◌, ◌<◌, ◌/◌, ◌%◌, ℕ, IfOk, length};
+ghost use Rattle.rate_expr.specs.Sets.{Has};
+ghost use Rattle.rate_equal.specs.Holding.{AreHeld, HasRow};
+ghost use Rattle.rate_equal.specs.PlaceSets.{block_count};
+ghost use Rattle.rate_equal.specs.Reach.{max_reach};
+
+use crate::pair::{Pair, mask};
+use crate::rows::{ROWS, gather, hold};
+use std::alloc::{AllocError, Global};
+
+/// For each position of two automata, the places of the pairs that have it.
+#[derive(Drop)]
+pub(crate) struct Holders {
+    pub(crate) first: Vec<u128>,
+    pub(crate) second: Vec<u128>,
+    // How many pairs were entered.
+    pub(crate) count: usize,
+    ghost rows_of_first: { length first.items ≡ max_reach },
+    ghost rows_of_second: { length second.items ≡ max_reach },
+}
+
+impl Holders {
+    /// Those of no pairs.
+    pub(crate) fn new(alloc: Global) -> Result<Holders, AllocError>
+        ensures { IfOk result (λ holders. holders.count ≡ 0) }
+    {
+        Ok(Holders {
+            first: vec![in alloc; 0; ROWS]?,
+            second: vec![in alloc; 0; ROWS]?,
+            count: 0,
+        })
+    }
+
+    /// Enters the pairs that are new.
+    pub(crate) fn enter(&mut self, pairs: &[Pair])
+        requires few { length pairs.now ≤ max_reach }
+        requires held { AreHeld self.old.first.items self.old.second.items
+            pairs.now self.old.count }
+        ensures held { AreHeld self.new.first.items self.new.second.items pairs.now self.new.count }
+        ensures count { self.new.count ≡ length pairs.now }
+    {
+        enter(&mut self.first, &mut self.second, pairs, self.count);
+        self.count = pairs.len();
+    }
+
+    /// The bits, in a block, of the places of pairs that have one of the positions.
+    pub(crate) fn block(&self, positions: (u128, u128), block: usize) -> u128
+        requires { block < block_count }
+        ensures first { (position place : ℕ) → Has positions.0 position → place / 128 ≡ block
+            → HasRow self.now.first.items position place → Has result (place % 128) }
+        ensures second { (position place : ℕ) → Has positions.1 position → place / 128 ≡ block
+            → HasRow self.now.second.items position place → Has result (place % 128) }
+    {
+        let first = gather(&self.first, positions.0, block);
+        let second = gather(&self.second, positions.1, block);
+        first | second
+    }
+}
+
+// Enters the pairs from one on.
+fn enter(first: &mut [u128], second: &mut [u128], pairs: &[Pair], start: usize)
+    requires first { length first.old ≡ max_reach }
+    requires second { length second.old ≡ max_reach }
+    requires few { length pairs.now ≤ max_reach }
+    requires held { AreHeld first.old second.old pairs.now start }
+    ensures { AreHeld first.new second.new pairs.now (length pairs.now) }
+{
+    'pairs: for place in start..pairs.len() {
+        let pair = pairs[place];
+        hold(first, mask(pair.first), place);
+        hold(second, mask(pair.second), place);
+    }
+}
