@@ -1,5 +1,5 @@
 -- What is kept in its room, where a follower comes, begins or comes to rest.
-use Rattle.std.proofs.Common.{◌==◌, get_or, set, ◌≡◌, ◌+◌, ◌<◌, ◌++◌, ℕ, List, [], ◌∷◌, None, length, sym, subst, arith}
+use Rattle.std.proofs.Common.{◌==◌, get_or, set, ◌≡◌, ◌∙◌, ◌+◌, ◌<◌, ◌++◌, ℕ, List, [], ◌∷◌, None, length, sym, subst, arith}
 use Rattle.std.proofs.lemmas.List.{length-append, length-set}
 use Rattle.compose_eval.specs.Followers.{instance_at, IsKept}
 use Rattle.compose_eval.specs.declared.instance.Instance.{Instance}
@@ -13,8 +13,8 @@ module _ {R : Type 0} where
   IsKept-none live idle room c d no_live no_idle live_room idle_room =
       subst (λ (xs : List (Instance R)). IsKept xs idle room c d) (sym no_live)
       (subst (λ (ys : List R). IsKept [] ys room c d) (sym no_idle) (record {
-        live_reserved = omega (arith, live_room);
-        idle_reserved = omega (arith, idle_room);
+        live_reserved = live_room;
+        idle_reserved = idle_room;
         few = omega arith;
         distinct = distinct_none;
       }))
@@ -39,9 +39,8 @@ module _ {R : Type 0} where
       → instance_at live x.outer ≡ None → grown ≡ c → IsKept now idle room grown d
   IsKept-put live now idle x room c d grown is was spare none more =
       let count = length-append live (x ∷ []) in
-      let reserved = was.live_reserved in
       subst (λ (xs : List (Instance R)). IsKept xs idle room grown d) (sym is) (record {
-        live_reserved = omega (arith, reserved, more);
+        live_reserved = more ∙ was.live_reserved;
         idle_reserved = was.idle_reserved;
         few = omega (arith, count, spare);
         distinct = distinct_more live x was.distinct none;
@@ -57,12 +56,10 @@ module _ {R : Type 0} where
       let after = length-append front back in
       let count = length-append idle (x.follower ∷ []) in
       let few = was.few in
-      let live_reserved = was.live_reserved in
-      let idle_reserved = was.idle_reserved in
       subst (λ (xs : List (Instance R)). IsKept xs resting room same grown) (sym left)
       (subst (λ (ys : List R). IsKept (front ++ back) ys room same grown) (sym rested) (record {
-        live_reserved = omega (arith, live_reserved, as_before);
-        idle_reserved = omega (arith, idle_reserved, more);
+        live_reserved = as_before ∙ was.live_reserved;
+        idle_reserved = more ∙ was.idle_reserved;
         few = omega (arith, before, after, count, few);
         distinct = distinct_without front back x was.distinct;
       }))

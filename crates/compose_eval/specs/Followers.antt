@@ -59,11 +59,11 @@ module _ {R : Type 0} where
     pub last : old.idle ≡ new.idle ++ follower ∷ []
     pub woken : new.live ≡ old.live ++ record { outer = outer; follower = follower } ∷ []
 
-  -- both lists have the room reserved, and no more than so many followers are in them together
+  -- both lists have just the room reserved, and no more than so many followers are in them together
   pub record IsKept (live : List (Instance R)) (idle : List R)
       (room live_capacity idle_capacity : ℕ) : Type 0 where
-    pub live_reserved : room ≤ live_capacity
-    pub idle_reserved : room ≤ idle_capacity
+    pub live_reserved : live_capacity ≡ room
+    pub idle_reserved : idle_capacity ≡ room
     pub few : length live + length idle ≤ room
     pub distinct : AreDistinct live
 

@@ -1,6 +1,7 @@
 -- The same calls of the same nodes.
 use Rattle.std.proofs.Common.{◌≡◌, ◌∙◌, ℕ, Bool, List, Option, Result, Ok, Err, ap, sym, subst, arith, of_z, to_z, to_z-of_z, w64}
-use Rattle.std.specs.Prelude.{ℤ, Box, FitsSigned, IfOk}
+use Rattle.std.specs.Prelude.{ℤ, Box, FitsSigned, IfOk, IsErr, IsOk}
+use Rattle.std.proofs.lemmas.Bool.{false≢true}
 use Rattle.std.specs.declared.alloc.Global.{Global}
 use Rattle.value_ops.specs.declared.field.Field.{Field}
 use Rattle.value_ops.specs.declared.scalar.Scalar.TheVariants.{Number}
@@ -13,12 +14,13 @@ use Rattle.split_eval.specs.Entries.{Contents}
 use Rattle.eval_tree.specs.declared.hit.Hit.{Hit}
 use Rattle.eval_tree.specs.declared.node.Node.{Node}
 use Rattle.eval_tree.specs.declared.progress.Progress.{Progress}
+use Rattle.eval_tree.specs.Calls.{Found, HasStarted, HasStepped}
 use Rattle.eval_tree.specs.Holdings.{Holding}
 use Rattle.eval_tree.specs.Lefts.{IsEnded}
 use Rattle.eval_tree.specs.Live.{live_of}
 use Rattle.eval_tree.specs.Numbers.{StartsNumbers, StepsNumbers}
 use Rattle.eval_tree.specs.Plain.{holding_of, seen_of}
-use Rattle.eval_tree.specs.Steps.{CanStart, CanStep, Starts, StartsSoundly, Steps, StepsSoundly}
+use Rattle.eval_tree.specs.Steps.{CanStart, CanStep, StartsSoundly, StepsSoundly}
 
 -- what a reference leads to
 pub same_query : (x y : Query) → x ≡ y → plain_of y.shape ≡ plain_of x.shape
@@ -44,6 +46,68 @@ pub where_ok : {T E : Type 0} → (result : Result T E) (P Q : T → Type 0) →
 where_ok (Ok x) P Q each is = each x is
 where_ok (Err e) P Q each is = tt
 
+-- what a call promises of the same query, of nodes that are the same before it and behind it, and of the same result
+pub started_from : (q q' : Qre) (h h' k : Holding Progress) (at : ℕ) (result : Found) → q' ≡ q → h' ≡ h
+    → HasStarted seen_of q h at k result → HasStarted seen_of q' h' at k result
+started_from q q' h h' k at result query before is =
+    subst (λ (x : Qre). HasStarted seen_of x h' at k result) (sym query)
+    (subst (λ (x : Holding Progress). HasStarted seen_of q x at k result) (sym before) is)
+
+pub started_as : (q q' : Qre) (h h' k k' : Holding Progress) (at : ℕ) (result result' : Found) → q' ≡ q → h' ≡ h
+    → k' ≡ k → result' ≡ result → HasStarted seen_of q h at k result → HasStarted seen_of q' h' at k' result'
+started_as q q' h h' k k' at result result' query before after results is =
+    started_from q q' h h' k' at result' query before
+    (subst (λ (x : Holding Progress). HasStarted seen_of q h at x result') (sym after)
+    (subst (λ (x : Found). HasStarted seen_of q h at k x) (sym results) is))
+
+pub stepped_from : (q q' : Qre) (h h' k : Holding Progress) (now : ℕ) (item : List Field) (result : Found) → q' ≡ q
+    → h' ≡ h → HasStepped seen_of q h now item k result → HasStepped seen_of q' h' now item k result
+stepped_from q q' h h' k now item result query before is =
+    subst (λ (x : Qre). HasStepped seen_of x h' now item k result) (sym query)
+    (subst (λ (x : Holding Progress). HasStepped seen_of q x now item k result) (sym before) is)
+
+pub stepped_as : (q q' : Qre) (h h' k k' : Holding Progress) (now : ℕ) (item : List Field) (result result' : Found)
+    → q' ≡ q → h' ≡ h → k' ≡ k → result' ≡ result → HasStepped seen_of q h now item k result
+    → HasStepped seen_of q' h' now item k' result'
+stepped_as q q' h h' k k' now item result result' query before after results is =
+    stepped_from q q' h h' k' now item result' query before
+    (subst (λ (x : Holding Progress). HasStepped seen_of q h now item x result') (sym after)
+    (subst (λ (x : Found). HasStepped seen_of q h now item k x) (sym results) is))
+
+-- what the last call gives is the result, and where it gives a hit this is known
+pub when_started : (q : Qre) (h k : Holding Progress) (at : ℕ) (result : Found) (P : Option Hit → Type 0)
+    → ((hit : Option Hit) → P hit → HasStarted seen_of q h at k (Ok hit)) → IfOk result P
+    → (StartsNumbers seen_of q h at → IsOk result) → HasStarted seen_of q h at k result
+when_started q h k at (Ok hit) P each is free = each hit is
+when_started q h k at (Err e) P each is free = record { word = tt; sound = tt; no_memory = free }
+
+pub when_stepped : (q : Qre) (h k : Holding Progress) (now : ℕ) (item : List Field) (result : Found)
+    (P : Option Hit → Type 0) → ((hit : Option Hit) → P hit → HasStepped seen_of q h now item k (Ok hit))
+    → IfOk result P → (StepsNumbers seen_of q h now item → IsOk result) → HasStepped seen_of q h now item k result
+when_stepped q h k now item (Ok hit) P each is free = each hit is
+when_stepped q h k now item (Err e) P each is free = record { word = tt; sound = tt; no_memory = free }
+
+-- memory is wanting, but not in a number query
+pub start_fails : (q q' : Qre) (h h' k : Holding Progress) (at : ℕ) (result : Found) → IsErr result → q' ≡ q → h' ≡ h
+    → (StartsNumbers seen_of q h at → ⊥) → HasStarted seen_of q' h' at k result
+start_fails q q' h h' k at (Ok hit) failed query before never = absurd (false≢true failed)
+start_fails q q' h h' k at (Err e) failed query before never = started_from q q' h h' k at (Err e) query before (record {
+  word = tt;
+  sound = tt;
+  no_memory = λ free. absurd (never free);
+})
+
+pub step_fails : (q q' : Qre) (h h' k : Holding Progress) (now : ℕ) (item : List Field) (result : Found)
+    → IsErr result → q' ≡ q → h' ≡ h → (StepsNumbers seen_of q h now item → ⊥)
+    → HasStepped seen_of q' h' now item k result
+step_fails q q' h h' k now item (Ok hit) failed query before never = absurd (false≢true failed)
+step_fails q q' h h' k now item (Err e) failed query before never =
+    stepped_from q q' h h' k now item (Err e) query before (record {
+      word = tt;
+      sound = tt;
+      no_memory = λ free. absurd (never free);
+    })
+
 -- a fact on a query, a node before a call and behind it, and a hit
 moved : (P : Qre → Holding Progress → Holding Progress → Option Hit → Type 0) (q q' : Qre)
     (h h' k k' : Holding Progress)
@@ -54,20 +118,10 @@ moved P q q' h h' k k' hit hit' query before after hits is =
     (subst (λ (x : Holding Progress). P q h x hit') (sym after)
     (subst (λ (x : Option Hit). P q h k x) (sym hits) is)))
 
-pub started_as : (q q' : Qre) (h h' k k' : Holding Progress) (at : ℕ) (hit hit' : Option Hit) → q' ≡ q → h' ≡ h
-    → k' ≡ k → hit' ≡ hit → Starts seen_of q h at k hit → Starts seen_of q' h' at k' hit'
-started_as q q' h h' k k' at hit hit' =
-    moved (λ p old new found. Starts seen_of p old at new found) q q' h h' k k' hit hit'
-
 pub soundly_started_as : (q q' : Qre) (h h' k k' : Holding Progress) (at : ℕ) (hit hit' : Option Hit) → q' ≡ q
     → h' ≡ h → k' ≡ k → hit' ≡ hit → StartsSoundly seen_of q h at k hit → StartsSoundly seen_of q' h' at k' hit'
 soundly_started_as q q' h h' k k' at hit hit' =
     moved (λ p old new found. StartsSoundly seen_of p old at new found) q q' h h' k k' hit hit'
-
-pub stepped_as : (q q' : Qre) (h h' k k' : Holding Progress) (now : ℕ) (item : List Field) (hit hit' : Option Hit)
-    → q' ≡ q → h' ≡ h → k' ≡ k → hit' ≡ hit → Steps seen_of q h now item k hit → Steps seen_of q' h' now item k' hit'
-stepped_as q q' h h' k k' now item hit hit' =
-    moved (λ p old new found. Steps seen_of p old now item new found) q q' h h' k k' hit hit'
 
 pub soundly_stepped_as : (q q' : Qre) (h h' k k' : Holding Progress) (now : ℕ) (item : List Field)
     (hit hit' : Option Hit) → q' ≡ q → h' ≡ h → k' ≡ k → hit' ≡ hit

@@ -1,5 +1,5 @@
 -- A collect in memory.
-use Rattle.std.proofs.Common.{◌≡◌, ℕ, List, Option, refl, ap}
+use Rattle.std.proofs.Common.{◌≡◌, ℕ, List, Option, Ok, refl, ap}
 use Rattle.value_ops.specs.declared.field.Field.{Field}
 use Rattle.predicate_cells.specs.Predicates.{Predicate}
 use Rattle.rate_expr.specs.Rates as rates
@@ -12,10 +12,10 @@ use Rattle.eval_tree.specs.declared.node.State.TheOpen.{State-F}
 use Rattle.eval_tree.specs.declared.node.State.TheVariants.{Tracked}
 use Rattle.eval_tree.specs.declared.node.State.TheViews.{out-roll-State, roll-State}
 use Rattle.eval_tree.specs.declared.progress.Progress.{Progress}
+use Rattle.eval_tree.specs.Calls.{HasStarted, HasStepped}
 use Rattle.eval_tree.specs.Holdings.{tracked}
 use Rattle.eval_tree.specs.Plain.{holding_of, seen_of, tracks_of}
 use Rattle.eval_tree.specs.Pushes.{BeginsAt, PassesBy}
-use Rattle.eval_tree.specs.Steps.{Starts, StartsSoundly, Steps, StepsSoundly}
 use Rattle.eval_tree.proofs.CollectSoundness.{sound_start_collect, sound_step_collect}
 use Rattle.eval_tree.proofs.CollectStarts.{start_collect}
 use Rattle.eval_tree.proofs.CollectSteps.{step_collect}
@@ -31,29 +31,24 @@ pub tracks_are : (all : Contents Progress) → tracks_of (out-State (Tracked all
 unfolding roll-State denote.Hole.Carrier.roll
 tracks_are all = ap (λ (x : State-F State Node Progress). tracks_of x) (out-roll-State (State-F.Tracked all))
 
-module _ (column : ℕ) (sync : Predicate) (rate : rates.Expression) (f : Qre) where
-  pub collect_starts : (old new : Contents Progress) (at : ℕ) (hit : Option Hit) → BeginsAt seen_of f old at new hit
-      → Starts seen_of (collect column sync rate f) (tracked old) at (tracked new) hit
-  collect_starts old new at hit begins = start_collect seen_of column sync rate f old new at hit begins.puts begins.first
+module _ (column : ℕ) (sync : Predicate) (rate : rates.Expression) (f : Qre) (old new : Contents Progress) where
+  pub collect_starts : (at : ℕ) (hit : Option Hit) → BeginsAt seen_of f old at new hit
+      → HasStarted seen_of (collect column sync rate f) (tracked old) at (tracked new) (Ok hit)
+  collect_starts at hit begins = record {
+    word = start_collect seen_of column sync rate f old new at hit begins.puts begins.first;
+    sound = sound_start_collect seen_of column sync rate f old new at hit begins.puts begins.first;
+    no_memory = λ free. refl;
+  }
 
-  pub collect_starts_soundly : (old new : Contents Progress) (at : ℕ) (hit : Option Hit)
-      → BeginsAt seen_of f old at new hit
-      → StartsSoundly seen_of (collect column sync rate f) (tracked old) at (tracked new) hit
-  collect_starts_soundly old new at hit begins =
-      sound_start_collect seen_of column sync rate f old new at hit begins.puts begins.first
-
-  pub collect_steps : (old new : Contents Progress) (now : ℕ) (item : List Field) (hit : Option Hit)
+  pub collect_steps : (now : ℕ) (item : List Field) (hit : Option Hit)
       → PassesBy seen_of f column sync item old new hit
-      → Steps seen_of (collect column sync rate f) (tracked old) now item (tracked new) hit
-  collect_steps old new now item hit passes =
-      step_collect seen_of column sync rate f old (record { nfa = old.nfa; tracks = passes.advanced })
-      (record { nfa = old.nfa; tracks = passes.pushed }) new now item hit passes.advances refl passes.pushes passes.tabled
-      passes.keeps passes.nfa
-
-  pub collect_steps_soundly : (old new : Contents Progress) (now : ℕ) (item : List Field) (hit : Option Hit)
-      → PassesBy seen_of f column sync item old new hit
-      → StepsSoundly seen_of (collect column sync rate f) (tracked old) now item (tracked new) hit
-  collect_steps_soundly old new now item hit passes =
-      sound_step_collect seen_of column sync rate f old (record { nfa = old.nfa; tracks = passes.advanced })
-      (record { nfa = old.nfa; tracks = passes.pushed }) new now item hit passes.advances refl passes.pushes passes.tabled
-      passes.keeps passes.nfa
+      → HasStepped seen_of (collect column sync rate f) (tracked old) now item (tracked new) (Ok hit)
+  collect_steps now item hit passes = record {
+    word = step_collect seen_of column sync rate f old (record { nfa = old.nfa; tracks = passes.advanced })
+        (record { nfa = old.nfa; tracks = passes.pushed }) new now item hit passes.advances refl passes.pushes
+        passes.tabled passes.keeps passes.nfa;
+    sound = sound_step_collect seen_of column sync rate f old (record { nfa = old.nfa; tracks = passes.advanced })
+        (record { nfa = old.nfa; tracks = passes.pushed }) new now item hit passes.advances refl passes.pushes
+        passes.tabled passes.keeps passes.nfa;
+    no_memory = λ free. refl;
+  }

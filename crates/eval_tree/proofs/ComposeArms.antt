@@ -1,5 +1,5 @@
 -- A compose in memory.
-use Rattle.std.proofs.Common.{◌≡◌, ◌++◌, ℕ, Bool, List, Option, ap}
+use Rattle.std.proofs.Common.{◌≡◌, ◌++◌, ℕ, Bool, List, Option, Ok, ap, refl}
 use Rattle.std.specs.Prelude.{Box}
 use Rattle.std.specs.declared.alloc.Global.{Global}
 use Rattle.value_ops.specs.declared.field.Field.{Field}
@@ -12,11 +12,12 @@ use Rattle.eval_tree.specs.declared.node.State.TheOpen.{State-F}
 use Rattle.eval_tree.specs.declared.node.State.TheVariants.{Fed}
 use Rattle.eval_tree.specs.declared.node.State.TheViews.{out-State, out-roll-State, roll-State}
 use Rattle.eval_tree.specs.declared.progress.Progress.{Progress}
+use Rattle.eval_tree.specs.Calls.{HasStarted, HasStepped}
 use Rattle.eval_tree.specs.Feeds.{Feeds, PassesOn}
-use Rattle.eval_tree.specs.Holdings.{fed}
+use Rattle.eval_tree.specs.Holdings.{Holding, fed}
 use Rattle.eval_tree.specs.Live.{live_of}
 use Rattle.eval_tree.specs.Plain.{holding_of, runners_of, seen_of}
-use Rattle.eval_tree.specs.Steps.{Starts, Steps}
+use Rattle.eval_tree.proofs.ComposeSoundness.{sound_start_compose, sound_step_compose}
 use Rattle.eval_tree.proofs.ComposeStarts.{start_compose}
 use Rattle.eval_tree.proofs.ComposeSteps.{step_compose}
 
@@ -34,25 +35,25 @@ unfolding roll-State denote.Hole.Carrier.roll
 runners_are a held =
     ap (λ (x : State-F State Node Progress). runners_of x) (out-roll-State (State-F.Fed a held))
 
-module _ (f g : Qre) where
-  pub compose_starts : (a a' : State) (held new : Contents Progress) (at : ℕ) (left hit : Option Hit) (live : Bool)
-      → Starts seen_of f (holding_of a) at (holding_of a') left → live ≡ live_of f (holding_of a') at
+module _ (f g : Qre) (a a' : Holding Progress) where
+  pub compose_starts : (held new : Contents Progress) (at : ℕ) (left hit : Option Hit) (live : Bool)
+      → HasStarted seen_of f a at a' (Ok left) → live ≡ live_of f a' at
       → Feeds seen_of g held live at left new hit
-      → Starts seen_of (compose f g) (fed (holding_of a) held) at (fed (holding_of a') new) hit
-  compose_starts a a' held new at left hit live first is_live feeds =
-      λ standing columns word starts clear is positions rep fresh end apart.
-      start_compose seen_of f g (holding_of a) (holding_of a') held new at left hit live
-      first is_live feeds
-      standing columns word starts clear is positions rep fresh end apart
+      → HasStarted seen_of (compose f g) (fed a held) at (fed a' new) (Ok hit)
+  compose_starts held new at left hit live first is_live feeds = record {
+    word = start_compose seen_of f g a a' held new at left hit live first.word is_live feeds;
+    sound = sound_start_compose seen_of f g a a' held new at live left hit first.sound feeds;
+    no_memory = λ free. refl;
+  }
 
-  pub compose_steps : (a a' : State) (held passed kept : Contents Progress) (now : ℕ) (item : List Field)
-      (left hit : Option Hit) → Steps seen_of f (holding_of a) now item (holding_of a') left
-      → PassesOn seen_of g held left passed hit
-      → kept.live ≡ live_instances (live_of f (holding_of a')) passed.live
-      → kept.idle ≡ passed.idle ++ retired (live_of f (holding_of a')) passed.live
-      → Steps seen_of (compose f g) (fed (holding_of a) held) now item (fed (holding_of a') kept) hit
-  compose_steps a a' held passed kept now item left hit first passes live idle =
-      λ standing columns word starts clear is positions rep end apart.
-      step_compose seen_of f g (holding_of a) (holding_of a') held passed kept now item left hit
-      first passes live idle
-      standing columns word starts clear is positions rep end apart
+  pub compose_steps : (held passed kept : Contents Progress) (now : ℕ) (item : List Field) (left hit : Option Hit)
+      → HasStepped seen_of f a now item a' (Ok left) → PassesOn seen_of g held left passed hit
+      → kept.live ≡ live_instances (live_of f a') passed.live
+      → kept.idle ≡ passed.idle ++ retired (live_of f a') passed.live
+      → HasStepped seen_of (compose f g) (fed a held) now item (fed a' kept) (Ok hit)
+  compose_steps held passed kept now item left hit first passes live idle = record {
+    word = step_compose seen_of f g a a' held passed kept now item left hit first.word passes live idle;
+    sound = sound_step_compose seen_of f g a a' held passed kept now item left hit (live_of f a') first.sound passes live
+        idle;
+    no_memory = λ free. refl;
+  }

@@ -58,6 +58,7 @@ pub mod NumbersTyped
 pub mod Others
 pub mod Outputs
 pub mod Pieces
+pub mod PlainArms
 pub mod Quiet
 pub mod Reading
 pub mod RunnerCopies

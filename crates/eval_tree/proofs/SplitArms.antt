@@ -1,5 +1,5 @@
--- A split in memory: its right operand is one of the shapes for which there are nodes.
-use Rattle.std.proofs.Common.{◌≡◌, ℕ, Bool, Option, Some, None, ap, inl, inr}
+-- A split in memory.
+use Rattle.std.proofs.Common.{◌≡◌, ℕ, Bool, Option, Some, None, Ok, ap, inl, inr, refl}
 use Rattle.std.specs.Option.{option_or}
 use Rattle.value_ops.specs.declared.field.Field.{Field}
 use Rattle.value_ops.specs.declared.value.Value.{Value}
@@ -9,14 +9,15 @@ use Rattle.query_model.specs.Queries.{Qre, split}
 use Rattle.split_eval.specs.Entries.{Contents, live_entries}
 use Rattle.split_eval.specs.declared.entry.Entry.{Entry}
 use Rattle.eval_tree.specs.declared.hit.Hit.{Hit}
-use Rattle.eval_tree.specs.declared.node.State.{State}
-use Rattle.eval_tree.specs.Holdings.{pending}
+use Rattle.eval_tree.specs.declared.progress.Progress.{Progress}
+use Rattle.eval_tree.specs.Calls.{HasStarted, HasStepped}
+use Rattle.eval_tree.specs.Holdings.{Holding, pending}
 use Rattle.eval_tree.specs.Lefts.{IsEnded, IsJoined, IsPut}
 use Rattle.eval_tree.specs.Live.{live_of}
-use Rattle.eval_tree.specs.Plain.{holding_of, seen_of}
-use Rattle.eval_tree.specs.Steps.{Starts, Steps}
+use Rattle.eval_tree.specs.Plain.{seen_of}
 use Rattle.eval_tree.proofs.Elsewhere.{elsewhere}
-use Rattle.eval_tree.proofs.SplitStarts.{start_split_some}
+use Rattle.eval_tree.proofs.Soundness.{sound_start_split_none, sound_start_split_some, sound_step_split_none, sound_step_split_some}
+use Rattle.eval_tree.proofs.SplitStarts.{start_split_none, start_split_some}
 use Rattle.eval_tree.proofs.SplitSteps.{step_split_none, step_split_some}
 
 pub put_room : (live : Bool) (old new : Contents Value) (entry : Entry Value) → IsPut live old entry new
@@ -26,50 +27,56 @@ put_room live old new entry put = elim put [
   | inr (cannot, same) ↦ ap (λ (held : Contents Value). held.room) same
 ]
 
-module _ (f g : Qre) (e : Expression) where
-  pub split_starts : (a b a' b' : State) (held new : Contents Value) (at : ℕ) (left : Hit) (right hit : Option Hit)
-      (live : Bool) → Starts seen_of f (holding_of a) at (holding_of a') (Some left)
-      → Starts seen_of g (holding_of b) at (holding_of b') right → IsJoined e left.start left.value right hit
-      → live ≡ live_of g (holding_of b') at
+module _ (f g : Qre) (e : Expression) (a b a' b' : Holding Progress) where
+  pub split_starts_none : (held : Contents Value) (at : ℕ) → HasStarted seen_of f a at a' (Ok None)
+      → HasStarted seen_of (split f g e) (pending a b held) at (pending a' b held) (Ok None)
+  split_starts_none held at first = record {
+    word = start_split_none seen_of f g e a b a' held at first.word;
+    sound = sound_start_split_none seen_of f g e a b a' held at first.sound;
+    no_memory = λ free. refl;
+  }
+
+  pub split_starts : (held new : Contents Value) (at : ℕ) (left : Hit) (right hit : Option Hit) (live : Bool)
+      → HasStarted seen_of f a at a' (Ok (Some left)) → HasStarted seen_of g b at b' (Ok right)
+      → IsJoined e left.start left.value right hit → live ≡ live_of g b' at
       → IsPut live held (record { inner = at; outer = left.start; value = left.value }) new
-      → Starts seen_of (split f g e) (pending (holding_of a) (holding_of b) held) at
-      (pending (holding_of a') (holding_of b') new) hit
-  split_starts a b a' b' held new at left right hit live first second joined is_live put =
-      λ standing columns word starts clear is positions rep fresh end apart.
-      start_split_some seen_of f g e (holding_of a) (holding_of b) (holding_of a')
-      (holding_of b') held new at left right
-      hit live first second joined is_live put
-      (put_room live held new (record { inner = at; outer = left.start; value = left.value }) put)
-      standing columns word starts clear is positions rep fresh end apart
+      → HasStarted seen_of (split f g e) (pending a b held) at (pending a' b' new) (Ok hit)
+  split_starts held new at left right hit live first second joined is_live put = record {
+    word = start_split_some seen_of f g e a b a' b' held new at left right hit live first.word second.word joined
+        is_live put (put_room live held new (record { inner = at; outer = left.start; value = left.value }) put);
+    sound = sound_start_split_some seen_of f g e a b a' b' held new at left right hit live first.sound second.sound
+        joined put;
+    no_memory = λ free. refl;
+  }
 
-  pub split_steps_none : (a b a' b' : State) (held kept : Contents Value) (now : ℕ) (item : List Field)
-      (right hit : Option Hit) → Steps seen_of f (holding_of a) now item (holding_of a') None
-      → Steps seen_of g (holding_of b) now item (holding_of b') right → IsEnded e held.entries right hit
-      → kept.entries ≡ live_entries (elsewhere now (live_of g (holding_of b'))) held.entries → kept.room ≡ held.room
-      → Steps seen_of (split f g e) (pending (holding_of a) (holding_of b) held) now item
-      (pending (holding_of a') (holding_of b') kept) hit
-  split_steps_none a b a' b' held kept now item right hit first second ended keeps room =
-      λ standing columns word starts clear is positions rep end apart.
-      step_split_none seen_of f g e (holding_of a) (holding_of b) (holding_of a') (holding_of b') held kept now item
-      right hit first second ended keeps room
-      standing columns word starts clear is positions rep end apart
+  pub split_steps_none : (held kept : Contents Value) (now : ℕ) (item : List Field) (right hit : Option Hit)
+      → HasStepped seen_of f a now item a' (Ok None) → HasStepped seen_of g b now item b' (Ok right)
+      → IsEnded e held.entries right hit
+      → kept.entries ≡ live_entries (elsewhere now (live_of g b')) held.entries → kept.room ≡ held.room
+      → HasStepped seen_of (split f g e) (pending a b held) now item (pending a' b' kept) (Ok hit)
+  split_steps_none held kept now item right hit first second ended keeps room = record {
+    word = step_split_none seen_of f g e a b a' b' held kept now item right hit first.word second.word ended keeps room;
+    sound = sound_step_split_none seen_of f g e a b a' b' held kept now item (elsewhere now (live_of g b')) right hit
+        first.sound second.sound ended keeps room;
+    no_memory = λ free. refl;
+  }
 
-  pub split_steps_some : (a b a' b' b'' : State) (held kept new : Contents Value) (now : ℕ) (item : List Field)
+  pub split_steps_some : (b'' : Holding Progress) (held kept new : Contents Value) (now : ℕ) (item : List Field)
       (left : Hit) (right begun hit second_hit : Option Hit) (live : Bool)
-      → Steps seen_of f (holding_of a) now item (holding_of a') (Some left)
-      → Steps seen_of g (holding_of b) now item (holding_of b') right → IsEnded e held.entries right hit
-      → kept.entries ≡ live_entries (elsewhere now (live_of g (holding_of b'))) held.entries → kept.room ≡ held.room
-      → Starts seen_of g (holding_of b') now (holding_of b'') begun → IsJoined e left.start left.value begun second_hit
-      → live ≡ live_of g (holding_of b'') now
+      → HasStepped seen_of f a now item a' (Ok (Some left)) → HasStepped seen_of g b now item b' (Ok right)
+      → IsEnded e held.entries right hit
+      → kept.entries ≡ live_entries (elsewhere now (live_of g b')) held.entries → kept.room ≡ held.room
+      → HasStarted seen_of g b' now b'' (Ok begun) → IsJoined e left.start left.value begun second_hit
+      → live ≡ live_of g b'' now
       → IsPut live kept (record { inner = now; outer = left.start; value = left.value }) new
-      → Steps seen_of (split f g e) (pending (holding_of a) (holding_of b) held) now item
-      (pending (holding_of a') (holding_of b'') new) (option_or hit second_hit)
-  split_steps_some a b a' b' b'' held kept new now item left right begun hit second_hit live first second ended keeps
-      room third joined is_live put =
-      λ standing columns word starts clear is positions rep end apart.
-      step_split_some seen_of f g e (holding_of a) (holding_of b) (holding_of a') (holding_of b') (holding_of b'') held
-      kept new now item left right begun hit second_hit live
-      first second ended
-      keeps room third joined is_live put
-      (put_room live kept new (record { inner = now; outer = left.start; value = left.value }) put)
-      standing columns word starts clear is positions rep end apart
+      → HasStepped seen_of (split f g e) (pending a b held) now item (pending a' b'' new)
+      (Ok (option_or hit second_hit))
+  split_steps_some b'' held kept new now item left right begun hit second_hit live first second ended keeps room third
+      joined is_live put = record {
+        word = step_split_some seen_of f g e a b a' b' b'' held kept new now item left right begun hit second_hit live
+            first.word second.word ended keeps room third.word joined is_live put
+            (put_room live kept new (record { inner = now; outer = left.start; value = left.value }) put);
+        sound = sound_step_split_some seen_of f g e a b a' b' b'' held kept new now item (elsewhere now (live_of g b')) left
+            right begun hit second_hit live first.sound second.sound ended keeps room third.sound joined put;
+        no_memory = λ free. refl;
+      }

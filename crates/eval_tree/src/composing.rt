@@ -1,10 +1,9 @@
 //! The step of a compose: the values of its left operand go to the runners of the right one.
-ghost use Rattle.std.specs.Prelude.{IfOk, IsOk};
 ghost use Rattle.query_model.specs.Queries.{plain_of};
+ghost use Rattle.eval_tree.specs.Calls.{HasStepped};
 ghost use Rattle.eval_tree.specs.Holdings.{fed};
-ghost use Rattle.eval_tree.specs.Numbers.{StepsNumbers};
 ghost use Rattle.eval_tree.specs.Plain.{holding_of, seen_of};
-ghost use Rattle.eval_tree.specs.Steps.{CanStep, Steps, StepsSoundly};
+ghost use Rattle.eval_tree.specs.Steps.{CanStep};
 
 use crate::feeds::pass_on;
 use crate::live::is_live;
@@ -25,14 +24,9 @@ pub(crate) fn step_compose(
 ) -> Result<Option<Hit>, AllocError>
     requires { CanStep seen_of (plain_of query.now.shape)
         (fed (holding_of a.old.state) runners.old) now item.now }
-    ensures word { IfOk result (Steps seen_of (plain_of query.now.shape)
+    ensures { HasStepped seen_of (plain_of query.now.shape)
         (fed (holding_of a.old.state) runners.old) now item.now
-        (fed (holding_of a.new.state) runners.new)) }
-    ensures sound { IfOk result (StepsSoundly seen_of (plain_of query.now.shape)
-        (fed (holding_of a.old.state) runners.old) now item.now
-        (fed (holding_of a.new.state) runners.new)) }
-    ensures no_memory { StepsNumbers seen_of (plain_of query.now.shape)
-        (fed (holding_of a.old.state) runners.old) now item.now → IsOk result }
+        (fed (holding_of a.new.state) runners.new) result }
 {
     match &query.shape {
         Shape::Compose(first, second) => {
@@ -43,6 +37,6 @@ pub(crate) fn step_compose(
             runners.keep(|start| is_live(first, node, start));
             Ok(hit)
         }
-        _ => Ok(None),
+        _ => unreachable!(),
     }
 }

@@ -1,9 +1,8 @@
 //! The step of an iteration: values so far wait for a further piece.
-ghost use Rattle.std.specs.Prelude.{IfOk, IsOk};
 ghost use Rattle.query_model.specs.Queries.{plain_of};
-ghost use Rattle.eval_tree.specs.Numbers.{StepsNumbers};
+ghost use Rattle.eval_tree.specs.Calls.{HasStepped};
 ghost use Rattle.eval_tree.specs.Plain.{chained_of, seen_of};
-ghost use Rattle.eval_tree.specs.Steps.{CanStep, Steps, StepsSoundly};
+ghost use Rattle.eval_tree.specs.Steps.{CanStep};
 
 use crate::folds::go_on;
 use crate::lefts::ended;
@@ -27,12 +26,8 @@ pub(crate) fn step_iter(
 ) -> Result<Option<Hit>, AllocError>
     requires { CanStep seen_of (plain_of query.now.shape) (chained_of a.old so_far.old) now
         item.now }
-    ensures word { IfOk result (Steps seen_of (plain_of query.now.shape)
-        (chained_of a.old so_far.old) now item.now (chained_of a.new so_far.new)) }
-    ensures sound { IfOk result (StepsSoundly seen_of (plain_of query.now.shape)
-        (chained_of a.old so_far.old) now item.now (chained_of a.new so_far.new)) }
-    ensures no_memory { StepsNumbers seen_of (plain_of query.now.shape)
-        (chained_of a.old so_far.old) now item.now → IsOk result }
+    ensures { HasStepped seen_of (plain_of query.now.shape) (chained_of a.old so_far.old) now
+        item.now (chained_of a.new so_far.new) result }
 {
     match &query.shape {
         Shape::Iter(inner, _, expression) => {
@@ -50,6 +45,6 @@ pub(crate) fn step_iter(
                 None => Ok(None),
             }
         }
-        _ => Ok(None),
+        _ => unreachable!(),
     }
 }

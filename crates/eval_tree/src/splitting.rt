@@ -1,9 +1,8 @@
 //! The calls of a split: values of the left operand wait for those of the right one.
-ghost use Rattle.std.specs.Prelude.{IfOk, IsOk};
 ghost use Rattle.query_model.specs.Queries.{plain_of};
-ghost use Rattle.eval_tree.specs.Numbers.{StartsNumbers, StepsNumbers};
+ghost use Rattle.eval_tree.specs.Calls.{HasStarted, HasStepped};
 ghost use Rattle.eval_tree.specs.Plain.{pending_of, seen_of};
-ghost use Rattle.eval_tree.specs.Steps.{CanStart, CanStep, Starts, StartsSoundly, Steps, StepsSoundly};
+ghost use Rattle.eval_tree.specs.Steps.{CanStart, CanStep};
 
 use crate::lefts::{ended, joined, wait, wait_if_new};
 use crate::live::is_live;
@@ -24,12 +23,8 @@ pub(crate) fn start_split(
     at: u64,
 ) -> Result<Option<Hit>, AllocError>
     requires { CanStart seen_of (plain_of query.now.shape) (pending_of a.old b.old held.old) at }
-    ensures word { IfOk result (Starts seen_of (plain_of query.now.shape)
-        (pending_of a.old b.old held.old) at (pending_of a.new b.new held.new)) }
-    ensures sound { IfOk result (StartsSoundly seen_of (plain_of query.now.shape)
-        (pending_of a.old b.old held.old) at (pending_of a.new b.new held.new)) }
-    ensures no_memory { StartsNumbers seen_of (plain_of query.now.shape)
-        (pending_of a.old b.old held.old) at → IsOk result }
+    ensures { HasStarted seen_of (plain_of query.now.shape) (pending_of a.old b.old held.old) at
+        (pending_of a.new b.new held.new) result }
 {
     match &query.shape {
         Shape::Split(first, second, expression) => {
@@ -43,7 +38,7 @@ pub(crate) fn start_split(
                 None => Ok(None),
             }
         }
-        _ => Ok(None),
+        _ => unreachable!(),
     }
 }
 
@@ -59,12 +54,8 @@ pub(crate) fn step_split(
 ) -> Result<Option<Hit>, AllocError>
     requires { CanStep seen_of (plain_of query.now.shape) (pending_of a.old b.old held.old) now
         item.now }
-    ensures word { IfOk result (Steps seen_of (plain_of query.now.shape)
-        (pending_of a.old b.old held.old) now item.now (pending_of a.new b.new held.new)) }
-    ensures sound { IfOk result (StepsSoundly seen_of (plain_of query.now.shape)
-        (pending_of a.old b.old held.old) now item.now (pending_of a.new b.new held.new)) }
-    ensures no_memory { StepsNumbers seen_of (plain_of query.now.shape)
-        (pending_of a.old b.old held.old) now item.now → IsOk result }
+    ensures { HasStepped seen_of (plain_of query.now.shape) (pending_of a.old b.old held.old) now
+        item.now (pending_of a.new b.new held.new) result }
 {
     match &query.shape {
         Shape::Split(first, second, expression) => {
@@ -85,6 +76,6 @@ pub(crate) fn step_split(
                 None => Ok(hit),
             }
         }
-        _ => Ok(None),
+        _ => unreachable!(),
     }
 }

@@ -1,9 +1,8 @@
 //! The calls that carry a node along its word.
-ghost use Rattle.std.specs.Prelude.{IfOk, IsOk};
 ghost use Rattle.query_model.specs.Queries.{plain_of};
-ghost use Rattle.eval_tree.specs.Numbers.{StartsNumbers, StepsNumbers};
+ghost use Rattle.eval_tree.specs.Calls.{HasStarted, HasStepped};
 ghost use Rattle.eval_tree.specs.Plain.{holding_of, seen_of};
-ghost use Rattle.eval_tree.specs.Steps.{CanStart, CanStep, Starts, StartsSoundly, Steps, StepsSoundly};
+ghost use Rattle.eval_tree.specs.Steps.{CanStart, CanStep};
 
 use crate::composing::step_compose;
 use crate::feeds::feed;
@@ -28,12 +27,8 @@ pub fn start(
     at: u64,
 ) -> Result<Option<Hit>, AllocError>
     requires { CanStart seen_of (plain_of query.now.shape) (holding_of node.old.state) at }
-    ensures word { IfOk result (Starts seen_of (plain_of query.now.shape)
-        (holding_of node.old.state) at (holding_of node.new.state)) }
-    ensures sound { IfOk result (StartsSoundly seen_of (plain_of query.now.shape)
-        (holding_of node.old.state) at (holding_of node.new.state)) }
-    ensures no_memory { StartsNumbers seen_of (plain_of query.now.shape)
-        (holding_of node.old.state) at → IsOk result }
+    ensures { HasStarted seen_of (plain_of query.now.shape) (holding_of node.old.state) at
+        (holding_of node.new.state) result }
 {
     match (&query.shape, &mut node.state) {
         (Shape::Atom(..), State::Item(found)) => {
@@ -72,7 +67,7 @@ pub fn start(
         (Shape::Collect(_, _, _, inner), State::Tracked(tracks)) => {
             begin_at(inner, tracks, alloc, at)
         }
-        _ => Ok(None),
+        _ => unreachable!(),
     }
 }
 
@@ -86,12 +81,8 @@ pub fn step(
     item: &Item,
 ) -> Result<Option<Hit>, AllocError>
     requires { CanStep seen_of (plain_of query.now.shape) (holding_of node.old.state) now item.now }
-    ensures word { IfOk result (Steps seen_of (plain_of query.now.shape)
-        (holding_of node.old.state) now item.now (holding_of node.new.state)) }
-    ensures sound { IfOk result (StepsSoundly seen_of (plain_of query.now.shape)
-        (holding_of node.old.state) now item.now (holding_of node.new.state)) }
-    ensures no_memory { StepsNumbers seen_of (plain_of query.now.shape)
-        (holding_of node.old.state) now item.now → IsOk result }
+    ensures { HasStepped seen_of (plain_of query.now.shape) (holding_of node.old.state) now item.now
+        (holding_of node.new.state) result }
 {
     match (&query.shape, &mut node.state) {
         (Shape::Atom(pred, expression), State::Item(found)) => match found.take() {
@@ -128,6 +119,6 @@ pub fn step(
         (Shape::Collect(column, sync, _, inner), State::Tracked(tracks)) => {
             pass_by(inner, tracks, alloc, *column, sync, item)
         }
-        _ => Ok(None),
+        _ => unreachable!(),
     }
 }

@@ -7,8 +7,7 @@ ghost use Rattle.query_model.specs.Rules.{HasNoCollect};
 ghost use Rattle.eval_tree.specs.Streams.{AreColumnsOf, CanBeMade};
 
 use predicate_cells::{CellStop, Cells};
-use query_cells::cells_of;
-use query_model::{Checked, Query, Shape};
+use query_model::{Checked, Query, Shape, cells_of};
 use std::alloc::{AllocError, Global};
 use std::rc::Rc;
 

@@ -17,7 +17,7 @@ fn main(rt: HostRuntime) -> ExitCode {
     match run(rt) {
         Ok(status) => ExitCode::from(status),
         Err(error) if error.kind() == ErrorKind::OutOfMemory => ExitCode::from(
-            Status::Memory as u8,
+            Status::Memory.number(),
         ),
         Err(_) => ExitCode::from(NO_WORDS),
     }
@@ -34,10 +34,10 @@ fn run(rt: HostRuntime) -> io::Result<u8> {
         match explain_file(rt, name.as_str(), &mut out)? {
             Status::Accepted => {}
             Status::Explained => status = Status::Explained,
-            fault => return Ok(fault as u8),
+            fault => return Ok(fault.number()),
         }
     }
-    Ok(status as u8)
+    Ok(status.number())
 }
 
 fn explain_file<W: Sink>(rt: HostRuntime, name: &str, out: &mut W) -> io::Result<Status> {

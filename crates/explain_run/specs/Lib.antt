@@ -1,3 +1,4 @@
 pub mod Apart
 pub mod Call
 pub mod Explained
+pub mod Statuses

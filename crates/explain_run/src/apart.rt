@@ -66,7 +66,7 @@ fn program_apart(
     requires { IsFileOf text.now (program_terms (plain_program program.now)) }
     ensures { IfOk result (λ found. IfSome found (SeparatesMain text.now)) }
 {
-    match &program.main.query {
+    match &*program.main.query {
         Query::Combine { left, right, .. } => {
             parts_apart(alloc, text, program, left.span(), right.span())
         }

@@ -6,8 +6,6 @@ mod apart;
 mod call;
 mod query;
 mod status;
-#[cfg(test)]
-mod tests;
 
 pub use call::explain;
 pub use query::explanation_of;

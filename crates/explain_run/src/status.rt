@@ -1,4 +1,6 @@
 //! How an explanation ended.
+ghost use Rattle.std.specs.Prelude.{◌≡◌};
+ghost use Rattle.explain_run.specs.Statuses.{number_of};
 
 /// How an explanation ended. Its number is the one that a run of the query would end with.
 #[derive(Clone, Copy, Debug, PartialEq, Eq)]
@@ -13,4 +15,13 @@ pub enum Status {
     SinkFault = 5,
     /// Memory was wanting.
     Memory = 6,
+}
+
+impl Status {
+    /// The exit status of the program.
+    pub fn number(self) -> u8
+        ensures { result ≡ number_of self }
+    {
+        self as u8
+    }
 }

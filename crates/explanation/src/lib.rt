@@ -16,8 +16,6 @@ mod recognizers;
 mod rule_sentence;
 mod scope;
 mod spots;
-#[cfg(test)]
-mod tests;
 mod unknown;
 mod uses;
 

@@ -119,6 +119,3 @@ fn remove_front(bytes: &mut Vec<u8>, count: usize)
     bytes.copy_within(count.., 0);
     bytes.truncate(rest);
 }
-
-#[cfg(test)]
-mod tests;

@@ -120,32 +120,3 @@ impl<R: Files + Input + Drop> Opened<R> {
         }
     }
 }
-
-#[cfg(test)]
-mod tests {
-    use super::*;
-    use std::fs;
-    use std::test::Fail;
-
-    #[test]
-    fn opens_a_file_at_a_read_and_reads_it_to_its_first_end(rt: HostRuntime) -> Result<(), Fail> {
-        let _ = fs::remove_file(&rt, "later");
-        let mut file = LazyFile::new(rt, rt.alloc(), "later")?;
-        let mut buf = [0; 4];
-        assert_eq!(rt; file.read(&mut []), Ok(0));
-        assert_eq!(rt; file.read(&mut buf), Err(Failed));
-        fs::write(&rt, "later", "hello")?;
-        assert_eq!(rt; file.read(&mut buf), Ok(4));
-        assert_eq!(rt; buf.as_slice(), b"hell".as_slice());
-        assert_eq!(rt; file.read(&mut buf), Ok(1));
-        assert_eq!(rt; buf.as_slice(), b"oell".as_slice());
-        assert_eq!(rt; (file.faults, file.ends), (1, 0));
-        assert_eq!(rt; file.read(&mut buf), Ok(0));
-        assert_eq!(rt; (file.faults, file.ends), (1, 1));
-        fs::write(&rt, "later", "hello again")?;
-        assert_eq!(rt; file.read(&mut buf), Ok(0));
-        assert_eq!(rt; (file.faults, file.ends), (1, 2));
-        fs::remove_file(&rt, "later")?;
-        Ok(())
-    }
-}

@@ -10,8 +10,6 @@ mod lines;
 mod memory_sink;
 mod memory_source;
 mod remaining;
-#[cfg(test)]
-mod resumed_source;
 mod sink;
 mod source;
 mod stdout_sink;

@@ -246,6 +246,3 @@ fn first_lf(bytes: &[u8]) -> Option<usize>
 {
     bytes.iter().position(|&byte| byte == b'\n')
 }
-
-#[cfg(test)]
-mod tests;

@@ -136,33 +136,3 @@ impl Sink for MemorySink {
         Ok(())
     }
 }
-
-#[cfg(test)]
-mod tests {
-    use super::*;
-    use std::test::Fail;
-
-    #[test]
-    fn takes_what_fits_and_fails_by_number(rt: HostRuntime) -> Result<(), Fail> {
-        let mut sink = MemorySink::new(rt.alloc(), 5, &[2])?;
-        for want in [Ok(3), Err(Failed), Ok(2), Err(Failed)] {
-            assert_eq!(rt; sink.write(b""), Ok(0));
-            assert_eq!(rt; sink.write(b"abc"), want);
-            assert_eq!(rt; sink.flush(), Ok(()));
-        }
-        assert_eq!(rt; sink.bytes(), b"abcab".as_slice());
-        assert_eq!(rt; sink.faults, 2);
-        Ok(())
-    }
-
-    #[test]
-    fn writes_are_cut_by_their_numbers(rt: HostRuntime) -> Result<(), Fail> {
-        let mut sink = MemorySink::with_cuts(rt.alloc(), 7, &[2, 0, 1, 9], &[3])?;
-        for want in [Ok(2), Ok(1), Err(Failed), Ok(3), Ok(1)] {
-            assert_eq!(rt; sink.write(b""), Ok(0));
-            assert_eq!(rt; sink.write(b"abc"), want);
-        }
-        assert_eq!(rt; sink.bytes(), b"abaabca".as_slice());
-        Ok(())
-    }
-}

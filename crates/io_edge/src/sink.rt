@@ -48,26 +48,3 @@ pub fn write_all<W: Sink>(out: &mut W, bytes: &[u8]) -> Result<(), Failed>
     }
     Ok(())
 }
-
-#[cfg(test)]
-mod tests {
-    use super::*;
-    use crate::MemorySink;
-    use std::test::Fail;
-
-    #[test]
-    fn all_is_written_or_a_part_from_the_front(rt: HostRuntime) -> Result<(), Fail> {
-        let cases: [(usize, &[u64], Result<(), Failed>, &[u8]); 4] = [
-            (5, &[], Ok(()), b"12\n34"),
-            (9, &[2], Ok(()), b"12\n34"),
-            (3, &[2], Err(Failed), b"12\n"),
-            (9, &[1], Err(Failed), b""),
-        ];
-        for (room, fail_at, want, taken) in cases {
-            let mut out = MemorySink::new(rt.alloc(), room, fail_at)?;
-            assert_eq!(rt; write_all(&mut out, b"12\n34"), want);
-            assert_eq!(rt; out.bytes(), taken, "room {room}");
-        }
-        Ok(())
-    }
-}

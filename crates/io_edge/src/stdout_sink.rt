@@ -48,20 +48,3 @@ impl<R: Print + Drop> Sink for StdoutSink<R> {
             .hand_on(&mut io::writer(&self.rt), &mut self.faults)
     }
 }
-
-#[cfg(test)]
-mod tests {
-    use super::*;
-    use crate::write_all;
-    use std::test::Fail;
-
-    #[test]
-    fn writes_to_standard_output(rt: HostRuntime) -> Result<(), Fail> {
-        let mut out = StdoutSink::new(rt, rt.alloc())?;
-        assert_eq!(rt; out.write(b""), Ok(0));
-        assert_eq!(rt; write_all(&mut out, b"some bytes\n"), Ok(()));
-        assert_eq!(rt; out.flush(), Ok(()));
-        assert_eq!(rt; out.faults, 0);
-        Ok(())
-    }
-}

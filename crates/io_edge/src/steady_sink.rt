@@ -64,23 +64,3 @@ impl Sink for SteadySink {
         Ok(())
     }
 }
-
-#[cfg(test)]
-mod tests {
-    use super::*;
-
-    #[test]
-    fn counts_bytes_up_to_the_greatest_count(rt: HostRuntime) {
-        let mut sink = SteadySink::new();
-        assert_eq!(rt; sink.count(), 0);
-        assert_eq!(rt; sink.write(b""), Ok(0));
-        assert_eq!(rt; sink.write(b"12\n34"), Ok(5));
-        assert_eq!(rt; sink.flush(), Ok(()));
-        assert_eq!(rt; sink.count(), 5);
-        sink.count = u64::MAX - 1;
-        for _ in 0..2 {
-            assert_eq!(rt; sink.write(b"12\n"), Ok(3));
-            assert_eq!(rt; sink.count(), u64::MAX);
-        }
-    }
-}

@@ -61,22 +61,3 @@ impl Source for SteadySource {
         Ok(given)
     }
 }
-
-#[cfg(test)]
-mod tests {
-    use super::*;
-    use std::test::Fail;
-
-    #[test]
-    fn reads_fill_their_room_until_the_end(rt: HostRuntime) -> Result<(), Fail> {
-        let mut source = SteadySource::new(rt.alloc(), b"12345")?;
-        let mut buf = [0; 3];
-        for (want, filled) in [(3, b"123"), (2, b"453"), (0, b"453"), (0, b"453")] {
-            assert_eq!(rt; source.read(&mut []), Ok(0));
-            assert_eq!(rt; source.read(&mut buf), Ok(want));
-            assert_eq!(rt; buf.as_slice(), filled.as_slice());
-        }
-        assert_eq!(rt; source.ends, 2);
-        Ok(())
-    }
-}

@@ -61,6 +61,3 @@ fn fill<S: Source>(source: &mut S, room: &mut [u8]) -> Result<usize, Failed>
     }
     Ok(done)
 }
-
-#[cfg(test)]
-mod tests;

@@ -5,8 +5,6 @@ mod draws;
 mod drill;
 mod field;
 mod laws;
-#[cfg(test)]
-mod tests;
 
 pub use drill::Drill;
 pub use laws::{drilled_bytes_have_lines, drilled_lines_have_items};

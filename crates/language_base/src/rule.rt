@@ -50,14 +50,3 @@ impl Rule {
         self as u8
     }
 }
-
-#[cfg(test)]
-mod tests {
-    use super::*;
-
-    #[test]
-    fn rules_are_numbered_as_they_are_asked(rt: HostRuntime) {
-        assert_eq!(rt; Rule::Long.number(), 1);
-        assert_eq!(rt; Rule::Compose.number(), 18);
-    }
-}

@@ -7,8 +7,6 @@ mod marked_line;
 mod part;
 mod position;
 mod shown;
-#[cfg(test)]
-mod tests;
 mod window;
 
 pub use laws::windows_hold_their_places;

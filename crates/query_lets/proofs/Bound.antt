@@ -39,7 +39,7 @@ lets_more lets at one is_at within =
 -- their bindings
 bound : (lets : List raw.Let) (at : ℕ) (one : raw.Let) → one ≡ get_or lets at one → at < length lets
     → bindings_of (map plain_let (take (at + 1) lets))
-    ≡ binding (bindings_of (map plain_let (take at lets))) one.name.bytes (plain_query one.query)
+    ≡ binding (bindings_of (map plain_let (take at lets))) one.name.bytes (plain_query one.query.value)
     ∷ bindings_of (map plain_let (take at lets))
 bound lets at one is_at within =
     ap bindings_of (lets_more lets at one is_at within)
@@ -62,12 +62,12 @@ pub outlines_more : {S : Type 0} (old new : HashMap (Bor (List ℕ)) Outline S) 
     (one : raw.Let)
     → one ≡ get_or lets at one → at < length lets → (name : Bor (List ℕ)) → name.now ≡ one.name.bytes
     → (outline : Outline)
-    → outline ≡ outline_of (replaced (bindings_of (map plain_let (take at lets))) (plain_query one.query))
+    → outline ≡ outline_of (replaced (bindings_of (map plain_let (take at lets))) (plain_query one.query.value))
     → AreOutlines old (bindings_of (map plain_let (take at lets)))
     → hash.Updates (λ x y. bytes_eq x.now y.now) old new name (Some outline)
     → AreOutlines new (bindings_of (map plain_let (take (at + 1) lets)))
 outlines_more old new lets at one is_at within name is_name outline is_outline are updates = λ other.
-    let query = replaced (bindings_of (map plain_let (take at lets))) (plain_query one.query) in
+    let query = replaced (bindings_of (map plain_let (take at lets))) (plain_query one.query.value) in
     changed old new name outline updates other
     ∙ ap (λ (o : Outline). cond (bytes_eq other name.now) (Some o) (get_by (λ k. bytes_eq other k.now) old))
     is_outline

@@ -118,7 +118,7 @@ module _ (lets : List raw.Let) (at : ℕ) (one : raw.Let) (is_at : one ≡ get_o
     ≡ first_wrong (let_words names (map plain_let (drop at lets)) main)) where
   let_is : first_wrong (let_words [] (map plain_let lets) main)
       ≡ cond (is_known names one.name.bytes) (Some one.name.span)
-      (first_of (first_unknown names (plain_query one.query))
+      (first_of (first_unknown names (plain_query one.query.value))
       (first_wrong (let_words (one.name.bytes ∷ names) (map plain_let (drop (at + 1) lets)) main)))
   let_is = so_far
       ∙ ap (λ (l : List raw.Let). first_wrong (let_words names (map plain_let l) main))
@@ -133,21 +133,22 @@ module _ (lets : List raw.Let) (at : ℕ) (one : raw.Let) (is_at : one ≡ get_o
   -- a let of a known name
   pub let_again : is_known names one.name.bytes ≡ true
       → Some one.name.span ≡ first_wrong (let_words [] (map plain_let lets) main)
-  let_again again = sym (let_is ∙ ap (λ (b : Bool). given b (first_unknown names (plain_query one.query))) again)
+  let_again again = sym (let_is ∙ ap (λ (b : Bool). given b (first_unknown names (plain_query one.query.value))) again)
 
   -- a let of a new name that uses an unknown one
   pub let_unknown : is_known names one.name.bytes ≡ false → (span : Span)
-      → Some span ≡ first_unknown names (plain_query one.query)
+      → Some span ≡ first_unknown names (plain_query one.query.value)
       → Some span ≡ first_wrong (let_words [] (map plain_let lets) main)
   let_unknown new span found = sym (let_is
-      ∙ ap (λ (b : Bool). given b (first_unknown names (plain_query one.query))) new ∙ ap (given false) (sym found))
+      ∙ ap (λ (b : Bool). given b (first_unknown names (plain_query one.query.value))) new
+      ∙ ap (given false) (sym found))
 
   -- a let that has nothing wrong
-  pub let_more : is_known names one.name.bytes ≡ false → None ≡ first_unknown names (plain_query one.query)
+  pub let_more : is_known names one.name.bytes ≡ false → None ≡ first_unknown names (plain_query one.query.value)
       → first_wrong (let_words [] (map plain_let lets) main)
       ≡ first_wrong (let_words (one.name.bytes ∷ names) (map plain_let (drop (at + 1) lets)) main)
   let_more new none = let_is
-      ∙ ap (λ (b : Bool). given b (first_unknown names (plain_query one.query))) new ∙ ap (given false) (sym none)
+      ∙ ap (λ (b : Bool). given b (first_unknown names (plain_query one.query.value))) new ∙ ap (given false) (sym none)
 
 -- behind the last let stands the main query
 pub main_last : (lets : List raw.Let) (at : ℕ) (main : Query) (names : List (List ℕ)) → length lets ≤ at

@@ -25,7 +25,7 @@ module _ {S : Type 0} (places : HashMap (Bor (List ℕ)) ℕ S) (from : Scope) (
   -- a name of one of the lets
   module _ (place : ℕ) (found : place_of places name.bytes ≡ Some place) (one : raw.Let)
       (at : slice_get from.lets.now place ≡ Some one) (to : Scope) (lets : to.lets.now ≡ take place from.lets.now)
-      (query : to.query.now ≡ one.query) where
+      (query : to.query.now ≡ one.query.value) where
     lets_is : lets_of to ≡ take place (lets_of from)
     lets_is = ap (map plain_let) lets ∙ sym (take-map plain_let place from.lets.now)
 

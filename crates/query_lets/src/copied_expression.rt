@@ -7,10 +7,7 @@ use query_syntax::{Comparison, Expression};
 use std::alloc::{AllocError, Global};
 
 #[cycle(copy)]
-pub(crate) fn copied_expression(
-    alloc: Global,
-    expression: &Expression,
-) -> Result<Expression, AllocError>
+fn copied_expression(alloc: Global, expression: &Expression) -> Result<Expression, AllocError>
     ensures { IfOk result (λ copy. plain_expression copy ≡ plain_expression expression.now) }
 {
     match expression {
@@ -21,7 +18,7 @@ pub(crate) fn copied_expression(
             operand,
             span,
         } => {
-            let operand = boxed(alloc, operand)?;
+            let operand = boxed_expression(alloc, operand)?;
             Ok(Expression::Unary {
                 operator: *operator,
                 operand,
@@ -34,8 +31,8 @@ pub(crate) fn copied_expression(
             right,
             span,
         } => {
-            let left = boxed(alloc, left)?;
-            let right = boxed(alloc, right)?;
+            let left = boxed_expression(alloc, left)?;
+            let right = boxed_expression(alloc, right)?;
             Ok(Expression::Binary {
                 operator: *operator,
                 left,
@@ -49,10 +46,10 @@ pub(crate) fn copied_expression(
             fails,
             span,
         } => {
-            let left = boxed(alloc, &test.left)?;
-            let right = boxed(alloc, &test.right)?;
-            let holds = boxed(alloc, holds)?;
-            let fails = boxed(alloc, fails)?;
+            let left = boxed_expression(alloc, &test.left)?;
+            let right = boxed_expression(alloc, &test.right)?;
+            let holds = boxed_expression(alloc, holds)?;
+            let fails = boxed_expression(alloc, fails)?;
             let test = Comparison {
                 compare: test.compare,
                 left,
@@ -85,7 +82,7 @@ pub(crate) fn copied_expression(
             span,
         } => {
             let table = copied_name(alloc, table)?;
-            let first = boxed(alloc, first)?;
+            let first = boxed_expression(alloc, first)?;
             Ok(Expression::Extremum {
                 extremum: *extremum,
                 table,
@@ -101,7 +98,7 @@ pub(crate) fn copied_expression(
         } => {
             let table = copied_name(alloc, table)?;
             let key = copied_text(alloc, key)?;
-            let absent = boxed(alloc, absent)?;
+            let absent = boxed_expression(alloc, absent)?;
             Ok(Expression::Get {
                 table,
                 key,
@@ -113,7 +110,10 @@ pub(crate) fn copied_expression(
 }
 
 #[cycle(copy)]
-fn boxed(alloc: Global, expression: &Expression) -> Result<Box<Expression>, AllocError>
+pub(crate) fn boxed_expression(
+    alloc: Global,
+    expression: &Expression,
+) -> Result<Box<Expression>, AllocError>
     ensures { IfOk result (λ copy. plain_expression copy.value ≡ plain_expression expression.now) }
 {
     let copy = copied_expression(alloc, expression)?;

@@ -71,8 +71,8 @@ pub(crate) fn copied_predicate(
             right,
             span,
         } => {
-            let left = boxed(alloc, left)?;
-            let right = boxed(alloc, right)?;
+            let left = boxed_predicate(alloc, left)?;
+            let right = boxed_predicate(alloc, right)?;
             Ok(Predicate::Joined {
                 connective: *connective,
                 left,
@@ -81,7 +81,7 @@ pub(crate) fn copied_predicate(
             })
         }
         Predicate::Not { operand, span } => {
-            let operand = boxed(alloc, operand)?;
+            let operand = boxed_predicate(alloc, operand)?;
             Ok(Predicate::Not {
                 operand,
                 span: *span,
@@ -91,7 +91,10 @@ pub(crate) fn copied_predicate(
 }
 
 #[cycle(copy)]
-fn boxed(alloc: Global, predicate: &Predicate) -> Result<Box<Predicate>, AllocError>
+pub(crate) fn boxed_predicate(
+    alloc: Global,
+    predicate: &Predicate,
+) -> Result<Box<Predicate>, AllocError>
     ensures { IfOk result (λ copy. plain_predicate copy.value ≡ plain_predicate predicate.now) }
 {
     let copy = copied_predicate(alloc, predicate)?;

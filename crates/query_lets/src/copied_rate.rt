@@ -7,7 +7,7 @@ use query_syntax::Rate;
 use std::alloc::{AllocError, Global};
 
 #[cycle(copy)]
-pub(crate) fn copied_rate(alloc: Global, rate: &Rate) -> Result<Rate, AllocError>
+fn copied_rate(alloc: Global, rate: &Rate) -> Result<Rate, AllocError>
     ensures { IfOk result (λ copy. plain_rate copy ≡ plain_rate rate.now) }
 {
     match rate {
@@ -25,8 +25,8 @@ pub(crate) fn copied_rate(alloc: Global, rate: &Rate) -> Result<Rate, AllocError
             right,
             span,
         } => {
-            let left = boxed(alloc, left)?;
-            let right = boxed(alloc, right)?;
+            let left = boxed_rate(alloc, left)?;
+            let right = boxed_rate(alloc, right)?;
             Ok(Rate::Joined {
                 join: *join,
                 left,
@@ -35,7 +35,7 @@ pub(crate) fn copied_rate(alloc: Global, rate: &Rate) -> Result<Rate, AllocError
             })
         }
         Rate::Star { operand, span } => {
-            let operand = boxed(alloc, operand)?;
+            let operand = boxed_rate(alloc, operand)?;
             Ok(Rate::Star {
                 operand,
                 span: *span,
@@ -45,7 +45,7 @@ pub(crate) fn copied_rate(alloc: Global, rate: &Rate) -> Result<Rate, AllocError
 }
 
 #[cycle(copy)]
-fn boxed(alloc: Global, rate: &Rate) -> Result<Box<Rate>, AllocError>
+pub(crate) fn boxed_rate(alloc: Global, rate: &Rate) -> Result<Box<Rate>, AllocError>
     ensures { IfOk result (λ copy. plain_rate copy.value ≡ plain_rate rate.now) }
 {
     let copy = copied_rate(alloc, rate)?;

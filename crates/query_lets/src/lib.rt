@@ -4,6 +4,7 @@
 
 mod copied_expression;
 mod copied_leaf;
+mod copied_parts;
 mod copied_predicate;
 mod copied_rate;
 mod laws;

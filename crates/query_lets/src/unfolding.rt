@@ -1,16 +1,15 @@
 //! The main query after lets.
-ghost use Rattle.std.specs.Prelude.{◌≡◌, IfOk, None};
-ghost use Rattle.query_syntax.specs.Plain.{plain_program, plain_query};
+ghost use Rattle.std.specs.Prelude.{◌≡◌, IfOk, None, map};
+ghost use Rattle.query_syntax.specs.Plain.{plain_let, plain_program, plain_query};
 ghost use Rattle.query_lets.specs.Places.{ArePlaces, IsRoot, lets_of, query_of};
 ghost use Rattle.query_lets.specs.Unfolded.{bindings_of, replaced, unfolded};
 ghost use Rattle.query_lets.specs.Words.{wrong_name};
 
-use crate::copied_expression::copied_expression;
+use crate::copied_expression::boxed_expression;
 use crate::copied_leaf::copied_name;
-use crate::copied_predicate::copied_predicate;
-use crate::copied_rate::copied_rate;
+use crate::copied_parts::{boxed_atom, boxed_keys};
 use crate::scope::{Scope, places_of};
-use query_syntax::{Program, Query};
+use query_syntax::{Let, Program, Query};
 use std::alloc::{AllocError, Global};
 use std::collections::HashMap;
 
@@ -74,8 +73,7 @@ fn rebuilt(
             value,
             span,
         } => {
-            let predicate = copied_predicate(alloc, predicate)?;
-            let value = copied_expression(alloc, value)?;
+            let (predicate, value) = boxed_atom(alloc, predicate, value)?;
             Ok(Query::Atom {
                 predicate,
                 value,
@@ -87,8 +85,7 @@ fn rebuilt(
             span: *span,
         }),
         Query::Or { left, right, span } => {
-            let left = boxed(alloc, places, Scope { lets, query: left })?;
-            let right = boxed(alloc, places, Scope { lets, query: right })?;
+            let (left, right) = operands(alloc, places, lets, left, right)?;
             Ok(Query::Or {
                 left,
                 right,
@@ -101,9 +98,8 @@ fn rebuilt(
             value,
             span,
         } => {
-            let left = boxed(alloc, places, Scope { lets, query: left })?;
-            let right = boxed(alloc, places, Scope { lets, query: right })?;
-            let value = copied_expression(alloc, value)?;
+            let value = boxed_expression(alloc, value)?;
+            let (left, right) = operands(alloc, places, lets, left, right)?;
             Ok(Query::Split {
                 left,
                 right,
@@ -117,6 +113,7 @@ fn rebuilt(
             step,
             span,
         } => {
+            let step = boxed_expression(alloc, step)?;
             let operand = boxed(
                 alloc,
                 places,
@@ -125,7 +122,6 @@ fn rebuilt(
                     query: operand,
                 },
             )?;
-            let step = copied_expression(alloc, step)?;
             Ok(Query::Iter {
                 operand,
                 first: *first,
@@ -139,9 +135,8 @@ fn rebuilt(
             value,
             span,
         } => {
-            let left = boxed(alloc, places, Scope { lets, query: left })?;
-            let right = boxed(alloc, places, Scope { lets, query: right })?;
-            let value = copied_expression(alloc, value)?;
+            let value = boxed_expression(alloc, value)?;
+            let (left, right) = operands(alloc, places, lets, left, right)?;
             Ok(Query::Combine {
                 left,
                 right,
@@ -154,6 +149,7 @@ fn rebuilt(
             value,
             span,
         } => {
+            let value = boxed_expression(alloc, value)?;
             let operand = boxed(
                 alloc,
                 places,
@@ -162,7 +158,6 @@ fn rebuilt(
                     query: operand,
                 },
             )?;
-            let value = copied_expression(alloc, value)?;
             Ok(Query::Apply {
                 operand,
                 value,
@@ -170,8 +165,7 @@ fn rebuilt(
             })
         }
         Query::Compose { left, right, span } => {
-            let left = boxed(alloc, places, Scope { lets, query: left })?;
-            let right = boxed(alloc, places, Scope { lets, query: right })?;
+            let (left, right) = operands(alloc, places, lets, left, right)?;
             Ok(Query::Compose {
                 left,
                 right,
@@ -185,9 +179,7 @@ fn rebuilt(
             body,
             span,
         } => {
-            let key = copied_name(alloc, key)?;
-            let sync = copied_predicate(alloc, sync)?;
-            let rate = copied_rate(alloc, rate)?;
+            let (key, sync, rate) = boxed_keys(alloc, key, sync, rate)?;
             let body = boxed(alloc, places, Scope { lets, query: body })?;
             Ok(Query::Collect {
                 key,
@@ -198,4 +190,23 @@ fn rebuilt(
             })
         }
     }
+}
+
+#[cycle(unfold)]
+fn operands(
+    alloc: Global,
+    places: &HashMap<&[u8], usize>,
+    lets: &[Let],
+    left: &Query,
+    right: &Query,
+) -> Result<(Box<Query>, Box<Query>), AllocError>
+    requires { ArePlaces places.now (map plain_let lets.now) }
+    ensures left { IfOk result (λ made. plain_query made.0.value
+        ≡ replaced (bindings_of (map plain_let lets.now)) (plain_query left.now)) }
+    ensures right { IfOk result (λ made. plain_query made.1.value
+        ≡ replaced (bindings_of (map plain_let lets.now)) (plain_query right.now)) }
+{
+    let left = boxed(alloc, places, Scope { lets, query: left })?;
+    let right = boxed(alloc, places, Scope { lets, query: right })?;
+    Ok((left, right))
 }

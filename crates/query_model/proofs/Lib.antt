@@ -5,5 +5,6 @@ pub mod Inside
 pub mod InRates
 pub mod ItemFields
 pub mod Keys
+pub mod SameMembers
 pub mod Typed
 pub mod Unique

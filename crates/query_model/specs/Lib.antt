@@ -1,7 +1,9 @@
 pub mod Bounds
 pub mod Checked
 pub mod Denotation
+pub mod Few
 pub mod Following
+pub mod Members
 pub mod Monitors
 pub mod Queries
 pub mod QueryTypes

@@ -12,7 +12,7 @@ use std::marker::Model;
 #[derive(Drop)]
 pub struct Checked {
     schema: Schema,
-    main: Query,
+    main: Box<Query>,
 }
 
 impl Model for Checked {
@@ -24,16 +24,16 @@ impl Model for Checked {
 
     ghost coded = { Prim.hlevel (codes, coded_query.the_row.coded) };
 
-    ghost view = { λ c. record { layout = c.schema; main = c.main } };
+    ghost view = { λ c. record { layout = c.schema; main = c.main.value } };
 
-    ghost invariant = { λ c. IsChecked (record { layout = c.schema; main = c.main }) };
+    ghost invariant = { λ c. IsChecked (record { layout = c.schema; main = c.main.value }) };
 }
 
 impl Checked {
     /// The rules are for the caller to have asked.
-    pub fn new(schema: Schema, main: Query) -> Checked
-        requires { let on : OnStream = record { layout = schema; main = main } in IsChecked on }
-        ensures { result ≡ record { layout = schema; main = main } }
+    pub fn new(schema: Schema, main: Box<Query>) -> Checked
+        requires { let on : OnStream = record { layout = schema; main = main.value } in IsChecked on }
+        ensures { result ≡ record { layout = schema; main = main.value } }
     {
         Checked { schema, main }
     }

@@ -1,11 +1,13 @@
 //! Queries and what they mean: the value of a query on a word, its rate, and the rules that make it one value.
 #![tactic(auto)]
 
+mod cells;
 mod checked;
 mod follower;
 mod laws;
 mod query;
 
+pub use cells::cells_of;
 pub use checked::Checked;
 pub use follower::Follower;
 pub use language_base::{Refusal, Rule, Span};

@@ -9,10 +9,10 @@ use Rattle.query_syntax.specs.declared.leaf.Literal.TheVariants as literal
 use Rattle.query_syntax.specs.declared.leaf.Name.{Name}
 use Rattle.query_syntax.specs.declared.leaf.Number.{Number}
 use Rattle.query_syntax.specs.declared.leaf.Text.{Text}
-use Rattle.operators.specs.declared.binary.BinaryOp.{BinaryOp}
-use Rattle.operators.specs.declared.binary.BinaryOp.TheVariants.{Add, Sub, Mul, Div, Rem, Min, Max}
-use Rattle.operators.specs.declared.compare.Compare.{Compare}
-use Rattle.operators.specs.declared.compare.Compare.TheVariants.{Lt, Le, Gt, Ge, Eq, Ne}
+use Rattle.language_base.specs.declared.binary.BinaryOp.{BinaryOp}
+use Rattle.language_base.specs.declared.binary.BinaryOp.TheVariants.{Add, Sub, Mul, Div, Rem, Min, Max}
+use Rattle.language_base.specs.declared.compare.Compare.{Compare}
+use Rattle.language_base.specs.declared.compare.Compare.TheVariants.{Lt, Le, Gt, Ge, Eq, Ne}
 use Rattle.query_syntax.specs.declared.operator.Connective.{Connective}
 use Rattle.query_syntax.specs.declared.operator.Connective.TheVariants.{And, Or}
 use Rattle.query_syntax.specs.declared.operator.Equality.{Equality}
@@ -25,8 +25,8 @@ use Rattle.query_syntax.specs.declared.operator.Order.{Order}
 use Rattle.query_syntax.specs.declared.operator.Order.TheVariants as order
 use Rattle.query_syntax.specs.declared.operator.Summary.{Summary}
 use Rattle.query_syntax.specs.declared.operator.Summary.TheVariants.{Sum, Count}
-use Rattle.operators.specs.declared.unary.UnaryOp.{UnaryOp}
-use Rattle.operators.specs.declared.unary.UnaryOp.TheVariants.{Neg, Abs}
+use Rattle.language_base.specs.declared.unary.UnaryOp.{UnaryOp}
+use Rattle.language_base.specs.declared.unary.UnaryOp.TheVariants.{Neg, Abs}
 use Rattle.query_syntax.specs.declared.predicate_head.PredicateHead.{PredicateHead}
 use Rattle.query_syntax.specs.declared.predicate_head.PredicateHead.TheVariants as predicate
 use Rattle.query_syntax.specs.declared.query_head.QueryHead.{QueryHead}

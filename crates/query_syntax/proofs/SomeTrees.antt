@@ -16,7 +16,7 @@ use Rattle.query_syntax.specs.declared.leaf.Literal.TheVariants as literal
 use Rattle.query_syntax.specs.declared.leaf.Name.{Name}
 use Rattle.query_syntax.specs.declared.leaf.Number.{Number}
 use Rattle.query_syntax.specs.declared.leaf.Text.{Text}
-use Rattle.operators.specs.declared.compare.Compare.{Compare}
+use Rattle.language_base.specs.declared.compare.Compare.{Compare}
 use Rattle.query_syntax.specs.declared.predicate_head.PredicateHead.{PredicateHead}
 use Rattle.query_syntax.specs.declared.predicate_head.PredicateHead.TheVariants as predicate
 use Rattle.query_syntax.specs.declared.query_head.QueryHead.{QueryHead}

@@ -2,7 +2,7 @@
 use Rattle.std.proofs.Common.{refl}
 use Rattle.std.specs.List.{AllByRecursion}
 use Rattle.query_syntax.specs.declared.expression_head.ExpressionHead.{ExpressionHead}
-use Rattle.operators.specs.declared.compare.Compare.{Compare}
+use Rattle.language_base.specs.declared.compare.Compare.{Compare}
 use Rattle.query_syntax.specs.declared.predicate_head.PredicateHead.{PredicateHead}
 use Rattle.query_syntax.specs.declared.query_head.QueryHead.{QueryHead}
 use Rattle.query_syntax.specs.declared.rate_head.RateHead.{RateHead}

@@ -2,10 +2,10 @@
 use Rattle.std.specs.Prelude.{ℕ, List, [], ◌∷◌, codes}
 use Rattle.query_forms.specs.declared.place.Place.{Place}
 use Rattle.query_forms.specs.declared.place.Place.TheVariants as place
-use Rattle.operators.specs.declared.unary.UnaryOp.TheVariants.{Neg, Abs}
-use Rattle.operators.specs.declared.binary.BinaryOp.TheVariants.{Add, Sub, Mul, Div, Rem, Min, Max}
-use Rattle.operators.specs.declared.compare.Compare.{Compare}
-use Rattle.operators.specs.declared.compare.Compare.TheVariants.{Lt, Le, Gt, Ge, Eq, Ne}
+use Rattle.language_base.specs.declared.unary.UnaryOp.TheVariants.{Neg, Abs}
+use Rattle.language_base.specs.declared.binary.BinaryOp.TheVariants.{Add, Sub, Mul, Div, Rem, Min, Max}
+use Rattle.language_base.specs.declared.compare.Compare.{Compare}
+use Rattle.language_base.specs.declared.compare.Compare.TheVariants.{Lt, Le, Gt, Ge, Eq, Ne}
 use Rattle.query_syntax.specs.declared.operator.Summary.TheVariants.{Sum, Count}
 use Rattle.query_syntax.specs.declared.operator.Extremum.TheVariants as extremum
 use Rattle.query_syntax.specs.declared.expression_head.ExpressionHead.{ExpressionHead}

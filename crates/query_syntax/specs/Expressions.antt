@@ -3,11 +3,11 @@ use Rattle.language_base.specs.declared.span.Span.{Span}
 use Rattle.query_syntax.specs.declared.leaf.Name.{Name}
 use Rattle.query_syntax.specs.declared.leaf.Number.{Number}
 use Rattle.query_syntax.specs.declared.leaf.Text.{Text}
-use Rattle.operators.specs.declared.binary.BinaryOp.{BinaryOp}
-use Rattle.operators.specs.declared.compare.Compare.{Compare}
+use Rattle.language_base.specs.declared.binary.BinaryOp.{BinaryOp}
+use Rattle.language_base.specs.declared.compare.Compare.{Compare}
 use Rattle.query_syntax.specs.declared.operator.Extremum.{Extremum}
 use Rattle.query_syntax.specs.declared.operator.Summary.{Summary}
-use Rattle.operators.specs.declared.unary.UnaryOp.{UnaryOp}
+use Rattle.language_base.specs.declared.unary.UnaryOp.{UnaryOp}
 
 -- an expression
 pub data Expression : Type 0 where

@@ -46,26 +46,26 @@ plain_rate (rate.Star' _ a span) = r.star (plain_rate a) span
 -- a query
 abbrev pub plain_query : query.Query → q.Query
 plain_query (query.Name n) = q.name n
-plain_query (query.Atom f v span) = q.atom (plain_predicate f) (plain_expression v) span
+plain_query (query.Atom f v span) = q.atom (plain_predicate f.value) (plain_expression v.value) span
 plain_query (query.Eps n span) = q.eps n span
 plain_query (query.Or' _ a _ b span) = q.or (plain_query a) (plain_query b) span
-plain_query (query.Split' _ a _ b v span) = q.split (plain_query a) (plain_query b) (plain_expression v) span
-plain_query (query.Iter' _ a n v span) = q.iter (plain_query a) n (plain_expression v) span
-plain_query (query.Combine' _ a _ b v span) = q.combine (plain_query a) (plain_query b) (plain_expression v) span
-plain_query (query.Apply' _ a v span) = q.apply (plain_query a) (plain_expression v) span
+plain_query (query.Split' _ a _ b v span) = q.split (plain_query a) (plain_query b) (plain_expression v.value) span
+plain_query (query.Iter' _ a n v span) = q.iter (plain_query a) n (plain_expression v.value) span
+plain_query (query.Combine' _ a _ b v span) = q.combine (plain_query a) (plain_query b) (plain_expression v.value) span
+plain_query (query.Apply' _ a v span) = q.apply (plain_query a) (plain_expression v.value) span
 plain_query (query.Compose' _ a _ b span) = q.compose (plain_query a) (plain_query b) span
 plain_query (query.Collect' key f t _ a span) =
-    q.collect key (plain_predicate f) (plain_rate t) (plain_query a) span
+    q.collect key (plain_predicate f.value) (plain_rate t.value) (plain_query a) span
 
 -- the parts of a file
 abbrev pub plain_stream : Stream → plain.Stream
 plain_stream stream = record { mode = stream.mode; columns = stream.columns.items; span = stream.span }
 
 abbrev pub plain_let : Let → plain.Let
-plain_let one = record { name = one.name; query = plain_query one.query; span = one.span }
+plain_let one = record { name = one.name; query = plain_query one.query.value; span = one.span }
 
 abbrev pub plain_main : Main → plain.Main
-plain_main main = record { query = plain_query main.query; span = main.span }
+plain_main main = record { query = plain_query main.query.value; span = main.span }
 
 -- a file
 abbrev pub plain_program : Program → plain.Program

@@ -1,11 +1,11 @@
 -- Statement. The words of the operators.
 use Rattle.std.specs.Prelude.{ℕ, List, codes}
-use Rattle.operators.specs.declared.unary.UnaryOp.{UnaryOp}
-use Rattle.operators.specs.declared.unary.UnaryOp.TheVariants.{Neg, Abs}
-use Rattle.operators.specs.declared.binary.BinaryOp.{BinaryOp}
-use Rattle.operators.specs.declared.binary.BinaryOp.TheVariants.{Add, Sub, Mul, Div, Rem, Min, Max}
-use Rattle.operators.specs.declared.compare.Compare.{Compare}
-use Rattle.operators.specs.declared.compare.Compare.TheVariants.{Lt, Le, Gt, Ge, Eq, Ne}
+use Rattle.language_base.specs.declared.unary.UnaryOp.{UnaryOp}
+use Rattle.language_base.specs.declared.unary.UnaryOp.TheVariants.{Neg, Abs}
+use Rattle.language_base.specs.declared.binary.BinaryOp.{BinaryOp}
+use Rattle.language_base.specs.declared.binary.BinaryOp.TheVariants.{Add, Sub, Mul, Div, Rem, Min, Max}
+use Rattle.language_base.specs.declared.compare.Compare.{Compare}
+use Rattle.language_base.specs.declared.compare.Compare.TheVariants.{Lt, Le, Gt, Ge, Eq, Ne}
 use Rattle.query_syntax.specs.declared.operator.Summary.{Summary}
 use Rattle.query_syntax.specs.declared.operator.Summary.TheVariants.{Sum, Count}
 use Rattle.query_syntax.specs.declared.operator.Extremum.{Extremum}

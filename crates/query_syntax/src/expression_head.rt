@@ -24,30 +24,49 @@ fn expression_named(word: &[u8], count: usize) -> Option<ExpressionHead>
     ensures { result ≡ head_in expressions word.now count }
 {
     match count {
-        1 => match word {
-            b"neg" => Some(ExpressionHead::Unary(UnaryOp::Neg)),
-            b"abs" => Some(ExpressionHead::Unary(UnaryOp::Abs)),
-            b"tsum" => Some(ExpressionHead::Summary(Summary::Sum)),
-            b"tcount" => Some(ExpressionHead::Summary(Summary::Count)),
-            _ => None,
-        },
-        2 => match word {
-            b"add" => Some(ExpressionHead::Binary(BinaryOp::Add)),
-            b"sub" => Some(ExpressionHead::Binary(BinaryOp::Sub)),
-            b"mul" => Some(ExpressionHead::Binary(BinaryOp::Mul)),
-            b"div" => Some(ExpressionHead::Binary(BinaryOp::Div)),
-            b"rem" => Some(ExpressionHead::Binary(BinaryOp::Rem)),
-            b"min" => Some(ExpressionHead::Binary(BinaryOp::Min)),
-            b"max" => Some(ExpressionHead::Binary(BinaryOp::Max)),
-            b"tmax" => Some(ExpressionHead::Extremum(Extremum::Max)),
-            b"tmin" => Some(ExpressionHead::Extremum(Extremum::Min)),
-            _ => None,
-        },
-        3 => match word {
-            b"if" => Some(ExpressionHead::If),
-            b"tget" => Some(ExpressionHead::Get),
-            _ => None,
-        },
+        1 => named_with_one(word),
+        2 => named_with_two(word),
+        3 => named_with_three(word),
+        _ => None,
+    }
+}
+
+// The expression that a call with one argument is.
+fn named_with_one(word: &[u8]) -> Option<ExpressionHead>
+    ensures { result ≡ head_in expressions word.now 1 }
+{
+    match word {
+        b"neg" => Some(ExpressionHead::Unary(UnaryOp::Neg)),
+        b"abs" => Some(ExpressionHead::Unary(UnaryOp::Abs)),
+        b"tsum" => Some(ExpressionHead::Summary(Summary::Sum)),
+        b"tcount" => Some(ExpressionHead::Summary(Summary::Count)),
+        _ => None,
+    }
+}
+
+fn named_with_two(word: &[u8]) -> Option<ExpressionHead>
+    ensures { result ≡ head_in expressions word.now 2 }
+{
+    match word {
+        b"add" => Some(ExpressionHead::Binary(BinaryOp::Add)),
+        b"sub" => Some(ExpressionHead::Binary(BinaryOp::Sub)),
+        b"mul" => Some(ExpressionHead::Binary(BinaryOp::Mul)),
+        b"div" => Some(ExpressionHead::Binary(BinaryOp::Div)),
+        b"rem" => Some(ExpressionHead::Binary(BinaryOp::Rem)),
+        b"min" => Some(ExpressionHead::Binary(BinaryOp::Min)),
+        b"max" => Some(ExpressionHead::Binary(BinaryOp::Max)),
+        b"tmax" => Some(ExpressionHead::Extremum(Extremum::Max)),
+        b"tmin" => Some(ExpressionHead::Extremum(Extremum::Min)),
+        _ => None,
+    }
+}
+
+fn named_with_three(word: &[u8]) -> Option<ExpressionHead>
+    ensures { result ≡ head_in expressions word.now 3 }
+{
+    match word {
+        b"if" => Some(ExpressionHead::If),
+        b"tget" => Some(ExpressionHead::Get),
         _ => None,
     }
 }

@@ -16,7 +16,7 @@ use query_parser::Term;
 use std::alloc::{AllocError, Global};
 
 #[cycle(read)]
-pub(crate) fn expression_of(alloc: Global, term: &Term) -> Result<Expression, AllocError>
+fn expression_of(alloc: Global, term: &Term) -> Result<Expression, AllocError>
     requires { Fits place.Expr term.now }
     ensures { IfOk result (λ expression. (rest : Terms)
         → term_before term.now rest ≡ expression_before (plain_expression expression) rest) }
@@ -106,7 +106,7 @@ fn expression_call(
 }
 
 #[cycle(read)]
-fn boxed_expression(alloc: Global, term: &Term) -> Result<Box<Expression>, AllocError>
+pub(crate) fn boxed_expression(alloc: Global, term: &Term) -> Result<Box<Expression>, AllocError>
     requires { Fits place.Expr term.now }
     ensures { IfOk result (λ boxed. (rest : Terms)
         → term_before term.now rest ≡ expression_before (plain_expression boxed.value) rest) }

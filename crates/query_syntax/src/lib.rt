@@ -25,10 +25,10 @@ mod stream_reading;
 mod syntax;
 
 pub use expression::{Comparison, Expression};
+pub use language_base::{BinaryOp, Compare, UnaryOp};
 pub use laws::{one_program, streams_are_within_the_limits};
 pub use leaf::{Literal, Name, Number, Text};
 pub use operator::{Connective, Equality, Extremum, Join, Order, Summary};
-pub use operators::{BinaryOp, Compare, UnaryOp};
 pub use predicate::Predicate;
 pub use program::{Let, Main, Program};
 pub use query::Query;

@@ -23,26 +23,45 @@ fn predicate_named(word: &[u8], count: usize) -> Option<PredicateHead>
     ensures { result ≡ head_in predicates word.now count }
 {
     match count {
-        1 => match word {
-            b"isnum" => Some(PredicateHead::IsNum),
-            b"not" => Some(PredicateHead::Not),
-            _ => None,
-        },
-        2 => match word {
-            b"eq" => Some(PredicateHead::Equality(Equality::Eq)),
-            b"ne" => Some(PredicateHead::Equality(Equality::Ne)),
-            b"lt" => Some(PredicateHead::Order(Order::Lt)),
-            b"le" => Some(PredicateHead::Order(Order::Le)),
-            b"gt" => Some(PredicateHead::Order(Order::Gt)),
-            b"ge" => Some(PredicateHead::Order(Order::Ge)),
-            b"and" => Some(PredicateHead::Joined(Connective::And)),
-            b"or" => Some(PredicateHead::Joined(Connective::Or)),
-            _ => None,
-        },
-        3 => match word {
-            b"between" => Some(PredicateHead::Between),
-            _ => None,
-        },
+        1 => named_with_one(word),
+        2 => named_with_two(word),
+        3 => named_with_three(word),
+        _ => None,
+    }
+}
+
+// The predicate that a call with one argument is.
+fn named_with_one(word: &[u8]) -> Option<PredicateHead>
+    ensures { result ≡ head_in predicates word.now 1 }
+{
+    match word {
+        b"isnum" => Some(PredicateHead::IsNum),
+        b"not" => Some(PredicateHead::Not),
+        _ => None,
+    }
+}
+
+fn named_with_two(word: &[u8]) -> Option<PredicateHead>
+    ensures { result ≡ head_in predicates word.now 2 }
+{
+    match word {
+        b"eq" => Some(PredicateHead::Equality(Equality::Eq)),
+        b"ne" => Some(PredicateHead::Equality(Equality::Ne)),
+        b"lt" => Some(PredicateHead::Order(Order::Lt)),
+        b"le" => Some(PredicateHead::Order(Order::Le)),
+        b"gt" => Some(PredicateHead::Order(Order::Gt)),
+        b"ge" => Some(PredicateHead::Order(Order::Ge)),
+        b"and" => Some(PredicateHead::Joined(Connective::And)),
+        b"or" => Some(PredicateHead::Joined(Connective::Or)),
+        _ => None,
+    }
+}
+
+fn named_with_three(word: &[u8]) -> Option<PredicateHead>
+    ensures { result ≡ head_in predicates word.now 3 }
+{
+    match word {
+        b"between" => Some(PredicateHead::Between),
         _ => None,
     }
 }

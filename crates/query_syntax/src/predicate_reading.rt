@@ -139,7 +139,7 @@ fn column_of(alloc: Global, arguments: &[Term]) -> Result<Name, AllocError>
 }
 
 #[cycle(read)]
-fn boxed_predicate(alloc: Global, term: &Term) -> Result<Box<Predicate>, AllocError>
+pub(crate) fn boxed_predicate(alloc: Global, term: &Term) -> Result<Box<Predicate>, AllocError>
     requires { Fits place.Pred term.now }
     ensures { IfOk result (λ boxed. (rest : Terms)
         → term_before term.now rest ≡ predicate_before (plain_predicate boxed.value) rest) }

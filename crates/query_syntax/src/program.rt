@@ -14,12 +14,12 @@ pub struct Program {
 #[derive(Drop)]
 pub struct Let {
     pub name: Name,
-    pub query: Query,
+    pub query: Box<Query>,
     pub span: Span,
 }
 
 #[derive(Drop)]
 pub struct Main {
-    pub query: Query,
+    pub query: Box<Query>,
     pub span: Span,
 }

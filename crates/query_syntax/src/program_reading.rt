@@ -10,7 +10,7 @@ ghost use Rattle.query_syntax.specs.Tops.{AreTops, FitsLet, FitsMain};
 ghost use Rattle.query_syntax.specs.Written.{name_before, query_before};
 
 use crate::leaf_reading::name_of;
-use crate::query_reading::query_of;
+use crate::query_reading::boxed_query;
 use crate::stream_reading::stream_of;
 use crate::{Let, Main, Name, Program, Query};
 use query_parser::Term;
@@ -63,15 +63,15 @@ fn let_of(alloc: Global, term: &Term) -> Result<Let, AllocError>
     }
 }
 
-fn name_and_query(alloc: Global, arguments: &[Term]) -> Result<(Name, Query), AllocError>
+fn name_and_query(alloc: Global, arguments: &[Term]) -> Result<(Name, Box<Query>), AllocError>
     requires { AllFit (place.Name ∷ place.Query ∷ []) arguments.now }
     ensures { IfOk result (λ parts. terms_of arguments.now
-        ≡ name_before parts.0 (query_before (plain_query parts.1) none)) }
+        ≡ name_before parts.0 (query_before (plain_query parts.1.value) none)) }
 {
     let [name, query] = arguments else {
         unreachable!();
     };
-    Ok((name_of(alloc, name)?, query_of(alloc, query)?))
+    Ok((name_of(alloc, name)?, boxed_query(alloc, query)?))
 }
 
 fn main_of(alloc: Global, term: &Term) -> Result<Main, AllocError>
@@ -88,13 +88,13 @@ fn main_of(alloc: Global, term: &Term) -> Result<Main, AllocError>
     }
 }
 
-fn only_query(alloc: Global, arguments: &[Term]) -> Result<Query, AllocError>
+fn only_query(alloc: Global, arguments: &[Term]) -> Result<Box<Query>, AllocError>
     requires { AllFit (place.Query ∷ []) arguments.now }
     ensures { IfOk result (λ query. terms_of arguments.now
-        ≡ query_before (plain_query query) none) }
+        ≡ query_before (plain_query query.value) none) }
 {
     let [query] = arguments else {
         unreachable!();
     };
-    query_of(alloc, query)
+    boxed_query(alloc, query)
 }

@@ -8,8 +8,8 @@ pub enum Query {
     /// The query of an earlier let.
     Name(Name),
     Atom {
-        predicate: Predicate,
-        value: Expression,
+        predicate: Box<Predicate>,
+        value: Box<Expression>,
         span: Span,
     },
     Eps {
@@ -24,24 +24,24 @@ pub enum Query {
     Split {
         left: Box<Query>,
         right: Box<Query>,
-        value: Expression,
+        value: Box<Expression>,
         span: Span,
     },
     Iter {
         operand: Box<Query>,
         first: Number,
-        step: Expression,
+        step: Box<Expression>,
         span: Span,
     },
     Combine {
         left: Box<Query>,
         right: Box<Query>,
-        value: Expression,
+        value: Box<Expression>,
         span: Span,
     },
     Apply {
         operand: Box<Query>,
-        value: Expression,
+        value: Box<Expression>,
         span: Span,
     },
     Compose {
@@ -51,8 +51,8 @@ pub enum Query {
     },
     Collect {
         key: Name,
-        sync: Predicate,
-        rate: Rate,
+        sync: Box<Predicate>,
+        rate: Box<Rate>,
         body: Box<Query>,
         span: Span,
     },

@@ -24,16 +24,53 @@ pub(crate) enum QueryHead {
 fn query_named(word: &[u8], count: usize) -> Option<QueryHead>
     ensures { result ≡ head_in queries word.now count }
 {
-    match (word, count) {
-        (b"atom", 2) => Some(QueryHead::Atom),
-        (b"eps", 1) => Some(QueryHead::Eps),
-        (b"or", 2) => Some(QueryHead::Or),
-        (b"split", 3) => Some(QueryHead::Split),
-        (b"iter", 3) => Some(QueryHead::Iter),
-        (b"combine", 3) => Some(QueryHead::Combine),
-        (b"apply", 2) => Some(QueryHead::Apply),
-        (b"compose", 2) => Some(QueryHead::Compose),
-        (b"collect", 4) => Some(QueryHead::Collect),
+    match count {
+        1 => named_with_one(word),
+        2 => named_with_two(word),
+        3 => named_with_three(word),
+        4 => named_with_four(word),
+        _ => None,
+    }
+}
+
+// The query that a call with one argument is.
+fn named_with_one(word: &[u8]) -> Option<QueryHead>
+    ensures { result ≡ head_in queries word.now 1 }
+{
+    match word {
+        b"eps" => Some(QueryHead::Eps),
+        _ => None,
+    }
+}
+
+fn named_with_two(word: &[u8]) -> Option<QueryHead>
+    ensures { result ≡ head_in queries word.now 2 }
+{
+    match word {
+        b"atom" => Some(QueryHead::Atom),
+        b"or" => Some(QueryHead::Or),
+        b"apply" => Some(QueryHead::Apply),
+        b"compose" => Some(QueryHead::Compose),
+        _ => None,
+    }
+}
+
+fn named_with_three(word: &[u8]) -> Option<QueryHead>
+    ensures { result ≡ head_in queries word.now 3 }
+{
+    match word {
+        b"split" => Some(QueryHead::Split),
+        b"iter" => Some(QueryHead::Iter),
+        b"combine" => Some(QueryHead::Combine),
+        _ => None,
+    }
+}
+
+fn named_with_four(word: &[u8]) -> Option<QueryHead>
+    ensures { result ≡ head_in queries word.now 4 }
+{
+    match word {
+        b"collect" => Some(QueryHead::Collect),
         _ => None,
     }
 }

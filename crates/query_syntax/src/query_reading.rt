@@ -7,18 +7,18 @@ ghost use Rattle.query_syntax.specs.Fits.{AllFit, Fits, HasForm};
 ghost use Rattle.query_syntax.specs.Plain.{plain_expression, plain_predicate, plain_query, plain_rate};
 ghost use Rattle.query_syntax.specs.Written.{expression_before, name_before, number_before, predicate_before, query_before, rate_before};
 
-use crate::expression_reading::expression_of;
+use crate::expression_reading::boxed_expression;
 use crate::leaf_reading::{name_of, number_of};
-use crate::predicate_reading::predicate_of;
+use crate::predicate_reading::boxed_predicate;
 use crate::query_head::{QueryHead, query_head};
-use crate::rate_reading::rate_of;
+use crate::rate_reading::boxed_rate;
 use crate::{Expression, Name, Number, Predicate, Query, Rate};
 use language_base::Span;
 use query_parser::Term;
 use std::alloc::{AllocError, Global};
 
 #[cycle(read)]
-pub(crate) fn query_of(alloc: Global, term: &Term) -> Result<Query, AllocError>
+fn query_of(alloc: Global, term: &Term) -> Result<Query, AllocError>
     requires { Fits place.Query term.now }
     ensures { IfOk result (λ query. (rest : Terms)
         → term_before term.now rest ≡ query_before (plain_query query) rest) }
@@ -116,18 +116,21 @@ fn query_call(
     }
 }
 
-fn atom_of(alloc: Global, arguments: &[Term]) -> Result<(Predicate, Expression), AllocError>
+fn atom_of(
+    alloc: Global,
+    arguments: &[Term],
+) -> Result<(Box<Predicate>, Box<Expression>), AllocError>
     requires { AllFit (place.Pred ∷ place.Expr ∷ []) arguments.now }
     ensures { IfOk result (λ parts. terms_of arguments.now
-        ≡ predicate_before (plain_predicate parts.0)
-        (expression_before (plain_expression parts.1) none)) }
+        ≡ predicate_before (plain_predicate parts.0.value)
+        (expression_before (plain_expression parts.1.value) none)) }
 {
     let [predicate, value] = arguments else {
         unreachable!();
     };
     Ok((
-        predicate_of(alloc, predicate)?,
-        expression_of(alloc, value)?,
+        boxed_predicate(alloc, predicate)?,
+        boxed_expression(alloc, value)?,
     ))
 }
 
@@ -142,7 +145,7 @@ fn value_of(arguments: &[Term]) -> Number
 }
 
 #[cycle(read)]
-fn boxed_query(alloc: Global, term: &Term) -> Result<Box<Query>, AllocError>
+pub(crate) fn boxed_query(alloc: Global, term: &Term) -> Result<Box<Query>, AllocError>
     requires { Fits place.Query term.now }
     ensures { IfOk result (λ boxed. (rest : Terms)
         → term_before term.now rest ≡ query_before (plain_query boxed.value) rest) }
@@ -168,11 +171,11 @@ fn operands_of(alloc: Global, arguments: &[Term]) -> Result<(Box<Query>, Box<Que
 fn operands_and_value(
     alloc: Global,
     arguments: &[Term],
-) -> Result<(Box<Query>, Box<Query>, Expression), AllocError>
+) -> Result<(Box<Query>, Box<Query>, Box<Expression>), AllocError>
     requires { AllFit (place.Query ∷ place.Query ∷ place.Expr ∷ []) arguments.now }
     ensures { IfOk result (λ parts. terms_of arguments.now
         ≡ query_before (plain_query parts.0.value) (query_before (plain_query parts.1.value)
-        (expression_before (plain_expression parts.2) none))) }
+        (expression_before (plain_expression parts.2.value) none))) }
 {
     let [left, right, value] = arguments else {
         unreachable!();
@@ -181,7 +184,7 @@ fn operands_and_value(
     Ok((
         left,
         boxed_query(alloc, right)?,
-        expression_of(alloc, value)?,
+        boxed_expression(alloc, value)?,
     ))
 }
 
@@ -189,11 +192,11 @@ fn operands_and_value(
 fn fold_of(
     alloc: Global,
     arguments: &[Term],
-) -> Result<(Box<Query>, Number, Expression), AllocError>
+) -> Result<(Box<Query>, Number, Box<Expression>), AllocError>
     requires { AllFit (place.Query ∷ place.Number ∷ place.Expr ∷ []) arguments.now }
     ensures { IfOk result (λ parts. terms_of arguments.now
         ≡ query_before (plain_query parts.0.value) (number_before parts.1
-        (expression_before (plain_expression parts.2) none))) }
+        (expression_before (plain_expression parts.2.value) none))) }
 {
     let [operand, first, step] = arguments else {
         unreachable!();
@@ -202,7 +205,7 @@ fn fold_of(
     Ok((
         boxed_query(alloc, operand)?,
         first,
-        expression_of(alloc, step)?,
+        boxed_expression(alloc, step)?,
     ))
 }
 
@@ -210,32 +213,40 @@ fn fold_of(
 fn operand_and_value(
     alloc: Global,
     arguments: &[Term],
-) -> Result<(Box<Query>, Expression), AllocError>
+) -> Result<(Box<Query>, Box<Expression>), AllocError>
     requires { AllFit (place.Query ∷ place.Expr ∷ []) arguments.now }
     ensures { IfOk result (λ parts. terms_of arguments.now
         ≡ query_before (plain_query parts.0.value)
-        (expression_before (plain_expression parts.1) none)) }
+        (expression_before (plain_expression parts.1.value) none)) }
 {
     let [operand, value] = arguments else {
         unreachable!();
     };
-    Ok((boxed_query(alloc, operand)?, expression_of(alloc, value)?))
+    Ok((
+        boxed_query(alloc, operand)?,
+        boxed_expression(alloc, value)?,
+    ))
 }
 
 #[cycle(read)]
 fn collect_of(
     alloc: Global,
     arguments: &[Term],
-) -> Result<(Name, Predicate, Rate, Box<Query>), AllocError>
+) -> Result<(Name, Box<Predicate>, Box<Rate>, Box<Query>), AllocError>
     requires { AllFit (place.Name ∷ place.Pred ∷ place.Rate ∷ place.Query ∷ []) arguments.now }
     ensures { IfOk result (λ parts. terms_of arguments.now ≡ name_before parts.0
-        (predicate_before (plain_predicate parts.1) (rate_before (plain_rate parts.2)
+        (predicate_before (plain_predicate parts.1.value) (rate_before (plain_rate parts.2.value)
         (query_before (plain_query parts.3.value) none)))) }
 {
     let [key, sync, rate, body] = arguments else {
         unreachable!();
     };
     let key = name_of(alloc, key)?;
-    let sync = predicate_of(alloc, sync)?;
-    Ok((key, sync, rate_of(alloc, rate)?, boxed_query(alloc, body)?))
+    let sync = boxed_predicate(alloc, sync)?;
+    Ok((
+        key,
+        sync,
+        boxed_rate(alloc, rate)?,
+        boxed_query(alloc, body)?,
+    ))
 }

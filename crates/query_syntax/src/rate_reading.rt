@@ -15,7 +15,7 @@ use query_parser::Term;
 use std::alloc::{AllocError, Global};
 
 #[cycle(read)]
-pub(crate) fn rate_of(alloc: Global, term: &Term) -> Result<Rate, AllocError>
+fn rate_of(alloc: Global, term: &Term) -> Result<Rate, AllocError>
     requires { Fits place.Rate term.now }
     ensures { IfOk result (λ rate. (rest : Terms)
         → term_before term.now rest ≡ rate_before (plain_rate rate) rest) }
@@ -68,7 +68,7 @@ fn item_of(alloc: Global, arguments: &[Term]) -> Result<Predicate, AllocError>
 }
 
 #[cycle(read)]
-fn boxed_rate(alloc: Global, term: &Term) -> Result<Box<Rate>, AllocError>
+pub(crate) fn boxed_rate(alloc: Global, term: &Term) -> Result<Box<Rate>, AllocError>
     requires { Fits place.Rate term.now }
     ensures { IfOk result (λ boxed. (rest : Terms)
         → term_before term.now rest ≡ rate_before (plain_rate boxed.value) rest) }

@@ -1,6 +1,8 @@
 //! The search for all pairs of states that words lead to.
-ghost use Rattle.std.specs.Prelude.{◌≡◌, ◌+◌, Err, IfOk};
+ghost use Rattle.std.specs.Prelude.{◌≡◌, ◌+◌, [], ◌∷◌, Err, IfOk, OnOk};
+ghost use Rattle.rate_expr.specs.declared.state.State.TheVariants.{Initial};
 ghost use Rattle.rate_equal.specs.declared.stop.EqualStop.TheVariants.{Reach};
+ghost use Rattle.rate_equal.specs.Letters.{AreLetters};
 ghost use Rattle.rate_equal.specs.Pairs.{AreAll};
 ghost use Rattle.rate_equal.specs.Reach.{max_reach, ReachPairs};
 
@@ -12,7 +14,7 @@ use crate::pair::Pair;
 use crate::stop::EqualStop;
 use crate::targets::targets;
 use indexmap::IndexSet;
-use std::alloc::Global;
+use std::alloc::{AllocError, Global};
 use symbolic_nfa::{Nfa, State};
 
 /// The pairs of states that words lead to.
@@ -23,25 +25,51 @@ pub(crate) fn reach(alloc: Global, first: &Nfa, second: &Nfa) -> Result<IndexSet
         first.now.sets second.now.sets (max_reach + 1) }
 {
     let alphabet = Alphabet::new(alloc, letters(alloc, first, second)?)?;
+    let mut pairs = initial_pairs(alloc)?;
+    explore(alloc, first, second, &alphabet, &mut pairs)?;
+    Ok(pairs)
+}
+
+// The pair behind the empty word.
+fn initial_pairs(alloc: Global) -> Result<IndexSet<Pair>, AllocError>
+    ensures { IfOk result (λ pairs.
+        pairs.keys ≡ record { first = Initial; second = Initial } ∷ []) }
+{
     let mut pairs = IndexSet::new(alloc);
-    let initial = Pair {
+    pairs.insert(Pair {
         first: State::Initial,
         second: State::Initial,
-    };
-    pairs.insert(initial)?;
+    })?;
+    Ok(pairs)
+}
+
+// Puts the pairs to which words lead behind the initial one.
+fn explore(
+    alloc: Global,
+    first: &Nfa,
+    second: &Nfa,
+    alphabet: &Alphabet,
+    pairs: &mut IndexSet<Pair>,
+) -> Result<(), EqualStop>
+    requires letters { AreLetters first.now second.now alphabet.now.letters.items }
+    requires initial { pairs.old.keys ≡ record { first = Initial; second = Initial } ∷ [] }
+    ensures all { OnOk result (AreAll first.now second.now pairs.new.keys) }
+    ensures too_many { result ≡ Err Reach → ReachPairs first.now.cells.layout.columns
+        first.now.sets second.now.sets (max_reach + 1) }
+{
+    let mut holders = Holders::new(alloc)?;
     let mut gone = IndexSet::new(alloc);
     let mut known = Vec::new(alloc);
-    let mut holders = Holders::new(alloc)?;
     let mut next = 0;
     'pairs: while let Some(from) = pairs.get_index(next).copied() {
         let ways = (first.ways_on(from.first), second.ways_on(from.second));
         // Items lead from a pair with the same ways on to the same pairs.
         if gone.insert(ways)? {
             holders.enter(pairs.as_slice());
-            let targets = targets(alloc, &alphabet, &known, &holders, ways, &mut pairs)?;
+            let targets = targets(alloc, alphabet, &known, &holders, ways, pairs)?;
             known.push(Known { ways, targets })?;
         }
         next += 1;
     }
-    Ok(pairs)
+    Ok(())
 }

@@ -7,8 +7,6 @@ mod key_text;
 mod refusal;
 mod skip;
 mod table_text;
-#[cfg(test)]
-mod tests;
 
 pub use answer::push_answer;
 pub use command::{bound_text, check_text, drill_text};

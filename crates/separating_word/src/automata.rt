@@ -5,7 +5,7 @@ ghost use Rattle.separating_word.specs.Pairs.{ShareCells};
 use item_schema::Schema;
 use predicate_cells::{CellStop, Cells, Preds};
 use query_model::{Checked, Query};
-use rate_expr::{MAX_POSITIONS, Positions};
+use rate_expr::{MAX_POSITIONS, Positions, Rate};
 use std::alloc::{AllocError, Global};
 use std::rc::Rc;
 use symbolic_nfa::Nfa;
@@ -37,12 +37,16 @@ pub(crate) fn automata_of(
     }
 }
 
-fn positions_of(alloc: Global, query: &Query) -> Result<Option<Positions>, AllocError> {
-    let rate = query.rate(alloc)?;
+fn positions_of(alloc: Global, query: &Query) -> Result<Option<Box<Positions>>, AllocError> {
+    let rate = Box::new(alloc, query.rate(alloc)?)?;
+    positions_in(alloc, &rate)
+}
+
+fn positions_in(alloc: Global, rate: &Rate) -> Result<Option<Box<Positions>>, AllocError> {
     if rate.positions() > MAX_POSITIONS {
         return Ok(None);
     }
-    Ok(Some(Positions::of(alloc, &rate)?))
+    Ok(Some(Box::new(alloc, Positions::of(alloc, rate)?)?))
 }
 
 // The cells that the predicates of both tell apart.
@@ -75,15 +79,15 @@ fn add_all(added: &Preds, preds: &mut Preds) -> Result<(), AllocError> {
 fn over(
     alloc: Global,
     cells: &Rc<Cells>,
-    first: Positions,
-    second: Positions,
+    first: Box<Positions>,
+    second: Box<Positions>,
 ) -> Result<Option<Automata>, AllocError>
     ensures { IfOk result (λ found. IfSome found ShareCells) }
 {
     if !Nfa::can_read(&first, cells.as_ref()) || !Nfa::can_read(&second, cells.as_ref()) {
         return Ok(None);
     }
-    let left = Nfa::new(alloc, first, cells)?;
-    let right = Nfa::new(alloc, second, cells)?;
+    let left = Nfa::new(alloc, Box::into_inner(first), cells)?;
+    let right = Nfa::new(alloc, Box::into_inner(second), cells)?;
     Ok(Some(Automata { left, right }))
 }

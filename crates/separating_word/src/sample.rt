@@ -10,13 +10,15 @@ use value_ops::Field;
 
 /// A number of 64 bits is found among its like in so many halves.
 const HALVES: usize = 64;
+/// A text that is easily read.
+const PLAIN_TEXT: &[u8] = b"other";
 
 /// An item of a cell.
 #[derive(Drop)]
 pub(crate) struct Sample<'c> {
     cells: &'c Cells,
     cell: u32,
-    item: Item,
+    item: Box<Item>,
 }
 
 impl<'c> Sample<'c> {
@@ -26,7 +28,7 @@ impl<'c> Sample<'c> {
         Ok(Sample {
             cells,
             cell,
-            item: cells.sample(alloc, cell)?,
+            item: Box::new(alloc, cells.sample(alloc, cell)?)?,
         })
     }
 
@@ -43,9 +45,8 @@ impl<'c> Sample<'c> {
         match own {
             Field::Int(number) => Ok(Field::Int(self.nearest(alloc, column, *number)?)),
             Field::Text(_) => {
-                let other = Field::Text(Bytes::from_slice(alloc, b"other")?);
-                if self.may_have(alloc, column, &other)? {
-                    return Ok(other);
+                if self.may_have_text(alloc, column, PLAIN_TEXT)? {
+                    return Ok(Field::Text(Bytes::from_slice(alloc, PLAIN_TEXT)?));
                 }
                 own.try_copy(alloc)
             }
@@ -55,14 +56,14 @@ impl<'c> Sample<'c> {
 
     // The number nearest to zero that may stand in the column in place of its own.
     fn nearest(&self, alloc: Global, column: usize, own: i64) -> Result<i64, AllocError> {
-        if self.may_have(alloc, column, &Field::Int(0))? {
+        if self.may_have_number(alloc, column, 0)? {
             return Ok(0);
         }
         let mut without = 0i64;
         let mut within = own;
         for _ in 0..HALVES {
             let half = without.wrapping_add(within.wrapping_sub(without) / 2);
-            if self.may_have(alloc, column, &Field::Int(half))? {
+            if self.may_have_number(alloc, column, half)? {
                 within = half;
             } else {
                 without = half;
@@ -71,13 +72,38 @@ impl<'c> Sample<'c> {
         Ok(within)
     }
 
+    fn may_have_number(
+        &self,
+        alloc: Global,
+        column: usize,
+        number: i64,
+    ) -> Result<bool, AllocError> {
+        self.may_have(alloc, column, &Field::Int(number))
+    }
+
+    fn may_have_text(&self, alloc: Global, column: usize, text: &[u8]) -> Result<bool, AllocError> {
+        let field = Field::Text(Bytes::from_slice(alloc, text)?);
+        self.may_have(alloc, column, &field)
+    }
+
     // Whether the item would be of the cell with this field in the column.
     fn may_have(&self, alloc: Global, column: usize, other: &Field) -> Result<bool, AllocError> {
+        let item = Item::from_fields(self.fields_with(alloc, column, other)?);
+        Ok(self.cells.of(&item) == self.cell)
+    }
+
+    // The item's fields with this one in the column.
+    fn fields_with(
+        &self,
+        alloc: Global,
+        column: usize,
+        other: &Field,
+    ) -> Result<Vec<Field>, AllocError> {
         let mut fields = Vec::new(alloc);
         for (place, own) in self.item.fields().iter().enumerate() {
             let field = if place == column { other } else { own };
             fields.push(field.try_copy(alloc)?)?;
         }
-        Ok(self.cells.of(&Item::from_fields(fields)) == self.cell)
+        Ok(fields)
     }
 }

@@ -1,5 +1,5 @@
 -- What is kept in its room, where an entry is put, and where some are left out.
-use Rattle.std.proofs.Common.{◌≡◌, ◌++◌, ◌<◌, ◌≤◌, ℕ, Bool, true, false, cond, List, [], ◌∷◌, None, length, sym, subst, arith}
+use Rattle.std.proofs.Common.{◌≡◌, ◌∙◌, ◌++◌, ◌<◌, ◌≤◌, ℕ, Bool, true, false, cond, List, [], ◌∷◌, None, length, sym, subst, arith}
 use Rattle.std.specs.List.Retain.{IsFiltered}
 use Rattle.std.proofs.lemmas.List.{length-append}
 use Rattle.split_eval.specs.Entries.{entry_at, live_entries, IsKept}
@@ -10,11 +10,11 @@ module _ {V : Type 0} where
   -- one more, where there is room and none has its inner start
   pub IsKept-put : (es now : List (Entry V)) (e : Entry V) (room capacity grown : ℕ)
       → now ≡ es ++ e ∷ [] → IsKept es room capacity → length es < room
-      → entry_at es e.inner ≡ None → capacity ≤ grown → IsKept now room grown
+      → entry_at es e.inner ≡ None → grown ≡ capacity → IsKept now room grown
   IsKept-put es now e room capacity grown is was spare none more =
       let count = length-append es (e ∷ []) in
       subst (λ (xs : List (Entry V)). IsKept xs room grown) (sym is) (record {
-        reserved = let reserved = was.reserved in omega (arith, reserved, more);
+        reserved = more ∙ was.reserved;
         few = omega (arith, count, spare);
         distinct = AreDistinct-put es e was.distinct none;
       })
@@ -24,11 +24,10 @@ module _ {V : Type 0} where
       → (es now : List (Entry V)) (room capacity same : ℕ)
       → IsFiltered R p es now → IsKept es room capacity → same ≡ capacity → IsKept now room same
   IsKept-filtered R p es now room capacity same kept was is =
-      let reserved = was.reserved in
       let few = was.few in
       let fewer = few_filtered R p es now kept in
       record {
-        reserved = omega (arith, reserved, is);
+        reserved = is ∙ was.reserved;
         few = omega (arith, few, fewer);
         distinct = AreDistinct-filtered R p es now kept was.distinct;
       }
@@ -49,11 +48,10 @@ module _ {V : Type 0} where
       → now ≡ live_entries is_live es → IsKept es room capacity → same ≡ capacity
       → IsKept now room same
   IsKept-live es now is_live room capacity same is was as_before =
-      let reserved = was.reserved in
       let few = was.few in
       let fewer = few_live es is_live in
       subst (λ (xs : List (Entry V)). IsKept xs room same) (sym is) (record {
-        reserved = omega (arith, reserved, as_before);
+        reserved = as_before ∙ was.reserved;
         few = omega (arith, few, fewer);
         distinct = AreDistinct-live es is_live was.distinct;
       })

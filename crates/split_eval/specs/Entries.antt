@@ -29,9 +29,9 @@ module _ {V : Type 0} where
   AreDistinct [] = Unit {0}
   AreDistinct (entry ∷ entries) = (entry_at entries entry.inner ≡ None) × AreDistinct entries
 
-  -- the room is reserved, and no more than so many entries, all distinct, are in it
+  -- just the room is reserved, and no more than so many entries, all distinct, are in it
   pub record IsKept (entries : List (Entry V)) (room capacity : ℕ) : Type 0 where
-    pub reserved : room ≤ capacity
+    pub reserved : capacity ≡ room
     pub few : length entries ≤ room
     pub distinct : AreDistinct entries
 

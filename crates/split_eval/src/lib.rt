@@ -4,8 +4,6 @@
 mod entry;
 mod laws;
 mod pending;
-#[cfg(test)]
-mod tests;
 
 pub use entry::Entry;
 pub use pending::Pending;

@@ -33,7 +33,7 @@ fn place_of<V>(entries: &[Entry<V>], inner: u64) -> Option<usize>
 }
 
 impl<V: Drop> Pending<V> {
-    /// No later call takes memory.
+    /// No later call takes memory: the list is as long as the room from here on.
     pub fn new(alloc: Global, room: u32) -> Result<Pending<V>, AllocError>
         ensures { IfOk result (λ pending. pending ≡ record { entries = []; room = room }) }
     {
@@ -48,8 +48,7 @@ impl<V: Drop> Pending<V> {
             ≡ self.old.entries ++ record { inner = inner; outer = outer; value = value } ∷ [] }
         ensures room { self.new.room ≡ self.old.room }
     {
-        // The room was reserved, so this push takes no memory.
-        let _ = self.entries.push(Entry {
+        self.entries.push_reserved(Entry {
             inner,
             outer,
             value,

@@ -12,9 +12,9 @@ const NO_WORDS: u8 = 9;
 
 fn main(rt: HostRuntime) -> ExitCode {
     match run(rt) {
-        Ok(status) => ExitCode::from(status as u8),
+        Ok(status) => ExitCode::from(status.number()),
         Err(error) if error.kind() == ErrorKind::OutOfMemory => ExitCode::from(
-            Status::Memory as u8,
+            Status::Memory.number(),
         ),
         Err(_) => ExitCode::from(NO_WORDS),
     }

@@ -6,10 +6,11 @@ pub mod Drilled
 pub mod Drilling
 pub mod Handed
 pub mod Meanings
-pub mod Output
 pub mod OneLine
+pub mod Output
 pub mod Outside
 pub mod QueryRead
 pub mod Running
 pub mod Sessions
+pub mod Statuses
 pub mod Stops

@@ -14,8 +14,7 @@ const MAX_ITEMS: u64 = 1_000_000;
 /// What follows the items of a run.
 #[derive(Clone, Copy, Debug, PartialEq, Eq)]
 pub enum Engine {
-    /// The one that goes on from item to item, where it has nodes for all shapes of the query, and
-    /// else the other.
+    /// The one that goes from item to item and keeps no items.
     Runner,
     /// The one that keeps the whole word and searches it anew after each item.
     Slow,

@@ -15,8 +15,6 @@ mod run;
 mod run_engine;
 mod session;
 mod status;
-#[cfg(test)]
-mod tests;
 
 pub use call::sqre;
 pub use laws::{one_query_per_text, queries_have_meanings, whole_lines_come_first};

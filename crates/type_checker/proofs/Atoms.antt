@@ -1,17 +1,16 @@
 -- What an atom is resolved to.
-use Rattle.std.proofs.Common.{◌≡◌, true, false, List, [], ◌∷◌, Option, Some, None, Ok, Err, refl, ◌∙◌, ap, subst}
+use Rattle.std.proofs.Common.{◌≡◌, true, false, List, [], Option, Some, None, Ok, Err, refl, ◌∙◌, ap, subst}
 use Rattle.item_schema.specs.declared.column.Column.{Column}
 use Rattle.language_base.specs.declared.rule.Rule.TheVariants.{Name, Type_}
 use Rattle.language_base.specs.declared.span.Span.{Span}
 use Rattle.predicate_cells.specs.Fits.{fits}
 use Rattle.predicate_cells.specs.Predicates as plain
-use Rattle.query_model.specs.Queries.{atom, plain_of}
+use Rattle.query_model.specs.Queries.{atom, plain_of, spans_of}
 use Rattle.query_model.specs.QueryTypes as types
 use Rattle.query_syntax.specs.Expressions as e
 use Rattle.query_syntax.specs.Predicates as p
 use Rattle.query_syntax.specs.Queries as q
 use Rattle.type_checker.specs.Expressions.{expression_over, is_typed, of_item}
-use Rattle.type_checker.specs.Findings.{places_in}
 use Rattle.type_checker.specs.Resolutions.{HasTypes, IsMade, columns_of}
 use Rattle.type_checker.specs.Resolved.{Nesting, resolved}
 use Rattle.type_checker.specs.Scopes.{HasFittingNumbers}
@@ -19,7 +18,7 @@ use Rattle.type_checker.specs.Steps.{refusal}
 use Rattle.type_checker.specs.Tests.{resolved_over}
 use Rattle.type_checker.specs.declared.naming.Typed.{Typed}
 use Rattle.type_checker.specs.declared.shapes.Items.{Items}
-use Rattle.type_checker.proofs.Operands.{made_of}
+use Rattle.type_checker.proofs.Operands.{made_of, no_place}
 use Rattle.type_checker.proofs.WellTyped.{is_typed_true, type_is, untyped, well_typed}
 use Rattle.value_ops.specs.Expressions as values
 use Rattle.value_ops.specs.Typing.{HasType, Types}
@@ -73,12 +72,13 @@ module _ (nesting : Nesting) (columns : List Column) (predicate : p.Predicate) (
         passes is = rw (← tested, ← named, fit, is) refl
 
         pub atom_made : (ty : ValueType) (made : Typed) → HasType names value ty
-            → plain_of made.query.shape ≡ atom pred value → made.ty ≡ ty → places_in made.query ≡ span ∷ []
-            → IsMade nesting columns (q.atom predicate tree span) made
-        atom_made ty made has is ty_is places =
+            → plain_of made.query.value.shape ≡ atom pred value → spans_of made.query.value.shape ≡ []
+            → made.query.value.span ≡ span → made.ty ≡ ty → IsMade nesting columns (q.atom predicate tree span) made
+        atom_made ty made has is spans at ty_is =
             let has' : HasType (types.of_columns columns) value ty = subst (λ (t : Types). HasType t value ty) are
             has in
             made_of nesting columns (q.atom predicate tree span) made (atom pred value) is
             (passes (is_typed_true (types.of_columns columns) value ty has'))
             (ty_is ∙ type_is (types.of_columns columns) value ty has')
-            (fit, well_typed (types.of_columns columns) value ty has') places
+            (fit, well_typed (types.of_columns columns) value ty has')
+            (no_place made.query.value span spans at)

@@ -86,17 +86,17 @@ module _ (nesting : Nesting) (columns : List Column) (key : leaf.Name) (sync : p
 
             module _ (fit : parts_fit ≡ true) where
               collect_step : resolved nesting columns (q.collect key sync rate f span)
-                  ≡ Ok (collect column pred words (plain_of operand.query.shape))
+                  ≡ Ok (collect column pred words (plain_of operand.query.value.shape))
               unfolding resolved
               collect_step = rw (is.resolved, ← keyed, ← tested, ← rated, may, fit) refl
 
               pub collect_made : (made : Typed) → MayStand nesting columns
-                  → plain_of made.query.shape ≡ collect column pred words (plain_of operand.query.shape)
-                  → spans_of made.query.shape ≡ spans_of operand.query.shape ++ operand.query.span ∷ []
-                  → made.query.span ≡ span → made.ty ≡ type.Table
+                  → plain_of made.query.value.shape ≡ collect column pred words (plain_of operand.query.value.shape)
+                  → spans_of made.query.value.shape ≡ spans_of operand.query.value.shape ++ operand.query.value.span ∷ []
+                  → made.query.value.span ≡ span → made.ty ≡ type.Table
                   → IsMade nesting columns (q.collect key sync rate f span) made
               collect_made made stands shape spans at ty =
-                  let inner : Qre = plain_of operand.query.shape in
+                  let inner : Qre = plain_of operand.query.value.shape in
                   let single = made_inside columns f operand is in
                   let parts = and_parts (has_texts columns column)
                   (fits columns pred && list_all (fits columns) (preds_of words)) fit in
@@ -110,7 +110,7 @@ module _ (nesting : Nesting) (columns : List Column) (key : leaf.Name) (sync : p
                     tests.0,
                     tests.1,
                   )
-                  (one_place f operand made.query span is.places spans at)
+                  (one_place f operand made.query.value span is.places spans at)
 
 -- what a collection is over its operand
 module _ (nesting : Nesting) (columns : List Column) (f : q.Query) (operand : Typed)

@@ -20,9 +20,9 @@ use Rattle.value_ops.specs.declared.value.ValueType.{ValueType}
 
 -- an operand that is made inside has no collection
 pub made_inside : (columns : List Column) (f : q.Query) (made : Typed) → IsMade inside columns f made
-    → HasNoCollect (plain_of made.query.shape)
+    → HasNoCollect (plain_of made.query.value.shape)
 made_inside columns f made is =
-    of_value HasNoCollect (resolved inside columns f) (plain_of made.query.shape) is.resolved (none_inside columns f)
+    of_value HasNoCollect (resolved inside columns f) (plain_of made.query.value.shape) is.resolved (none_inside columns f)
 
 -- what holds over the columns of a stream of values
 pub on_values : (layout : Layout) (type : ValueType) → layout ≡ derived_layout type → (P : List Column → Type 0)
@@ -43,7 +43,7 @@ module _ (nesting : Nesting) (columns : List Column) (f g : q.Query) (span : Spa
         → IsRefused nesting columns (q.compose f g span) stop
     unfolding resolved
     compose_second (Refused why) second =
-        let over : resolved inside (derived_columns (type_of columns (plain_of left.query.shape))) g ≡ Err why =
+        let over : resolved inside (derived_columns (type_of columns (plain_of left.query.value.shape))) g ≡ Err why =
         subst (λ (ty : ValueType). resolved inside (derived_columns ty) g ≡ Err why) is_left.typed.type second in
         rw (is_left.resolved, over) refl
     compose_second Memory second = tt
@@ -56,28 +56,28 @@ module _ (nesting : Nesting) (columns : List Column) (f g : q.Query) (span : Spa
 
     module _ (right : Typed) (is_right : IsMade inside (derived_columns left.ty) g right) where
       compose_step : resolved nesting columns (q.compose f g span)
-          ≡ Ok (compose (plain_of left.query.shape) (plain_of right.query.shape))
+          ≡ Ok (compose (plain_of left.query.value.shape) (plain_of right.query.value.shape))
       unfolding resolved
       compose_step =
-          let over : resolved inside (derived_columns (type_of columns (plain_of left.query.shape))) g
-          ≡ Ok (plain_of right.query.shape) =
-          subst (λ (ty : ValueType). resolved inside (derived_columns ty) g ≡ Ok (plain_of right.query.shape))
+          let over : resolved inside (derived_columns (type_of columns (plain_of left.query.value.shape))) g
+          ≡ Ok (plain_of right.query.value.shape) =
+          subst (λ (ty : ValueType). resolved inside (derived_columns ty) g ≡ Ok (plain_of right.query.value.shape))
           is_left.typed.type is_right.resolved in
           rw (is_left.resolved, over) refl
 
       pub compose_made : (made : Typed)
-          → plain_of made.query.shape ≡ compose (plain_of left.query.shape) (plain_of right.query.shape)
-          → spans_of made.query.shape
-          ≡ spans_of left.query.shape ++ left.query.span ∷ spans_of right.query.shape ++ right.query.span ∷ []
-          → made.query.span ≡ span → made.ty ≡ right.ty → IsMade nesting columns (q.compose f g span) made
+          → plain_of made.query.value.shape ≡ compose (plain_of left.query.value.shape) (plain_of right.query.value.shape)
+          → spans_of made.query.value.shape
+          ≡ spans_of left.query.value.shape ++ left.query.value.span ∷ spans_of right.query.value.shape ++ right.query.value.span ∷ []
+          → made.query.value.span ≡ span → made.ty ≡ right.ty → IsMade nesting columns (q.compose f g span) made
       compose_made made is spans at ty =
           made_of nesting columns (q.compose f g span) made
-          (compose (plain_of left.query.shape) (plain_of right.query.shape)) is compose_step
+          (compose (plain_of left.query.value.shape) (plain_of right.query.value.shape)) is compose_step
           (ty ∙ is_right.typed.type
-          ∙ ap (λ (t : ValueType). type_of (derived_columns t) (plain_of right.query.shape)) is_left.typed.type) (
+          ∙ ap (λ (t : ValueType). type_of (derived_columns t) (plain_of right.query.value.shape)) is_left.typed.type) (
             is_left.typed.keeps,
-            subst (λ (t : ValueType). KeepsTypes (derived_columns t) (plain_of right.query.shape)) is_left.typed.type
+            subst (λ (t : ValueType). KeepsTypes (derived_columns t) (plain_of right.query.value.shape)) is_left.typed.type
                 is_right.typed.keeps,
             made_inside (derived_columns left.ty) g right is_right,
           )
-          (two_places f g left right made.query span is_left.places is_right.places spans at)
+          (two_places f g left right made.query.value span is_left.places is_right.places spans at)

@@ -1,10 +1,9 @@
 -- From what the passes before the rules of words made of a program to how it is judged.
-use Rattle.std.proofs.Common.{◌≡◌, List, length, Option, None, Some, sym, ap, subst, ◌∙◌}
+use Rattle.std.proofs.Common.{List, length, Option, None, Some, sym, ap, subst, ◌∙◌}
 use Rattle.item_schema.specs.Layout.{Layout}
 use Rattle.item_schema.specs.declared.column.Column.{Column}
 use Rattle.language_base.specs.declared.refusal.Refusal.{Refusal}
 use Rattle.language_base.specs.declared.span.Span.{Span}
-use Rattle.predicate_cells.specs.Cells.{Partition}
 use Rattle.query_lets.specs.Unfolded.{unfolded}
 use Rattle.query_model.specs.Checked.{IsChecked}
 use Rattle.query_model.specs.Queries.{Qre, plain_of}
@@ -33,10 +32,10 @@ unmeasured_stop program Memory is = tt
 module _ (program : Program) (made : Measured) (is : IsMeasured program made) where
   -- the query, and what the rules of words say of it
   abbrev query : Qre
-  query = plain_of made.query.shape
+  query = plain_of made.query.value.shape
 
   abbrev Answers : Option Refusal → Type 0
-  Answers why = FirstBroken (nodes_in made.cells.layout.columns free query) (places_in made.query) why
+  Answers why = FirstBroken (nodes_in made.cells.layout.columns free query) (places_in made.query.value) why
 
   answers : (why : Option Refusal) → Answers why → BreaksFirst program query why
   answers why is_first =
@@ -46,24 +45,11 @@ module _ (program : Program) (made : Measured) (is : IsMeasured program made) wh
       is_first)
 
   -- a rule of words is broken
-  broken_stop : (stop : CheckStop)
-      → IsBrokenBy (nodes_in made.cells.layout.columns free query) (places_in made.query) stop
+  pub broken_stop : (stop : CheckStop)
+      → IsBrokenBy (nodes_in made.cells.layout.columns free query) (places_in made.query.value) stop
       → IsStopOf program stop
   broken_stop (Refused why) broken = ambiguous query why is.measured (answers (Some why) broken)
   broken_stop Memory broken = tt
-
-  -- the same over cells that are shared
-  module _ (cells : Partition) (same : cells ≡ made.cells) where
-    pub broken_on : (stop : CheckStop)
-        → IsBrokenBy (nodes_in cells.layout.columns free query) (places_in made.query) stop
-        → IsStopOf program stop
-    broken_on stop broken =
-        broken_stop stop (subst (λ (c : Partition).
-        IsBrokenBy (nodes_in c.layout.columns free query) (places_in made.query) stop) same broken)
-
-    pub kept_on : FirstBroken (nodes_in cells.layout.columns free query) (places_in made.query) None → Answers None
-    kept_on kept = subst (λ (c : Partition).
-        FirstBroken (nodes_in c.layout.columns free query) (places_in made.query) None) same kept
 
   -- none is
   module _ (kept : Answers None) where
@@ -74,10 +60,10 @@ module _ (program : Program) (made : Measured) (is : IsMeasured program made) wh
 
     clear : IsClear free (layout_of program.stream).columns query
     clear = clear_from (layout_of program.stream).columns free query (places_of (unfolded program)) is.types
-        (nodes_have_places (layout_of program.stream).columns free made.query ∙ ap length is.places)
+        (nodes_have_places (layout_of program.stream).columns free made.query.value ∙ ap length is.places)
         (answers None kept)
 
-    pub checked : IsChecked (record { layout = made.schema; main = made.query })
+    pub checked : IsChecked (record { layout = made.schema; main = made.query.value })
     checked =
-        subst (λ (layout : Layout). IsChecked (record { layout = layout; main = made.query })) (sym is.layout)
+        subst (λ (layout : Layout). IsChecked (record { layout = layout; main = made.query.value })) (sym is.layout)
         (record { read = columns_read program.stream.columns; clear = clear; small = is.small })

@@ -31,7 +31,7 @@ use Rattle.type_checker.specs.Layouts.{column_of, kind_of, layout_of}
 use Rattle.type_checker.specs.Nodes.{first_where, nodes_in, places_of}
 use Rattle.type_checker.specs.Passes.{IsLimited, IsMain, IsMeasured, IsNamed, counted, told_apart, values_apart}
 use Rattle.type_checker.specs.Resolved.{outside, resolved}
-use Rattle.query_cells.specs.Few.{has_few_cells}
+use Rattle.query_model.specs.Few.{has_few_cells}
 use Rattle.type_checker.specs.Sizes.{derives_many_cells, first_node, has_few_nodes, has_few_slots, has_many_positions}
 use Rattle.type_checker.specs.Steps.{◌>>=◌, because, provided, refusal, unless}
 use Rattle.type_checker.specs.declared.measured.Measured.{Measured}
@@ -279,30 +279,30 @@ few_nodes program query there few =
 
 -- all that the passes found
 pub measured_by : (program : Program) (made : Measured) (tree : syntax.Query) → IsMain program tree
-    → made.schema ≡ layout_of program.stream → IsNamed made.schema.columns (plain_query tree) made.query
-    → IsLimited made.query → made.cells.layout ≡ made.schema
-    → told_apart made.schema.columns program.stream.span (plain_of made.query.shape) ≡ Ok tt
-    → ((pred : Predicate) → Contains (predicates_of (plain_of made.query.shape)) pred → Contains made.cells.preds pred)
-    → values_apart made.schema.columns made.query ≡ Ok tt → IsMeasured program made
+    → made.schema ≡ layout_of program.stream → IsNamed made.schema.columns (plain_query tree) made.query.value
+    → IsLimited made.query.value → made.cells.layout ≡ made.schema
+    → told_apart made.schema.columns program.stream.span (plain_of made.query.value.shape) ≡ Ok tt
+    → ((pred : Predicate) → Contains (predicates_of (plain_of made.query.value.shape)) pred → Contains made.cells.preds pred)
+    → values_apart made.schema.columns made.query.value ≡ Ok tt → IsMeasured program made
 measured_by program made tree main layout named limits cells few members values =
-    let query : Qre = plain_of made.query.shape in
+    let query : Qre = plain_of made.query.value.shape in
     let columns : List schema.Column = (layout_of program.stream).columns in
     let same : made.schema.columns ≡ columns = ap (λ (l : Layout). l.columns) layout in
     let over : resolved outside columns (unfolded program) ≡ Ok query =
     subst (λ (t : Query). resolved outside columns t ≡ Ok query) main.main
     (subst (λ (c : List schema.Column). resolved outside c (plain_query tree) ≡ Ok query) same named.named) in
-    let there : places_in made.query ≡ places_of (unfolded program) = named.places ∙ ap places_of main.main in
-    let nodes : nodes_of query ≤ max_nodes = few_nodes program made.query there main.few in
+    let there : places_in made.query.value ≡ places_of (unfolded program) = named.places ∙ ap places_of main.main in
+    let nodes : nodes_of query ≤ max_nodes = few_nodes program made.query.value there main.few in
     let little : has_few_cells columns query ≡ true =
     passed Cells program.stream.span (has_few_cells columns query)
     (subst (λ (c : List schema.Column). told_apart c program.stream.span query ≡ Ok tt) same few) in
     let none : first_where derives_many (nodes_in columns free query) (places_of (unfolded program)) ≡ None =
     subst (λ (spans : List Span). first_where derives_many (nodes_in columns free query) spans ≡ None) there
-    (none_found Cells (first_in derives_many columns free made.query)
-    (subst (λ (c : List schema.Column). values_apart c made.query ≡ Ok tt) same values)) in
+    (none_found Cells (first_in derives_many columns free made.query.value)
+    (subst (λ (c : List schema.Column). values_apart c made.query.value ≡ Ok tt) same values)) in
     let derived : HaveFewCells columns query =
     few_values columns free query (places_of (unfolded program))
-    (nodes_have_places columns free made.query ∙ ap length there) none in record {
+    (nodes_have_places columns free made.query.value ∙ ap length there) none in record {
       layout = layout;
       cells = cells ∙ layout;
       measured = all_measured program (few_count program tree main) query over

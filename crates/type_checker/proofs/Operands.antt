@@ -23,53 +23,36 @@ regroup : (first second : List Span) (a b c : Span)
     → (first ++ a ∷ second ++ b ∷ []) ++ c ∷ [] ≡ (first ++ a ∷ []) ++ (second ++ b ∷ []) ++ c ∷ []
 regroup first second a b c = simp append_assoc
 
--- a query of one operand or of two, where the operands were put elsewhere
-pub one_shape : (one inner : Query) → one ≡ inner → (make : Qre → Qre) (made : Qre)
-    → made ≡ make (plain_of one.shape) → made ≡ make (plain_of inner.shape)
-one_shape one inner same make made is = is ∙ ap (λ (x : Query). make (plain_of x.shape)) same
-
-pub one_span : (one inner : Query) → one ≡ inner → (made : List Span) → made ≡ spans_of one.shape ++ one.span ∷ []
-    → made ≡ spans_of inner.shape ++ inner.span ∷ []
-one_span one inner same made is = is ∙ ap (λ (x : Query). spans_of x.shape ++ x.span ∷ []) same
-
-pub two_shapes : (one other left right : Query) → one ≡ left → other ≡ right → (make : Qre → Qre → Qre) (made : Qre)
-    → made ≡ make (plain_of one.shape) (plain_of other.shape) → made ≡ make (plain_of left.shape)
-    (plain_of right.shape)
-two_shapes one other left right first second make made is =
-    is ∙ ap (λ (x : Query). make (plain_of x.shape) (plain_of other.shape)) first
-    ∙ ap (λ (x : Query). make (plain_of left.shape) (plain_of x.shape)) second
-
-pub two_spans : (one other left right : Query) → one ≡ left → other ≡ right → (made : List Span)
-    → made ≡ spans_of one.shape ++ one.span ∷ spans_of other.shape ++ other.span ∷ []
-    → made ≡ spans_of left.shape ++ left.span ∷ spans_of right.shape ++ right.span ∷ []
-two_spans one other left right first second made is =
-    is ∙ ap (λ (x : Query). spans_of x.shape ++ x.span ∷ spans_of other.shape ++ other.span ∷ []) first
-    ∙ ap (λ (x : Query). spans_of left.shape ++ left.span ∷ spans_of x.shape ++ x.span ∷ []) second
+-- the place of a node with no operand
+pub no_place : (made : Query) (span : Span) → spans_of made.shape ≡ [] → made.span ≡ span
+    → places_in made ≡ span ∷ []
+no_place made span spans at =
+    ap (λ (s : List Span). s ++ made.span ∷ []) spans ∙ ap (λ (a : Span). a ∷ []) at
 
 -- the places of a node with one operand
-pub one_place : (f : q.Query) (inner : Typed) (made : Query) (span : Span) → places_in inner.query ≡ places_of f
-    → spans_of made.shape ≡ spans_of inner.query.shape ++ inner.query.span ∷ [] → made.span ≡ span
+pub one_place : (f : q.Query) (inner : Typed) (made : Query) (span : Span) → places_in inner.query.value ≡ places_of f
+    → spans_of made.shape ≡ spans_of inner.query.value.shape ++ inner.query.value.span ∷ [] → made.span ≡ span
     → places_in made ≡ places_of f ++ span ∷ []
 one_place f inner made span places spans at =
     ap (λ (s : List Span). s ++ made.span ∷ []) (spans ∙ places) ∙ ap (λ (a : Span). places_of f ++ a ∷ []) at
 
 -- and with two
 pub two_places : (f g : q.Query) (left right : Typed) (made : Query) (span : Span)
-    → places_in left.query ≡ places_of f → places_in right.query ≡ places_of g → spans_of made.shape
-    ≡ spans_of left.query.shape ++ left.query.span ∷ spans_of right.query.shape ++ right.query.span ∷ []
+    → places_in left.query.value ≡ places_of f → places_in right.query.value ≡ places_of g → spans_of made.shape
+    ≡ spans_of left.query.value.shape ++ left.query.value.span ∷ spans_of right.query.value.shape ++ right.query.value.span ∷ []
     → made.span ≡ span → places_in made ≡ places_of f ++ places_of g ++ span ∷ []
 two_places f g left right made span first second spans at =
     ap (λ (s : List Span). s ++ made.span ∷ []) spans
-    ∙ regroup (spans_of left.query.shape) (spans_of right.query.shape) left.query.span right.query.span made.span
-    ∙ ap (λ (s : List Span). s ++ places_in right.query ++ made.span ∷ []) first
+    ∙ regroup (spans_of left.query.value.shape) (spans_of right.query.value.shape) left.query.value.span right.query.value.span made.span
+    ∙ ap (λ (s : List Span). s ++ places_in right.query.value ++ made.span ∷ []) first
     ∙ ap (λ (s : List Span). places_of f ++ s ++ made.span ∷ []) second
     ∙ ap (λ (a : Span). places_of f ++ places_of g ++ a ∷ []) at
 
 module _ (nesting : Nesting) (columns : List Column) where
   -- a query that is resolved to a query in memory
-  pub made_of : (tree : q.Query) (made : Typed) (query : Qre) → plain_of made.query.shape ≡ query
+  pub made_of : (tree : q.Query) (made : Typed) (query : Qre) → plain_of made.query.value.shape ≡ query
       → resolved nesting columns tree ≡ Ok query → made.ty ≡ type_of columns query → KeepsTypes columns query
-      → places_in made.query ≡ places_of tree → IsMade nesting columns tree made
+      → places_in made.query.value ≡ places_of tree → IsMade nesting columns tree made
   made_of tree made query is named ty keeps places = record {
     resolved = named ∙ ap Ok (sym is);
     typed = record {

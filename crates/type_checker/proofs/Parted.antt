@@ -11,7 +11,7 @@ use Rattle.query_model.specs.Rules.{Standing, bound}
 use Rattle.query_model.specs.Sizes.{HasFewCells, HaveFewCells}
 use Rattle.type_checker.specs.Findings.{derives_many}
 use Rattle.type_checker.specs.Nodes.{Node, first_where, nodes_in}
-use Rattle.query_cells.specs.Few.{has_few_cells}
+use Rattle.query_model.specs.Few.{has_few_cells}
 
 -- the node is no composition that tells too many apart
 abbrev DerivesFew : Node → Type 0

@@ -11,7 +11,7 @@ use Rattle.query_model.specs.declared.query.Query.{Query}
 use Rattle.query_model.specs.declared.query.Shape.{Shape}
 use Rattle.type_checker.specs.Findings.{KeepsTypes, derives_many, first_in}
 use Rattle.type_checker.specs.Nodes.{Node, first_where, nodes_in}
-use Rattle.query_cells.specs.Few.{has_few_cells}
+use Rattle.query_model.specs.Few.{has_few_cells}
 use Rattle.type_checker.specs.Sizes.{derives_many_cells}
 use Rattle.type_checker.proofs.OfOperands.{first_of_one, first_of_two, or_none}
 

@@ -7,12 +7,11 @@ use Rattle.query_syntax.specs.Expressions as e
 use Rattle.value_ops.specs.Expressions.{Expression}
 use Rattle.value_ops.specs.Typing.{HasType, Types}
 use Rattle.value_ops.specs.declared.value.ValueType.{ValueType}
-use Rattle.value_ops.specs.declared.value.ValueType.TheVariants.{Number, Table}
 use Rattle.type_checker.specs.Expressions.{Scope, expression_over, is_number, is_typed}
 use Rattle.type_checker.specs.Resolutions.{number_then, typed_then}
 use Rattle.type_checker.specs.Scopes.{HasFittingNumbers}
 use Rattle.type_checker.specs.Steps.{refusal}
-use Rattle.type_checker.proofs.WellTyped.{no_number, table_is_no_number, untyped}
+use Rattle.type_checker.proofs.WellTyped.{untyped}
 
 module _ (scope : Scope) (types : Types) (tree : e.Expression) (span : Span) where
   -- a name stands for nothing
@@ -30,7 +29,7 @@ module _ (scope : Scope) (types : Types) (tree : e.Expression) (span : Span) whe
         → typed_then scope types tree span make ≡ Err (refusal Type_ span)
     fails is make = rw (← named, is) refl
 
-    fails_number : is_number types value ≡ false → (make : Expression → Qre)
+    pub fails_number : is_number types value ≡ false → (make : Expression → Qre)
         → number_then scope types tree span make ≡ Err (refusal Type_ span)
     fails_number is make = rw (← named, is) refl
 
@@ -38,15 +37,6 @@ module _ (scope : Scope) (types : Types) (tree : e.Expression) (span : Span) whe
         (make : Expression → Qre)
         → typed_then scope types tree span make ≡ Err (refusal Type_ span)
     unfit fits none make = fails (untyped types value fits none) make
-
-    pub unfit_number : HasFittingNumbers value → ((type : ValueType) → HasType types value type → ⊥)
-        → (make : Expression → Qre) → number_then scope types tree span make ≡ Err (refusal Type_ span)
-    unfit_number fits none make = fails_number (no_number types value fits (none Number)) make
-
-    pub table_number : HasFittingNumbers value → HasType types value Table → (make : Expression → Qre)
-        → number_then scope types tree span make ≡ Err (refusal Type_ span)
-    table_number fits table make =
-        fails_number (no_number types value fits (table_is_no_number types value table)) make
 
     -- they fit
     pub fit : is_typed types value ≡ true → (make : Expression → Qre)

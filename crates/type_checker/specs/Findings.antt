@@ -144,5 +144,5 @@ IsBrokenBy nodes places Memory = Unit {0}
 
 -- a query with its type
 pub record IsResolved (columns : List Column) (made : Typed) : Type 0 where
-  pub type : made.ty ≡ type_of columns (plain_of made.query.shape)
-  pub keeps : KeepsTypes columns (plain_of made.query.shape)
+  pub type : made.ty ≡ type_of columns (plain_of made.query.value.shape)
+  pub keeps : KeepsTypes columns (plain_of made.query.value.shape)

@@ -22,7 +22,7 @@ use Rattle.type_checker.specs.Judged.{limited, measured}
 use Rattle.type_checker.specs.Layouts.{layout_of}
 use Rattle.type_checker.specs.Nodes.{places_of}
 use Rattle.type_checker.specs.Resolved.{outside, resolved}
-use Rattle.query_cells.specs.Few.{has_few_cells}
+use Rattle.query_model.specs.Few.{has_few_cells}
 use Rattle.type_checker.specs.Sizes.{has_few_nodes}
 use Rattle.type_checker.specs.Steps.{◌>>=◌, because, provided, unless}
 use Rattle.type_checker.specs.declared.measured.Measured.{Measured}
@@ -63,8 +63,8 @@ pub record IsLimited (query : memory.Query) : Type 0 where
 pub record IsMeasured (program : Program) (made : Measured) : Type 0 where
   pub layout : made.schema ≡ layout_of program.stream
   pub cells : made.cells.layout ≡ layout_of program.stream
-  pub measured : measured program ≡ Ok (plain_of made.query.shape)
-  pub types : KeepsTypes (layout_of program.stream).columns (plain_of made.query.shape)
-  pub places : places_in made.query ≡ places_of (unfolded program)
-  pub small : IsSmall (layout_of program.stream).columns (plain_of made.query.shape)
-  pub asked : CanBeAsked made.cells (plain_of made.query.shape)
+  pub measured : measured program ≡ Ok (plain_of made.query.value.shape)
+  pub types : KeepsTypes (layout_of program.stream).columns (plain_of made.query.value.shape)
+  pub places : places_in made.query.value ≡ places_of (unfolded program)
+  pub small : IsSmall (layout_of program.stream).columns (plain_of made.query.value.shape)
+  pub asked : CanBeAsked made.cells (plain_of made.query.value.shape)

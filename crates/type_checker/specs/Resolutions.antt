@@ -1,23 +1,38 @@
 -- For the prover. What a query, or an expression in it, is resolved to.
-use Rattle.std.specs.Prelude.{◌≡◌, true, List, Some, Result, Ok}
+use Rattle.std.specs.Prelude.{◌≡◌, ◌&&◌, Bool, true, List, Some, Result, Ok}
+use Rattle.std.specs.List.{list_all}
 use Rattle.item_schema.specs.declared.column.Column.{Column}
 use Rattle.language_base.specs.declared.refusal.Refusal.{Refusal}
 use Rattle.language_base.specs.declared.rule.Rule.TheVariants.{Name, Type_}
 use Rattle.language_base.specs.declared.span.Span.{Span}
+use Rattle.predicate_cells.specs.Fits.{fits, has_texts}
+use Rattle.predicate_cells.specs.Plain as predicates
+use Rattle.predicate_cells.specs.Predicates.{Predicate}
 use Rattle.query_model.specs.Queries.{Qre, plain_of}
 use Rattle.query_model.specs.QueryTypes.{derived_columns, of_columns, type_of_expression}
 use Rattle.query_model.specs.Rules.{IsTyped}
+use Rattle.query_model.specs.declared.query.Shape.{Shape}
 use Rattle.query_syntax.specs.Expressions as e
+use Rattle.query_syntax.specs.Predicates as p
 use Rattle.query_syntax.specs.Queries as q
-use Rattle.type_checker.specs.Expressions.{Scope, expression_over, is_number, is_typed}
+use Rattle.query_syntax.specs.Rates as r
+use Rattle.query_syntax.specs.declared.leaf.Name as leaf
+use Rattle.rate_expr.specs.Plain as rates
+use Rattle.rate_expr.specs.Rates.{preds_of}
+use Rattle.type_checker.specs.Expressions.{Scope, expression_over, is_number, is_typed, of_item}
 use Rattle.type_checker.specs.Findings.{IsResolved, IsUnresolved, places_in}
+use Rattle.type_checker.specs.Names.{column_named}
 use Rattle.type_checker.specs.Nodes.{places_of}
+use Rattle.type_checker.specs.Rates.{rate_over}
 use Rattle.type_checker.specs.Resolved as whole
 use Rattle.type_checker.specs.Resolved.{Nesting, inside}
+use Rattle.type_checker.specs.Scopes.{HasFittingNumbers}
 use Rattle.type_checker.specs.Steps.{◌>>=◌, found, provided}
+use Rattle.type_checker.specs.Tests.{resolved_over}
 use Rattle.type_checker.specs.declared.naming.Typed.{Typed}
 use Rattle.type_checker.specs.declared.shapes.Items.{Items}
 use Rattle.type_checker.specs.declared.stop.CheckStop.{CheckStop}
+use Rattle.type_checker.specs.declared.streams.Parts.{Parts}
 use Rattle.value_ops.specs.Expressions.{Expression}
 use Rattle.value_ops.specs.Expressions as values
 use Rattle.value_ops.specs.Typing.{IsNumber, Types}
@@ -32,12 +47,38 @@ columns_of items = items.schema.now.columns
 abbrev pub HasTypes : Items → Type 0
 HasTypes items = items.types.now ≡ (of_columns (columns_of items)).fields
 
+-- a node in memory of this shape, at this place, and the type of its values
+pub record IsNode (shape : Shape) (span : Span) (ty : ValueType) (made : Typed) : Type 0 where
+  pub shape_is : made.query.value.shape ≡ shape
+  pub span_is : made.query.value.span ≡ span
+  pub type_is : made.ty ≡ ty
+
 -- a query as it is written is resolved to this one at such a place
 pub record IsMade (nesting : Nesting) (columns : List Column) (tree : q.Query) (made : Typed)
     : Type 0 where
-  pub resolved : whole.resolved nesting columns tree ≡ Ok (plain_of made.query.shape)
+  pub resolved : whole.resolved nesting columns tree ≡ Ok (plain_of made.query.value.shape)
   pub typed : IsResolved columns made
-  pub places : places_in made.query ≡ places_of tree
+  pub places : places_in made.query.value ≡ places_of tree
+
+-- the names in the predicate and in the expression of an atom are resolved to these
+pub record IsNamedAtom (columns : List Column) (predicate : p.Predicate) (tree : e.Expression)
+    (pred : Predicate) (value : Expression) : Type 0 where
+  pub tested : Some pred ≡ resolved_over columns predicate
+  pub named : Some value ≡ expression_over (of_item columns) tree
+  pub numbers : HasFittingNumbers value
+
+-- and those in the parts of a collection
+pub record IsNamedCollection (columns : List Column) (key : leaf.Name) (sync : p.Predicate)
+    (rate : r.Rate) (parts : Parts) : Type 0 where
+  pub keyed : Some parts.key ≡ column_named columns key.bytes
+  pub tested : Some (predicates.plain_of parts.sync) ≡ resolved_over columns sync
+  pub rated : Some (rates.plain_of parts.rate) ≡ rate_over columns rate
+
+-- the key column of a collection has texts, and each test's column the test's kind
+abbrev pub parts_fit : List Column → Parts → Bool
+parts_fit columns parts =
+    has_texts columns parts.key && (fits columns (predicates.plain_of parts.sync)
+    && list_all (fits columns) (preds_of (rates.plain_of parts.rate)))
 
 -- it is refused so
 abbrev pub IsRefused : Nesting → List Column → q.Query → CheckStop → Type 0

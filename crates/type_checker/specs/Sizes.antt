@@ -3,7 +3,7 @@ use Rattle.std.specs.Prelude.{Bool, false, not, List, nat_le, Option}
 use Rattle.language_base.specs.Limits.{max_positions}
 use Rattle.language_base.specs.declared.span.Span.{Span}
 use Rattle.item_schema.specs.declared.column.Column.{Column}
-use Rattle.query_cells.specs.Few.{has_few_cells}
+use Rattle.query_model.specs.Few.{has_few_cells}
 use Rattle.query_lets.specs.Sizes.{nodes_of}
 use Rattle.query_model.specs.Bounds.{slots_of}
 use Rattle.query_model.specs.Queries.{Qre, compose}

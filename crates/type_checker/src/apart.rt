@@ -5,14 +5,13 @@ ghost use Rattle.query_model.specs.Queries.{plain_of};
 ghost use Rattle.query_model.specs.Rules.{Standing};
 ghost use Rattle.query_model.specs.Sizes.{predicates_of};
 ghost use Rattle.type_checker.specs.Findings.{KeepsTypes, derives_many, first_in};
-ghost use Rattle.query_cells.specs.Few.{has_few_cells};
+ghost use Rattle.query_model.specs.Few.{has_few_cells};
 
 use crate::values::values_of;
 use item_schema::Schema;
 use language_base::Span;
 use predicate_cells::CellStop;
-use query_cells::cells_of;
-use query_model::{Query, Shape};
+use query_model::{Query, Shape, cells_of};
 use std::alloc::{AllocError, Global};
 
 /// The place of the first composition that tells too many of its first operand's values apart.

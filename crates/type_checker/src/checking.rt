@@ -1,17 +1,22 @@
 //! The top call.
-ghost use Rattle.std.specs.Prelude.{◌≡◌, IfErr, IfOk};
+ghost use Rattle.std.specs.Prelude.{◌≡◌, IfErr, IfOk, None, OnOk};
 ghost use Rattle.query_model.specs.Monitors.{monitor_of};
+ghost use Rattle.query_model.specs.Queries.{plain_of};
+ghost use Rattle.query_model.specs.Rules.{free};
 ghost use Rattle.query_syntax.specs.Limits.{IsWithin};
 ghost use Rattle.query_syntax.specs.Plain.{plain_program, plain_stream};
+ghost use Rattle.type_checker.specs.Findings.{CanBeAsked, IsBrokenBy, places_in};
 ghost use Rattle.type_checker.specs.Judged.{IsJudged, accepted};
+ghost use Rattle.type_checker.specs.Nodes.{nodes_in};
 ghost use Rattle.type_checker.specs.Stops.{IsStopOf};
+ghost use Rattle.type_checker.specs.WordRules.{FirstBroken};
 
 use crate::CheckStop;
 use crate::measured::measure;
 use crate::standing::Standing;
 use crate::words::keep_words;
 use predicate_cells::Cells;
-use query_model::Checked;
+use query_model::{Checked, Query};
 use query_syntax::Program;
 use std::alloc::{AllocError, Global};
 use std::rc::Rc;
@@ -24,9 +29,21 @@ pub fn check(alloc: Global, program: &Program) -> Result<Checked, CheckStop>
     ensures refused { IfErr result (IsStopOf (plain_program program.now)) }
 {
     let found = measure(alloc, program)?;
-    let cells = shared(alloc, found.cells)?;
-    keep_words(alloc, Standing::Free, &cells, &found.query)?;
+    keep_words_over(alloc, found.cells, &found.query)?;
     Ok(Checked::new(found.schema, found.query))
+}
+
+// Whether no node of a main query breaks a rule of words over the cells.
+fn keep_words_over(alloc: Global, cells: Cells, query: &Query) -> Result<(), CheckStop>
+    requires { CanBeAsked cells (plain_of query.now.shape) }
+    ensures kept { OnOk result (FirstBroken
+        (nodes_in cells.layout.columns free (plain_of query.now.shape)) (places_in query.now) None) }
+    ensures refused { IfErr result (IsBrokenBy
+        (nodes_in cells.layout.columns free (plain_of query.now.shape)) (places_in query.now)) }
+{
+    let cells = shared(alloc, cells)?;
+    keep_words(alloc, Standing::Free, &cells, query)?;
+    Ok(())
 }
 
 fn shared(alloc: Global, cells: Cells) -> Result<Rc<Cells>, AllocError>

@@ -3,6 +3,7 @@
 
 mod after_lets;
 mod apart;
+mod atom;
 mod checking;
 mod columns;
 mod expression;

@@ -26,8 +26,7 @@ use item_schema::Schema;
 use language_base::{Rule, Span};
 use memory_bound::slots;
 use predicate_cells::{CellStop, Cells};
-use query_cells::cells_of;
-use query_model::Query;
+use query_model::{Query, cells_of};
 use query_syntax::Program;
 use std::alloc::Global;
 
@@ -38,7 +37,7 @@ const MAX_SLOTS: u32 = 1_048_576;
 #[derive(Drop)]
 pub struct Measured {
     pub schema: Schema,
-    pub query: Query,
+    pub query: Box<Query>,
     pub cells: Cells,
 }
 
@@ -62,9 +61,14 @@ pub fn measure(alloc: Global, program: &Program) -> Result<Measured, CheckStop>
 }
 
 // The query of a tree whose names and types are resolved.
-fn query_in(alloc: Global, schema: &Schema, tree: &query_syntax::Query) -> Result<Query, CheckStop>
+fn query_in(
+    alloc: Global,
+    schema: &Schema,
+    tree: &query_syntax::Query,
+) -> Result<Box<Query>, CheckStop>
     requires { MayStand outside schema.now.columns }
-    ensures named { IfOk result (IsNamed schema.now.columns (plain_query tree.now)) }
+    ensures named { IfOk result (λ query.
+        IsNamed schema.now.columns (plain_query tree.now) query.value) }
     ensures refused { IfErr result (IsUnresolved
         (resolved outside schema.now.columns (plain_query tree.now))) }
 {

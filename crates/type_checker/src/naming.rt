@@ -3,14 +3,16 @@ ghost use Rattle.std.specs.Prelude.{◌≡◌, IfErr, IfOk};
 ghost use Rattle.query_model.specs.QueryTypes.{of_columns, type_of_kind};
 ghost use Rattle.query_syntax.specs.Plain.{plain_query};
 ghost use Rattle.type_checker.specs.Nestings.{MayStand, nesting_of};
-ghost use Rattle.type_checker.specs.Resolutions.{HasTypes, IsRefused, IsMade, columns_of};
+ghost use Rattle.type_checker.specs.Resolutions.{HasTypes, IsMade, IsNode, IsRefused, columns_of};
 
 use crate::CheckStop;
+use crate::atom::atom;
 use crate::nesting::Nesting;
-use crate::shapes::{Items, apply, atom, choice, combine, eps, iter, split};
+use crate::shapes::{Items, apply, choice, combine, eps, iter, split};
 use crate::streams::{Collection, collect, compose};
 use item_schema::{Column, Kind, Schema};
-use language_base::Rule;
+use language_base::{Rule, Span};
+use query_model::Shape;
 use query_syntax::Query;
 use std::alloc::{AllocError, Global};
 use value_ops::ValueType;
@@ -18,8 +20,18 @@ use value_ops::ValueType;
 /// A query and the type of its values.
 #[derive(Drop)]
 pub struct Typed {
-    pub query: query_model::Query,
+    pub query: Box<query_model::Query>,
     pub ty: ValueType,
+}
+
+impl Typed {
+    /// A query of this shape, in memory of its own.
+    pub fn new(alloc: Global, shape: Shape, span: Span, ty: ValueType) -> Result<Typed, AllocError>
+        ensures { IfOk result (IsNode shape span ty) }
+    {
+        let query = Box::new(alloc, query_model::Query { shape, span })?;
+        Ok(Typed { query, ty })
+    }
 }
 
 /// The query on items of the schema, or the first rule of names, nesting or types that it breaks.
@@ -65,7 +77,7 @@ fn resolve_over(
             value,
             span,
         } => atom(alloc, items, predicate, value, *span),
-        Query::Eps { value, span } => Ok(eps(value, *span)),
+        Query::Eps { value, span } => Ok(eps(alloc, value, *span)?),
         Query::Or { left, right, span } => {
             let left = resolve_over(alloc, nesting, items, left)?;
             let right = resolve_over(alloc, nesting, items, right)?;

@@ -11,6 +11,7 @@ use query_syntax::{Connective, Equality, Literal, Order, Predicate};
 use std::alloc::{AllocError, Global};
 
 /// The predicate over the columns of the schema, if each name in it is one of theirs.
+#[cycle(resolve)]
 pub fn pred_over(
     alloc: Global,
     schema: &Schema,
@@ -58,18 +59,33 @@ pub fn pred_over(
             right,
             ..
         } => {
-            let Some(left) = pred_over(alloc, schema, left)? else {
+            let Some(left) = boxed_over(alloc, schema, left)? else {
                 return Ok(None);
             };
-            let Some(right) = pred_over(alloc, schema, right)? else {
+            let Some(right) = boxed_over(alloc, schema, right)? else {
                 return Ok(None);
             };
-            Ok(Some(joined_by(alloc, *connective, left, right)?))
+            Ok(Some(joined_by(*connective, left, right)))
         }
-        Predicate::Not { operand, .. } => match pred_over(alloc, schema, operand)? {
-            Some(inner) => Ok(Some(Pred::Not(Box::new(alloc, inner)?))),
+        Predicate::Not { operand, .. } => match boxed_over(alloc, schema, operand)? {
+            Some(inner) => Ok(Some(Pred::Not(inner))),
             None => Ok(None),
         },
+    }
+}
+
+#[cycle(resolve)]
+fn boxed_over(
+    alloc: Global,
+    schema: &Schema,
+    predicate: &Predicate,
+) -> Result<Option<Box<Pred>>, AllocError>
+    ensures { IfOk result (λ found. option_map (λ pred. plain_of pred.value) found
+        ≡ resolved_over schema.now.columns (plain_predicate predicate.now)) }
+{
+    match pred_over(alloc, schema, predicate)? {
+        Some(pred) => Ok(Some(Box::new(alloc, pred)?)),
+        None => Ok(None),
     }
 }
 
@@ -107,19 +123,11 @@ fn order_test(order: Order, bound: i64, column: u32) -> Pred
     }
 }
 
-fn joined_by(
-    alloc: Global,
-    connective: Connective,
-    left: Pred,
-    right: Pred,
-) -> Result<Pred, AllocError>
-    ensures { IfOk result (λ pred.
-        plain_of pred ≡ joined_by connective (plain_of left) (plain_of right)) }
+fn joined_by(connective: Connective, left: Box<Pred>, right: Box<Pred>) -> Pred
+    ensures { plain_of result ≡ joined_by connective (plain_of left.value) (plain_of right.value) }
 {
-    let left = Box::new(alloc, left)?;
-    let right = Box::new(alloc, right)?;
     match connective {
-        Connective::And => Ok(Pred::And(left, right)),
-        Connective::Or => Ok(Pred::Or(left, right)),
+        Connective::And => Pred::And(left, right),
+        Connective::Or => Pred::Or(left, right),
     }
 }

@@ -14,6 +14,7 @@ use rate_expr::Rate;
 use std::alloc::{AllocError, Global};
 
 /// The rate over the columns of the schema, if each name in it is one of theirs.
+#[cycle(resolve)]
 pub fn rate_over(
     alloc: Global,
     schema: &Schema,
@@ -36,30 +37,43 @@ pub fn rate_over(
             right,
             ..
         } => {
-            let Some(left) = rate_over(alloc, schema, left)? else {
+            let Some(left) = boxed_over(alloc, schema, left)? else {
                 return Ok(None);
             };
-            let Some(right) = rate_over(alloc, schema, right)? else {
+            let Some(right) = boxed_over(alloc, schema, right)? else {
                 return Ok(None);
             };
-            Ok(Some(joined(alloc, *join, left, right)?))
+            Ok(Some(joined(*join, left, right)))
         }
-        query_syntax::Rate::Star { operand, .. } => match rate_over(alloc, schema, operand)? {
-            Some(inner) => Ok(Some(Rate::Star(Box::new(alloc, inner)?))),
+        query_syntax::Rate::Star { operand, .. } => match boxed_over(alloc, schema, operand)? {
+            Some(inner) => Ok(Some(Rate::Star(inner))),
             None => Ok(None),
         },
     }
 }
 
-fn joined(alloc: Global, join: Join, first: Rate, second: Rate) -> Result<Rate, AllocError>
-    ensures { IfOk result (λ rate. Some (plain_of rate)
-        ≡ joined_rates join (Some (plain_of first)) (Some (plain_of second))) }
+#[cycle(resolve)]
+fn boxed_over(
+    alloc: Global,
+    schema: &Schema,
+    rate: &query_syntax::Rate,
+) -> Result<Option<Box<Rate>>, AllocError>
+    ensures { IfOk result (λ found. option_map (λ made. plain_of made.value) found
+        ≡ rate_over schema.now.columns (plain_rate rate.now)) }
 {
-    let first = Box::new(alloc, first)?;
-    let second = Box::new(alloc, second)?;
+    match rate_over(alloc, schema, rate)? {
+        Some(made) => Ok(Some(Box::new(alloc, made)?)),
+        None => Ok(None),
+    }
+}
+
+fn joined(join: Join, first: Box<Rate>, second: Box<Rate>) -> Rate
+    ensures { Some (plain_of result)
+        ≡ joined_rates join (Some (plain_of first.value)) (Some (plain_of second.value)) }
+{
     match join {
-        Join::Seq => Ok(Rate::Seq(first, second)),
-        Join::Alt => Ok(Rate::Alt(first, second)),
+        Join::Seq => Rate::Seq(first, second),
+        Join::Alt => Rate::Alt(first, second),
     }
 }
 

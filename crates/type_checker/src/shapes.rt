@@ -1,23 +1,22 @@
 //! Nodes of queries, over operands that are resolved.
 ghost use Rattle.std.specs.Prelude.{◌≡◌, IfErr, IfOk, List};
 ghost use Rattle.item_schema.specs.declared.column.Column.{Column};
-ghost use Rattle.query_syntax.specs.Plain.{plain_expression, plain_predicate};
+ghost use Rattle.query_syntax.specs.Plain.{plain_expression};
 ghost use Rattle.query_syntax.specs.Queries as q;
-ghost use Rattle.type_checker.specs.Resolutions.{HasTypes, IsMade, IsMadeOfOne, IsMadeOfTwo, columns_of};
-ghost use Rattle.type_checker.specs.Resolutions.{IsRefused, IsRefusedOverOne, IsRefusedOverTwo};
+ghost use Rattle.type_checker.specs.Resolutions.{IsMade, IsMadeOfOne, IsMadeOfTwo};
+ghost use Rattle.type_checker.specs.Resolutions.{IsRefusedOverOne, IsRefusedOverTwo};
 ghost use Rattle.type_checker.specs.Resolved.{Nesting, same_type};
 ghost use Rattle.query_model.specs.QueryTypes.{of_one, of_two};
 ghost use Rattle.value_ops.specs.Shown.{shown_types};
 
 use crate::CheckStop;
-use crate::expression::{Scope, expression_over};
+use crate::expression::Scope;
 use crate::naming::Typed;
-use crate::predicate::pred_over;
 use crate::typed::{number_over, value_over};
 use item_schema::Schema;
 use language_base::{Rule, Span};
-use query_model::{Query, Shape};
-use query_syntax::{Expression, Number, Predicate};
+use query_model::Shape;
+use query_syntax::{Expression, Number};
 use std::alloc::{AllocError, Global};
 use value_ops::{Types, ValueType};
 
@@ -28,53 +27,11 @@ pub struct Items<'s> {
     pub types: &'s [Option<ValueType>],
 }
 
-pub fn atom(
-    alloc: Global,
-    items: &Items<'_>,
-    predicate: &Predicate,
-    value: &Expression,
-    span: Span,
-) -> Result<Typed, CheckStop>
-    requires { HasTypes items.now }
-    ensures made { IfOk result (λ made. (nesting : Nesting) → IsMade nesting (columns_of items.now)
-        (q.atom (plain_predicate predicate.now) (plain_expression value.now) span) made) }
-    ensures refused { IfErr result (λ stop. (nesting : Nesting)
-        → IsRefused nesting (columns_of items.now)
-        (q.atom (plain_predicate predicate.now) (plain_expression value.now) span) stop) }
+pub fn eps(alloc: Global, number: &Number, span: Span) -> Result<Typed, AllocError>
+    ensures { IfOk result (λ made. (nesting : Nesting) (columns : List Column)
+        → IsMade nesting columns (q.eps number.now span) made) }
 {
-    let Some(pred) = pred_over(alloc, items.schema, predicate)? else {
-        return Err(CheckStop::refused(Rule::Name, span));
-    };
-    let Some(value) = expression_over(alloc, Scope::Item(items.schema), value)? else {
-        return Err(CheckStop::refused(Rule::Name, span));
-    };
-    if !pred.fits(items.schema) {
-        return Err(CheckStop::refused(Rule::Type_, span));
-    }
-    let types = Types {
-        fields: items.types,
-        left: None,
-        right: None,
-    };
-    let Some(ty) = value.type_in(&types) else {
-        return Err(CheckStop::refused(Rule::Type_, span));
-    };
-    let shape = Shape::Atom(pred, value);
-    Ok(Typed {
-        query: Query { shape, span },
-        ty,
-    })
-}
-
-pub fn eps(number: &Number, span: Span) -> Typed
-    ensures { (nesting : Nesting) (columns : List Column)
-        → IsMade nesting columns (q.eps number.now span) result }
-{
-    let shape = Shape::Eps(number.value);
-    Typed {
-        query: Query { shape, span },
-        ty: ValueType::Number,
-    }
+    Typed::new(alloc, Shape::Eps(number.value), span, ValueType::Number)
 }
 
 pub fn choice(alloc: Global, left: Typed, right: Typed, span: Span) -> Result<Typed, CheckStop>
@@ -84,14 +41,8 @@ pub fn choice(alloc: Global, left: Typed, right: Typed, span: Span) -> Result<Ty
     if !same_type(right.ty, left.ty) {
         return Err(CheckStop::refused(Rule::Type_, span));
     }
-    let ty = left.ty;
-    let first = boxed(alloc, left.query)?;
-    let second = boxed(alloc, right.query)?;
-    let shape = Shape::Or(first, second);
-    Ok(Typed {
-        query: Query { shape, span },
-        ty,
-    })
+    let shape = Shape::Or(left.query, right.query);
+    Ok(Typed::new(alloc, shape, span, left.ty)?)
 }
 
 pub fn split(
@@ -108,13 +59,8 @@ pub fn split(
 {
     let types = of_two(left.ty, right.ty);
     let (value, ty) = value_over(alloc, Scope::Two, &types, value, span)?;
-    let first = boxed(alloc, left.query)?;
-    let second = boxed(alloc, right.query)?;
-    let shape = Shape::Split(first, second, value);
-    Ok(Typed {
-        query: Query { shape, span },
-        ty,
-    })
+    let shape = Shape::Split(left.query, right.query, value);
+    Ok(Typed::new(alloc, shape, span, ty)?)
 }
 
 pub fn combine(
@@ -131,13 +77,8 @@ pub fn combine(
 {
     let types = of_two(left.ty, right.ty);
     let (value, ty) = value_over(alloc, Scope::Two, &types, value, span)?;
-    let first = boxed(alloc, left.query)?;
-    let second = boxed(alloc, right.query)?;
-    let shape = Shape::Combine(first, second, value);
-    Ok(Typed {
-        query: Query { shape, span },
-        ty,
-    })
+    let shape = Shape::Combine(left.query, right.query, value);
+    Ok(Typed::new(alloc, shape, span, ty)?)
 }
 
 pub fn iter(
@@ -152,15 +93,10 @@ pub fn iter(
     ensures refused { IfErr result (IsRefusedOverOne
         (λ f. q.iter f first.now (plain_expression step.now) span) operand) }
 {
-    let first = first.value;
     let types = of_two(ValueType::Number, operand.ty);
     let step = number_over(alloc, Scope::Two, &types, step, span)?;
-    let inner = boxed(alloc, operand.query)?;
-    let shape = Shape::Iter(inner, first, step);
-    Ok(Typed {
-        query: Query { shape, span },
-        ty: ValueType::Number,
-    })
+    let shape = Shape::Iter(operand.query, first.value, step);
+    Ok(Typed::new(alloc, shape, span, ValueType::Number)?)
 }
 
 pub fn apply(
@@ -176,12 +112,8 @@ pub fn apply(
 {
     let types = of_one(operand.ty);
     let (value, ty) = value_over(alloc, Scope::One, &types, value, span)?;
-    let inner = boxed(alloc, operand.query)?;
-    let shape = Shape::Apply(inner, value);
-    Ok(Typed {
-        query: Query { shape, span },
-        ty,
-    })
+    let shape = Shape::Apply(operand.query, value);
+    Ok(Typed::new(alloc, shape, span, ty)?)
 }
 
 /// The type of the name of one value.
@@ -210,10 +142,4 @@ fn same_type(one: ValueType, other: ValueType) -> bool
     ensures { result ≡ same_type one other }
 {
     one == other
-}
-
-pub fn boxed(alloc: Global, query: Query) -> Result<Box<Query>, AllocError>
-    ensures { IfOk result (λ boxed. boxed.value ≡ query) }
-{
-    Ok(Box::new(alloc, query)?)
 }

@@ -1,14 +1,15 @@
 //! Compositions and collections, over operands that are resolved.
-ghost use Rattle.std.specs.Prelude.{◌≡◌, ◌&&◌, IfErr, IfOk};
-ghost use Rattle.std.specs.List.{list_all};
-ghost use Rattle.predicate_cells.specs.Fits.{fits, has_texts};
-ghost use Rattle.predicate_cells.specs.Plain as predicates;
+ghost use Rattle.std.specs.Prelude.{◌≡◌, true, IfErr, IfOk, OnOk};
 ghost use Rattle.query_syntax.specs.Plain.{plain_predicate, plain_rate};
+ghost use Rattle.query_syntax.specs.Predicates as p;
 ghost use Rattle.query_syntax.specs.Queries as q;
-ghost use Rattle.rate_expr.specs.Plain as rates;
-ghost use Rattle.rate_expr.specs.Rates.{preds_of};
+ghost use Rattle.query_syntax.specs.Rates as r;
+ghost use Rattle.query_syntax.specs.declared.leaf.Name as leaf;
 ghost use Rattle.type_checker.specs.Nestings.{MayStand, nesting_of};
-ghost use Rattle.type_checker.specs.Resolutions.{IsComposed, IsMadeOfInner, IsRefusedOverInner, columns_of};
+ghost use Rattle.type_checker.specs.Resolutions.{IsComposed, IsMadeOfInner, IsNamedCollection};
+ghost use Rattle.type_checker.specs.Resolutions.{IsRefusedOverInner, columns_of, parts_fit};
+ghost use Rattle.type_checker.specs.Resolved as placed;
+ghost use Rattle.type_checker.specs.Resolved.{may_collect};
 
 use crate::CheckStop;
 use crate::columns::{column_named, has_texts};
@@ -16,11 +17,11 @@ use crate::naming::Typed;
 use crate::nesting::Nesting;
 use crate::predicate::pred_over;
 use crate::rate::{all_fit, rate_over};
-use crate::shapes::{Items, boxed};
+use crate::shapes::Items;
 use item_schema::Schema;
 use language_base::{Rule, Span};
 use predicate_cells::Pred;
-use query_model::{Query, Shape};
+use query_model::Shape;
 use query_syntax::{Name, Predicate};
 use rate_expr::Rate;
 use std::alloc::{AllocError, Global};
@@ -34,18 +35,20 @@ pub struct Collection<'t> {
     pub rate: &'t query_syntax::Rate,
 }
 
+/// The parts of a collection, beside its operand.
+#[derive(Drop)]
+pub struct Parts {
+    pub key: u32,
+    pub sync: Pred,
+    pub rate: Rate,
+}
+
 /// The second on the stream of the values of the first.
 pub fn compose(alloc: Global, left: Typed, right: Typed, span: Span) -> Result<Typed, AllocError>
     ensures { IfOk result (IsComposed span left right) }
 {
-    let ty = right.ty;
-    let first = boxed(alloc, left.query)?;
-    let second = boxed(alloc, right.query)?;
-    let shape = Shape::Compose(first, second);
-    Ok(Typed {
-        query: Query { shape, span },
-        ty,
-    })
+    let shape = Shape::Compose(left.query, right.query);
+    Typed::new(alloc, shape, span, right.ty)
 }
 
 /// A table with the value of the operand for each key.
@@ -65,34 +68,59 @@ pub fn collect(
         (λ f. q.collect written.now.key.now (plain_predicate written.now.sync.now)
         (plain_rate written.now.rate.now) f span) operand) }
 {
-    let Some(key) = column_named(items.schema, written.key.bytes.as_slice()) else {
+    let parts = named_parts(alloc, items.schema, written, span)?;
+    keep_parts(nesting, items.schema, &parts, span)?;
+    let shape = Shape::Collect(parts.key, parts.sync, parts.rate, operand.query);
+    Ok(Typed::new(alloc, shape, span, ValueType::Table)?)
+}
+
+// The parts of a collection, whose names are resolved.
+fn named_parts(
+    alloc: Global,
+    schema: &Schema,
+    written: &Collection<'_>,
+    span: Span,
+) -> Result<Parts, CheckStop>
+    ensures made { IfOk result (IsNamedCollection schema.now.columns written.now.key.now
+        (plain_predicate written.now.sync.now) (plain_rate written.now.rate.now)) }
+    ensures refused { IfErr result (λ stop. (nesting : placed.Nesting) (operand : Typed)
+        → IsRefusedOverInner nesting schema.now.columns
+        (λ f. q.collect written.now.key.now (plain_predicate written.now.sync.now)
+        (plain_rate written.now.rate.now) f span) operand stop) }
+{
+    let Some(key) = column_named(schema, written.key.bytes.as_slice()) else {
         return Err(CheckStop::refused(Rule::Name, span));
     };
-    let Some(sync) = pred_over(alloc, items.schema, written.sync)? else {
+    let Some(sync) = pred_over(alloc, schema, written.sync)? else {
         return Err(CheckStop::refused(Rule::Name, span));
     };
-    let Some(rate) = rate_over(alloc, items.schema, written.rate)? else {
+    let Some(rate) = rate_over(alloc, schema, written.rate)? else {
         return Err(CheckStop::refused(Rule::Name, span));
     };
+    Ok(Parts { key, sync, rate })
+}
+
+// Whether a collection of these parts may stand there, and its types fit.
+fn keep_parts(nesting: Nesting, schema: &Schema, parts: &Parts, span: Span) -> Result<(), CheckStop>
+    ensures stands { OnOk result (may_collect (nesting_of nesting) ≡ true) }
+    ensures fit { OnOk result (parts_fit schema.now.columns parts.now ≡ true) }
+    ensures refused { IfErr result (λ stop. (key : leaf.Name) (sync : p.Predicate) (rate : r.Rate)
+        (operand : Typed) → IsNamedCollection schema.now.columns key sync rate parts.now
+        → IsRefusedOverInner (nesting_of nesting) schema.now.columns
+        (λ f. q.collect key sync rate f span) operand stop) }
+{
     if !nesting.may_collect() {
         return Err(CheckStop::refused(Rule::Nested, span));
     }
-    if !parts_fit(items.schema, key, &sync, &rate) {
+    if !parts_fit(schema, parts) {
         return Err(CheckStop::refused(Rule::Type_, span));
     }
-    let inner = boxed(alloc, operand.query)?;
-    let shape = Shape::Collect(key, sync, rate, inner);
-    Ok(Typed {
-        query: Query { shape, span },
-        ty: ValueType::Table,
-    })
+    Ok(())
 }
 
 // Whether the key column has texts, and each test's column the test's kind.
-fn parts_fit(schema: &Schema, key: u32, sync: &Pred, rate: &Rate) -> bool
-    ensures { result ≡ (has_texts schema.now.columns key
-        && (fits schema.now.columns (predicates.plain_of sync.now)
-        && list_all (fits schema.now.columns) (preds_of (rates.plain_of rate.now)))) }
+fn parts_fit(schema: &Schema, parts: &Parts) -> bool
+    ensures { result ≡ parts_fit schema.now.columns parts.now }
 {
-    has_texts(schema, key) && sync.fits(schema) && all_fit(schema, rate)
+    has_texts(schema, parts.key) && parts.sync.fits(schema) && all_fit(schema, &parts.rate)
 }

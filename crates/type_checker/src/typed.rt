@@ -2,9 +2,10 @@
 ghost use Rattle.std.specs.Prelude.{◌≡◌, IfErr, IfOk};
 ghost use Rattle.query_model.specs.Queries.{Qre};
 ghost use Rattle.query_syntax.specs.Plain.{plain_expression};
+ghost use Rattle.type_checker.specs.Expressions.{is_number};
 ghost use Rattle.type_checker.specs.Findings.{IsUnresolved};
 ghost use Rattle.type_checker.specs.Resolutions.{IsNumberOver, IsValueOver, number_then, typed_then};
-ghost use Rattle.type_checker.specs.Scopes.{plain_scope};
+ghost use Rattle.type_checker.specs.Scopes.{HasFittingNumbers, plain_scope};
 ghost use Rattle.value_ops.specs.Expressions as values;
 ghost use Rattle.value_ops.specs.Shown.{shown_types};
 
@@ -55,9 +56,20 @@ pub fn number_over(
     let Some(value) = expression_over(alloc, scope, expression)? else {
         return Err(CheckStop::refused(Rule::Name, span));
     };
+    if !is_number(types, &value) {
+        return Err(CheckStop::refused(Rule::Type_, span));
+    }
+    Ok(value)
+}
+
+// Whether the expression is a number.
+fn is_number(types: &Types<'_>, value: &Expr) -> bool
+    requires { HasFittingNumbers (values.plain_of value.now) }
+    ensures { result ≡ is_number (shown_types types.now) (values.plain_of value.now) }
+{
     match value.type_in(types) {
-        Some(ValueType::Number) => Ok(value),
-        Some(ValueType::Table) => Err(CheckStop::refused(Rule::Type_, span)),
-        None => Err(CheckStop::refused(Rule::Type_, span)),
+        Some(ValueType::Number) => true,
+        Some(ValueType::Table) => false,
+        None => false,
     }
 }

@@ -12,10 +12,10 @@ use Rattle.value_ops.specs.declared.expr.Var.{Var}
 use Rattle.value_ops.specs.declared.expr.Var.TheVariants as var
 use Rattle.value_ops.specs.declared.field.Field.{Field}
 use Rattle.value_ops.specs.declared.field.Field.TheVariants as field
-use Rattle.operators.specs.declared.binary.BinaryOp.{BinaryOp}
-use Rattle.operators.specs.declared.binary.BinaryOp.TheVariants.{Add, Min, Max}
-use Rattle.operators.specs.declared.compare.Compare.{Compare}
-use Rattle.operators.specs.declared.unary.UnaryOp.{UnaryOp}
+use Rattle.language_base.specs.declared.binary.BinaryOp.{BinaryOp}
+use Rattle.language_base.specs.declared.binary.BinaryOp.TheVariants.{Add, Min, Max}
+use Rattle.language_base.specs.declared.compare.Compare.{Compare}
+use Rattle.language_base.specs.declared.unary.UnaryOp.{UnaryOp}
 use Rattle.value_ops.specs.declared.scalar.Scalar.{Scalar}
 use Rattle.value_ops.specs.declared.scalar.Scalar.TheVariants.{Number, Overflow, DivZero}
 use Rattle.value_ops.specs.declared.value.Value.{Value}
@@ -25,7 +25,7 @@ use Rattle.value_ops.specs.declared.value.ValueType.TheVariants as type
 use Rattle.value_ops.specs.Entries.{value_at, values_of}
 use Rattle.value_ops.specs.Evaluation.{Inputs, value_of_field, value_named, scalar_in, table_in, chosen, or_else, scalar_of, value_of, most_of, least_of, sum_of}
 use Rattle.value_ops.specs.Expressions.{Expression, literal, read, unary, binary, choice, sum, count, most, least, entry}
-use Rattle.operators.specs.Comparisons.{compares}
+use Rattle.language_base.specs.Comparisons.{compares}
 use Rattle.value_ops.specs.Operators.{unary_of, binary_of, exact, exact_of, kept}
 use Rattle.value_ops.specs.Scalar.{in_range}
 use Rattle.value_ops.specs.Types.{type_of, IsScalar, IsTable, IsValueOf}

@@ -5,15 +5,15 @@ use Rattle.value_ops.specs.declared.expr.Var.{Var}
 use Rattle.value_ops.specs.declared.expr.Var.TheVariants as var
 use Rattle.value_ops.specs.declared.field.Field.{Field}
 use Rattle.value_ops.specs.declared.field.Field.TheVariants as field
-use Rattle.operators.specs.declared.binary.BinaryOp.TheVariants.{Add, Min, Max}
-use Rattle.operators.specs.declared.compare.Compare.{Compare}
+use Rattle.language_base.specs.declared.binary.BinaryOp.TheVariants.{Add, Min, Max}
+use Rattle.language_base.specs.declared.compare.Compare.{Compare}
 use Rattle.value_ops.specs.declared.scalar.Scalar.{Scalar}
 use Rattle.value_ops.specs.declared.scalar.Scalar.TheVariants.{Number}
 use Rattle.value_ops.specs.declared.value.Value.{Value}
 use Rattle.value_ops.specs.declared.value.Value.TheVariants as value
 use Rattle.value_ops.specs.Entries.{values_of, value_at}
 use Rattle.value_ops.specs.Expressions.{Expression, literal, read, unary, binary, choice, sum, count, most, least, entry}
-use Rattle.operators.specs.Comparisons.{compares}
+use Rattle.language_base.specs.Comparisons.{compares}
 use Rattle.value_ops.specs.Operators.{binary_of, unary_of}
 use Rattle.value_ops.specs.Scalar.{in_range}
 

@@ -2,10 +2,10 @@
 use Rattle.std.specs.Prelude.{ℤ, pos, ◌+ℤ◌, ◌-ℤ◌, ◌*ℤ◌, neg_ℤ, int_div, int_rem, unsigned_abs, if◌then◌else◌, Option, Some, None}
 use Rattle.std.specs.Ordering.{int_eq}
 use Rattle.std.specs.Int.{int_min, int_max}
-use Rattle.operators.specs.declared.binary.BinaryOp.{BinaryOp}
-use Rattle.operators.specs.declared.binary.BinaryOp.TheVariants.{Add, Sub, Mul, Div, Rem, Min, Max}
-use Rattle.operators.specs.declared.unary.UnaryOp.{UnaryOp}
-use Rattle.operators.specs.declared.unary.UnaryOp.TheVariants.{Neg, Abs}
+use Rattle.language_base.specs.declared.binary.BinaryOp.{BinaryOp}
+use Rattle.language_base.specs.declared.binary.BinaryOp.TheVariants.{Add, Sub, Mul, Div, Rem, Min, Max}
+use Rattle.language_base.specs.declared.unary.UnaryOp.{UnaryOp}
+use Rattle.language_base.specs.declared.unary.UnaryOp.TheVariants.{Neg, Abs}
 use Rattle.value_ops.specs.declared.scalar.Scalar.{Scalar}
 use Rattle.value_ops.specs.declared.scalar.Scalar.TheVariants.{Number, DivZero}
 use Rattle.value_ops.specs.Scalar.{in_range, on_numbers}

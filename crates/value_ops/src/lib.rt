@@ -16,9 +16,8 @@ mod value;
 
 pub use expr::{Expr, Var};
 pub use field::Field;
-pub use language_base::Bytes;
+pub use language_base::{BinaryOp, Bytes, Compare, UnaryOp};
 pub use laws::{texts_are_bytes, typed_expressions_have_values};
-pub use operators::{BinaryOp, Compare, UnaryOp};
 pub use scalar::{Scalar, sums_fit_or_overflow};
 pub use table::{Table, absent_keys_have_no_value};
 pub use total::totals_go_on;

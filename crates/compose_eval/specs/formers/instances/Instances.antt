@@ -3,6 +3,7 @@ use Rattle.std.specs.Prelude.{◌≡◌, ◌==◌, ℕ, List, [], ◌∷◌, map
 use mathlib.Core.Path.{refl, sym, ap, subst}
 use mathlib.Core.Former.{Former, this, const, pair, list, via}
 use native.Mathlib.Bridge.{le_prop}
+use native.Mathlib.Nat.{ℕ_set}
 use native.Mathlib.Omega.{arith}
 use lib.ListN.{length-map}
 use base.Stored.{code_map, gcons, coded_ℕ}
@@ -90,8 +91,8 @@ module _ {X Y : Type 0} (h : X → Y) where
 IsKept-prop : {X : Type 0} (live : List (Instance X)) (idle : List X) (room c d : ℕ)
     → (p q : IsKept live idle room c d) → p ≡ q
 IsKept-prop live idle room c d p q = λ i. record {
-  live_reserved = le_prop p.live_reserved q.live_reserved i;
-  idle_reserved = le_prop p.idle_reserved q.idle_reserved i;
+  live_reserved = ℕ_set _ _ p.live_reserved q.live_reserved i;
+  idle_reserved = ℕ_set _ _ p.idle_reserved q.idle_reserved i;
   few = le_prop p.few q.few i;
   distinct = IsDistinct-prop ◌==◌ (outers_of live) p.distinct q.distinct i;
 }

@@ -5,7 +5,7 @@ use Rattle.query_model.specs.declared.query.Query.{Query}
 use Rattle.query_model.specs.Queries.{plain_of}
 use Rattle.query_model.specs.Rules.{free}
 use Rattle.query_model.specs.Sizes.{predicates_of}
-use Rattle.query_cells.specs.Members.{HaveSameMembers}
+use Rattle.query_model.specs.Members.{HaveSameMembers}
 use Rattle.eval_tree.specs.Streams.{CanBeMade}
 use Rattle.eval_tree.proofs.Served.{all_fit, served, without_collect}
 use Rattle.eval_tree.proofs.stream_cells.stream_cells.Goals as goal

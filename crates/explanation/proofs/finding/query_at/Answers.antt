@@ -6,12 +6,14 @@ use Rattle.explanation.proofs.finding.query_at.Goals as goal
 
 pub returns-in-Some : goal.returns-in-Some
 returns-in-Some c =
-    let main = plain_query c.args.program.now.main.query in
-    ap (λ o. query_or (option_map plain_let (option_copied o)) main) (sym c.in-Some.is)
-    ∙ query_found c.args.place _ main _ (rw c.deref.ensures.value at c.let_at.ensures)
+    let main = plain_query c.args.program.now.main.query.value in
+    rw c.deref-in-Some.ensures
+    (ap (λ o. query_or (option_map plain_let (option_copied o)) main) (sym c.in-Some.is)
+    ∙ query_found c.args.place _ main _ (rw c.deref.ensures.value at c.let_at.ensures))
 
 pub returns-in-None : goal.returns-in-None
 returns-in-None c =
-    let main = plain_query c.args.program.now.main.query in
-    ap (λ o. query_or (option_map plain_let (option_copied o)) main) (sym c.in-None.is)
-    ∙ query_found c.args.place _ main _ (rw c.deref.ensures.value at c.let_at.ensures)
+    let main = plain_query c.args.program.now.main.query.value in
+    rw c.deref-in-None.ensures
+    (ap (λ o. query_or (option_map plain_let (option_copied o)) main) (sym c.in-None.is)
+    ∙ query_found c.args.place _ main _ (rw c.deref.ensures.value at c.let_at.ensures))

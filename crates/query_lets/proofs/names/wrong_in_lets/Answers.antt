@@ -30,7 +30,7 @@ returns-in-Some c =
     let new : is_known so_far.0 bytes ≡ false = cc (has, c.if-contains.false) in
     let_unknown c.args.lets.now c.lets.one-index c.one-item.result c.one-item.is c.lets-test.true
     (plain_query c.args.main.now) so_far.0 so_far.2 new c.in-Some.span
-    (sym c.in-Some.is ∙ c.first_unknown.ensures so_far.0 so_far.1)
+    (sym c.in-Some.is ∙ (rw c.deref.ensures at (c.first_unknown.ensures so_far.0 so_far.1)))
 
 pub lets-preserved : goal.lets-preserved
 lets-preserved c =
@@ -44,5 +44,6 @@ lets-preserved c =
       holds_step c.lets.known c.insert.new.self c.as_slice-name.result bytes c.as_slice-name.ensures so_far.0
           so_far.1 c.in_ok-insert.ensures.updates,
       let_more c.args.lets.now c.lets.one-index c.one-item.result c.one-item.is c.lets-test.true
-          (plain_query c.args.main.now) so_far.0 so_far.2 new (sym none ∙ c.first_unknown.ensures so_far.0 so_far.1),
+          (plain_query c.args.main.now) so_far.0 so_far.2 new
+          (sym none ∙ (rw c.deref.ensures at (c.first_unknown.ensures so_far.0 so_far.1))),
     )

@@ -14,4 +14,4 @@ returns-in-None c =
     lets_wrong (plain_program c.args.program.now)
     (sym (sym c.in-None.is ∙ c.in_ok-span.ensures
     ∙ ap (λ l. first_wrong (column_words [] l)) c.deref.ensures.value))
-    c.wrong_in_lets.result (rw c.deref-in-None.ensures.value at c.wrong_in_lets.ensures)
+    c.wrong_in_lets.result (rw (c.deref-in-None.ensures.value, c.deref-in-None-2.ensures) at c.wrong_in_lets.ensures)

@@ -15,4 +15,4 @@ replaced-requires c = subst (λ l. ArePlaces c.in_ok-places.places (map plain_le
     (c.deref.ensures.value ∙ sym c.deref-2.ensures.value) c.in_ok-places.ensures
 
 pub returns : goal.returns
-returns c = rw c.deref-2.ensures.value at c.replaced.ensures
+returns c = rw (c.deref-2.ensures.value, c.deref-3.ensures) at c.replaced.ensures

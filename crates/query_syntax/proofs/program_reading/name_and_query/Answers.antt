@@ -6,6 +6,6 @@ pub name_of-requires : goal.name_of-requires
 name_of-requires c =
     item_fits _ _ _ 0 _ c.requires (omega (arith, c.requires.as_many)) c.name-item.is refl
 
-pub query_of-requires : goal.query_of-requires
-query_of-requires c =
+pub boxed_query-requires : goal.boxed_query-requires
+boxed_query-requires c =
     item_fits _ _ _ 1 _ c.requires (omega (arith, c.requires.as_many)) c.query-item.is refl

@@ -30,8 +30,8 @@ pub operands_and_value-boxed_query-requires-2 : goal.operands_and_value-boxed_qu
 operands_and_value-boxed_query-requires-2 t c =
     (search (rules, the_lemmas), item_fits _ _ _ 1 _ c.requires (omega (arith, c.requires.as_many)) c.right-item.is refl)
 
-pub operands_and_value-expression_of-requires : goal.operands_and_value-expression_of-requires
-operands_and_value-expression_of-requires t c =
+pub operands_and_value-boxed_expression-requires : goal.operands_and_value-boxed_expression-requires
+operands_and_value-boxed_expression-requires t c =
     item_fits _ _ _ 2 _ c.requires (omega (arith, c.requires.as_many)) c.value-item.is refl
 
 pub fold_of-number_of-first-requires : goal.fold_of-number_of-first-requires
@@ -42,28 +42,28 @@ pub fold_of-boxed_query-requires : goal.fold_of-boxed_query-requires
 fold_of-boxed_query-requires t c =
     (search (rules, the_lemmas), item_fits _ _ _ 0 _ c.requires (omega (arith, c.requires.as_many)) c.operand-item.is refl)
 
-pub fold_of-expression_of-requires : goal.fold_of-expression_of-requires
-fold_of-expression_of-requires t c =
+pub fold_of-boxed_expression-requires : goal.fold_of-boxed_expression-requires
+fold_of-boxed_expression-requires t c =
     item_fits _ _ _ 2 _ c.requires (omega (arith, c.requires.as_many)) c.step-item.is refl
 
 pub operand_and_value-boxed_query-requires : goal.operand_and_value-boxed_query-requires
 operand_and_value-boxed_query-requires t c =
     (search (rules, the_lemmas), item_fits _ _ _ 0 _ c.requires (omega (arith, c.requires.as_many)) c.operand-item.is refl)
 
-pub operand_and_value-expression_of-requires : goal.operand_and_value-expression_of-requires
-operand_and_value-expression_of-requires t c =
+pub operand_and_value-boxed_expression-requires : goal.operand_and_value-boxed_expression-requires
+operand_and_value-boxed_expression-requires t c =
     item_fits _ _ _ 1 _ c.requires (omega (arith, c.requires.as_many)) c.value-item.is refl
 
 pub collect_of-name_of-requires : goal.collect_of-name_of-requires
 collect_of-name_of-requires t c =
     item_fits _ _ _ 0 _ c.requires (omega (arith, c.requires.as_many)) c.key-item.is refl
 
-pub collect_of-predicate_of-requires : goal.collect_of-predicate_of-requires
-collect_of-predicate_of-requires t c =
+pub collect_of-boxed_predicate-requires : goal.collect_of-boxed_predicate-requires
+collect_of-boxed_predicate-requires t c =
     item_fits _ _ _ 1 _ c.requires (omega (arith, c.requires.as_many)) c.sync-item.is refl
 
-pub collect_of-rate_of-requires : goal.collect_of-rate_of-requires
-collect_of-rate_of-requires t c =
+pub collect_of-boxed_rate-requires : goal.collect_of-boxed_rate-requires
+collect_of-boxed_rate-requires t c =
     item_fits _ _ _ 2 _ c.requires (omega (arith, c.requires.as_many)) c.rate-item.is refl
 
 pub collect_of-boxed_query-requires : goal.collect_of-boxed_query-requires
@@ -73,4 +73,4 @@ collect_of-boxed_query-requires t c =
 pub collect_of-returns : goal.collect_of-returns
 collect_of-returns t c =
     four_terms _ _ _ _ _ c.requires.as_many c.key-item.is c.sync-item.is c.rate-item.is c.body-item.is
-    ∙ (rw (c.in_ok-key.ensures, c.in_ok-sync.ensures, c.in_ok-rate_of.ensures, c.in_ok-boxed_query.ensures) refl)
+    ∙ (rw (c.in_ok-key.ensures, c.in_ok-sync.ensures, c.in_ok-boxed_rate.ensures, c.in_ok-boxed_query.ensures) refl)

@@ -8,7 +8,7 @@ use Rattle.query_model.specs.Sizes.{predicates_of}
 use Rattle.predicate_cells.specs.Cells.{AllFit}
 use Rattle.query_model.specs.declared.query.Shape.TheViews.{the_lemmas}
 use Rattle.type_checker.specs.Findings.{KeepsTypes, derives_many, first_in}
-use Rattle.query_cells.specs.Few.{has_few_cells}
+use Rattle.query_model.specs.Few.{has_few_cells}
 use Rattle.type_checker.proofs.ToldApart.{IsAbove, IsBeside, above, beside, compose_first, compose_keeps, on_stream}
 use Rattle.type_checker.proofs.Composing.{on_values}
 use Rattle.type_checker.proofs.Fitting.{all_fit}

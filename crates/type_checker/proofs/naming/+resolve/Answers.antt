@@ -22,25 +22,28 @@ resolve_over-returns-in-Name-clause-refused t c =
 
 pub resolve_over-returns-in-Atom-clause-made : goal.resolve_over-returns-in-Atom-clause-made
 resolve_over-returns-in-Atom-clause-made t c = rw c.in-Atom.is
-    (made_there (nesting_of c.args.nesting) (columns_of c.args.items.now) _ c.atom.result c.atom.ensures.made)
+    (made_there (nesting_of c.args.nesting) (columns_of c.args.items.now) _ c.atom.result
+    (rw (c.deref.ensures, c.deref-in-Atom.ensures) at c.atom.ensures.made))
 
 pub resolve_over-returns-in-Atom-clause-refused : goal.resolve_over-returns-in-Atom-clause-refused
 resolve_over-returns-in-Atom-clause-refused t c = rw c.in-Atom.is
-    (refused_there (nesting_of c.args.nesting) (columns_of c.args.items.now) _ c.atom.result c.atom.ensures.refused)
+    (refused_there (nesting_of c.args.nesting) (columns_of c.args.items.now) _ c.atom.result
+    (rw (c.deref.ensures, c.deref-in-Atom.ensures) at c.atom.ensures.refused))
 
-pub resolve_over-returns-in-Eps-clause-made : goal.resolve_over-returns-in-Eps-clause-made
-resolve_over-returns-in-Eps-clause-made t c =
-    rw c.in-Eps.is (c.eps.ensures (nesting_of c.args.nesting) (columns_of c.args.items.now))
+pub resolve_over-returns-in_ok-eps-in-Eps-clause-made : goal.resolve_over-returns-in_ok-eps-in-Eps-clause-made
+resolve_over-returns-in_ok-eps-in-Eps-clause-made t c =
+    rw c.in-Eps.is (c.in_ok-eps-in-Eps.ensures (nesting_of c.args.nesting) (columns_of c.args.items.now))
 
 pub resolve_over-returns-in_err-left-in-Or-clause-refused :
     goal.resolve_over-returns-in_err-left-in-Or-clause-refused
 resolve_over-returns-in_err-left-in-Or-clause-refused t c =
-    let err = err_from_is_err_and c.from_residual.result c.from_residual.ensures.1 in
+    let err = err_from_is_err_and c.from_residual-in_err-left-in-Or.result
+    c.from_residual-in_err-left-in-Or.ensures.1 in
     rw (c.in-Or.is, err.1, err.2)
     (or_first (nesting_of c.args.nesting) (columns_of c.args.items.now)
     (plain_query c.in-Or.left.value) (plain_query c.in-Or.right.value)
     c.in-Or.span
-    _ (rw c.deref.ensures at c.in_err-left-in-Or.ensures.refused))
+    _ (rw c.deref-in-Or.ensures at c.in_err-left-in-Or.ensures.refused))
 
 pub resolve_over-returns-in_err-right-in-Or-clause-refused :
     goal.resolve_over-returns-in_err-right-in-Or-clause-refused
@@ -51,8 +54,8 @@ resolve_over-returns-in_err-right-in-Or-clause-refused t c =
     (or_second (nesting_of c.args.nesting) (columns_of c.args.items.now)
     (plain_query c.in-Or.left.value) (plain_query c.in-Or.right.value)
     c.in-Or.span
-    c.in_ok-left-in-Or.left (rw c.deref.ensures at c.in_ok-left-in-Or.ensures.made)
-    _ (rw c.deref-in-Or.ensures at c.in_err-right-in-Or.ensures.refused))
+    c.in_ok-left-in-Or.left (rw c.deref-in-Or.ensures at c.in_ok-left-in-Or.ensures.made)
+    _ (rw c.deref-in-Or-2.ensures at c.in_err-right-in-Or.ensures.refused))
 
 pub resolve_over-returns-in_ok-right-in-Or-clause-made :
     goal.resolve_over-returns-in_ok-right-in-Or-clause-made
@@ -61,8 +64,8 @@ resolve_over-returns-in_ok-right-in-Or-clause-made t c =
     (two_made (nesting_of c.args.nesting) (columns_of c.args.items.now)
     (plain_query c.in-Or.left.value) (plain_query c.in-Or.right.value)
     c.in_ok-left-in-Or.left c.in_ok-right-in-Or.right
-    (rw c.deref.ensures at c.in_ok-left-in-Or.ensures.made)
-    (rw c.deref-in-Or.ensures at c.in_ok-right-in-Or.ensures.made)
+    (rw c.deref-in-Or.ensures at c.in_ok-left-in-Or.ensures.made)
+    (rw c.deref-in-Or-2.ensures at c.in_ok-right-in-Or.ensures.made)
     (λ (f : q.Query) (g : q.Query). q.or f g c.in-Or.span)
     c.choice.result c.choice.ensures.made)
 
@@ -73,8 +76,8 @@ resolve_over-returns-in_ok-right-in-Or-clause-refused t c =
     (two_refused (nesting_of c.args.nesting) (columns_of c.args.items.now)
     (plain_query c.in-Or.left.value) (plain_query c.in-Or.right.value)
     c.in_ok-left-in-Or.left c.in_ok-right-in-Or.right
-    (rw c.deref.ensures at c.in_ok-left-in-Or.ensures.made)
-    (rw c.deref-in-Or.ensures at c.in_ok-right-in-Or.ensures.made)
+    (rw c.deref-in-Or.ensures at c.in_ok-left-in-Or.ensures.made)
+    (rw c.deref-in-Or-2.ensures at c.in_ok-right-in-Or.ensures.made)
     (λ (f : q.Query) (g : q.Query). q.or f g c.in-Or.span)
     c.choice.result c.choice.ensures.refused)
 
@@ -86,7 +89,7 @@ resolve_over-returns-in_err-left-in-Split-clause-refused t c =
     rw (c.in-Split.is, err.1, err.2)
     (split_first (nesting_of c.args.nesting) (columns_of c.args.items.now)
     (plain_query c.in-Split.left.value)
-    (plain_query c.in-Split.right.value) (plain_expression c.in-Split.value) c.in-Split.span
+    (plain_query c.in-Split.right.value) (plain_expression c.in-Split.value.value) c.in-Split.span
     _ (rw c.deref-in-Split.ensures at c.in_err-left-in-Split.ensures.refused))
 
 pub resolve_over-returns-in_err-right-in-Split-clause-refused :
@@ -97,7 +100,7 @@ resolve_over-returns-in_err-right-in-Split-clause-refused t c =
     rw (c.in-Split.is, err.1, err.2)
     (split_second (nesting_of c.args.nesting) (columns_of c.args.items.now)
     (plain_query c.in-Split.left.value)
-    (plain_query c.in-Split.right.value) (plain_expression c.in-Split.value) c.in-Split.span
+    (plain_query c.in-Split.right.value) (plain_expression c.in-Split.value.value) c.in-Split.span
     c.in_ok-left-in-Split.left (rw c.deref-in-Split.ensures at c.in_ok-left-in-Split.ensures.made)
     _ (rw c.deref-in-Split-2.ensures at c.in_err-right-in-Split.ensures.refused))
 
@@ -110,8 +113,8 @@ resolve_over-returns-in_ok-right-in-Split-clause-made t c =
     (plain_query c.in-Split.right.value) c.in_ok-left-in-Split.left c.in_ok-right-in-Split.right
     (rw c.deref-in-Split.ensures at c.in_ok-left-in-Split.ensures.made)
     (rw c.deref-in-Split-2.ensures at c.in_ok-right-in-Split.ensures.made)
-    (λ (f : q.Query) (g : q.Query). q.split f g (plain_expression c.in-Split.value) c.in-Split.span)
-    c.split.result c.split.ensures.made)
+    (λ (f : q.Query) (g : q.Query). q.split f g (plain_expression c.in-Split.value.value) c.in-Split.span)
+    c.split.result (rw c.deref-in-Split-3.ensures at c.split.ensures.made))
 
 pub resolve_over-returns-in_ok-right-in-Split-clause-refused :
     goal.resolve_over-returns-in_ok-right-in-Split-clause-refused
@@ -122,8 +125,8 @@ resolve_over-returns-in_ok-right-in-Split-clause-refused t c =
     (plain_query c.in-Split.right.value) c.in_ok-left-in-Split.left c.in_ok-right-in-Split.right
     (rw c.deref-in-Split.ensures at c.in_ok-left-in-Split.ensures.made)
     (rw c.deref-in-Split-2.ensures at c.in_ok-right-in-Split.ensures.made)
-    (λ (f : q.Query) (g : q.Query). q.split f g (plain_expression c.in-Split.value) c.in-Split.span)
-    c.split.result c.split.ensures.refused)
+    (λ (f : q.Query) (g : q.Query). q.split f g (plain_expression c.in-Split.value.value) c.in-Split.span)
+    c.split.result (rw c.deref-in-Split-3.ensures at c.split.ensures.refused))
 
 pub resolve_over-returns-in_err-left-in-Combine-clause-refused :
     goal.resolve_over-returns-in_err-left-in-Combine-clause-refused
@@ -133,7 +136,7 @@ resolve_over-returns-in_err-left-in-Combine-clause-refused t c =
     rw (c.in-Combine.is, err.1, err.2)
     (combine_first (nesting_of c.args.nesting) (columns_of c.args.items.now)
     (plain_query c.in-Combine.left.value)
-    (plain_query c.in-Combine.right.value) (plain_expression c.in-Combine.value) c.in-Combine.span
+    (plain_query c.in-Combine.right.value) (plain_expression c.in-Combine.value.value) c.in-Combine.span
     _ (rw c.deref-in-Combine.ensures at c.in_err-left-in-Combine.ensures.refused))
 
 pub resolve_over-returns-in_err-right-in-Combine-clause-refused :
@@ -144,7 +147,7 @@ resolve_over-returns-in_err-right-in-Combine-clause-refused t c =
     rw (c.in-Combine.is, err.1, err.2)
     (combine_second (nesting_of c.args.nesting) (columns_of c.args.items.now)
     (plain_query c.in-Combine.left.value)
-    (plain_query c.in-Combine.right.value) (plain_expression c.in-Combine.value) c.in-Combine.span
+    (plain_query c.in-Combine.right.value) (plain_expression c.in-Combine.value.value) c.in-Combine.span
     c.in_ok-left-in-Combine.left (rw c.deref-in-Combine.ensures at c.in_ok-left-in-Combine.ensures.made)
     _ (rw c.deref-in-Combine-2.ensures at c.in_err-right-in-Combine.ensures.refused))
 
@@ -157,8 +160,8 @@ resolve_over-returns-in_ok-right-in-Combine-clause-made t c =
     (plain_query c.in-Combine.right.value) c.in_ok-left-in-Combine.left c.in_ok-right-in-Combine.right
     (rw c.deref-in-Combine.ensures at c.in_ok-left-in-Combine.ensures.made)
     (rw c.deref-in-Combine-2.ensures at c.in_ok-right-in-Combine.ensures.made)
-    (λ (f : q.Query) (g : q.Query). q.combine f g (plain_expression c.in-Combine.value) c.in-Combine.span)
-    c.combine.result c.combine.ensures.made)
+    (λ (f : q.Query) (g : q.Query). q.combine f g (plain_expression c.in-Combine.value.value) c.in-Combine.span)
+    c.combine.result (rw c.deref-in-Combine-3.ensures at c.combine.ensures.made))
 
 pub resolve_over-returns-in_ok-right-in-Combine-clause-refused :
     goal.resolve_over-returns-in_ok-right-in-Combine-clause-refused
@@ -169,8 +172,8 @@ resolve_over-returns-in_ok-right-in-Combine-clause-refused t c =
     (plain_query c.in-Combine.right.value) c.in_ok-left-in-Combine.left c.in_ok-right-in-Combine.right
     (rw c.deref-in-Combine.ensures at c.in_ok-left-in-Combine.ensures.made)
     (rw c.deref-in-Combine-2.ensures at c.in_ok-right-in-Combine.ensures.made)
-    (λ (f : q.Query) (g : q.Query). q.combine f g (plain_expression c.in-Combine.value) c.in-Combine.span)
-    c.combine.result c.combine.ensures.refused)
+    (λ (f : q.Query) (g : q.Query). q.combine f g (plain_expression c.in-Combine.value.value) c.in-Combine.span)
+    c.combine.result (rw c.deref-in-Combine-3.ensures at c.combine.ensures.refused))
 
 pub resolve_over-returns-in_err-operand-in-Iter-clause-refused :
     goal.resolve_over-returns-in_err-operand-in-Iter-clause-refused
@@ -180,7 +183,7 @@ resolve_over-returns-in_err-operand-in-Iter-clause-refused t c =
     rw (c.in-Iter.is, err.1, err.2)
     (iter_first (nesting_of c.args.nesting) (columns_of c.args.items.now)
     (plain_query c.in-Iter.operand.value)
-    (plain_expression c.in-Iter.step) c.in-Iter.first c.in-Iter.span
+    (plain_expression c.in-Iter.step.value) c.in-Iter.first c.in-Iter.span
     _ (rw c.deref-in-Iter.ensures at c.in_err-operand-in-Iter.ensures.refused))
 
 pub resolve_over-returns-in_ok-operand-in-Iter-clause-made :
@@ -190,8 +193,8 @@ resolve_over-returns-in_ok-operand-in-Iter-clause-made t c =
     (one_made (nesting_of c.args.nesting) (columns_of c.args.items.now)
     (plain_query c.in-Iter.operand.value) c.in_ok-operand-in-Iter.operand
     (rw c.deref-in-Iter.ensures at c.in_ok-operand-in-Iter.ensures.made)
-    (λ (f : q.Query). q.iter f c.in-Iter.first (plain_expression c.in-Iter.step) c.in-Iter.span)
-    c.iter.result c.iter.ensures.made)
+    (λ (f : q.Query). q.iter f c.in-Iter.first (plain_expression c.in-Iter.step.value) c.in-Iter.span)
+    c.iter.result (rw c.deref-in-Iter-2.ensures at c.iter.ensures.made))
 
 pub resolve_over-returns-in_ok-operand-in-Iter-clause-refused :
     goal.resolve_over-returns-in_ok-operand-in-Iter-clause-refused
@@ -200,8 +203,8 @@ resolve_over-returns-in_ok-operand-in-Iter-clause-refused t c =
     (one_refused (nesting_of c.args.nesting) (columns_of c.args.items.now)
     (plain_query c.in-Iter.operand.value) c.in_ok-operand-in-Iter.operand
     (rw c.deref-in-Iter.ensures at c.in_ok-operand-in-Iter.ensures.made)
-    (λ (f : q.Query). q.iter f c.in-Iter.first (plain_expression c.in-Iter.step) c.in-Iter.span)
-    c.iter.result c.iter.ensures.refused)
+    (λ (f : q.Query). q.iter f c.in-Iter.first (plain_expression c.in-Iter.step.value) c.in-Iter.span)
+    c.iter.result (rw c.deref-in-Iter-2.ensures at c.iter.ensures.refused))
 
 pub resolve_over-returns-in_err-operand-in-Apply-clause-refused :
     goal.resolve_over-returns-in_err-operand-in-Apply-clause-refused
@@ -211,7 +214,7 @@ resolve_over-returns-in_err-operand-in-Apply-clause-refused t c =
     rw (c.in-Apply.is, err.1, err.2)
     (apply_first (nesting_of c.args.nesting) (columns_of c.args.items.now)
     (plain_query c.in-Apply.operand.value)
-    (plain_expression c.in-Apply.value) c.in-Apply.span
+    (plain_expression c.in-Apply.value.value) c.in-Apply.span
     _ (rw c.deref-in-Apply.ensures at c.in_err-operand-in-Apply.ensures.refused))
 
 pub resolve_over-returns-in_ok-operand-in-Apply-clause-made :
@@ -221,8 +224,8 @@ resolve_over-returns-in_ok-operand-in-Apply-clause-made t c =
     (one_made (nesting_of c.args.nesting) (columns_of c.args.items.now)
     (plain_query c.in-Apply.operand.value) c.in_ok-operand-in-Apply.operand
     (rw c.deref-in-Apply.ensures at c.in_ok-operand-in-Apply.ensures.made)
-    (λ (f : q.Query). q.apply f (plain_expression c.in-Apply.value) c.in-Apply.span)
-    c.apply.result c.apply.ensures.made)
+    (λ (f : q.Query). q.apply f (plain_expression c.in-Apply.value.value) c.in-Apply.span)
+    c.apply.result (rw c.deref-in-Apply-2.ensures at c.apply.ensures.made))
 
 pub resolve_over-returns-in_ok-operand-in-Apply-clause-refused :
     goal.resolve_over-returns-in_ok-operand-in-Apply-clause-refused
@@ -231,8 +234,8 @@ resolve_over-returns-in_ok-operand-in-Apply-clause-refused t c =
     (one_refused (nesting_of c.args.nesting) (columns_of c.args.items.now)
     (plain_query c.in-Apply.operand.value) c.in_ok-operand-in-Apply.operand
     (rw c.deref-in-Apply.ensures at c.in_ok-operand-in-Apply.ensures.made)
-    (λ (f : q.Query). q.apply f (plain_expression c.in-Apply.value) c.in-Apply.span)
-    c.apply.result c.apply.ensures.refused)
+    (λ (f : q.Query). q.apply f (plain_expression c.in-Apply.value.value) c.in-Apply.span)
+    c.apply.result (rw c.deref-in-Apply-2.ensures at c.apply.ensures.refused))
 
 pub resolve_over-returns-in_err-left-in-Compose-clause-refused :
     goal.resolve_over-returns-in_err-left-in-Compose-clause-refused
@@ -277,8 +280,8 @@ resolve_over-returns-in_err-operand-in-Collect-clause-refused t c =
     c.from_residual-in_err-operand-in-Collect.ensures.1 in
     rw (c.in-Collect.is, err.1, err.2)
     (collect_first (nesting_of c.args.nesting) (columns_of c.args.items.now) c.in-Collect.key
-    (plain_predicate c.in-Collect.sync) (plain_rate c.in-Collect.rate) (plain_query c.in-Collect.body.value)
-    c.in-Collect.span _ (rw c.deref-in-Collect.ensures at c.in_err-operand-in-Collect.ensures.refused))
+    (plain_predicate c.in-Collect.sync.value) (plain_rate c.in-Collect.rate.value) (plain_query c.in-Collect.body.value)
+    c.in-Collect.span _ (rw c.deref-in-Collect-3.ensures at c.in_err-operand-in-Collect.ensures.refused))
 
 pub resolve_over-returns-in_ok-operand-in-Collect-clause-made :
     goal.resolve_over-returns-in_ok-operand-in-Collect-clause-made
@@ -286,10 +289,11 @@ resolve_over-returns-in_ok-operand-in-Collect-clause-made t c =
     rw c.in-Collect.is
     (inner_made (nesting_of c.args.nesting) (columns_of c.args.items.now) (plain_query c.in-Collect.body.value)
     c.in_ok-operand-in-Collect.operand
-    (rw c.deref-in-Collect.ensures at c.in_ok-operand-in-Collect.ensures.made)
-    (λ (f : q.Query). q.collect c.in-Collect.key (plain_predicate c.in-Collect.sync) (plain_rate c.in-Collect.rate) f
+    (rw c.deref-in-Collect-3.ensures at c.in_ok-operand-in-Collect.ensures.made)
+    (λ (f : q.Query). q.collect c.in-Collect.key (plain_predicate c.in-Collect.sync.value) (plain_rate c.in-Collect.rate.value) f
     c.in-Collect.span)
-    c.collect.result c.collect.ensures.made)
+    c.collect.result
+    (rw (c.deref-in-Collect.ensures, c.deref-in-Collect-2.ensures) at c.collect.ensures.made))
 
 pub resolve_over-returns-in_ok-operand-in-Collect-clause-refused :
     goal.resolve_over-returns-in_ok-operand-in-Collect-clause-refused
@@ -297,7 +301,8 @@ resolve_over-returns-in_ok-operand-in-Collect-clause-refused t c =
     rw c.in-Collect.is
     (inner_refused (nesting_of c.args.nesting) (columns_of c.args.items.now) (plain_query c.in-Collect.body.value)
     c.in_ok-operand-in-Collect.operand
-    (rw c.deref-in-Collect.ensures at c.in_ok-operand-in-Collect.ensures.made)
-    (λ (f : q.Query). q.collect c.in-Collect.key (plain_predicate c.in-Collect.sync) (plain_rate c.in-Collect.rate) f
+    (rw c.deref-in-Collect-3.ensures at c.in_ok-operand-in-Collect.ensures.made)
+    (λ (f : q.Query). q.collect c.in-Collect.key (plain_predicate c.in-Collect.sync.value) (plain_rate c.in-Collect.rate.value) f
     c.in-Collect.span)
-    c.collect.result c.collect.ensures.refused)
+    c.collect.result
+    (rw (c.deref-in-Collect.ensures, c.deref-in-Collect-2.ensures) at c.collect.ensures.refused))

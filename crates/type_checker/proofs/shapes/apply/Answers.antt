@@ -1,10 +1,8 @@
-use Rattle.std.proofs.Common.{refl}
+use Rattle.std.proofs.Common.{ap}
 use Rattle.std.proofs.lemmas.Result.{err_from_is_err_and}
-use Rattle.query_model.specs.Queries.{Qre, apply}
+use Rattle.query_model.specs.Queries.{plain_of, spans_of}
 use Rattle.query_syntax.specs.Plain.{plain_expression}
-use Rattle.value_ops.specs.Expressions as values
 use Rattle.value_ops.specs.Shown.{shown_types}
-use Rattle.type_checker.proofs.Operands.{one_shape, one_span}
 use Rattle.type_checker.proofs.Shaping.{apply_refused, apply_made}
 use Rattle.type_checker.proofs.shapes.apply.Goals as goal
 
@@ -22,7 +20,5 @@ returns-clause-made c =
     apply_made nesting columns f c.args.operand is (plain_expression c.args.value.now) c.args.span
     (shown_types c.of_one-types.result) c.of_one-types.ensures c.in_ok-value.value _ c.in_ok-value.ty
     c.in_ok-value.ensures.made
-    (one_shape c.in_ok-inner.inner.value c.args.operand.query c.in_ok-inner.ensures
-    (λ (a : Qre). apply a (values.plain_of c.in_ok-value.value)) _ refl)
-    (one_span c.in_ok-inner.inner.value c.args.operand.query c.in_ok-inner.ensures _ refl)
-    refl refl
+    (ap plain_of c.in_ok-new.ensures.shape_is) (ap spans_of c.in_ok-new.ensures.shape_is)
+    c.in_ok-new.ensures.span_is c.in_ok-new.ensures.type_is

@@ -1,7 +1,6 @@
-use Rattle.std.proofs.Common.{◌≡◌, false, true, refl, rules}
-use Rattle.query_model.specs.Queries.{choice}
+use Rattle.std.proofs.Common.{◌≡◌, false, true, ap, rules}
+use Rattle.query_model.specs.Queries.{plain_of, spans_of}
 use Rattle.type_checker.specs.Resolved.{same_type}
-use Rattle.type_checker.proofs.Operands.{two_shapes, two_spans}
 use Rattle.type_checker.proofs.Shaping.{or_refused, or_made}
 use Rattle.type_checker.proofs.shapes.choice.Goals as goal
 
@@ -18,8 +17,5 @@ returns-clause-made c =
     let same : same_type c.args.right.ty c.args.left.ty ≡ true = first_of (cc, search rules) in
     λ nesting columns f g is_left is_right.
     or_made nesting columns f g c.args.left c.args.right is_left is_right c.args.span _ same
-    (two_shapes c.in_ok-first.first.value c.in_ok-second.second.value c.args.left.query c.args.right.query
-    c.in_ok-first.ensures c.in_ok-second.ensures choice _ refl)
-    (two_spans c.in_ok-first.first.value c.in_ok-second.second.value c.args.left.query c.args.right.query
-    c.in_ok-first.ensures c.in_ok-second.ensures _ refl)
-    refl refl
+    (ap plain_of c.in_ok-new.ensures.shape_is) (ap spans_of c.in_ok-new.ensures.shape_is)
+    c.in_ok-new.ensures.span_is c.in_ok-new.ensures.type_is

@@ -1,10 +1,8 @@
-use Rattle.std.proofs.Common.{refl}
+use Rattle.std.proofs.Common.{ap}
 use Rattle.std.proofs.lemmas.Result.{err_from_is_err_and}
-use Rattle.query_model.specs.Queries.{Qre, combine}
+use Rattle.query_model.specs.Queries.{plain_of, spans_of}
 use Rattle.query_syntax.specs.Plain.{plain_expression}
-use Rattle.value_ops.specs.Expressions as values
 use Rattle.value_ops.specs.Shown.{shown_types}
-use Rattle.type_checker.proofs.Operands.{two_shapes, two_spans}
 use Rattle.type_checker.proofs.Shaping.{combine_refused, combine_made}
 use Rattle.type_checker.proofs.shapes.combine.Goals as goal
 
@@ -23,9 +21,4 @@ returns-clause-made c =
     combine_made nesting columns f g c.args.left c.args.right is_left is_right c.args.span
     (plain_expression c.args.value.now) (shown_types c.of_two-types.result) c.of_two-types.ensures
     c.in_ok-value.value c.in_ok-value.ty c.in_ok-value.ensures.made _
-    (two_spans c.in_ok-first.first.value c.in_ok-second.second.value c.args.left.query c.args.right.query
-    c.in_ok-first.ensures c.in_ok-second.ensures _ refl)
-    refl refl
-    (two_shapes c.in_ok-first.first.value c.in_ok-second.second.value c.args.left.query c.args.right.query
-    c.in_ok-first.ensures c.in_ok-second.ensures
-    (λ (a : Qre) (b : Qre). combine a b (values.plain_of c.in_ok-value.value)) _ refl)
+    (ap spans_of c.in_ok-new.ensures.shape_is) c.in_ok-new.ensures.span_is c.in_ok-new.ensures.type_is (ap plain_of c.in_ok-new.ensures.shape_is)

@@ -1,7 +1,11 @@
-use Rattle.std.proofs.Common.{refl, rules}
+use Rattle.std.proofs.Common.{◌∙◌, ap, rules}
+use Rattle.std.proofs.lemmas.Result.{IfOk-weaker}
+use Rattle.query_model.specs.Queries.{plain_of, spans_of}
 use Rattle.type_checker.proofs.Shaping.{eps_made}
 use Rattle.type_checker.proofs.shapes.eps.Goals as goal
 
 pub returns : goal.returns
 returns c =
-    λ nesting columns. eps_made nesting columns c.args.number.now c.args.span _ (search rules) refl (search rules) refl
+    IfOk-weaker c.new.result _ _ (λ made is nesting columns.
+    eps_made nesting columns c.args.number.now c.args.span made (search rules)
+    (ap plain_of is.shape_is ∙ search rules) (ap spans_of is.shape_is) is.span_is is.type_is) c.new.ensures

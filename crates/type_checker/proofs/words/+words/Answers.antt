@@ -1,7 +1,5 @@
 use Rattle.std.proofs.Common.{None, ap, refl, rules, subst, sym}
 use Rattle.std.proofs.lemmas.Result.{IfErr-weaker, err_from_is_err_and, on_ok_weaker}
-use Rattle.predicate_cells.specs.Plain as predicates
-use Rattle.rate_expr.specs.Plain as rates
 use Rattle.query_model.specs.Queries as q
 use Rattle.query_model.specs.Queries.{plain_of}
 use Rattle.query_model.specs.declared.query.Shape.TheViews.{the_lemmas}
@@ -15,14 +13,15 @@ use Rattle.type_checker.specs.WordRules.{BreaksAt}
 use Rattle.type_checker.proofs.Asked.{asked_apply, asked_as, asked_both_of, asked_choice, asked_collect}
 use Rattle.type_checker.proofs.Asked.{asked_combine, asked_compose, asked_iter, asked_of, asked_rate, asked_split}
 use Rattle.type_checker.proofs.Asked.{positions_decided}
-use Rattle.type_checker.proofs.Fed.{composed_first, composed_kept, composed_second, composition}
+use Rattle.type_checker.proofs.Fed.{composed_first, composed_kept, composed_second}
 use Rattle.type_checker.proofs.Fed.{fed_kept, fed_refused, fed_stopped}
 use Rattle.type_checker.proofs.OverOne.{collect_kept, collect_refused, collect_sets}
 use Rattle.type_checker.proofs.OverOne.{apply_kept, apply_refused, apply_sets, iter_kept, iter_refused, iter_sets}
-use Rattle.type_checker.proofs.OverOne.{one_stopped, over_one}
-use Rattle.type_checker.proofs.OverTwo.{broken_with, kept_with, over_two, two_few, two_kept}
+use Rattle.type_checker.proofs.OverOne.{one_stopped}
+use Rattle.type_checker.proofs.OverTwo.{broken_with, kept_with, two_few, two_kept}
 use Rattle.type_checker.proofs.OverTwo.{two_refused, two_sets, two_stopped}
 use Rattle.type_checker.proofs.Ruled.{automaton_of}
+use Rattle.type_checker.proofs.Shaped.{over_apply, over_choice, over_collect, over_combine, over_compose, over_iter, over_split}
 use Rattle.type_checker.proofs.Told.{told_err, told_ok}
 use Rattle.type_checker.proofs.Walked.{both_kept, kept_at, none_without, root_kept, root_refused}
 use Rattle.type_checker.proofs.Walked.{second_stopped, stops_before}
@@ -118,43 +117,32 @@ pub keep_words-returns-in_err-operands-in-Or-clause-refused :
     goal.keep_words-returns-in_err-operands-in-Or-clause-refused
 keep_words-returns-in_err-operands-in-Or-clause-refused t c =
     let err = err_from_is_err_and c.from_residual.result c.from_residual.ensures.1 in
-    let is = over_two q.choice c.args.query.now _ _ _ _ _
-    c.in-Or.is c.deref.ensures c.deref-in-Or.ensures refl
-    (λ columns standing. refl) refl in
+    let is = over_choice c.args.query.now _ _ _ _ c.deref.ensures c.deref-in-Or.ensures c.in-Or.is in
     rw (err.1, err.2) (two_stopped _ _ _ _ is c.args.cells.now.value (standing_of c.args.standing) _
     c.in_err-operands-in-Or.ensures.refused)
 
 pub keep_words-returns-in_ok-operands-in-Or-clause-kept :
     goal.keep_words-returns-in_ok-operands-in-Or-clause-kept
 keep_words-returns-in_ok-operands-in-Or-clause-kept t c =
-    let is = over_two q.choice c.args.query.now _ _ _ _ _
-    c.in-Or.is c.deref.ensures c.deref-in-Or.ensures refl
-    (λ columns standing. refl) refl in
+    let is = over_choice c.args.query.now _ _ _ _ c.deref.ensures c.deref-in-Or.ensures c.in-Or.is in
     two_kept _ _ _ _ is c.args.cells.now.value (standing_of c.args.standing)
-    c.in_ok-operands-in-Or.ensures.kept _
-    c.in_ok-operands-in-Or.ensures.automata _
+    c.in_ok-operands-in-Or.ensures.kept _ c.in_ok-operands-in-Or.ensures.automata _
     c.choice.ensures.kept
 
 pub keep_words-returns-in_ok-operands-in-Or-clause-positions :
     goal.keep_words-returns-in_ok-operands-in-Or-clause-positions
 keep_words-returns-in_ok-operands-in-Or-clause-positions t c =
-    let is = over_two q.choice c.args.query.now _ _ _ _ _
-    c.in-Or.is c.deref.ensures c.deref-in-Or.ensures refl
-    (λ columns standing. refl) refl in
+    let is = over_choice c.args.query.now _ _ _ _ c.deref.ensures c.deref-in-Or.ensures c.in-Or.is in
     two_sets _ _ _ _ is c.args.cells.now.value (standing_of c.args.standing)
-    c.in_ok-operands-in-Or.ensures.kept _
-    c.in_ok-operands-in-Or.ensures.automata _
+    c.in_ok-operands-in-Or.ensures.kept _ c.in_ok-operands-in-Or.ensures.automata _
     c.choice.ensures.kept
 
 pub keep_words-returns-in_ok-operands-in-Or-clause-refused :
     goal.keep_words-returns-in_ok-operands-in-Or-clause-refused
 keep_words-returns-in_ok-operands-in-Or-clause-refused t c =
-    let is = over_two q.choice c.args.query.now _ _ _ _ _
-    c.in-Or.is c.deref.ensures c.deref-in-Or.ensures refl
-    (λ columns standing. refl) refl in
+    let is = over_choice c.args.query.now _ _ _ _ c.deref.ensures c.deref-in-Or.ensures c.in-Or.is in
     two_refused _ _ _ _ is c.args.cells.now.value (standing_of c.args.standing)
-    c.in_ok-operands-in-Or.ensures.kept _
-    c.in_ok-operands-in-Or.ensures.automata _
+    c.in_ok-operands-in-Or.ensures.kept _ c.in_ok-operands-in-Or.ensures.automata _
     c.choice.ensures.refused
 
 -- split
@@ -171,43 +159,32 @@ pub keep_words-returns-in_err-operands-in-Split-clause-refused :
 keep_words-returns-in_err-operands-in-Split-clause-refused t c =
     let err = err_from_is_err_and c.from_residual-in_err-operands-in-Split.result
     c.from_residual-in_err-operands-in-Split.ensures.1 in
-    let is = over_two (λ f g. q.split f g (values.plain_of c.in-Split.field-2)) c.args.query.now _ _ _ _ _
-    c.in-Split.is c.deref-in-Split.ensures c.deref-in-Split-2.ensures refl
-    (λ columns standing. refl) refl in
+    let is = over_split c.args.query.now _ _ _ _ c.deref-in-Split.ensures c.deref-in-Split-2.ensures _ c.in-Split.is in
     rw (err.1, err.2) (two_stopped _ _ _ _ is c.args.cells.now.value (standing_of c.args.standing) _
     c.in_err-operands-in-Split.ensures.refused)
 
 pub keep_words-returns-in_ok-operands-in-Split-clause-kept :
     goal.keep_words-returns-in_ok-operands-in-Split-clause-kept
 keep_words-returns-in_ok-operands-in-Split-clause-kept t c =
-    let is = over_two (λ f g. q.split f g (values.plain_of c.in-Split.field-2)) c.args.query.now _ _ _ _ _
-    c.in-Split.is c.deref-in-Split.ensures c.deref-in-Split-2.ensures refl
-    (λ columns standing. refl) refl in
+    let is = over_split c.args.query.now _ _ _ _ c.deref-in-Split.ensures c.deref-in-Split-2.ensures _ c.in-Split.is in
     two_kept _ _ _ _ is c.args.cells.now.value (standing_of c.args.standing)
-    c.in_ok-operands-in-Split.ensures.kept _
-    c.in_ok-operands-in-Split.ensures.automata _
+    c.in_ok-operands-in-Split.ensures.kept _ c.in_ok-operands-in-Split.ensures.automata _
     (kept_with q.split _ (values.plain_of c.in-Split.field-2) _ c.split.ensures.kept)
 
 pub keep_words-returns-in_ok-operands-in-Split-clause-positions :
     goal.keep_words-returns-in_ok-operands-in-Split-clause-positions
 keep_words-returns-in_ok-operands-in-Split-clause-positions t c =
-    let is = over_two (λ f g. q.split f g (values.plain_of c.in-Split.field-2)) c.args.query.now _ _ _ _ _
-    c.in-Split.is c.deref-in-Split.ensures c.deref-in-Split-2.ensures refl
-    (λ columns standing. refl) refl in
+    let is = over_split c.args.query.now _ _ _ _ c.deref-in-Split.ensures c.deref-in-Split-2.ensures _ c.in-Split.is in
     two_sets _ _ _ _ is c.args.cells.now.value (standing_of c.args.standing)
-    c.in_ok-operands-in-Split.ensures.kept _
-    c.in_ok-operands-in-Split.ensures.automata _
+    c.in_ok-operands-in-Split.ensures.kept _ c.in_ok-operands-in-Split.ensures.automata _
     (kept_with q.split _ (values.plain_of c.in-Split.field-2) _ c.split.ensures.kept)
 
 pub keep_words-returns-in_ok-operands-in-Split-clause-refused :
     goal.keep_words-returns-in_ok-operands-in-Split-clause-refused
 keep_words-returns-in_ok-operands-in-Split-clause-refused t c =
-    let is = over_two (λ f g. q.split f g (values.plain_of c.in-Split.field-2)) c.args.query.now _ _ _ _ _
-    c.in-Split.is c.deref-in-Split.ensures c.deref-in-Split-2.ensures refl
-    (λ columns standing. refl) refl in
+    let is = over_split c.args.query.now _ _ _ _ c.deref-in-Split.ensures c.deref-in-Split-2.ensures _ c.in-Split.is in
     two_refused _ _ _ _ is c.args.cells.now.value (standing_of c.args.standing)
-    c.in_ok-operands-in-Split.ensures.kept _
-    c.in_ok-operands-in-Split.ensures.automata _
+    c.in_ok-operands-in-Split.ensures.kept _ c.in_ok-operands-in-Split.ensures.automata _
     (broken_with q.split _ (values.plain_of c.in-Split.field-2) _ _ c.split.ensures.refused)
 
 -- side_by_side
@@ -224,43 +201,36 @@ pub keep_words-returns-in_err-operands-in-Combine-clause-refused :
 keep_words-returns-in_err-operands-in-Combine-clause-refused t c =
     let err = err_from_is_err_and c.from_residual-in_err-operands-in-Combine.result
     c.from_residual-in_err-operands-in-Combine.ensures.1 in
-    let is = over_two (λ f g. q.combine f g (values.plain_of c.in-Combine.field-2)) c.args.query.now _ _ _ _ _
-    c.in-Combine.is c.deref-in-Combine.ensures c.deref-in-Combine-2.ensures refl
-    (λ columns standing. refl) refl in
+    let is = over_combine c.args.query.now _ _ _ _ c.deref-in-Combine.ensures c.deref-in-Combine-2.ensures _
+    c.in-Combine.is in
     rw (err.1, err.2) (two_stopped _ _ _ _ is c.args.cells.now.value (standing_of c.args.standing) _
     c.in_err-operands-in-Combine.ensures.refused)
 
 pub keep_words-returns-in_ok-operands-in-Combine-clause-kept :
     goal.keep_words-returns-in_ok-operands-in-Combine-clause-kept
 keep_words-returns-in_ok-operands-in-Combine-clause-kept t c =
-    let is = over_two (λ f g. q.combine f g (values.plain_of c.in-Combine.field-2)) c.args.query.now _ _ _ _ _
-    c.in-Combine.is c.deref-in-Combine.ensures c.deref-in-Combine-2.ensures refl
-    (λ columns standing. refl) refl in
+    let is = over_combine c.args.query.now _ _ _ _ c.deref-in-Combine.ensures c.deref-in-Combine-2.ensures _
+    c.in-Combine.is in
     two_kept _ _ _ _ is c.args.cells.now.value (standing_of c.args.standing)
-    c.in_ok-operands-in-Combine.ensures.kept _
-    c.in_ok-operands-in-Combine.ensures.automata _
+    c.in_ok-operands-in-Combine.ensures.kept _ c.in_ok-operands-in-Combine.ensures.automata _
     (kept_with q.combine _ (values.plain_of c.in-Combine.field-2) _ c.side_by_side.ensures.kept)
 
 pub keep_words-returns-in_ok-operands-in-Combine-clause-positions :
     goal.keep_words-returns-in_ok-operands-in-Combine-clause-positions
 keep_words-returns-in_ok-operands-in-Combine-clause-positions t c =
-    let is = over_two (λ f g. q.combine f g (values.plain_of c.in-Combine.field-2)) c.args.query.now _ _ _ _ _
-    c.in-Combine.is c.deref-in-Combine.ensures c.deref-in-Combine-2.ensures refl
-    (λ columns standing. refl) refl in
+    let is = over_combine c.args.query.now _ _ _ _ c.deref-in-Combine.ensures c.deref-in-Combine-2.ensures _
+    c.in-Combine.is in
     two_sets _ _ _ _ is c.args.cells.now.value (standing_of c.args.standing)
-    c.in_ok-operands-in-Combine.ensures.kept _
-    c.in_ok-operands-in-Combine.ensures.automata _
+    c.in_ok-operands-in-Combine.ensures.kept _ c.in_ok-operands-in-Combine.ensures.automata _
     (kept_with q.combine _ (values.plain_of c.in-Combine.field-2) _ c.side_by_side.ensures.kept)
 
 pub keep_words-returns-in_ok-operands-in-Combine-clause-refused :
     goal.keep_words-returns-in_ok-operands-in-Combine-clause-refused
 keep_words-returns-in_ok-operands-in-Combine-clause-refused t c =
-    let is = over_two (λ f g. q.combine f g (values.plain_of c.in-Combine.field-2)) c.args.query.now _ _ _ _ _
-    c.in-Combine.is c.deref-in-Combine.ensures c.deref-in-Combine-2.ensures refl
-    (λ columns standing. refl) refl in
+    let is = over_combine c.args.query.now _ _ _ _ c.deref-in-Combine.ensures c.deref-in-Combine-2.ensures _
+    c.in-Combine.is in
     two_refused _ _ _ _ is c.args.cells.now.value (standing_of c.args.standing)
-    c.in_ok-operands-in-Combine.ensures.kept _
-    c.in_ok-operands-in-Combine.ensures.automata _
+    c.in_ok-operands-in-Combine.ensures.kept _ c.in_ok-operands-in-Combine.ensures.automata _
     (broken_with q.combine _ (values.plain_of c.in-Combine.field-2) _ _ c.side_by_side.ensures.refused)
 
 -- an iteration
@@ -282,9 +252,7 @@ pub keep_words-returns-in_err-positions-in-Iter-clause-refused :
 keep_words-returns-in_err-positions-in-Iter-clause-refused t c =
     let err = err_from_is_err_and c.from_residual-in_err-positions-in-Iter.result
     c.from_residual-in_err-positions-in-Iter.ensures.1 in
-    let is = over_one (λ f. q.iter f c.in-Iter.field-1 (values.plain_of c.in-Iter.field-2)) c.args.query.now _ _ _
-    c.in-Iter.is
-    c.deref-in-Iter.ensures refl (λ columns standing. refl) refl in
+    let is = over_iter c.args.query.now _ _ c.deref-in-Iter.ensures _ _ c.in-Iter.is in
     rw (err.1, err.2)
     (one_stopped _ _ _ is c.args.cells.now.value.layout.columns (standing_of c.args.standing) _
     c.in_err-positions-in-Iter.ensures.refused)
@@ -292,9 +260,7 @@ keep_words-returns-in_err-positions-in-Iter-clause-refused t c =
 pub keep_words-returns-in_ok-operand-in-Iter-clause-kept :
     goal.keep_words-returns-in_ok-operand-in-Iter-clause-kept
 keep_words-returns-in_ok-operand-in-Iter-clause-kept t c =
-    let is = over_one (λ f. q.iter f c.in-Iter.field-1 (values.plain_of c.in-Iter.field-2)) c.args.query.now _ _ _
-    c.in-Iter.is
-    c.deref-in-Iter.ensures refl (λ columns standing. refl) refl in
+    let is = over_iter c.args.query.now _ _ c.deref-in-Iter.ensures _ _ c.in-Iter.is in
     let of_it = automaton_of c.args.cells.now.value (plain_of c.deref-in-Iter.result.now.shape) _ _
     c.in_ok-operand-in-Iter.ensures c.in_ok-positions-in-Iter.ensures.positions in
     iter_kept _ _ _ _ is c.args.cells.now.value (standing_of c.args.standing)
@@ -304,9 +270,7 @@ keep_words-returns-in_ok-operand-in-Iter-clause-kept t c =
 pub keep_words-returns-in_ok-operand-in-Iter-clause-positions :
     goal.keep_words-returns-in_ok-operand-in-Iter-clause-positions
 keep_words-returns-in_ok-operand-in-Iter-clause-positions t c =
-    let is = over_one (λ f. q.iter f c.in-Iter.field-1 (values.plain_of c.in-Iter.field-2)) c.args.query.now _ _ _
-    c.in-Iter.is
-    c.deref-in-Iter.ensures refl (λ columns standing. refl) refl in
+    let is = over_iter c.args.query.now _ _ c.deref-in-Iter.ensures _ _ c.in-Iter.is in
     let of_it = automaton_of c.args.cells.now.value (plain_of c.deref-in-Iter.result.now.shape) _ _
     c.in_ok-operand-in-Iter.ensures c.in_ok-positions-in-Iter.ensures.positions in
     iter_sets _ _ _ _ is c.args.cells.now.value (standing_of c.args.standing)
@@ -316,9 +280,7 @@ keep_words-returns-in_ok-operand-in-Iter-clause-positions t c =
 pub keep_words-returns-in_ok-operand-in-Iter-clause-refused :
     goal.keep_words-returns-in_ok-operand-in-Iter-clause-refused
 keep_words-returns-in_ok-operand-in-Iter-clause-refused t c =
-    let is = over_one (λ f. q.iter f c.in-Iter.field-1 (values.plain_of c.in-Iter.field-2)) c.args.query.now _ _ _
-    c.in-Iter.is
-    c.deref-in-Iter.ensures refl (λ columns standing. refl) refl in
+    let is = over_iter c.args.query.now _ _ c.deref-in-Iter.ensures _ _ c.in-Iter.is in
     let of_it = automaton_of c.args.cells.now.value (plain_of c.deref-in-Iter.result.now.shape) _ _
     c.in_ok-operand-in-Iter.ensures c.in_ok-positions-in-Iter.ensures.positions in
     iter_refused _ _ _ _ is c.args.cells.now.value (standing_of c.args.standing)
@@ -334,41 +296,31 @@ keep_words-keep_words-requires-in-Apply t c =
 
 pub keep_words-returns-in-Apply-clause-kept : goal.keep_words-returns-in-Apply-clause-kept
 keep_words-returns-in-Apply-clause-kept t c =
-    let is = over_one (λ f. q.apply f (values.plain_of c.in-Apply.field-1)) c.args.query.now _ _ _
-    c.in-Apply.is
-    c.deref-in-Apply.ensures refl (λ columns standing. refl) refl in
+    let is = over_apply c.args.query.now _ _ c.deref-in-Apply.ensures _ c.in-Apply.is in
     apply_kept _ _ _ is c.args.cells.now.value.layout.columns (standing_of c.args.standing) _
     c.keep_words-in-Apply.ensures.kept
 
 pub keep_words-returns-in-Apply-clause-positions : goal.keep_words-returns-in-Apply-clause-positions
 keep_words-returns-in-Apply-clause-positions t c =
-    let is = over_one (λ f. q.apply f (values.plain_of c.in-Apply.field-1)) c.args.query.now _ _ _
-    c.in-Apply.is
-    c.deref-in-Apply.ensures refl (λ columns standing. refl) refl in
+    let is = over_apply c.args.query.now _ _ c.deref-in-Apply.ensures _ c.in-Apply.is in
     apply_sets _ _ _ is c.args.cells.now.value.layout.columns (standing_of c.args.standing) _
     c.keep_words-in-Apply.ensures.positions
 
 pub keep_words-returns-in-Apply-clause-refused : goal.keep_words-returns-in-Apply-clause-refused
 keep_words-returns-in-Apply-clause-refused t c =
-    let is = over_one (λ f. q.apply f (values.plain_of c.in-Apply.field-1)) c.args.query.now _ _ _
-    c.in-Apply.is
-    c.deref-in-Apply.ensures refl (λ columns standing. refl) refl in
+    let is = over_apply c.args.query.now _ _ c.deref-in-Apply.ensures _ c.in-Apply.is in
     apply_refused _ _ _ is c.args.cells.now.value.layout.columns (standing_of c.args.standing) _
     c.keep_words-in-Apply.ensures.refused
 
 pub keep_words-choice-requires-clause-few : goal.keep_words-choice-requires-clause-few
 keep_words-choice-requires-clause-few t c =
-    let is = over_two q.choice c.args.query.now _ _ _ _ _
-    c.in-Or.is c.deref.ensures c.deref-in-Or.ensures refl
-    (λ columns standing. refl) refl in
+    let is = over_choice c.args.query.now _ _ _ _ c.deref.ensures c.deref-in-Or.ensures c.in-Or.is in
     two_few _ _ _ _ is c.args.cells.now.value (λ f g few. few.2) c.requires _
     c.in_ok-operands-in-Or.ensures.automata
 
 pub keep_words-split-requires-clause-few : goal.keep_words-split-requires-clause-few
 keep_words-split-requires-clause-few t c =
-    let is = over_two (λ f g. q.split f g (values.plain_of c.in-Split.field-2)) c.args.query.now _ _ _ _ _
-    c.in-Split.is c.deref-in-Split.ensures c.deref-in-Split-2.ensures refl
-    (λ columns standing. refl) refl in
+    let is = over_split c.args.query.now _ _ _ _ c.deref-in-Split.ensures c.deref-in-Split-2.ensures _ c.in-Split.is in
     two_few _ _ _ _ is c.args.cells.now.value (λ f g few. few.2) c.requires _
     c.in_ok-operands-in-Split.ensures.automata
 
@@ -393,8 +345,7 @@ pub keep_words-returns-in_err-left-in-Compose-clause-refused :
 keep_words-returns-in_err-left-in-Compose-clause-refused t c =
     let err = err_from_is_err_and c.from_residual-in_err-left-in-Compose.result
     c.from_residual-in_err-left-in-Compose.ensures.1 in
-    let is = composition c.args.query.now _ c.in-Compose.first.value c.in-Compose.second.value
-    c.deref-in-Compose.result.now c.in-Compose.second.value c.in-Compose.is c.deref-in-Compose.ensures refl refl refl in
+    let is = over_compose c.args.query.now _ _ _ _ c.deref-in-Compose.ensures refl c.in-Compose.is in
     rw (err.1, err.2)
     (composed_first _ _ _ is c.args.cells.now.value.layout.columns (standing_of c.args.standing) _
     c.in_err-left-in-Compose.ensures.refused)
@@ -404,8 +355,7 @@ pub keep_words-returns-in_err-keep_fed-in-Compose-clause-refused :
 keep_words-returns-in_err-keep_fed-in-Compose-clause-refused t c =
     let err = err_from_is_err_and c.from_residual-in_err-keep_fed-in-Compose.result
     c.from_residual-in_err-keep_fed-in-Compose.ensures.1 in
-    let is = composition c.args.query.now _ c.in-Compose.first.value c.in-Compose.second.value
-    c.in-Compose.first.value c.in-Compose.second.value c.in-Compose.is refl refl refl refl in
+    let is = over_compose c.args.query.now _ _ _ _ refl refl c.in-Compose.is in
     let kept = rw c.deref-in-Compose.ensures at c.in_ok-left-in-Compose.ensures.kept in
     let broken = rw (c.deref-in-Compose-2.ensures, c.deref-in-Compose-3.ensures)
     at c.in_err-keep_fed-in-Compose.ensures.refused in
@@ -415,8 +365,7 @@ keep_words-returns-in_err-keep_fed-in-Compose-clause-refused t c =
 pub keep_words-returns-in_ok-keep_fed-in-Compose-clause-kept :
     goal.keep_words-returns-in_ok-keep_fed-in-Compose-clause-kept
 keep_words-returns-in_ok-keep_fed-in-Compose-clause-kept t c =
-    let is = composition c.args.query.now _ c.in-Compose.first.value c.in-Compose.second.value
-    c.in-Compose.first.value c.in-Compose.second.value c.in-Compose.is refl refl refl refl in
+    let is = over_compose c.args.query.now _ _ _ _ refl refl c.in-Compose.is in
     let kept = rw c.deref-in-Compose.ensures at c.in_ok-left-in-Compose.ensures.kept in
     let later = rw (c.deref-in-Compose-2.ensures, c.deref-in-Compose-3.ensures)
     at c.in_ok-keep_fed-in-Compose.ensures.kept in
@@ -440,9 +389,7 @@ pub keep_words-returns-in_err-keep_words-in-Collect-clause-refused :
 keep_words-returns-in_err-keep_words-in-Collect-clause-refused t c =
     let err = err_from_is_err_and c.from_residual-in_err-keep_words-in-Collect.result
     c.from_residual-in_err-keep_words-in-Collect.ensures.1 in
-    let is = over_one (λ f. q.collect c.in-Collect.field-0 (predicates.plain_of c.in-Collect.field-1)
-    (rates.plain_of c.in-Collect.rate) f) c.args.query.now _ _ _ c.in-Collect.is
-    c.deref-in-Collect.ensures refl (λ columns standing. refl) refl in
+    let is = over_collect c.args.query.now _ _ c.deref-in-Collect.ensures _ _ _ c.in-Collect.is in
     rw (err.1, err.2)
     (one_stopped _ _ _ is c.args.cells.now.value.layout.columns (standing_of c.args.standing) _
     c.in_err-keep_words-in-Collect.ensures.refused)
@@ -450,27 +397,21 @@ keep_words-returns-in_err-keep_words-in-Collect-clause-refused t c =
 pub keep_words-returns-in_ok-keep_words-in-Collect-clause-kept :
     goal.keep_words-returns-in_ok-keep_words-in-Collect-clause-kept
 keep_words-returns-in_ok-keep_words-in-Collect-clause-kept t c =
-    let is = over_one (λ f. q.collect c.in-Collect.field-0 (predicates.plain_of c.in-Collect.field-1)
-    (rates.plain_of c.in-Collect.rate) f) c.args.query.now _ _ _ c.in-Collect.is
-    c.deref-in-Collect.ensures refl (λ columns standing. refl) refl in
+    let is = over_collect c.args.query.now _ _ c.deref-in-Collect.ensures _ _ _ c.in-Collect.is in
     collect_kept _ _ _ _ _ is c.args.cells.now.value.layout.columns (standing_of c.args.standing)
     c.in_ok-keep_words-in-Collect.ensures.kept _ c.collected.ensures.kept
 
 pub keep_words-returns-in_ok-keep_words-in-Collect-clause-positions :
     goal.keep_words-returns-in_ok-keep_words-in-Collect-clause-positions
 keep_words-returns-in_ok-keep_words-in-Collect-clause-positions t c =
-    let is = over_one (λ f. q.collect c.in-Collect.field-0 (predicates.plain_of c.in-Collect.field-1)
-    (rates.plain_of c.in-Collect.rate) f) c.args.query.now _ _ _ c.in-Collect.is
-    c.deref-in-Collect.ensures refl (λ columns standing. refl) refl in
+    let is = over_collect c.args.query.now _ _ c.deref-in-Collect.ensures _ _ _ c.in-Collect.is in
     collect_sets _ _ _ _ _ is c.args.cells.now.value.layout.columns (standing_of c.args.standing)
     c.in_ok-keep_words-in-Collect.ensures.kept _ c.collected.ensures.kept
 
 pub keep_words-returns-in_ok-keep_words-in-Collect-clause-refused :
     goal.keep_words-returns-in_ok-keep_words-in-Collect-clause-refused
 keep_words-returns-in_ok-keep_words-in-Collect-clause-refused t c =
-    let is = over_one (λ f. q.collect c.in-Collect.field-0 (predicates.plain_of c.in-Collect.field-1)
-    (rates.plain_of c.in-Collect.rate) f) c.args.query.now _ _ _ c.in-Collect.is
-    c.deref-in-Collect.ensures refl (λ columns standing. refl) refl in
+    let is = over_collect c.args.query.now _ _ c.deref-in-Collect.ensures _ _ _ c.in-Collect.is in
     collect_refused _ _ _ _ _ is c.args.cells.now.value.layout.columns (standing_of c.args.standing)
     c.in_ok-keep_words-in-Collect.ensures.kept _ c.collected.ensures.refused
 

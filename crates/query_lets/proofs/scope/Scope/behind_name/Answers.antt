@@ -32,4 +32,4 @@ returns-clause-leads c =
     let one = c.in_ok-one.one.now in
     leads c.args.places.now c.args.self c.requires c.in-Name.name (ap plain_query c.in-Name.is) place found one
     (slice_get_read c.args.self.lets.now (length c.args.self.lets.now) place one refl c.in_ok-one.ensures.lookup.3.0
-    c.in_ok-one.ensures.lookup.1) _ refl refl
+    c.in_ok-one.ensures.lookup.1) _ refl c.deref.ensures

@@ -1,0 +1,5 @@
+use Rattle.rate_expr.specs.Behind.{IsStateOf}
+use Rattle.bench_parts.proofs.work.all_extend.Given as goal
+
+abbrev pub invariant-items : goal.invariant-items
+invariant-items l = IsStateOf l.nfa.sets l.state

@@ -1,0 +1,100 @@
+//! Adds up the last column of items and writes the sum behind each: what lines, items and answers cost without a query.
+
+use io_edge::{LazyFile, Line, Lines, Sink, Source, StdoutSink, write_all};
+use item_schema::{Column, Item, ItemStop, Kind, Schema, are_columns, read_item};
+use language_base::Bytes;
+use report_writer::{push_answer, push_skip};
+use std::alloc::{AllocError, Global};
+use std::io;
+use value_ops::{Scalar, Value};
+
+/// The first word is the file, or `-` for standard input, and the others are the kinds of the columns.
+pub(crate) fn sum_items(rt: HostRuntime, words: &[String]) -> io::Result<()> {
+    let alloc = rt.alloc();
+    let [file, kinds @ ..] = words else {
+        return println!(rt; "the words are a file and kinds");
+    };
+    let columns = columns_of(alloc, kinds)?;
+    if !are_columns(&columns) {
+        return println!(rt; "the kinds are those of 1 to 32 columns: int, text, hundredths");
+    }
+    let schema = Schema::new(false, columns);
+    let mut source = LazyFile::new(rt, alloc, file.as_str())?;
+    let mut out = StdoutSink::new(rt, alloc)?;
+    let ended = sum_lines(alloc, &schema, &mut source, &mut out);
+    // What was written goes out, whichever way it ended.
+    let _at_end = out.flush();
+    Ok(ended?)
+}
+
+/// Answers line by line. All answers are handed on before a read.
+fn sum_lines<S: Source, W: Sink>(
+    alloc: Global,
+    schema: &Schema,
+    source: &mut S,
+    out: &mut W,
+) -> Result<(), AllocError> {
+    let mut lines = Lines::new(alloc)?;
+    let mut sum = Scalar::Number(0);
+    let mut text = Vec::new(alloc);
+    for _ in 0..u64::MAX {
+        if !lines.is_ready() && out.flush().is_err() {
+            return Ok(());
+        }
+        let Ok(Line::Whole(line)) = lines.next(source) else {
+            return Ok(());
+        };
+        text.clear();
+        push_reply(alloc, schema, line, &mut sum, &mut text)?;
+        if write_all(out, text.as_slice()).is_err() {
+            return Ok(());
+        }
+    }
+    Ok(())
+}
+
+fn columns_of(alloc: Global, words: &[String]) -> Result<Vec<Column>, AllocError> {
+    let mut columns = Vec::new(alloc);
+    for (index, word) in words.iter().enumerate() {
+        let name = format!(in alloc; "{index}")?;
+        columns.push(Column {
+            name: Bytes::from_slice(alloc, name.as_bytes())?,
+            kind: kind_of(word.as_str()),
+        })?;
+    }
+    Ok(columns)
+}
+
+fn kind_of(word: &str) -> Kind {
+    match word {
+        "text" => Kind::Text,
+        "hundredths" => Kind::Fixed(2),
+        _ => Kind::Int,
+    }
+}
+
+/// Appends what is written for a line: the sum behind it, or why it is no item.
+fn push_reply(
+    alloc: Global,
+    schema: &Schema,
+    line: &[u8],
+    sum: &mut Scalar,
+    text: &mut Vec<u8>,
+) -> Result<(), AllocError> {
+    match read_item(alloc, schema, line) {
+        Ok(item) => {
+            *sum = sum_with(*sum, &item);
+            push_answer(Some(&Value::Scalar(*sum)), text)
+        }
+        Err(ItemStop::Skip(skip)) => push_skip(skip, text),
+        Err(ItemStop::Memory) => Err(AllocError),
+    }
+}
+
+/// The sum with the number in the last column, if one stands there.
+fn sum_with(sum: Scalar, item: &Item) -> Scalar {
+    match item.fields().last().and_then(|field| field.scalar()) {
+        Some(scalar) => sum + scalar,
+        None => sum,
+    }
+}

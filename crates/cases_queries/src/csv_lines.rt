@@ -1,0 +1,115 @@
+//! Lines read by `csv`'s reader and to items.
+
+use csv::{ByteRecord, Error, ReaderBuilder};
+use io_edge::{LazyFile, Line, Lines};
+use item_schema::{Column, Item, ItemStop, Kind, Schema, are_columns, read_item};
+use language_base::Bytes;
+use std::alloc::{AllocError, Global};
+use std::fmt::Write;
+use std::io;
+
+/// Longer fields are told by their lengths.
+const SHORT: usize = 60;
+
+/// The lines that are gone through, at the most.
+const LINES: u32 = 1_000;
+
+/// Tells the fields of each line by the one, and whether the other has them.
+pub(crate) fn read_lines(rt: HostRuntime, path: &str) -> io::Result<()> {
+    let alloc = rt.alloc();
+    let mut source = LazyFile::new(rt, alloc, path)?;
+    let mut lines = Lines::new(alloc)?;
+    for number in 1..LINES {
+        let Ok(Line::Whole(line)) = lines.next(&mut source) else {
+            return Ok(());
+        };
+        let Ok(row) = csv_row(alloc, line) else {
+            return println!(rt; "{number}: want of memory");
+        };
+        let text = told(alloc, &row, line)?;
+        println!(rt; "{number}: {text}")?;
+    }
+    Ok(())
+}
+
+/// The first row of the line by `csv`; where there is none, one without fields.
+fn csv_row(alloc: Global, line: &[u8]) -> Result<ByteRecord, Error> {
+    let mut reader = ReaderBuilder::new()
+        .has_headers(false)
+        .flexible(true)
+        .from_reader(alloc, line);
+    let mut row = ByteRecord::new(alloc);
+    reader.read_byte_record(&mut row)?;
+    Ok(row)
+}
+
+/// The fields of the row, and whether the line is read to an item with the same.
+fn told(alloc: Global, row: &ByteRecord, line: &[u8]) -> Result<String, AllocError> {
+    let mut text = String::new(alloc);
+    for index in 0..row.len() {
+        text.push_str("|")?;
+        push_field(&mut text, row.get(index).unwrap_or(&[]))?;
+    }
+    text.push_str("| ")?;
+    text.push_str(verdict(alloc, row, line)?)?;
+    Ok(text)
+}
+
+fn push_field(text: &mut String, field: &[u8]) -> Result<(), AllocError> {
+    if field.len() > SHORT {
+        return match write!(text, "{} bytes", field.len()) {
+            Ok(()) => Ok(()),
+            Err(_) => Err(AllocError),
+        };
+    }
+    for byte in field {
+        push_byte(text, *byte)?;
+    }
+    Ok(())
+}
+
+fn push_byte(text: &mut String, byte: u8) -> Result<(), AllocError> {
+    if (0x20..0x7F).contains(&byte) {
+        return text.push(char::from(byte));
+    }
+    match write!(text, "\\x{byte:02X}") {
+        Ok(()) => Ok(()),
+        Err(_) => Err(AllocError),
+    }
+}
+
+/// What comes of the line where it is to have the fields of the row, as texts.
+fn verdict(alloc: Global, row: &ByteRecord, line: &[u8]) -> Result<&'static str, AllocError> {
+    let columns = texts(alloc, row.len().max(1))?;
+    if !are_columns(&columns) {
+        return Ok("too many columns");
+    }
+    match read_item(alloc, &Schema::new(false, columns), line) {
+        Ok(item) if has_fields(&item, row) => Ok("same"),
+        Ok(_) => Ok("other fields"),
+        Err(ItemStop::Skip(_)) => Ok("skipped"),
+        Err(ItemStop::Memory) => Err(AllocError),
+    }
+}
+
+/// So many columns of texts, or as many as there are bytes to name them.
+fn texts(alloc: Global, count: usize) -> Result<Vec<Column>, AllocError> {
+    let mut columns = Vec::new(alloc);
+    for name in (0..=u8::MAX).take(count) {
+        let name = Bytes::from_slice(alloc, &[name])?;
+        columns.push(Column {
+            name,
+            kind: Kind::Text,
+        })?;
+    }
+    Ok(columns)
+}
+
+fn has_fields(item: &Item, row: &ByteRecord) -> bool {
+    item.fields().len() == row.len()
+        && item
+            .fields()
+            .iter()
+            .enumerate()
+            .all(|(index, field)| field.text() == row.get(index))
+}

@@ -1,0 +1,60 @@
+//! The automata of rates, which share the cells of one stream.
+ghost use Rattle.std.specs.Prelude.{◌≡◌, IfOk};
+
+use crate::scope::Scope;
+use crate::stop::Stop;
+use predicate_cells::{Cells, Preds};
+use rate_expr::{MAX_POSITIONS, Positions, Rate};
+use std::alloc::{AllocError, Global};
+use std::rc::Rc;
+use symbolic_nfa::Nfa;
+
+/// The cells of items under all tests of the lets.
+pub(crate) fn cells_of(alloc: Global, scope: &Scope) -> Result<Rc<Cells>, Stop> {
+    let mut tests = Preds::new(alloc);
+    for named in &scope.lets {
+        let rate = Box::new(alloc, named.query.rate(alloc)?)?;
+        add_tests(&rate, &mut tests)?;
+    }
+    if !tests.fit(&scope.schema) {
+        return Err(Stop::Test);
+    }
+    Ok(Rc::new(alloc, Cells::new(alloc, &scope.schema, &tests)?)?)
+}
+
+/// Adds the tests of the rate that are not there yet.
+fn add_tests(rate: &Rate, tests: &mut Preds) -> Result<(), AllocError> {
+    match rate {
+        Rate::Empty => Ok(()),
+        Rate::One(test) if tests.place_of(test).is_some() => Ok(()),
+        Rate::One(test) => tests.add(test),
+        Rate::Seq(first, second) | Rate::Alt(first, second) => {
+            add_tests(first, tests)?;
+            add_tests(second, tests)
+        }
+        Rate::Star(inner) => add_tests(inner, tests),
+    }
+}
+
+/// The rate of the query that is written so.
+pub(crate) fn rate_of(alloc: Global, scope: &Scope, text: &str) -> Result<Box<Rate>, Stop> {
+    let query = scope.query(alloc, text)?;
+    Ok(Box::new(alloc, query.rate(alloc)?)?)
+}
+
+pub(crate) fn positions_of(alloc: Global, rate: &Rate) -> Result<Positions, Stop> {
+    if rate.positions() > MAX_POSITIONS {
+        return Err(Stop::Size);
+    }
+    Ok(Positions::of(alloc, rate)?)
+}
+
+pub(crate) fn nfa_of(alloc: Global, cells: &Rc<Cells>, rate: &Rate) -> Result<Nfa, Stop>
+    ensures { IfOk result (λ nfa. nfa.cells ≡ cells.now.value) }
+{
+    let positions = positions_of(alloc, rate)?;
+    if !Nfa::can_read(&positions, cells.as_ref()) {
+        return Err(Stop::Test);
+    }
+    Ok(Nfa::new(alloc, positions, cells)?)
+}

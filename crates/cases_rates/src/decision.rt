@@ -1,0 +1,58 @@
+//! What is decided of rates.
+
+use crate::automata::nfa_of;
+use crate::stop::Stop;
+use ambiguity_check::{disjoint, one_factoring, one_split};
+use predicate_cells::Cells;
+use rate_equal::{all_but_empty, same};
+use rate_expr::Rate;
+use std::alloc::Global;
+use std::rc::Rc;
+
+#[derive(Clone, Copy)]
+pub(crate) enum Decision {
+    Disjoint,
+    OneSplit,
+    /// Of the first rate alone.
+    OneFactoring,
+    Same,
+    /// Of the first rate alone.
+    AllButEmpty,
+}
+
+impl Decision {
+    /// The decision on the rates.
+    pub(crate) fn on(
+        self,
+        alloc: Global,
+        cells: &Rc<Cells>,
+        first: &Rate,
+        second: &Rate,
+    ) -> Result<bool, Stop> {
+        let first = nfa_of(alloc, cells, first)?;
+        let second = nfa_of(alloc, cells, second)?;
+        match self {
+            Decision::Disjoint => Ok(disjoint(alloc, &first, &second)?),
+            Decision::OneSplit => Ok(one_split(alloc, &first, &second)?),
+            Decision::OneFactoring => Ok(one_factoring(alloc, &first)?),
+            Decision::Same => Ok(same(alloc, &first, &second)?),
+            Decision::AllButEmpty => Ok(all_but_empty(alloc, &first)?),
+        }
+    }
+
+    /// The same in a word.
+    pub(crate) fn told(
+        self,
+        alloc: Global,
+        cells: &Rc<Cells>,
+        first: &Rate,
+        second: &Rate,
+    ) -> Result<&'static str, Stop> {
+        match self.on(alloc, cells, first, second) {
+            Ok(true) => Ok("yes"),
+            Ok(false) => Ok("no"),
+            Err(Stop::Reach) => Ok("too many states"),
+            Err(stop) => Err(stop),
+        }
+    }
+}

@@ -1,0 +1,80 @@
+//! The nodes that no shorter walk of a graph leads to, behind each number of items.
+
+use crate::automata::nfa_of;
+use crate::stop::Stop;
+use ambiguity_check::{Graph, Marks, Pairs, Phase, Search, Splits};
+use predicate_cells::Cells;
+use rate_expr::masks::has;
+use rate_expr::{MAX_POSITIONS, Rate};
+use std::alloc::{AllocError, Global};
+use std::rc::Rc;
+
+/// The phases, with their letters.
+const PHASES: [(Phase, char); 3] = [
+    (Phase::Together, 't'),
+    (Phase::Parted, 'p'),
+    (Phase::Rejoined, 'r'),
+];
+
+/// No walk to a node is longer without being at some node twice.
+const NODES: u32 = 3 * MAX_POSITIONS * MAX_POSITIONS;
+
+/// The levels of the search for a word of both rates.
+pub(crate) fn levels_of_pairs(
+    alloc: Global,
+    cells: &Rc<Cells>,
+    first: &Rate,
+    second: &Rate,
+) -> Result<String, Stop> {
+    let first = nfa_of(alloc, cells, first)?;
+    let second = nfa_of(alloc, cells, second)?;
+    Ok(levels(alloc, &Pairs::new(alloc, &first, &second)?)?)
+}
+
+/// The levels of the search for a word with two splits.
+pub(crate) fn levels_of_splits(
+    alloc: Global,
+    cells: &Rc<Cells>,
+    first: &Rate,
+    second: &Rate,
+) -> Result<String, Stop> {
+    let first = nfa_of(alloc, cells, first)?;
+    let second = nfa_of(alloc, cells, second)?;
+    Ok(levels(alloc, &Splits::new(alloc, &first, &second)?)?)
+}
+
+fn levels<G: Graph>(alloc: Global, graph: &G) -> Result<String, AllocError> {
+    let mut search = Search::begin(alloc, graph)?;
+    let mut told = String::new(alloc);
+    for level in 1..=NODES {
+        if search.is_over() {
+            return Ok(told);
+        }
+        if level > 1 {
+            told.push_str(" /")?;
+        }
+        push_nodes(&mut told, search.latest())?;
+        search.advance(graph);
+    }
+    Ok(told)
+}
+
+fn push_nodes(told: &mut String, nodes: &Marks) -> Result<(), AllocError> {
+    for (phase, letter) in PHASES {
+        for left in 0..MAX_POSITIONS {
+            push_row(told, letter, left, nodes.row(phase, left))?;
+        }
+    }
+    Ok(())
+}
+
+/// Appends the nodes of one place on the left.
+fn push_row(told: &mut String, letter: char, left: u32, rights: u128) -> Result<(), AllocError> {
+    for right in 0..MAX_POSITIONS {
+        if has(rights, right) {
+            let space = if told.is_empty() { "" } else { " " };
+            write!(told, "{space}{letter}{left}-{right}")?;
+        }
+    }
+    Ok(())
+}

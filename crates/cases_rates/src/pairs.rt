@@ -1,0 +1,53 @@
+//! What is found of each two rates of a table.
+
+use crate::automata::{cells_of, rate_of};
+use crate::decision::Decision;
+use crate::stop::Stop;
+use crate::table::table_of;
+use predicate_cells::Cells;
+use rate_expr::Rate;
+use std::alloc::Global;
+use std::rc::Rc;
+
+/// Of each rate whether words factor in one way, and a letter for it and each rate of the table.
+pub(crate) fn report(alloc: Global, table: &str) -> Result<String, Stop> {
+    let table = table_of(alloc, table)?;
+    let cells = cells_of(alloc, &table.scope)?;
+    let mut rates = Vec::new(alloc);
+    for line in &table.cases {
+        rates.push(rate_of(alloc, &table.scope, line)?)?;
+    }
+    let mut text = String::new(alloc);
+    for (line, rate) in table.cases.iter().zip(&rates) {
+        add_rate(&mut text, alloc, &cells, rate, &rates)?;
+        writeln!(text, " {line}")?;
+    }
+    Ok(text)
+}
+
+fn add_rate(
+    text: &mut String,
+    alloc: Global,
+    cells: &Rc<Cells>,
+    first: &Rate,
+    rates: &[Box<Rate>],
+) -> Result<(), Stop> {
+    let factors = Decision::OneFactoring.told(alloc, cells, first, first)?;
+    write!(text, "{factors:<3} ")?;
+    for second in rates {
+        text.push(letter(alloc, cells, first, second)?)?;
+    }
+    Ok(())
+}
+
+/// Whether they are disjoint, their words split in one way, both, or neither.
+fn letter(alloc: Global, cells: &Rc<Cells>, first: &Rate, second: &Rate) -> Result<char, Stop> {
+    let disjoint = Decision::Disjoint.on(alloc, cells, first, second)?;
+    let one_split = Decision::OneSplit.on(alloc, cells, first, second)?;
+    Ok(match (disjoint, one_split) {
+        (true, true) => 'b',
+        (true, false) => 'd',
+        (false, true) => 's',
+        (false, false) => '-',
+    })
+}

@@ -1,0 +1,82 @@
+//! The cells of a stream under the predicates of a query.
+ghost use Rattle.std.specs.Prelude.{◌≡◌, [], ◌∷◌, ◌++◌, false, true, Err, IfOk, OnOk};
+ghost use Rattle.predicate_cells.specs.Cells.{AllFit};
+ghost use Rattle.predicate_cells.specs.Plain as predicate;
+ghost use Rattle.predicate_cells.specs.declared.stop.CellStop.TheVariants.{TooMany};
+ghost use Rattle.query_model.specs.Few.{has_few_cells};
+ghost use Rattle.query_model.specs.Members.{HaveSameMembers};
+ghost use Rattle.query_model.specs.Queries.{plain_of};
+ghost use Rattle.query_model.specs.Sizes.{predicates_of};
+ghost use Rattle.rate_expr.specs.Plain as rates;
+ghost use Rattle.rate_expr.specs.Rates.{preds_of};
+
+use crate::{Query, Shape};
+use item_schema::Schema;
+use predicate_cells::{CellStop, Cells, Pred, Preds};
+use rate_expr::Rate;
+use std::alloc::{AllocError, Global};
+
+/// The cells of the schema's items under the predicates of the query, each of them once.
+pub fn cells_of(alloc: Global, schema: &Schema, query: &Query) -> Result<Cells, CellStop>
+    requires { AllFit schema.now.columns (predicates_of (plain_of query.now.shape)) }
+    ensures layout { IfOk result (λ cells. cells.layout ≡ schema.now) }
+    ensures members { IfOk result (λ cells.
+        HaveSameMembers cells.preds (predicates_of (plain_of query.now.shape))) }
+    ensures few { OnOk result
+        (has_few_cells schema.now.columns (plain_of query.now.shape) ≡ true) }
+    ensures too_many { result ≡ Err TooMany
+        → has_few_cells schema.now.columns (plain_of query.now.shape) ≡ false }
+{
+    let mut preds = Preds::new(alloc);
+    add_those_of(query, &mut preds)?;
+    Cells::new(alloc, schema, &preds)
+}
+
+fn add_those_of(query: &Query, preds: &mut Preds) -> Result<(), AllocError>
+    ensures { OnOk result (HaveSameMembers preds.new
+        (preds.old ++ predicates_of (plain_of query.now.shape))) }
+{
+    match &query.shape {
+        Shape::Atom(pred, _) => add_once(pred, preds),
+        Shape::Eps(_) => Ok(()),
+        Shape::Or(first, second)
+        | Shape::Split(first, second, _)
+        | Shape::Combine(first, second, _) => {
+            add_those_of(first, preds)?;
+            add_those_of(second, preds)
+        }
+        Shape::Iter(inner, ..) | Shape::Apply(inner, _) | Shape::Compose(inner, _) => {
+            add_those_of(inner, preds)
+        }
+        Shape::Collect(_, sync, rate, inner) => {
+            add_once(sync, preds)?;
+            add_those_in(rate, preds)?;
+            add_those_of(inner, preds)
+        }
+    }
+}
+
+fn add_those_in(rate: &Rate, preds: &mut Preds) -> Result<(), AllocError>
+    ensures { OnOk result (HaveSameMembers preds.new
+        (preds.old ++ preds_of (rates.plain_of rate.now))) }
+{
+    match rate {
+        Rate::Empty => Ok(()),
+        Rate::One(pred) => add_once(pred, preds),
+        Rate::Seq(first, second) | Rate::Alt(first, second) => {
+            add_those_in(first, preds)?;
+            add_those_in(second, preds)
+        }
+        Rate::Star(inner) => add_those_in(inner, preds),
+    }
+}
+
+fn add_once(pred: &Pred, preds: &mut Preds) -> Result<(), AllocError>
+    ensures { OnOk result (HaveSameMembers preds.new
+        (preds.old ++ predicate.plain_of pred.now ∷ [])) }
+{
+    match preds.place_of(pred) {
+        Some(_) => Ok(()),
+        None => preds.add(pred),
+    }
+}

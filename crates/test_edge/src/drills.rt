@@ -1,0 +1,79 @@
+// What no clause says: that lines are made at all, and what they are, written out. The first two
+// draws of the seed 0 are 335903614 and 436792849.
+ghost use Rattle.std.specs.Prelude.{◌≡◌, IfOk};
+
+use crate::assertions::same;
+use item_drill::{Drill, drilled_bytes_have_lines, drilled_lines_have_items};
+use item_schema::{Column, Kind, Schema, read_item};
+use language_base::Bytes;
+use std::alloc::{AllocError, Global};
+use std::test::Fail;
+use value_ops::Field;
+
+fn column(alloc: Global, name: &[u8], kind: Kind) -> Result<Column, AllocError>
+    ensures { IfOk result (λ column. column ≡ record { name = name.now; kind = kind }) }
+{
+    let name = Bytes::from_slice(alloc, name)?;
+    Ok(Column { name, kind })
+}
+
+#[test]
+fn lines_have_a_field_for_each_column(rt: HostRuntime) -> Result<(), Fail> {
+    let columns = vec![in rt.alloc(); column(rt.alloc(), b"a", Kind::Int)?]?;
+    let schema = Schema::new(false, columns);
+    let mut drill = Drill::new(&schema, 0);
+    same(&rt, drill.header(rt.alloc())?.as_slice(), b"".as_slice());
+    same(&rt, drill.line(rt.alloc())?.as_slice(), b"747\n".as_slice());
+    same(
+        &rt,
+        drill.line(rt.alloc())?.as_slice(),
+        b"-438\n".as_slice(),
+    );
+    drilled_lines_have_items();
+    drilled_bytes_have_lines();
+    Ok(())
+}
+
+#[test]
+fn a_header_has_the_names(rt: HostRuntime) -> Result<(), Fail> {
+    let mut columns = Vec::new(rt.alloc());
+    columns.push(column(rt.alloc(), b"gauge", Kind::Text)?)?;
+    columns.push(column(rt.alloc(), b"rain", Kind::Fixed(2))?)?;
+    let schema = Schema::new(true, columns);
+    let mut drill = Drill::new(&schema, 0);
+    same(
+        &rt,
+        drill.header(rt.alloc())?.as_slice(),
+        b"gauge,rain\n".as_slice(),
+    );
+    // 335903614 is 6 above a multiple of 8.
+    let line = drill.line(rt.alloc())?;
+    assert!(rt; line.as_slice() == b"k6,-4.38\n".as_slice());
+    let text = &line.as_slice()[..line.as_slice().len() - 1];
+    let item = read_item(rt.alloc(), &schema, text).ok();
+    assert!(rt;
+        item.is_some_and(|item| matches!(item.fields(), [Field::Text(_), Field::Int(-438)]))
+    );
+    Ok(())
+}
+
+// Whose first draw is so many above a multiple of 2001, and their number 1000 below that.
+#[test]
+fn numbers_with_a_point_have_all_places(rt: HostRuntime) -> Result<(), Fail> {
+    for (places, seed, wanted) in [
+        (1, 11_066_951_453_180_645_397, "-100.0\n"),
+        (2, 2_361_664_772_733_358_101, "-0.01\n"),
+        (2, 6_009_062_210_084_753_429, "0.00\n"),
+        (3, 5_799_305_323_132_178_453, "0.005\n"),
+        (3, 951_172_966_988_861_461, "1.000\n"),
+        (9, 13_315_719_062_904_590_357, "-0.000000438\n"),
+    ] {
+        assert!(rt; places >= 1 && places <= 9);
+        let columns = vec![in rt.alloc(); column(rt.alloc(), b"a", Kind::Fixed(places))?]?;
+        let schema = Schema::new(false, columns);
+        let mut drill = Drill::new(&schema, seed);
+        let line = drill.line(rt.alloc())?;
+        same(&rt, line.as_slice(), wanted.as_bytes());
+    }
+    Ok(())
+}

@@ -1,0 +1,140 @@
+// What no clause says: that lines come at all, and when a read comes for them.
+use crate::assertions::{same, same_at};
+use crate::resumed_source::ResumedSource;
+use io_edge::{Line, LineStop, Lines, MemorySource, Source};
+use std::alloc::{AllocError, Global};
+use std::test::Fail;
+
+/// What the calls answer until the end or the limit, with a `|` behind each line.
+fn answers<S: Source>(
+    alloc: Global,
+    lines: &mut Lines,
+    source: &mut S,
+) -> Result<Vec<u8>, AllocError> {
+    let mut text = Vec::new(alloc);
+    for _ in 0..10 {
+        match lines.next(source) {
+            Ok(Line::Whole(line)) => text.extend_from_slice(line)?,
+            Ok(Line::Long) => text.extend_from_slice(b"long")?,
+            Ok(Line::End) => return Ok(text),
+            Err(LineStop::Failed) => text.extend_from_slice(b"failed")?,
+            Err(LineStop::Limit) => {
+                text.extend_from_slice(b"limit")?;
+                return Ok(text);
+            }
+        }
+        text.push(b'|')?;
+    }
+    Ok(text)
+}
+
+/// The same of these bytes from their front.
+fn answers_of(
+    alloc: Global,
+    bytes: &[u8],
+    cuts: &[usize],
+    fail_at: &[u64],
+) -> Result<Vec<u8>, AllocError> {
+    let mut source = MemorySource::new(alloc, bytes, cuts, fail_at)?;
+    answers(alloc, &mut Lines::new(alloc)?, &mut source)
+}
+
+#[test]
+fn lines_are_the_same_in_every_cut(rt: HostRuntime) -> Result<(), Fail> {
+    let table: [(&[u8], &[u8]); 9] = [
+        (b"5\n7\n-2\n", b"5|7|-2|"),
+        (b"", b""),
+        (b"\n\na", b"||a|"),
+        (b"a\r\nb\r", b"a|b\r|"),
+        (b"\r\n\r", b"|\r|"),
+        (b"\r\r\r", b"\r\r\r|"),
+        (b"\r\r\n", b"\r|"),
+        (b"a\rb\n", b"a\rb|"),
+        (b"1\n2", b"1|2|"),
+    ];
+    for (bytes, want) in table {
+        for cut in 1..9 {
+            let got = answers_of(rt.alloc(), bytes, &[cut; 9], &[])?;
+            same_at(&rt, cut, got.as_slice(), want);
+        }
+    }
+    Ok(())
+}
+
+// A read that fails shows when it came. No clause says that a call reads no more than it needs.
+#[test]
+fn a_read_comes_only_for_a_line_and_a_failed_one_loses_no_byte(
+    rt: HostRuntime,
+) -> Result<(), Fail> {
+    let table: [(usize, u64, &[u8]); 6] = [
+        (1, 1, b"failed|ab|cd|"),
+        (1, 2, b"failed|ab|cd|"),
+        (1, 4, b"ab|failed|cd|"),
+        (1, 5, b"ab|failed|cd|"),
+        (2, 3, b"ab|failed|cd|"),
+        (5, 2, b"ab|failed|cd|"),
+    ];
+    for (cut, fail_at, want) in table {
+        let got = answers_of(rt.alloc(), b"ab\ncd", &[cut; 9], &[fail_at])?;
+        same_at(&rt, (cut, fail_at), got.as_slice(), want);
+    }
+    Ok(())
+}
+
+// A line has at most 65,536 bytes before its LF, and a CR there is one of them.
+#[test]
+fn a_line_is_long_from_65_537_bytes(rt: HostRuntime) -> Result<(), Fail> {
+    let table: [(usize, &[u8], Option<usize>); 10] = [
+        (65_535, b"\n", Some(65_535)),
+        (65_536, b"\n", Some(65_536)),
+        (65_537, b"\n", None),
+        (65_535, b"\r\n", Some(65_535)),
+        (65_536, b"\r\n", None),
+        (65_537, b"\r\n", None),
+        (65_536, b"", Some(65_536)),
+        (65_537, b"", None),
+        (65_535, b"\r", Some(65_536)),
+        (65_536, b"\r", None),
+    ];
+    for (count, end, shown) in table {
+        let mut bytes = vec![in rt.alloc(); b'x'; count]?;
+        bytes.extend_from_slice(end)?;
+        let got = answers_of(rt.alloc(), &bytes, &[], &[])?;
+        let want = shown.unwrap_or(b"long".len()).saturating_add(1);
+        same_at(&rt, count, got.len(), want);
+    }
+    Ok(())
+}
+
+#[test]
+fn the_first_end_is_the_end(rt: HostRuntime) -> Result<(), Fail> {
+    let mut source = ResumedSource::new(rt.alloc(), b"ab\ncd", b"ef\n")?;
+    let mut lines = Lines::new(rt.alloc())?;
+    for want in [b"ab|cd|".as_slice(), b""] {
+        let got = answers(rt.alloc(), &mut lines, &mut source)?;
+        same(&rt, got.as_slice(), want);
+        same(&rt, source.ends, 1);
+    }
+    Ok(())
+}
+
+// At the start, behind a line that was cut off, and behind the last one.
+#[test]
+fn a_call_reads_where_no_answer_is_ready(rt: HostRuntime) -> Result<(), Fail> {
+    let table: [(&[u8], usize, &[bool]); 5] = [
+        (b"a\nb\n", 1, &[false, false, false]),
+        (b"a\nb\n", 2, &[false, false, false]),
+        (b"a\nb\nc", 3, &[false, false, false]),
+        (b"a\nb\n", 9, &[false, true, false]),
+        (b"a\nb", 9, &[false, false, true]),
+    ];
+    for (bytes, cut, wanted) in table {
+        let mut source = MemorySource::new(rt.alloc(), bytes, &[cut; 9], &[])?;
+        let mut lines = Lines::new(rt.alloc())?;
+        for want in wanted {
+            same_at(&rt, (bytes, cut), lines.is_ready(), *want);
+            let _line = lines.next(&mut source);
+        }
+    }
+    Ok(())
+}

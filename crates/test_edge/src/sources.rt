@@ -1,0 +1,51 @@
+// What sources in memory give at each read.
+use crate::assertions::{same, same_at};
+use io_edge::{Failed, MemorySource, Source, SteadySource};
+use std::test::Fail;
+
+#[test]
+fn reads_are_cut_and_fail_by_their_numbers(rt: HostRuntime) -> Result<(), Fail> {
+    let cases: [(&[usize], &[u64], [Result<usize, Failed>; 4]); 5] = [
+        (&[], &[], [Ok(4), Ok(3), Ok(0), Ok(0)]),
+        (&[3, 0], &[], [Ok(3), Ok(1), Ok(3), Ok(0)]),
+        (&[9, 2], &[], [Ok(4), Ok(2), Ok(1), Ok(0)]),
+        (&[1, 2, 3], &[2], [Ok(1), Err(Failed), Ok(3), Ok(3)]),
+        (&[], &[1, 4], [Err(Failed), Ok(4), Ok(3), Err(Failed)]),
+    ];
+    for (cuts, fail_at, wanted) in cases {
+        let mut source = MemorySource::new(rt.alloc(), b"1\n23\n45", cuts, fail_at)?;
+        for want in wanted {
+            same(&rt, source.read(&mut []), Ok(0));
+            same_at(&rt, (cuts, fail_at), source.read(&mut [0; 4]), want);
+        }
+    }
+    Ok(())
+}
+
+#[test]
+fn the_bytes_come_in_order_and_then_the_end(rt: HostRuntime) -> Result<(), Fail> {
+    let mut source = MemorySource::new(rt.alloc(), b"abcde", &[3], &[2])?;
+    let mut buf = [0; 4];
+    for (want, filled) in [
+        (Ok(3), b"abc\0"),
+        (Err(Failed), b"abc\0"),
+        (Ok(2), b"dec\0"),
+        (Ok(0), b"dec\0"),
+    ] {
+        same(&rt, source.read(&mut buf), want);
+        same(&rt, buf.as_slice(), filled.as_slice());
+    }
+    Ok(())
+}
+
+#[test]
+fn steady_reads_fill_their_room_until_the_end(rt: HostRuntime) -> Result<(), Fail> {
+    let mut source = SteadySource::new(rt.alloc(), b"12345")?;
+    let mut buf = [0; 3];
+    for (want, filled) in [(3, b"123"), (2, b"453"), (0, b"453"), (0, b"453")] {
+        same(&rt, source.read(&mut []), Ok(0));
+        same(&rt, source.read(&mut buf), Ok(want));
+        same(&rt, buf.as_slice(), filled.as_slice());
+    }
+    Ok(())
+}

@@ -1,0 +1,69 @@
+-- The query of the test on a collect keeps the rules.
+use Rattle.std.proofs.Common.{◌≡◌, List, [], ◌∷◌, arith, refl, rules, subst, sym}
+use Rattle.std.specs.Prelude.{IsTrue, codes, pos}
+use Rattle.std.specs.List.{list_all}
+use Rattle.value_ops.specs.declared.expr.Var.TheVariants as var
+use Rattle.value_ops.specs.declared.field.Field.{Field}
+use Rattle.value_ops.specs.declared.field.Field.TheVariants as field
+use Rattle.value_ops.specs.Expressions.{read}
+use Rattle.value_ops.specs.Texts.{IsText}
+use Rattle.item_schema.specs.declared.column.Column.{Column}
+use Rattle.item_schema.specs.declared.column.Kind.TheVariants as kind
+use Rattle.item_schema.specs.Layout.{is_read}
+use Rattle.predicate_cells.specs.Predicates.{Predicate, any, eq_text}
+use Rattle.rate_expr.specs.Rates.{one, sequence, star}
+use Rattle.query_model.specs.Checked.{IsChecked, OnStream}
+use Rattle.query_model.specs.Queries.{Qre, collect, plain_of}
+use Rattle.query_model.specs.Rules.{CanBeMet, IsClear, free}
+use Rattle.query_model.specs.Sizes.{IsSmall}
+use Rattle.test_engines.proofs.TestedFolds.{one_factoring, total, zero_fits}
+
+abbrev pub keyed : List Column
+keyed = record { name = codes "k"; kind = kind.Text } ∷ record { name = codes "a"; kind = kind.Int } ∷ []
+
+abbrev tick : Predicate
+tick = eq_text 0 (codes "tick")
+
+abbrev pub by_key : Qre
+by_key = collect 0 tick (sequence (star (one any)) (one tick)) (total (read (var.Field 1)))
+
+text : IsText (codes "tick")
+text = search rules
+
+abbrev ticks : List Field
+ticks = field.Text (codes "tick") ∷ field.Int (pos 0) ∷ []
+
+met : CanBeMet keyed any
+met = record { fit = refl; item = ticks; is_item = (text, (zero_fits, tt)); meets = refl }
+
+met_by_tick : CanBeMet keyed tick
+met_by_tick = record { fit = refl; item = ticks; is_item = (text, (zero_fits, tt)); meets = refl }
+
+clear : IsClear free keyed by_key
+clear = (
+  ((met, refl), zero_fits, (refl, refl), one_factoring keyed),
+  refl,
+  tt,
+  refl,
+  refl,
+  (met, (met_by_tick, tt)),
+)
+
+small : IsSmall keyed by_key
+small = record {
+  nodes = omega arith;
+  positions = (tt, omega arith);
+  slots = omega arith;
+  cells = omega arith;
+  derived = tt;
+}
+
+pub by_key_checked : (on : OnStream) → on.layout.columns ≡ keyed → plain_of on.main.shape ≡ by_key → IsChecked on
+by_key_checked on columns query = record {
+  read = subst (λ (cs : List Column). IsTrue (list_all (λ (c : Column). is_read c.kind) cs)) (sym columns)
+      (search rules);
+  clear = subst (λ (cs : List Column). IsClear free cs (plain_of on.main.shape)) (sym columns)
+      (subst (IsClear free keyed) (sym query) clear);
+  small = subst (λ (cs : List Column). IsSmall cs (plain_of on.main.shape)) (sym columns)
+      (subst (IsSmall keyed) (sym query) small);
+}

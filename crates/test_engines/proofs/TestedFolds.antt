@@ -1,0 +1,72 @@
+-- The query of the test on two iterations keeps the rules.
+use Rattle.std.proofs.Common.{◌≡◌, ◌∙◌, List, [], ◌∷◌, ◌++◌, ap, arith, refl, rules, sym, subst}
+use Rattle.std.specs.Prelude.{pos, FitsSigned}
+use Rattle.std.specs.Int.{w64}
+use Rattle.std.specs.List.{AllByRecursion}
+use Rattle.language_base.specs.declared.binary.BinaryOp.TheVariants as op
+use Rattle.value_ops.specs.declared.expr.Var.TheVariants as var
+use Rattle.value_ops.specs.declared.field.Field.{Field}
+use Rattle.value_ops.specs.Expressions.{binary, literal, read, Expression}
+use Rattle.item_schema.specs.declared.column.Column.{Column}
+use Rattle.predicate_cells.specs.Predicates.{any}
+use Rattle.rate_expr.specs.Language.{In}
+use Rattle.rate_expr.specs.Rates.{one}
+use Rattle.rate_expr.specs.Readings.{HasOneFactoring}
+use Rattle.rate_expr.specs.Words.{Word, join}
+use Rattle.query_model.specs.Checked.{IsChecked, OnStream}
+use Rattle.query_model.specs.Queries.{Qre, atom, combine, iter, plain_of}
+use Rattle.query_model.specs.Rules.{IsClear, Standing, free}
+use Rattle.query_model.specs.Sizes.{IsSmall}
+use Rattle.test_engines.proofs.Tested.{checked_as, met, numbers}
+
+abbrev pub total : Expression → Qre
+total value = iter (atom any value) (pos 0) (binary op.Add (read var.Left) (read var.Right))
+
+abbrev pub excess : Qre
+excess = combine (total (read (var.Field 0))) (total (literal (pos 1)))
+    (binary op.Sub (read var.Left) (read var.Right))
+
+pub zero_fits : FitsSigned w64 (pos 0)
+zero_fits = search rules
+
+one_fits : FitsSigned w64 (pos 1)
+one_fits = search rules
+
+-- each piece is one item
+same_pieces : (us vs : List Word) → AllByRecursion (In (one any)) us → AllByRecursion (In (one any)) vs
+    → join us ≡ join vs → us ≡ vs
+same_pieces [] [] all others same = refl
+same_pieces [] (v ∷ vs) all ((y, is, meets), others) same =
+    let wrong : ◌≡◌ {A = Word} [] (y ∷ join vs) = same ∙ ap (λ (w : Word). w ++ join vs) is in cc
+same_pieces (u ∷ us) [] ((x, is, meets), all) others same =
+    let wrong : ◌≡◌ {A = Word} (x ∷ join us) [] = sym (ap (λ (w : Word). w ++ join us) is) ∙ same in cc
+same_pieces (u ∷ us) (v ∷ vs) ((x, is, meets), all) ((y, is', meets'), others) same =
+    let both : x ∷ join us ≡ y ∷ join vs =
+    sym (ap (λ (w : Word). w ++ join us) is) ∙ same ∙ ap (λ (w : Word). w ++ join vs) is' in
+    let heads : x ≡ y = cc in
+    let tails : join us ≡ join vs = cc in
+    let firsts : u ≡ v = is ∙ ap (λ (item : List Field). item ∷ []) heads ∙ sym is' in
+    ap (λ (w : Word). w ∷ us) firsts ∙ ap (λ (ws : List Word). v ∷ ws) (same_pieces us vs all others tails)
+
+pub one_factoring : (columns : List Column) → HasOneFactoring columns (one any)
+one_factoring columns us vs is all others same = same_pieces us vs all others same
+
+clear : (standing : Standing) → IsClear standing numbers excess
+clear standing = (
+  ((met, refl), zero_fits, (refl, refl), one_factoring numbers),
+  ((met, one_fits), zero_fits, (refl, refl), one_factoring numbers),
+  (refl, refl),
+  λ word is. (λ there. there, λ there. there),
+)
+
+small : IsSmall numbers excess
+small = record {
+  nodes = omega arith;
+  positions = (tt, tt);
+  slots = omega arith;
+  cells = omega arith;
+  derived = (tt, tt);
+}
+
+pub excess_checked : (on : OnStream) → on.layout.columns ≡ numbers → plain_of on.main.shape ≡ excess → IsChecked on
+excess_checked on columns query = checked_as excess (clear free) small on columns query

@@ -1,0 +1,31 @@
+use Rattle.std.proofs.Common.{rules, arith, ◌≡◌, ◌∙◌, [], refl, sym, subst}
+use Rattle.std.specs.Prelude.{pos, FitsSigned}
+use Rattle.std.specs.Int.{w64}
+use Rattle.value_ops.specs.Expressions.{binary, read}
+use Rattle.value_ops.specs.declared.expr.Var.TheVariants as var
+use Rattle.language_base.specs.declared.binary.BinaryOp.TheVariants as op
+use Rattle.query_model.specs.Queries.{Qre, eps, plain_of, split}
+use Rattle.query_model.specs.Rules.{bound}
+use Rattle.slow_eval.specs.Answers.{CanBeRead}
+use Rattle.test_engines.proofs.slow.a_split_of_the_empty_word_has_both_values.Goals as goal
+
+three : FitsSigned w64 (pos 3)
+three = search rules
+
+four : FitsSigned w64 (pos 4)
+four = search rules
+
+can : CanBeRead (split (eps (pos 3)) (eps (pos 4)) (binary op.Sub (read var.Left) (read var.Right))) []
+can = record {
+  standing = bound;
+  columns = [];
+  clear = (three, four, (refl, refl), λ u v u' v' is a b a' b' same. a ∙ sym a');
+  is_word = tt;
+  positions = (tt, tt, omega arith);
+}
+
+pub answers_on_fronts-requires : goal.answers_on_fronts-requires
+answers_on_fronts-requires g c = subst (λ query. CanBeRead query []) (sym c.in_ok-query.ensures) can
+
+pub answer_on-requires : goal.answer_on-requires
+answer_on-requires g c = subst (λ query. CanBeRead query []) (sym c.in_ok-query.ensures) can

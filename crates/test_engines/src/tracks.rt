@@ -1,0 +1,206 @@
+// The starts after each call. Words of the rate have two items, of which the first is 1 and the
+// second 2: positions 0 and 1.
+use crate::assertions::same;
+use item_schema::{Column, Item, Kind, Schema};
+use map_collect::{Keys, Tracks};
+use predicate_cells::{CellStop, Cells, Pred, Preds};
+use rate_expr::{MAX_POSITIONS, Positions, Rate};
+use std::alloc::{AllocError, Global};
+use std::process::Abort;
+use std::rc::Rc;
+use std::test::Fail;
+use symbolic_nfa::{Nfa, State};
+use value_ops::{Bytes, Field};
+
+const BEHIND_ONE: State = State::At(0b_01);
+
+const BEHIND_BOTH: State = State::At(0b_10);
+
+const NOWHERE: State = State::At(0);
+
+// A stream of items of one number.
+fn numbers(alloc: Global) -> Result<Schema, AllocError> {
+    let name = Bytes::from_slice(alloc, b"a")?;
+    let kind = Kind::Int;
+    let mut columns = Vec::new(alloc);
+    columns.push(Column { name, kind })?;
+    Ok(Schema::new(false, columns))
+}
+
+fn shared(alloc: Global, cells: Cells) -> Result<Rc<Cells>, AllocError> {
+    Ok(Rc::new(alloc, cells)?)
+}
+
+// The cells by which 1 and 2 are told from all other numbers.
+fn cells(rt: &impl Abort, alloc: Global) -> Result<Rc<Cells>, CellStop> {
+    let schema = numbers(alloc)?;
+    let mut preds = Preds::new(alloc);
+    preds.add(&Pred::Eq(0, 1))?;
+    preds.add(&Pred::Eq(0, 2))?;
+    assert!(rt; preds.fit(&schema));
+    Ok(shared(alloc, Cells::new(alloc, &schema, &preds)?)?)
+}
+
+fn positions(rt: &impl Abort, alloc: Global) -> Result<Positions, AllocError> {
+    let first = Box::new(alloc, Rate::One(Pred::Eq(0, 1)))?;
+    let second = Box::new(alloc, Rate::One(Pred::Eq(0, 2)))?;
+    let rate = Rate::Seq(first, second);
+    assert!(rt; rate.positions() <= MAX_POSITIONS);
+    Positions::of(alloc, &rate)
+}
+
+fn nfa(rt: &impl Abort, alloc: Global) -> Result<Nfa, CellStop> {
+    let cells = cells(rt, alloc)?;
+    let positions = positions(rt, alloc)?;
+    assert!(rt; Nfa::can_read(&positions, cells.as_ref()));
+    Ok(Nfa::new(alloc, positions, &cells)?)
+}
+
+// Puts a start that is not there, whose default follower is the start.
+fn put(
+    alloc: Global,
+    tracks: &mut Tracks<u64>,
+    start: u64,
+    state: State,
+) -> Result<(), AllocError> {
+    if tracks.place(start).is_none() && tracks.nfa().has_state(state) {
+        tracks.put(start, state, Keys::new(alloc, start))?;
+    }
+    Ok(())
+}
+
+fn none(rt: &impl Abort, alloc: Global) -> Result<Box<Tracks<u64>>, Fail> {
+    let tracks = Tracks::new(alloc, nfa(rt, alloc)?);
+    Ok(Box::new(alloc, tracks)?)
+}
+
+// The starts 30, 20, 10 and 40, whose words are 1, 1 and 2, the empty one and 2.
+fn four(rt: &impl Abort, alloc: Global) -> Result<Box<Tracks<u64>>, Fail> {
+    let mut tracks = none(rt, alloc)?;
+    put(alloc, &mut tracks, 30, BEHIND_ONE)?;
+    put(alloc, &mut tracks, 20, BEHIND_BOTH)?;
+    put(alloc, &mut tracks, 10, State::Initial)?;
+    put(alloc, &mut tracks, 40, NOWHERE)?;
+    put(alloc, &mut tracks, 10, NOWHERE)?;
+    Ok(tracks)
+}
+
+// Goes on with an item of the number.
+fn advance(alloc: Global, tracks: &mut Tracks<u64>, number: i64) -> Result<(), AllocError> {
+    let mut fields = Vec::new(alloc);
+    fields.push(Field::Int(number))?;
+    let item = Item::from_fields(fields);
+    if tracks.cells().schema().has_item(&item) {
+        tracks.advance(&item);
+    }
+    Ok(())
+}
+
+fn starts(alloc: Global, tracks: &Tracks<u64>) -> Result<Vec<u64>, AllocError> {
+    let mut all = Vec::new(alloc);
+    for i in 0..tracks.len() {
+        all.push(tracks.start(i))?;
+    }
+    Ok(all)
+}
+
+fn states(alloc: Global, tracks: &Tracks<u64>) -> Result<Vec<State>, AllocError> {
+    let mut all = Vec::new(alloc);
+    for i in 0..tracks.len() {
+        all.push(tracks.state(i))?;
+    }
+    Ok(all)
+}
+
+#[test]
+fn there_are_no_starts_at_first(rt: HostRuntime) -> Result<(), Fail> {
+    let tracks = none(&rt, rt.alloc())?;
+    same(&rt, (tracks.len(), tracks.nfa().count()), (0, 2));
+    assert!(rt; tracks.accepted().is_none());
+    assert!(rt; tracks.place(0).is_none() && !tracks.is_live(0));
+    Ok(())
+}
+
+#[test]
+fn starts_stand_in_the_order_in_which_they_were_put(rt: HostRuntime) -> Result<(), Fail> {
+    let tracks = four(&rt, rt.alloc())?;
+    let starts = starts(rt.alloc(), &tracks)?;
+    same(&rt, starts.as_slice(), [30, 20, 10, 40].as_slice());
+    same(&rt, (tracks.place(10), tracks.place(50)), (Some(2), None));
+    assert!(rt; tracks.len() == 4 && *tracks.keys(3).fallback() == 40);
+    Ok(())
+}
+
+#[test]
+fn each_state_becomes_the_one_after_the_item(rt: HostRuntime) -> Result<(), Fail> {
+    let mut tracks = four(&rt, rt.alloc())?;
+    advance(rt.alloc(), &mut tracks, 2)?;
+    let states = states(rt.alloc(), &tracks)?;
+    same(
+        &rt,
+        states.as_slice(),
+        [BEHIND_BOTH, NOWHERE, NOWHERE, NOWHERE].as_slice(),
+    );
+    let starts = starts(rt.alloc(), &tracks)?;
+    same(&rt, starts.as_slice(), [30, 20, 10, 40].as_slice());
+    Ok(())
+}
+
+#[test]
+fn the_first_accepted_start_is_told(rt: HostRuntime) -> Result<(), Fail> {
+    let mut tracks = four(&rt, rt.alloc())?;
+    same(&rt, tracks.accepted(), Some(1));
+    advance(rt.alloc(), &mut tracks, 1)?;
+    assert!(rt; tracks.accepted().is_none());
+    advance(rt.alloc(), &mut tracks, 2)?;
+    same(&rt, tracks.accepted(), Some(2));
+    Ok(())
+}
+
+#[test]
+fn starts_that_can_go_on_are_kept_in_their_order(rt: HostRuntime) -> Result<(), Fail> {
+    let mut tracks = four(&rt, rt.alloc())?;
+    assert!(rt; tracks.is_live(30) && !tracks.is_live(20) && !tracks.is_live(50));
+    tracks.keep();
+    let starts = starts(rt.alloc(), &tracks)?;
+    same(&rt, starts.as_slice(), [30, 10].as_slice());
+    let states = states(rt.alloc(), &tracks)?;
+    same(
+        &rt,
+        states.as_slice(),
+        [BEHIND_ONE, State::Initial].as_slice(),
+    );
+    Ok(())
+}
+
+#[test]
+fn keys_are_written_to_at_their_start(rt: HostRuntime) -> Result<(), Fail> {
+    let mut tracks = four(&rt, rt.alloc())?;
+    assert!(rt; tracks.len() == 4);
+    *tracks.keys_mut(1).fallback_mut() = 5;
+    assert!(rt; tracks.len() == 4 && *tracks.keys(0).fallback() == 30);
+    assert!(rt; tracks.len() == 4 && *tracks.keys(1).fallback() == 5);
+    Ok(())
+}
+
+// A follower that has tracks of its own.
+#[derive(Drop)]
+struct Nest {
+    depth: u64,
+    inner: Tracks<Nest>,
+}
+
+#[test]
+fn a_follower_may_have_tracks(rt: HostRuntime) -> Result<(), Fail> {
+    let alloc = rt.alloc();
+    let deepest = Nest {
+        depth: 2,
+        inner: Tracks::new(alloc, nfa(&rt, alloc)?),
+    };
+    let mut inner = Tracks::new(alloc, nfa(&rt, alloc)?);
+    inner.put(5, State::Initial, Keys::new(alloc, deepest))?;
+    let nest = Nest { depth: 1, inner };
+    same(&rt, (nest.depth, nest.inner.len()), (1, 1));
+    same(&rt, nest.inner.keys(0).fallback().depth, 2);
+    Ok(())
+}

@@ -1,0 +1,94 @@
+// Runs over many items, which end in the sum of a plain loop, and what is kept on the way.
+ghost use Rattle.std.specs.Prelude.{◌≡◌, IfOk};
+
+use crate::assertions::same;
+use crate::compiled::compiled;
+use crate::given::{Given, SUM, outcome, sum_over};
+use eval_tree::Runner;
+use item_drill::Drill;
+use item_schema::{Column, Kind, Schema, read_item};
+use language_base::Bytes;
+use query_model::Follower;
+use sqre_run::{Reply, Session, Status};
+use std::alloc::{AllocError, Global};
+use std::test::Fail;
+use value_ops::Field;
+
+// The column of the sum's items.
+fn column(alloc: Global) -> Result<Column, AllocError>
+    ensures { IfOk result (λ column. column.kind ≡ Kind.Int) }
+{
+    Ok(Column {
+        name: Bytes::from_slice(alloc, b"a")?,
+        kind: Kind::Int,
+    })
+}
+
+// The number on a line, without its LF.
+fn number_on(alloc: Global, schema: &Schema, line: &[u8]) -> i64 {
+    match read_item(alloc, schema, line.strip_suffix(b"\n").unwrap_or(line)) {
+        Ok(item) => match item.fields() {
+            [Field::Int(number)] => *number,
+            _ => 0,
+        },
+        Err(_) => 0,
+    }
+}
+
+fn lines_in(bytes: &[u8]) -> u64 {
+    let mut lines: u64 = 0;
+    for &byte in bytes {
+        if byte == b'\n' {
+            lines = lines.saturating_add(1);
+        }
+    }
+    lines
+}
+
+#[test]
+fn a_million_items_are_summed(rt: HostRuntime) -> Result<(), Fail> {
+    let alloc = rt.alloc();
+    let columns = vec![in alloc; column(alloc)?]?;
+    let schema = Schema::new(false, columns);
+    let mut drill = Drill::new(&schema, 0);
+    let mut items = Vec::new(alloc);
+    let mut sum: i64 = 0;
+    for _ in 0..1_000_000 {
+        let line = drill.line(alloc)?;
+        sum = sum.wrapping_add(number_on(alloc, &schema, line.as_slice()));
+        items.extend_from_slice(line.as_slice())?;
+    }
+    let given = Given {
+        room: 16_777_216,
+        ..sum_over(&items)
+    };
+    let (status, bytes) = outcome(alloc, given)?;
+    let last = format!(in alloc; "\n{sum}\n")?;
+    same(&rt, status, Status::Done);
+    same(&rt, lines_in(&bytes), 1_000_000);
+    assert!(rt; bytes.ends_with(last.as_bytes()));
+    let given = Given {
+        words: "drill q 1000000 0",
+        ..given
+    };
+    let (status, bytes) = outcome(alloc, given)?;
+    let line = format!(in alloc; "items 1000000 defined 1000000 last {sum}\n")?;
+    same(&rt, status, Status::Done);
+    same(&rt, bytes.as_slice(), line.as_bytes());
+    Ok(())
+}
+
+// As much as the bound of the query says, which has 6 slots.
+#[test]
+fn a_sum_keeps_as_much_after_each_item(rt: HostRuntime) -> Result<(), Fail> {
+    let alloc = rt.alloc();
+    let checked = compiled(alloc, SUM)?;
+    let mut session = Session::begin(&checked, Runner::new(alloc, &checked)?);
+    same(&rt, session.line(alloc, b"5")?, Reply::Answered);
+    same(&rt, session.follower().stored(), 6);
+    same(&rt, session.line(alloc, b"7")?, Reply::Answered);
+    same(&rt, session.follower().stored(), 6);
+    same(&rt, session.line(alloc, b"-2")?, Reply::Answered);
+    same(&rt, session.follower().stored(), 6);
+    Ok(())
+}

@@ -1,0 +1,102 @@
+// The longest texts, and the canonical text. The program `cases_queries` shows the other rules of reading at
+// their edges.
+use crate::assertions::same;
+use language_base::Bytes;
+use query_parser::{ReadStop, print_file, read_file};
+use std::alloc::{AllocError, Global};
+use std::test::Fail;
+
+/// The number of the rule that refuses the text, and its place.
+fn refusal_of(alloc: Global, text: &[u8]) -> Option<(u8, u32, u32)> {
+    match read_file(alloc, text) {
+        Err(ReadStop::Refused(refusal)) => {
+            Some((refusal.rule as u8, refusal.span.from, refusal.span.to))
+        }
+        _ => None,
+    }
+}
+
+fn repeated(alloc: Global, piece: &[u8], count: u32) -> Result<Vec<u8>, AllocError> {
+    let mut text = Vec::new(alloc);
+    for _ in 0..count {
+        text.extend_from_slice(piece)?;
+    }
+    Ok(text)
+}
+
+#[test]
+fn an_empty_text_is_no_file(rt: HostRuntime) {
+    same(&rt, refusal_of(rt.alloc(), b""), Some((5, 0, 0)));
+}
+
+#[test]
+fn a_text_has_65_536_bytes_at_the_most(rt: HostRuntime) -> Result<(), Fail> {
+    let alloc = rt.alloc();
+    let blank = repeated(alloc, b" ", 65_536)?;
+    same(&rt, refusal_of(alloc, &blank), Some((5, 65_536, 65_536)));
+    let blank = repeated(alloc, b" ", 65_537)?;
+    same(&rt, refusal_of(alloc, &blank), Some((1, 65_536, 65_537)));
+    Ok(())
+}
+
+#[test]
+fn prints_the_canonical_text(rt: HostRuntime) -> Result<(), Fail> {
+    let cases = [
+        (
+            b"stream( plain,col(a,int) ) # sums\nmain(iter(atom(any,a),+00,add(x,y)))".as_slice(),
+            b"stream(plain, col(a, int))\nmain(iter(atom(any, a), 0, add(x, y)))\n".as_slice(),
+        ),
+        (
+            b"stream(plain,col(a,text))main(atom(eq(a,\"\\x0a\\\"\\\\~\\x7f\xff\"),-05))",
+            b"stream(plain, col(a, text))\nmain(atom(eq(a, \"\\x0A\\x22\\x5C~\\x7F\\xFF\"), -5))\n",
+        ),
+    ];
+    for (text, printed) in cases {
+        match read_file(rt.alloc(), text) {
+            Ok(file) => {
+                same(&rt, print_file(rt.alloc(), &file)?.as_slice(), printed);
+            }
+            Err(stop) => panic!(rt; "{stop:?}"),
+        }
+    }
+    Ok(())
+}
+
+/// The canonical text of what the text is read to.
+fn canonical(alloc: Global, text: &[u8]) -> Result<Option<Bytes>, AllocError> {
+    match read_file(alloc, text) {
+        Ok(file) => Ok(Some(print_file(alloc, &file)?)),
+        Err(_) => Ok(None),
+    }
+}
+
+#[test]
+fn a_text_of_65_536_bytes_is_read_and_printed_and_read_again(rt: HostRuntime) -> Result<(), Fail> {
+    let alloc = rt.alloc();
+    let mut text = Vec::from_slice(alloc, b"stream(plain, col(a, text))\nmain(atom(eq(a, \"")?;
+    text.extend_from_slice(&repeated(alloc, b"x", 65_483)?)?;
+    text.extend_from_slice(b"\"), 1))\n")?;
+    same(&rt, text.len(), 65_536);
+    let printed = canonical(alloc, &text)?.ok_or("the text is refused")?;
+    same(&rt, printed.as_slice(), text.as_slice());
+    let again = canonical(alloc, printed.as_slice())?.ok_or("the canonical text is refused")?;
+    same(&rt, again.as_slice(), text.as_slice());
+    Ok(())
+}
+
+#[test]
+fn a_comment_may_go_up_to_65_536_bytes(rt: HostRuntime) -> Result<(), Fail> {
+    let alloc = rt.alloc();
+    let mut text = Vec::from_slice(alloc, b"stream(plain,col(a,int))main(atom(any,a))#")?;
+    text.extend_from_slice(&repeated(alloc, b"x", 65_494)?)?;
+    same(&rt, text.len(), 65_536);
+    let printed = canonical(alloc, &text)?.ok_or("the text is refused")?;
+    same(
+        &rt,
+        printed.as_slice(),
+        b"stream(plain, col(a, int))\nmain(atom(any, a))\n".as_slice(),
+    );
+    text.extend_from_slice(b"x")?;
+    same(&rt, refusal_of(alloc, &text), Some((1, 65_536, 65_537)));
+    Ok(())
+}

@@ -1,0 +1,36 @@
+use Rattle.std.proofs.Common.{◌≡◌, None, subst, sym}
+use Rattle.std.proofs.lemmas.Result.{err_from_is_err_and}
+use Rattle.predicate_cells.specs.Cells.{Partition}
+use Rattle.query_model.specs.Queries.{plain_of}
+use Rattle.query_model.specs.Rules.{free}
+use Rattle.query_model.specs.declared.query.Query.{Query}
+use Rattle.type_checker.specs.Findings.{CanBeAsked, IsBrokenBy, places_in}
+use Rattle.type_checker.specs.Nodes.{nodes_in}
+use Rattle.type_checker.specs.WordRules.{FirstBroken}
+use Rattle.type_checker.specs.declared.stop.CheckStop.{CheckStop}
+use Rattle.type_checker.proofs.checking.keep_words_over.Goals as goal
+
+-- what is broken over cells that are shared
+broken_on : (shared cells : Partition) → shared ≡ cells → (query : Query) (stop : CheckStop)
+    → IsBrokenBy (nodes_in shared.layout.columns free (plain_of query.shape)) (places_in query) stop
+    → IsBrokenBy (nodes_in cells.layout.columns free (plain_of query.shape)) (places_in query) stop
+broken_on shared cells same query stop broken =
+    subst (λ (p : Partition). IsBrokenBy (nodes_in p.layout.columns free (plain_of query.shape)) (places_in query) stop)
+    same broken
+
+pub keep_words-requires : goal.keep_words-requires
+keep_words-requires c =
+    subst (λ (p : Partition). CanBeAsked p (plain_of c.args.query.now.shape)) (sym c.in_ok-cells.ensures) c.requires
+
+pub returns-in_err-keep_words-clause-refused : goal.returns-in_err-keep_words-clause-refused
+returns-in_err-keep_words-clause-refused c =
+    let err = err_from_is_err_and c.from_residual-in_err-keep_words.result
+    c.from_residual-in_err-keep_words.ensures.1 in
+    rw (err.1, err.2)
+    (broken_on _ _ c.in_ok-cells.ensures c.args.query.now _ c.in_err-keep_words.ensures.refused)
+
+pub returns-clause-kept : goal.returns-clause-kept
+returns-clause-kept c =
+    let query = plain_of c.args.query.now.shape in
+    subst (λ (p : Partition). FirstBroken (nodes_in p.layout.columns free query) (places_in c.args.query.now) None)
+    c.in_ok-cells.ensures c.in_ok-keep_words.ensures.kept
