@@ -8,17 +8,17 @@ use std::alloc::AllocError;
 #[derive(Clone, Copy, Debug, PartialEq, Eq)]
 pub enum Cause {
     /// It has more than 65,536 bytes.
-    Long = 1,
+    Long,
     /// A CR is left in it.
-    Cr = 2,
+    Cr,
     /// It has not a field for each column.
-    Columns = 3,
+    Columns,
     /// A field has not the form of a number of its column.
-    Number = 4,
+    Number,
     /// A number does not fit 64 bits.
-    Range = 5,
+    Range,
     /// A number has more digits behind the point than its column.
-    Digits = 6,
+    Digits,
 }
 
 /// A line that is left out, for a cause that is found in a column.

@@ -5,8 +5,8 @@ use std::alloc::AllocError;
 #[derive(Clone, Copy, Debug, PartialEq, Eq)]
 pub enum CellStop {
     /// There would be more than 4,096 cells.
-    TooMany = 1,
-    Memory = 2,
+    TooMany,
+    Memory,
 }
 
 impl From<AllocError> for CellStop {

@@ -22,7 +22,7 @@ use Rattle.predicate_cells.specs.Predicates.{Predicate}
 use Rattle.predicate_cells.specs.Rising.{rising}
 use Rattle.predicate_cells.proofs.RisingLists.{has, has_rising, length_members, one_rising, rises}
 use Rattle.predicate_cells.proofs.TextOrder.{bytes_eq_is, same_text}
-use Rattle.query_model.specs.Members.{HaveSameMembers}
+use Rattle.query_model.specs.Members.{Gathers, HaveSameMembers, StandOnce}
 
 module _ {A : Type 0} (test : A → Bool) where
   -- a member that passes a test
@@ -83,6 +83,44 @@ pub added_both : (old middle new first second : List Predicate) → HaveSameMemb
 added_both old middle new first second one two =
     subst (HaveSameMembers new) (append_assoc old first second)
     (same_through new (middle ++ second) (old ++ first ++ second) two (same_with middle (old ++ first) second one))
+
+-- a list is gathered from, and then another
+pub gathered_both : (old middle new first second : List Predicate) → Gathers old first middle
+    → Gathers middle second new → Gathers old (first ++ second) new
+gathered_both old middle new first second one two = record {
+  members = added_both old middle new first second one.members two.members;
+  once = λ was. two.once (one.once was);
+}
+
+-- a list that has each member once has so after one that is not among them
+once_more : (preds : List Predicate) (pred : Predicate) → StandOnce preds → (Contains preds pred → ⊥)
+    → StandOnce (preds ++ pred ∷ [])
+unfolding StandOnce
+once_more [] pred was new = (λ is_in. let (k, within, is) = is_in in omega arith, tt)
+once_more (other ∷ preds) pred was new = (
+  λ is_in. elim (Contains-append_cases preds (pred ∷ []) other is_in) [
+    | inl front ↦ was.0 front
+    | inr back ↦ new (0, omega arith, same back)
+  ],
+  once_more preds pred was.1 (λ is_in. let (k, within, is) = is_in in new (suc k, omega arith, is)),
+)
+  where
+    same : Contains (pred ∷ []) other → other ≡ pred
+    same (zero, within, is) = sym is
+    same (suc k, within, is) = absurd (omega arith)
+
+-- or it is added to them
+pub gathered_new : (old : List Predicate) (pred : Predicate) → (Contains old pred → ⊥)
+    → Gathers old (pred ∷ []) (old ++ pred ∷ [])
+gathered_new old pred unknown = record {
+  members = λ other. (λ is_in. is_in, λ is_in. is_in);
+  once = λ was. once_more old pred was unknown;
+}
+
+-- nothing stands twice in the empty list
+pub none_stands : StandOnce []
+unfolding StandOnce
+none_stands = tt
 
 module _ (one other : List Predicate) (same : HaveSameMembers one other) where
   same_any : (test : Predicate → Bool) → list_any test one ≡ list_any test other

@@ -4,7 +4,7 @@ ghost use Rattle.predicate_cells.specs.Cells.{AllFit};
 ghost use Rattle.predicate_cells.specs.Plain as predicate;
 ghost use Rattle.predicate_cells.specs.declared.stop.CellStop.TheVariants.{TooMany};
 ghost use Rattle.query_model.specs.Few.{has_few_cells};
-ghost use Rattle.query_model.specs.Members.{HaveSameMembers};
+ghost use Rattle.query_model.specs.Members.{Gathers, HaveSameMembers, StandOnce};
 ghost use Rattle.query_model.specs.Queries.{plain_of};
 ghost use Rattle.query_model.specs.Sizes.{predicates_of};
 ghost use Rattle.rate_expr.specs.Plain as rates;
@@ -16,12 +16,13 @@ use predicate_cells::{CellStop, Cells, Pred, Preds};
 use rate_expr::Rate;
 use std::alloc::{AllocError, Global};
 
-/// The cells of the schema's items under the predicates of the query, each of them once.
+/// The cells of the schema's items under the predicates of the query.
 pub fn cells_of(alloc: Global, schema: &Schema, query: &Query) -> Result<Cells, CellStop>
     requires { AllFit schema.now.columns (predicates_of (plain_of query.now.shape)) }
     ensures layout { IfOk result (λ cells. cells.layout ≡ schema.now) }
     ensures members { IfOk result (λ cells.
         HaveSameMembers cells.preds (predicates_of (plain_of query.now.shape))) }
+    ensures once { IfOk result (λ cells. StandOnce cells.preds) }
     ensures few { OnOk result
         (has_few_cells schema.now.columns (plain_of query.now.shape) ≡ true) }
     ensures too_many { result ≡ Err TooMany
@@ -33,8 +34,8 @@ pub fn cells_of(alloc: Global, schema: &Schema, query: &Query) -> Result<Cells, 
 }
 
 fn add_those_of(query: &Query, preds: &mut Preds) -> Result<(), AllocError>
-    ensures { OnOk result (HaveSameMembers preds.new
-        (preds.old ++ predicates_of (plain_of query.now.shape))) }
+    ensures { OnOk result
+        (Gathers preds.old (predicates_of (plain_of query.now.shape)) preds.new) }
 {
     match &query.shape {
         Shape::Atom(pred, _) => add_once(pred, preds),
@@ -57,8 +58,7 @@ fn add_those_of(query: &Query, preds: &mut Preds) -> Result<(), AllocError>
 }
 
 fn add_those_in(rate: &Rate, preds: &mut Preds) -> Result<(), AllocError>
-    ensures { OnOk result (HaveSameMembers preds.new
-        (preds.old ++ preds_of (rates.plain_of rate.now))) }
+    ensures { OnOk result (Gathers preds.old (preds_of (rates.plain_of rate.now)) preds.new) }
 {
     match rate {
         Rate::Empty => Ok(()),
@@ -72,8 +72,7 @@ fn add_those_in(rate: &Rate, preds: &mut Preds) -> Result<(), AllocError>
 }
 
 fn add_once(pred: &Pred, preds: &mut Preds) -> Result<(), AllocError>
-    ensures { OnOk result (HaveSameMembers preds.new
-        (preds.old ++ predicate.plain_of pred.now ∷ [])) }
+    ensures { OnOk result (Gathers preds.old (predicate.plain_of pred.now ∷ []) preds.new) }
 {
     match preds.place_of(pred) {
         Some(_) => Ok(()),

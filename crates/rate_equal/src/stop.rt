@@ -5,8 +5,8 @@ use std::alloc::{AllocError, AllocFailed};
 #[derive(Clone, Copy, Debug, PartialEq, Eq)]
 pub enum EqualStop {
     /// Words lead to more than 4,096 states, or pairs of states.
-    Reach = 1,
-    Memory = 2,
+    Reach,
+    Memory,
 }
 
 impl From<AllocError> for EqualStop {

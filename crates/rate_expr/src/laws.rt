@@ -21,7 +21,8 @@ pub fn sets_spell_their_rate()
 
 /// A rate has its sets, and no others.
 pub fn one_automaton_of_a_rate()
-    ensures { (rate : Expression) (sets other : Sets) → AreSets sets → AreSets other
+    ensures some { (rate : Expression) → (sets : Sets) × AreSetsOf sets rate }
+    ensures only { (rate : Expression) (sets other : Sets) → AreSets sets → AreSets other
         → AreSetsOf sets rate → AreSetsOf other rate → other ≡ sets }
 {}
 

@@ -3,7 +3,7 @@ use Rattle.std.proofs.lemmas.Result.{on_ok_weaker}
 use Rattle.query_model.specs.Queries.{plain_of}
 use Rattle.query_model.specs.Sizes.{predicates_of}
 use Rattle.query_model.specs.declared.query.Shape.{Shape}
-use Rattle.query_model.proofs.SameMembers.{added_both}
+use Rattle.query_model.proofs.SameMembers.{gathered_both}
 use Rattle.query_model.proofs.cells.+add_those_of.Goals as goal
 
 pub returns-in-Atom : goal.returns-in-Atom
@@ -23,7 +23,7 @@ returns-in_ok-add_those_of-in-Or t c =
     let one = rw c.deref-in-Or.ensures at c.in_ok-add_those_of-in-Or.ensures in
     let two = rw c.deref-in-Or-2.ensures at c.add_those_of-in-Or-2.ensures in
     rw parts (on_ok_weaker c.add_those_of-in-Or-2.result
-    (added_both c.args.preds.now c.add_those_of-in-Or.new.preds c.add_those_of-in-Or-2.new.preds _ _ one) two)
+    (gathered_both c.args.preds.now c.add_those_of-in-Or.new.preds c.add_those_of-in-Or-2.new.preds _ _ one) two)
 
 pub returns-in-Iter : goal.returns-in-Iter
 returns-in-Iter t c =
@@ -41,6 +41,6 @@ pub returns-in_ok-add_those_in-in-Collect : goal.returns-in_ok-add_those_in-in-C
 returns-in_ok-add_those_in-in-Collect t c =
     let inner = rw c.deref.ensures at c.add_those_of.ensures in
     rw c.in-Collect.is (on_ok_weaker c.add_those_of.result
-    (added_both c.args.preds.now c.add_those_in.new.preds c.add_those_of.new.preds _ _
-    (added_both c.args.preds.now c.add_once-in-Collect.new.preds c.add_those_in.new.preds _ _
+    (gathered_both c.args.preds.now c.add_those_in.new.preds c.add_those_of.new.preds _ _
+    (gathered_both c.args.preds.now c.add_once-in-Collect.new.preds c.add_those_in.new.preds _ _
     c.in_ok-add_once-in-Collect.ensures c.in_ok-add_those_in-in-Collect.ensures)) inner)
