@@ -10,7 +10,7 @@ use Rattle.query_syntax.specs.Plain.{plain_let, plain_query}
 use Rattle.query_syntax.specs.Queries as q
 use Rattle.query_syntax.specs.Queries.{Query}
 use Rattle.query_lets.specs.declared.scope.Scope.{Scope}
-use Rattle.query_lets.specs.Places.{ArePlaces, IsRoot, Leads, lets_of, nodes_with, query_of}
+use Rattle.query_lets.specs.Places.{ArePlaces, IsPlaced, IsRoot, Leads, lets_of, nodes_with, query_of}
 use Rattle.query_lets.specs.Unfolded.{bindings_of, meaning, replaced}
 use Rattle.query_lets.proofs.Building.{place_of}
 use Rattle.query_lets.proofs.Placed.{fewer, placed, taken, unplaced}
@@ -46,9 +46,10 @@ module _ {S : Type 0} (places : HashMap (Bor (List ℕ)) ℕ S) (from : Scope) (
         let less = fewer (lets_of from) place (plain_let one) there name in
         rw (lets_is, is_name, query) less
 
-    pub leads : Leads from to
-    leads = record {
+    pub leads : to.places ≡ from.places → Leads from to
+    leads places_are = record {
       before = λ k x here. taken place (lets_of from) k x (subst (λ l. slice_get l k ≡ Some x) lets_is here);
+      places = places_are;
       same = same_query;
       fewer = fewer_nodes;
     }
@@ -73,7 +74,7 @@ module _ {S : Type 0} (places : HashMap (Bor (List ℕ)) ℕ S) (from : Scope) (
 
 -- a scope leads to itself
 pub leads_self : (scope : Scope) → Leads scope scope
-leads_self scope = record { before = λ place one at. at; same = refl; fewer = omega arith }
+leads_self scope = record { before = λ place one at. at; places = refl; same = refl; fewer = omega arith }
 
 -- and on
 pub leads_on : (one two three : Scope) → Leads one two → Leads two three → Leads one three
@@ -82,17 +83,12 @@ leads_on one two three first second =
     let then = second.fewer in
     record {
       before = λ place given at. first.before place given (second.before place given at);
+      places = second.places ∙ first.places;
       same = second.same ∙ first.same;
       fewer = omega arith;
     }
 
 -- the places of lets are those of the first of them
-pub places_kept : {S : Type 0} (places : HashMap (Bor (List ℕ)) ℕ S) (from to : Scope) → Leads from to
-    → ArePlaces places (lets_of from) → ArePlaces places (lets_of to)
-places_kept places from to leads are = λ place one at. are place one (leads.before place one at)
-
--- a name of no let stands for itself
-pub root_name : (scope : Scope) → IsRoot scope → (name : Name) → query_of scope ≡ q.name name
-    → replaced (bindings_of (lets_of scope)) (query_of scope) ≡ q.name name
-root_name scope root name is =
-    ap (replaced (bindings_of (lets_of scope))) is ∙ ap (λ o. unwrap_or o (q.name name)) (root name is)
+pub places_kept : (from to : Scope) → Leads from to → IsPlaced from → IsPlaced to
+places_kept from to leads are =
+    rw leads.places (λ place one at. are place one (leads.before place one at))

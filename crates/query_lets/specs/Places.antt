@@ -36,19 +36,35 @@ lets_of scope = map plain_let scope.lets.now
 abbrev pub query_of : Scope → Query
 query_of scope = plain_query scope.query.now
 
+-- a scope's map has the places of its lets
+abbrev pub IsPlaced : Scope → Type 0
+IsPlaced scope = ArePlaces scope.places.now (lets_of scope)
+
+-- a query with the names of a scope's lets replaced
+abbrev pub unfolded_at : Scope → Query → Query
+unfolded_at scope query = replaced (bindings_of (lets_of scope)) query
+
+-- a scope's own query so
+abbrev pub unfolded_of : Scope → Query
+unfolded_of scope = unfolded_at scope (query_of scope)
+
+-- the nodes of a scope's lets and of its query
+abbrev pub nodes_within : Scope → ℕ
+nodes_within scope = nodes_with (lets_of scope) (query_of scope)
+
 -- a query that is no name of a let before it
 abbrev pub IsRoot : Scope → Type 0
 IsRoot scope = (name : Name) → query_of scope ≡ q.name name
     → meaning (bindings_of (lets_of scope)) name.bytes ≡ None
 
--- one scope leads to another: its lets are the first of the former's, and its query after lets is
--- the same
+-- one scope leads to another: its lets are the first of the former's, and its query is the same
+-- where names are replaced
 pub record Leads (from : Scope) (to : Scope) : Type 0 where
   pub before : (place : ℕ) (one : Let) → slice_get (lets_of to) place ≡ Some one
       → slice_get (lets_of from) place ≡ Some one
-  pub same : replaced (bindings_of (lets_of to)) (query_of to)
-      ≡ replaced (bindings_of (lets_of from)) (query_of from)
-  pub fewer : nodes_with (lets_of to) (query_of to) ≤ nodes_with (lets_of from) (query_of from)
+  pub places : to.places ≡ from.places
+  pub same : unfolded_of to ≡ unfolded_of from
+  pub fewer : nodes_within to ≤ nodes_within from
 
 -- no let has the name of an earlier one, nor one of these
 abbrev pub AreNamedApart : List (List ℕ) → List Let → Type 0

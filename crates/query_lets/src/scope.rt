@@ -1,36 +1,53 @@
 //! A query and the lets that it may use.
-ghost use Rattle.std.specs.Prelude.{◌<◌, [], IfNone, IfOk, IfSome, length, map};
-ghost use Rattle.query_syntax.specs.Plain.{plain_let};
-ghost use Rattle.query_lets.specs.Places.{AreNamedApart, ArePlaces, IsRoot, Leads, lets_of};
+ghost use Rattle.std.specs.Prelude.{◌≡◌, ◌<◌, [], IfNone, IfOk, IfSome, None, length, map};
+ghost use Rattle.query_syntax.specs.Plain.{plain_let, plain_program};
+ghost use Rattle.query_lets.specs.Places.{AreNamedApart, ArePlaces, IsPlaced, IsRoot, Leads, unfolded_of};
+ghost use Rattle.query_lets.specs.Unfolded.{unfolded};
+ghost use Rattle.query_lets.specs.Words.{wrong_name};
 
-use query_syntax::{Let, Query};
+use query_syntax::{Let, Program, Query};
 use std::alloc::{AllocError, Global};
 use std::collections::HashMap;
 
-/// The lets before a query, and the query.
+/// The lets before a query, their places under their names, and the query.
 #[derive(Clone, Copy)]
-pub(crate) struct Scope<'p> {
-    pub(crate) lets: &'p [Let],
-    pub(crate) query: &'p Query,
+pub struct Scope<'p, 'm> {
+    pub lets: &'p [Let],
+    pub places: &'m HashMap<&'p [u8], usize>,
+    pub query: &'p Query,
 }
 
-impl<'p> Scope<'p> {
+impl<'p, 'm> Scope<'p, 'm> {
+    /// The main query, behind all lets.
+    pub fn main(program: &'p Program, places: &'m HashMap<&'p [u8], usize>) -> Scope<'p, 'm>
+        requires { ArePlaces places.now (plain_program program.now).lets }
+        ensures placed { IsPlaced result }
+        ensures same { unfolded_of result ≡ unfolded (plain_program program.now) }
+    {
+        Scope {
+            lets: &program.lets,
+            places,
+            query: &program.main.query,
+        }
+    }
+
     /// The same query as it is behind names: no name itself, where names are right.
-    pub(crate) fn root(self, places: &HashMap<&[u8], usize>) -> Scope<'p>
-        requires { ArePlaces places.now (lets_of self) }
+    pub fn root(self) -> Scope<'p, 'm>
+        requires { IsPlaced self }
         ensures leads { Leads self.entry result }
+        ensures placed { IsPlaced result }
         ensures root { IsRoot result }
     {
         let mut scope = self;
-        'names: while let Some(next) = scope.behind_name(places) {
+        'names: while let Some(next) = scope.behind_name() {
             scope = next;
         }
         scope
     }
 
     // The query of the let that the query names, and the lets before that one.
-    fn behind_name(self, places: &HashMap<&[u8], usize>) -> Option<Scope<'p>>
-        requires { ArePlaces places.now (lets_of self) }
+    fn behind_name(self) -> Option<Scope<'p, 'm>>
+        requires { IsPlaced self }
         ensures leads { IfSome result (Leads self.entry) }
         ensures shorter { IfSome result (λ next.
             length next.lets.now < length self.entry.lets.now) }
@@ -39,17 +56,25 @@ impl<'p> Scope<'p> {
         let Query::Name(name) = self.query else {
             return None;
         };
-        let place = *places.get(name.bytes.as_slice())?;
+        let place = *self.places.get(name.bytes.as_slice())?;
         let one = self.lets.get(place)?;
         Some(Scope {
             lets: &self.lets[..place],
+            places: self.places,
             query: &one.query,
         })
     }
 }
 
 /// The place of each let under its name, counted from 0.
-pub(crate) fn places_of(alloc: Global, lets: &[Let]) -> Result<HashMap<&[u8], usize>, AllocError>
+pub fn places_of(alloc: Global, program: &Program) -> Result<HashMap<&[u8], usize>, AllocError>
+    requires { wrong_name (plain_program program.now) ≡ None }
+    ensures { IfOk result (λ places. ArePlaces places (plain_program program.now).lets) }
+{
+    places_in(alloc, &program.lets)
+}
+
+fn places_in(alloc: Global, lets: &[Let]) -> Result<HashMap<&[u8], usize>, AllocError>
     requires { AreNamedApart [] (map plain_let lets.now) }
     ensures { IfOk result (λ places. ArePlaces places (map plain_let lets.now)) }
 {

@@ -1,7 +1,7 @@
 // Places and counts were found by hand. The program cases_queries goes through a table of more lets.
 use crate::assertions::same;
 use language_base::Span;
-use query_lets::{Outline, unfold, unfolded_outline, wrong_name};
+use query_lets::{Outline, Scope, places_of, unfolded_outline, wrong_name};
 use query_syntax::{Program, Query, read_syntax};
 use std::alloc::Global;
 use std::test::Fail;
@@ -43,31 +43,33 @@ fn nodes_are_counted_wherever_a_name_stands(rt: HostRuntime) -> Result<(), Fail>
     Ok(())
 }
 
-/// The main query after lets, where no name is wrong.
-fn unfolded(alloc: Global, behind: &[u8]) -> Result<Option<Box<Query>>, Fail> {
-    let program = program(alloc, behind)?;
-    if wrong_name(alloc, &program)?.is_some() {
-        return Ok(None);
-    }
-    let query = unfold(alloc, &program)?;
-    Ok(Some(Box::new(alloc, query)?))
-}
-
 #[test]
-fn names_are_replaced_with_the_places_of_lets(rt: HostRuntime) -> Result<(), Fail> {
-    let query = unfolded(rt.alloc(), b"let(a, eps(1))main(or(a, iter(a, 0, x)))")?;
-    let Some(
-        Query::Or {
-            left,
-            right,
-            span: root,
-        },
-    ) = query.as_deref()
+fn a_name_has_the_place_of_its_let(rt: HostRuntime) -> Result<(), Fail> {
+    let alloc = rt.alloc();
+    let program = program(alloc, b"let(a, eps(1))main(or(a, iter(a, 0, x)))")?;
+    if wrong_name(alloc, &program)?.is_some() {
+        panic!(rt; "a name is wrong");
+    }
+    let places = places_of(alloc, &program)?;
+    let main = Scope::main(&program, &places).root();
+    let Query::Or {
+        left,
+        right,
+        span: root,
+    } = main.query
     else {
         panic!(rt; "no choice");
     };
     same(&rt, *root, span(45, 65));
-    same(&rt, left.span(), span(33, 39));
-    same(&rt, right.span(), span(51, 64));
+    let left = Scope {
+        query: left,
+        ..main
+    };
+    same(&rt, left.root().query.span(), span(33, 39));
+    let right = Scope {
+        query: right,
+        ..main
+    };
+    same(&rt, right.root().query.span(), span(51, 64));
     Ok(())
 }

@@ -39,7 +39,7 @@ module _ (nesting : Nesting) (columns : List Column) (f g : q.Query) (span : Spa
 
   module _ (left : Typed) (is_left : IsMade nesting columns f left) where
     -- or its second one
-    compose_second : (stop : CheckStop) → IsRefused inside (derived_columns left.ty) g stop
+    pub compose_second : (stop : CheckStop) → IsRefused inside (derived_columns left.ty) g stop
         → IsRefused nesting columns (q.compose f g span) stop
     unfolding resolved
     compose_second (Refused why) second =
@@ -47,12 +47,6 @@ module _ (nesting : Nesting) (columns : List Column) (f g : q.Query) (span : Spa
         subst (λ (ty : ValueType). resolved inside (derived_columns ty) g ≡ Err why) is_left.typed.type second in
         rw (is_left.resolved, over) refl
     compose_second Memory second = tt
-
-    -- which is on the stream of values
-    pub compose_behind : (layout : Layout) → layout ≡ derived_layout left.ty → (stop : CheckStop)
-        → IsRefused inside layout.columns g stop → IsRefused nesting columns (q.compose f g span) stop
-    compose_behind layout is stop second = compose_second stop
-        (on_values layout left.ty is (λ (values : List Column). IsRefused inside values g stop) second)
 
     module _ (right : Typed) (is_right : IsMade inside (derived_columns left.ty) g right) where
       compose_step : resolved nesting columns (q.compose f g span)

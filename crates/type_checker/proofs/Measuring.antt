@@ -17,11 +17,9 @@ use Rattle.query_model.specs.Queries.{Qre, plain_of}
 use Rattle.query_model.specs.Rules.{free}
 use Rattle.query_model.specs.Sizes.{HaveFewCells, max_nodes, max_slots, predicates_of}
 use Rattle.query_model.specs.declared.query.Query as memory
-use Rattle.query_syntax.specs.Plain.{plain_query}
 use Rattle.query_syntax.specs.Programs.{Program, Stream}
 use Rattle.query_syntax.specs.Queries.{Query}
 use Rattle.query_syntax.specs.Spans.{query_span}
-use Rattle.query_syntax.specs.declared.query.Query as syntax
 use Rattle.query_syntax.specs.declared.stream.Column.{Column}
 use Rattle.query_syntax.specs.declared.stream.Kind.{Kind}
 use Rattle.query_syntax.specs.declared.stream.Kind.TheVariants.{Int, Text, Fixed}
@@ -29,7 +27,7 @@ use Rattle.type_checker.specs.Findings.{IsUnresolved, KeepsTypes, derives_many, 
 use Rattle.type_checker.specs.Judged.{limited, measured, parted}
 use Rattle.type_checker.specs.Layouts.{column_of, kind_of, layout_of}
 use Rattle.type_checker.specs.Nodes.{first_where, nodes_in, places_of}
-use Rattle.type_checker.specs.Passes.{IsLimited, IsMain, IsMeasured, IsNamed, counted, told_apart, values_apart}
+use Rattle.type_checker.specs.Passes.{IsCounted, IsLimited, IsMeasured, IsNamed, counted, told_apart, values_apart}
 use Rattle.type_checker.specs.Resolved.{outside, resolved}
 use Rattle.query_model.specs.Few.{has_few_cells}
 use Rattle.type_checker.specs.Sizes.{derives_many_cells, first_node, has_few_nodes, has_few_slots, has_many_positions}
@@ -122,8 +120,8 @@ module _ (program : Program) where
   wrong_count span is = rw is refl
 
   -- right names, and few nodes
-  pub few_count : (tree : syntax.Query) → IsMain program tree → counted program ≡ Ok tt
-  few_count tree is = rw (is.right, is.few) refl
+  pub few_count : IsCounted program → counted program ≡ Ok tt
+  few_count is = rw (is.right, is.few) refl
 
   -- what is left behind the names and the types
   abbrev sized : Qre → Result Qre Refusal
@@ -209,38 +207,32 @@ pub count_refused : (program : Program) (stop : CheckStop) → IsUnresolved (cou
     → IsUnresolved (measured program) stop
 count_refused program = unresolved_as (counted program) (measured program) (count_stop program)
 
-module _ (program : Program) (tree : syntax.Query) (main : IsMain program tree) (schema : Layout)
+module _ (program : Program) (count : IsCounted program) (schema : Layout)
     (same : schema ≡ layout_of program.stream) where
   counts : counted program ≡ Ok tt
-  counts = few_count program tree main
+  counts = few_count program count
 
-  pub names_refused : (stop : CheckStop) → IsUnresolved (resolved outside schema.columns (plain_query tree)) stop
+  pub names_refused : (stop : CheckStop) → IsUnresolved (resolved outside schema.columns (unfolded program)) stop
       → IsUnresolved (measured program) stop
-  names_refused = unresolved_as (resolved outside schema.columns (plain_query tree)) (measured program)
+  names_refused = unresolved_as (resolved outside schema.columns (unfolded program)) (measured program)
       (λ (why : Refusal). λ is. names_stop program counts why
-      (subst (λ (query : Query). resolved outside (layout_of program.stream).columns query ≡ Err why) main.main
-      (subst (λ (layout : Layout). resolved outside layout.columns (plain_query tree) ≡ Err why) same is)))
+      (subst (λ (layout : Layout). resolved outside layout.columns (unfolded program) ≡ Err why) same is))
 
-  module _ (query : memory.Query) (named : IsNamed schema.columns (plain_query tree) query) where
+  module _ (query : memory.Query) (named : IsNamed schema.columns (unfolded program) query) where
     over : resolved outside (layout_of program.stream).columns (unfolded program) ≡ Ok (plain_of query.shape)
-    over = subst (λ (t : Query). resolved outside (layout_of program.stream).columns t ≡ Ok (plain_of query.shape))
-        main.main
-        (subst (λ (layout : Layout). resolved outside layout.columns (plain_query tree) ≡ Ok (plain_of query.shape))
-        same named.named)
-
-    there : places_in query ≡ places_of (unfolded program)
-    there = named.places ∙ ap places_of main.main
+    over = subst (λ (layout : Layout). resolved outside layout.columns (unfolded program) ≡ Ok (plain_of query.shape))
+        same named.named
 
     pub limits_refused : (stop : CheckStop) → ((layout : Layout) (t : Query) → places_of t ≡ places_in query
         → IsUnresolved (limited layout t (plain_of query.shape)) stop) → IsUnresolved (measured program) stop
     limits_refused stop refuses =
         unresolved_as (limited (layout_of program.stream) (unfolded program) (plain_of query.shape))
         (measured program) (limits_stop program counts (plain_of query.shape) over) stop
-        (refuses (layout_of program.stream) (unfolded program) (sym there))
+        (refuses (layout_of program.stream) (unfolded program) (sym named.places))
 
     module _ (limits : IsLimited query) where
       small : limited (layout_of program.stream) (unfolded program) (plain_of query.shape) ≡ Ok tt
-      small = limits.limited (layout_of program.stream) (unfolded program) (sym there)
+      small = limits.limited (layout_of program.stream) (unfolded program) (sym named.places)
 
       pub cells_refused : (stop : CheckStop)
           → IsUnresolved (told_apart schema.columns program.stream.span (plain_of query.shape)) stop
@@ -265,7 +257,7 @@ module _ (program : Program) (tree : syntax.Query) (main : IsMain program tree) 
             (λ (why : Refusal). λ is. cells_stop program counts (plain_of query.shape) over small why
             (many_values program.stream (unfolded program) (plain_of query.shape) why few_there
             (subst (λ (spans : List Span). because Cells (unless (first_where derives_many
-            (nodes_in (layout_of program.stream).columns free (plain_of query.shape)) spans)) ≡ Err why) there
+            (nodes_in (layout_of program.stream).columns free (plain_of query.shape)) spans)) ≡ Err why) named.places
             (subst (λ (layout : Layout). values_apart layout.columns query ≡ Err why) same is))))
 
 -- the nodes of a query are those of the tree that it was made of
@@ -278,21 +270,20 @@ few_nodes program query there few =
     let little : trees.nodes_of (unfolded program) ≤ max_nodes = grind (arith, nat_tests, few) in omega arith
 
 -- all that the passes found
-pub measured_by : (program : Program) (made : Measured) (tree : syntax.Query) → IsMain program tree
-    → made.schema ≡ layout_of program.stream → IsNamed made.schema.columns (plain_query tree) made.query.value
+pub measured_by : (program : Program) (made : Measured) → IsCounted program
+    → made.schema ≡ layout_of program.stream → IsNamed made.schema.columns (unfolded program) made.query.value
     → IsLimited made.query.value → made.cells.layout ≡ made.schema
     → told_apart made.schema.columns program.stream.span (plain_of made.query.value.shape) ≡ Ok tt
     → ((pred : Predicate) → Contains (predicates_of (plain_of made.query.value.shape)) pred → Contains made.cells.preds pred)
     → values_apart made.schema.columns made.query.value ≡ Ok tt → IsMeasured program made
-measured_by program made tree main layout named limits cells few members values =
+measured_by program made count layout named limits cells few members values =
     let query : Qre = plain_of made.query.value.shape in
     let columns : List schema.Column = (layout_of program.stream).columns in
     let same : made.schema.columns ≡ columns = ap (λ (l : Layout). l.columns) layout in
     let over : resolved outside columns (unfolded program) ≡ Ok query =
-    subst (λ (t : Query). resolved outside columns t ≡ Ok query) main.main
-    (subst (λ (c : List schema.Column). resolved outside c (plain_query tree) ≡ Ok query) same named.named) in
-    let there : places_in made.query.value ≡ places_of (unfolded program) = named.places ∙ ap places_of main.main in
-    let nodes : nodes_of query ≤ max_nodes = few_nodes program made.query.value there main.few in
+    subst (λ (c : List schema.Column). resolved outside c (unfolded program) ≡ Ok query) same named.named in
+    let there : places_in made.query.value ≡ places_of (unfolded program) = named.places in
+    let nodes : nodes_of query ≤ max_nodes = few_nodes program made.query.value there count.few in
     let little : has_few_cells columns query ≡ true =
     passed Cells program.stream.span (has_few_cells columns query)
     (subst (λ (c : List schema.Column). told_apart c program.stream.span query ≡ Ok tt) same few) in
@@ -305,7 +296,7 @@ measured_by program made tree main layout named limits cells few members values 
     (nodes_have_places columns free made.query.value ∙ ap length there) none in record {
       layout = layout;
       cells = cells ∙ layout;
-      measured = all_measured program (few_count program tree main) query over
+      measured = all_measured program (few_count program count) query over
           (limits.limited (layout_of program.stream) (unfolded program) (sym there))
           (few_cells program.stream (unfolded program) query little none);
       types = subst (λ (c : List schema.Column). KeepsTypes c query) same named.types;

@@ -1,17 +1,22 @@
 -- What a node takes from its operands: their places, and the first refusal of theirs.
-use Rattle.std.proofs.Common.{◌≡◌, List, [], ◌∷◌, ◌++◌, Result, Ok, refl, sym, ◌∙◌, ap, subst, append_assoc}
+use Rattle.std.proofs.Common.{◌≡◌, List, [], ◌∷◌, ◌++◌, Result, Ok, Err, unwrap_or, refl, sym, ◌∙◌, ap, subst, append_assoc}
 use Rattle.item_schema.specs.declared.column.Column.{Column}
+use Rattle.language_base.specs.declared.refusal.Refusal.{Refusal}
 use Rattle.language_base.specs.declared.span.Span.{Span}
+use Rattle.query_lets.specs.Places.{IsRoot, query_of, unfolded_at, unfolded_of}
+use Rattle.query_lets.specs.declared.scope.Scope.{Scope}
 use Rattle.query_model.specs.Queries.{Qre, plain_of, spans_of}
 use Rattle.query_model.specs.QueryTypes.{type_of}
 use Rattle.query_model.specs.declared.query.Query.{Query}
 use Rattle.query_syntax.specs.Expressions as e
 use Rattle.query_syntax.specs.Queries as q
+use Rattle.query_syntax.specs.declared.leaf.Name.{Name}
 use Rattle.query_syntax.specs.declared.leaf.Number.{Number}
 use Rattle.type_checker.specs.Findings.{KeepsTypes, places_in}
 use Rattle.type_checker.specs.Nodes.{places_of}
-use Rattle.type_checker.specs.Resolutions.{IsMade, IsMadeOfOne, IsMadeOfTwo, IsRefused, IsRefusedOverOne, IsRefusedOverTwo}
+use Rattle.type_checker.specs.Resolutions.{IsMade, IsMadeOfOne, IsMadeOfTwo, IsRefused, IsRefusedOfTwo, IsRefusedOverOne, IsRefusedOverTwo}
 use Rattle.type_checker.specs.Resolved.{Nesting, resolved}
+use Rattle.type_checker.specs.Steps.{◌>>=◌}
 use Rattle.type_checker.specs.declared.naming.Typed.{Typed}
 use Rattle.type_checker.specs.declared.stop.CheckStop.{CheckStop}
 use Rattle.type_checker.specs.declared.stop.CheckStop.TheVariants.{Refused, Memory}
@@ -47,6 +52,25 @@ two_places f g left right made span first second spans at =
     ∙ ap (λ (s : List Span). s ++ places_in right.query.value ++ made.span ∷ []) first
     ∙ ap (λ (s : List Span). places_of f ++ s ++ made.span ∷ []) second
     ∙ ap (λ (a : Span). places_of f ++ places_of g ++ a ∷ []) at
+
+-- why a step stops
+abbrev why_of : {A : Type 0} → Refusal → Result A Refusal → Refusal
+why_of other (Ok value) = other
+why_of other (Err why) = why
+
+-- two steps of which one stops, before a third
+stops_in_two : {A B C : Type 0} (first : Result A Refusal) (second : Result B Refusal)
+    (rest : A → B → Result C Refusal) (why : Refusal) → (first >>= (λ a. second)) ≡ Err why
+    → (first >>= (λ a. second >>= rest a)) ≡ Err why
+stops_in_two (Ok a) (Ok b) rest why is = absurd (cc)
+stops_in_two (Ok a) (Err other) rest why is = ap Err (ap (why_of other) is)
+stops_in_two (Err other) second rest why is = ap Err (ap (why_of other) is)
+
+-- a name of no let stands for itself
+pub name_itself : (scope : Scope) → IsRoot scope → (name : Name) → query_of scope ≡ q.name name
+    → unfolded_of scope ≡ q.name name
+name_itself scope root name is =
+    ap (unfolded_at scope) is ∙ ap (λ o. unwrap_or o (q.name name)) (root name is)
 
 module _ (nesting : Nesting) (columns : List Column) where
   -- a query that is resolved to a query in memory
@@ -90,45 +114,39 @@ module _ (nesting : Nesting) (columns : List Column) where
     apply_first value span (Refused why) left = rw left refl
     apply_first value span Memory left = tt
 
+    -- where one of its two operands is
     module _ (g : q.Query) where
-      pub or_first : (span : Span) (stop : CheckStop) → IsRefused nesting columns f stop
+      pub or_operands : (span : Span) (stop : CheckStop) → IsRefusedOfTwo nesting columns f g stop
           → IsRefused nesting columns (q.or f g span) stop
       unfolding resolved
-      or_first span (Refused why) left = rw left refl
-      or_first span Memory left = tt
+      or_operands span (Refused why) is =
+          stops_in_two (resolved nesting columns f) (resolved nesting columns g) _ why is
+      or_operands span Memory is = tt
 
-      pub split_first : (value : e.Expression) (span : Span) (stop : CheckStop) → IsRefused nesting columns f stop
-          → IsRefused nesting columns (q.split f g value span) stop
+      pub split_operands : (value : e.Expression) (span : Span) (stop : CheckStop)
+          → IsRefusedOfTwo nesting columns f g stop → IsRefused nesting columns (q.split f g value span) stop
       unfolding resolved
-      split_first value span (Refused why) left = rw left refl
-      split_first value span Memory left = tt
+      split_operands value span (Refused why) is =
+          stops_in_two (resolved nesting columns f) (resolved nesting columns g) _ why is
+      split_operands value span Memory is = tt
 
-      pub combine_first : (value : e.Expression) (span : Span) (stop : CheckStop) → IsRefused nesting columns f stop
-          → IsRefused nesting columns (q.combine f g value span) stop
+      pub combine_operands : (value : e.Expression) (span : Span) (stop : CheckStop)
+          → IsRefusedOfTwo nesting columns f g stop → IsRefused nesting columns (q.combine f g value span) stop
       unfolding resolved
-      combine_first value span (Refused why) left = rw left refl
-      combine_first value span Memory left = tt
+      combine_operands value span (Refused why) is =
+          stops_in_two (resolved nesting columns f) (resolved nesting columns g) _ why is
+      combine_operands value span Memory is = tt
 
-      -- or its second one
-      pub or_second : (span : Span) (made : Typed) → IsMade nesting columns f made → (stop : CheckStop)
-          → IsRefused nesting columns g stop → IsRefused nesting columns (q.or f g span) stop
-      unfolding resolved
-      or_second span made is (Refused why) left = rw (is.resolved, left) refl
-      or_second span made is Memory left = tt
+      -- which is the first, or the second behind it
+      pub first_of_two : (stop : CheckStop) → IsRefused nesting columns f stop
+          → IsRefusedOfTwo nesting columns f g stop
+      first_of_two (Refused why) left = rw left refl
+      first_of_two Memory left = tt
 
-      pub split_second : (value : e.Expression) (span : Span) (made : Typed) → IsMade nesting columns f made
-          → (stop : CheckStop) → IsRefused nesting columns g stop
-          → IsRefused nesting columns (q.split f g value span) stop
-      unfolding resolved
-      split_second value span made is (Refused why) left = rw (is.resolved, left) refl
-      split_second value span made is Memory left = tt
-
-      pub combine_second : (value : e.Expression) (span : Span) (made : Typed) → IsMade nesting columns f made
-          → (stop : CheckStop) → IsRefused nesting columns g stop
-          → IsRefused nesting columns (q.combine f g value span) stop
-      unfolding resolved
-      combine_second value span made is (Refused why) left = rw (is.resolved, left) refl
-      combine_second value span made is Memory left = tt
+      pub second_of_two : (made : Typed) → IsMade nesting columns f made → (stop : CheckStop)
+          → IsRefused nesting columns g stop → IsRefusedOfTwo nesting columns f g stop
+      second_of_two made is (Refused why) right = rw (is.resolved, right) refl
+      second_of_two made is Memory right = tt
 
   -- a node of one operand that is resolved, and of two
   module _ (f : q.Query) (inner : Typed) (is_inner : IsMade nesting columns f inner) (node : q.Query → q.Query)

@@ -12,11 +12,9 @@ use Rattle.query_model.specs.Queries.{Qre, plain_of}
 use Rattle.query_model.specs.Rules.{free}
 use Rattle.query_model.specs.Sizes.{HasFewPositions, IsSmall, max_slots}
 use Rattle.query_model.specs.declared.query.Query as memory
-use Rattle.query_syntax.specs.Plain.{plain_query}
 use Rattle.query_syntax.specs.Programs.{Program}
 use Rattle.query_syntax.specs.Queries.{Query}
 use Rattle.query_syntax.specs.Spans.{query_span}
-use Rattle.query_syntax.specs.declared.query.Query as syntax
 use Rattle.type_checker.specs.Findings.{CanBeAsked, KeepsTypes, derives_many, first_in, places_in}
 use Rattle.type_checker.specs.Judged.{limited, measured}
 use Rattle.type_checker.specs.Layouts.{layout_of}
@@ -32,9 +30,8 @@ abbrev pub counted : Program → Result (Unit {0}) Refusal
 counted program = because Name (unless (wrong_name program))
     >>= (λ right. provided Size (query_span (unfolded program)) (has_few_nodes (unfolded program)))
 
--- the tree is the main query after lets, and those passes refuse nothing
-pub record IsMain (program : Program) (tree : syntax.Query) : Type 0 where
-  pub main : plain_query tree ≡ unfolded program
+-- those passes refuse nothing
+pub record IsCounted (program : Program) : Type 0 where
   pub right : wrong_name program ≡ None
   pub few : has_few_nodes (unfolded program) ≡ true
 

@@ -84,6 +84,11 @@ parts_fit columns parts =
 abbrev pub IsRefused : Nesting → List Column → q.Query → CheckStop → Type 0
 IsRefused nesting columns tree stop = IsUnresolved (whole.resolved nesting columns tree) stop
 
+-- the first of two queries is refused, or the second
+abbrev pub IsRefusedOfTwo : Nesting → List Column → q.Query → q.Query → CheckStop → Type 0
+IsRefusedOfTwo nesting columns f g stop = IsUnresolved
+    (whole.resolved nesting columns f >>= (λ (left : Qre). whole.resolved nesting columns g)) stop
+
 -- a node is made of one operand, whatever that was written as, or of two
 abbrev pub IsMadeOfOne : (q.Query → q.Query) → Typed → Typed → Type 0
 IsMadeOfOne node operand made = (nesting : Nesting) (columns : List Column) (f : q.Query)

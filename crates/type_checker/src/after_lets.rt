@@ -1,22 +1,20 @@
-//! The main query after lets.
-ghost use Rattle.std.specs.Prelude.{◌≡◌, IfErr, IfOk, None};
-ghost use Rattle.query_lets.specs.Unfolded.{unfolded};
-ghost use Rattle.query_lets.specs.Words.{wrong_name};
-ghost use Rattle.query_syntax.specs.Plain.{plain_program, plain_query};
+//! The passes over the names of columns and lets, and over the nodes of the main query after lets.
+ghost use Rattle.std.specs.Prelude.{IfErr, OnOk};
+ghost use Rattle.query_syntax.specs.Plain.{plain_program};
 ghost use Rattle.type_checker.specs.Findings.{IsUnresolved};
-ghost use Rattle.type_checker.specs.Passes.{IsMain, counted};
+ghost use Rattle.type_checker.specs.Passes.{IsCounted, counted};
 
 use crate::CheckStop;
 use language_base::Rule;
-use query_lets::{unfold, unfolded_outline, wrong_name};
-use query_syntax::{Program, Query};
-use std::alloc::{AllocError, Global};
+use query_lets::{unfolded_outline, wrong_name};
+use query_syntax::Program;
+use std::alloc::Global;
 
 const MAX_NODES: u32 = 256;
 
-/// The main query after lets of a program whose names are right, which is to have few nodes.
-pub fn main_query(alloc: Global, program: &Program) -> Result<Box<Query>, CheckStop>
-    ensures main { IfOk result (λ tree. IsMain (plain_program program.now) tree.value) }
+/// Whether the names of a program are right, and its main query after lets has few nodes.
+pub fn keep_nodes(alloc: Global, program: &Program) -> Result<(), CheckStop>
+    ensures counted { OnOk result (IsCounted (plain_program program.now)) }
     ensures refused { IfErr result (IsUnresolved (counted (plain_program program.now))) }
 {
     if let Some(span) = wrong_name(alloc, program)? {
@@ -26,14 +24,5 @@ pub fn main_query(alloc: Global, program: &Program) -> Result<Box<Query>, CheckS
     if outline.nodes > MAX_NODES {
         return Err(CheckStop::refused(Rule::Size, outline.span));
     }
-    Ok(tree_of(alloc, program)?)
-}
-
-// The main query after lets of a program whose names are right.
-fn tree_of(alloc: Global, program: &Program) -> Result<Box<Query>, AllocError>
-    requires { wrong_name (plain_program program.now) ≡ None }
-    ensures { IfOk result (λ tree.
-        plain_query tree.value ≡ unfolded (plain_program program.now)) }
-{
-    Ok(Box::new(alloc, unfold(alloc, program)?)?)
+    Ok(())
 }

@@ -1,12 +1,14 @@
 //! The passes before the rules of words.
-ghost use Rattle.std.specs.Prelude.{◌≡◌, IfErr, IfOk, Ok, OnOk};
+ghost use Rattle.std.specs.Prelude.{◌≡◌, IfErr, IfOk, None, Ok, OnOk};
 ghost use Rattle.std.specs.List.{Contains};
 ghost use Rattle.item_schema.specs.Layout.{Layout};
 ghost use Rattle.predicate_cells.specs.Predicates.{Predicate};
+ghost use Rattle.query_lets.specs.Unfolded.{unfolded};
+ghost use Rattle.query_lets.specs.Words.{wrong_name};
 ghost use Rattle.query_model.specs.Queries.{plain_of};
 ghost use Rattle.query_model.specs.Sizes.{predicates_of};
 ghost use Rattle.query_syntax.specs.Limits.{IsWithin};
-ghost use Rattle.query_syntax.specs.Plain.{plain_program, plain_query, plain_stream};
+ghost use Rattle.query_syntax.specs.Plain.{plain_program, plain_stream};
 ghost use Rattle.query_syntax.specs.Queries as syntax;
 ghost use Rattle.type_checker.specs.Findings.{CanBeAsked, IsUnresolved, KeepsTypes, places_in};
 ghost use Rattle.type_checker.specs.Judged.{limited, measured};
@@ -16,7 +18,7 @@ ghost use Rattle.type_checker.specs.Passes.{IsLimited, IsMeasured, IsNamed, told
 ghost use Rattle.type_checker.specs.Resolved.{outside, resolved};
 
 use crate::CheckStop;
-use crate::after_lets::main_query;
+use crate::after_lets::keep_nodes;
 use crate::apart::first_apart;
 use crate::naming::resolve;
 use crate::nesting::Nesting;
@@ -26,6 +28,7 @@ use item_schema::Schema;
 use language_base::{Rule, Span};
 use memory_bound::slots;
 use predicate_cells::{CellStop, Cells};
+use query_lets::{Scope, places_of};
 use query_model::{Query, cells_of};
 use query_syntax::Program;
 use std::alloc::Global;
@@ -47,9 +50,9 @@ pub fn measure(alloc: Global, program: &Program) -> Result<Measured, CheckStop>
     ensures measured { IfOk result (IsMeasured (plain_program program.now)) }
     ensures refused { IfErr result (IsUnresolved (measured (plain_program program.now))) }
 {
-    let tree = main_query(alloc, program)?;
+    keep_nodes(alloc, program)?;
     let schema = schema_of(alloc, &program.stream)?;
-    let query = query_in(alloc, &schema, &tree)?;
+    let query = query_in(alloc, &schema, program)?;
     keep_limits(&query)?;
     let cells = cells_in(alloc, &schema, &query, program.stream.span)?;
     keep_values(alloc, &schema, &query)?;
@@ -60,19 +63,18 @@ pub fn measure(alloc: Global, program: &Program) -> Result<Measured, CheckStop>
     })
 }
 
-// The query of a tree whose names and types are resolved.
-fn query_in(
-    alloc: Global,
-    schema: &Schema,
-    tree: &query_syntax::Query,
-) -> Result<Box<Query>, CheckStop>
-    requires { MayStand outside schema.now.columns }
+// The main query after lets, whose names and types are resolved.
+fn query_in(alloc: Global, schema: &Schema, program: &Program) -> Result<Box<Query>, CheckStop>
+    requires stands { MayStand outside schema.now.columns }
+    requires right { wrong_name (plain_program program.now) ≡ None }
     ensures named { IfOk result (λ query.
-        IsNamed schema.now.columns (plain_query tree.now) query.value) }
+        IsNamed schema.now.columns (unfolded (plain_program program.now)) query.value) }
     ensures refused { IfErr result (IsUnresolved
-        (resolved outside schema.now.columns (plain_query tree.now))) }
+        (resolved outside schema.now.columns (unfolded (plain_program program.now)))) }
 {
-    let typed = resolve(alloc, Nesting::Outside, schema, tree)?;
+    let places = places_of(alloc, program)?;
+    let main = Scope::main(program, &places);
+    let typed = resolve(alloc, Nesting::Outside, schema, main)?;
     Ok(typed.query)
 }
 

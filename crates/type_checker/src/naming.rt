@@ -1,9 +1,13 @@
 //! Queries whose names are resolved and whose types fit.
 ghost use Rattle.std.specs.Prelude.{◌≡◌, IfErr, IfOk};
-ghost use Rattle.query_model.specs.QueryTypes.{of_columns, type_of_kind};
+ghost use Rattle.query_lets.specs.Places.{IsPlaced, IsRoot, unfolded_at, unfolded_of};
+ghost use Rattle.query_model.specs.QueryTypes.{derived_columns, of_columns, type_of_kind};
 ghost use Rattle.query_syntax.specs.Plain.{plain_query};
+ghost use Rattle.query_syntax.specs.Queries as q;
 ghost use Rattle.type_checker.specs.Nestings.{MayStand, nesting_of};
-ghost use Rattle.type_checker.specs.Resolutions.{HasTypes, IsMade, IsNode, IsRefused, columns_of};
+ghost use Rattle.type_checker.specs.Resolutions.{HasTypes, IsMade, IsNode, IsRefused, IsRefusedOfTwo};
+ghost use Rattle.type_checker.specs.Resolutions.{columns_of};
+ghost use Rattle.type_checker.specs.Resolved.{inside};
 
 use crate::CheckStop;
 use crate::atom::atom;
@@ -12,6 +16,7 @@ use crate::shapes::{Items, apply, choice, combine, eps, iter, split};
 use crate::streams::{Collection, collect, compose};
 use item_schema::{Column, Kind, Schema};
 use language_base::{Rule, Span};
+use query_lets::Scope;
 use query_model::Shape;
 use query_syntax::Query;
 use std::alloc::{AllocError, Global};
@@ -40,20 +45,21 @@ pub fn resolve(
     alloc: Global,
     nesting: Nesting,
     schema: &Schema,
-    tree: &Query,
+    scope: Scope<'_, '_>,
 ) -> Result<Typed, CheckStop>
-    requires { MayStand (nesting_of nesting) schema.now.columns }
+    requires stands { MayStand (nesting_of nesting) schema.now.columns }
+    requires placed { IsPlaced scope }
     ensures made { IfOk result
-        (IsMade (nesting_of nesting) schema.now.columns (plain_query tree.now)) }
+        (IsMade (nesting_of nesting) schema.now.columns (unfolded_of scope.entry)) }
     ensures refused { IfErr result
-        (IsRefused (nesting_of nesting) schema.now.columns (plain_query tree.now)) }
+        (IsRefused (nesting_of nesting) schema.now.columns (unfolded_of scope.entry)) }
 {
     let types = types_of(alloc, schema.columns())?;
     let items = Items {
         schema,
         types: &types,
     };
-    resolve_over(alloc, nesting, &items, tree)
+    resolve_over(alloc, nesting, &items, scope)
 }
 
 #[cycle(resolve)]
@@ -61,16 +67,37 @@ fn resolve_over(
     alloc: Global,
     nesting: Nesting,
     items: &Items<'_>,
-    tree: &Query,
+    scope: Scope<'_, '_>,
 ) -> Result<Typed, CheckStop>
     requires types { HasTypes items.now }
     requires stands { MayStand (nesting_of nesting) (columns_of items.now) }
+    requires placed { IsPlaced scope }
     ensures made { IfOk result
-        (IsMade (nesting_of nesting) (columns_of items.now) (plain_query tree.now)) }
+        (IsMade (nesting_of nesting) (columns_of items.now) (unfolded_of scope.entry)) }
     ensures refused { IfErr result
-        (IsRefused (nesting_of nesting) (columns_of items.now) (plain_query tree.now)) }
+        (IsRefused (nesting_of nesting) (columns_of items.now) (unfolded_of scope.entry)) }
 {
-    match tree {
+    resolve_root(alloc, nesting, items, scope.root())
+}
+
+// The same, where the query is behind names.
+#[cycle(resolve)]
+fn resolve_root(
+    alloc: Global,
+    nesting: Nesting,
+    items: &Items<'_>,
+    scope: Scope<'_, '_>,
+) -> Result<Typed, CheckStop>
+    requires types { HasTypes items.now }
+    requires stands { MayStand (nesting_of nesting) (columns_of items.now) }
+    requires placed { IsPlaced scope }
+    requires root { IsRoot scope }
+    ensures made { IfOk result
+        (IsMade (nesting_of nesting) (columns_of items.now) (unfolded_of scope.entry)) }
+    ensures refused { IfErr result
+        (IsRefused (nesting_of nesting) (columns_of items.now) (unfolded_of scope.entry)) }
+{
+    match scope.query {
         Query::Name(name) => Err(CheckStop::refused(Rule::Name, name.span)),
         Query::Atom {
             predicate,
@@ -79,8 +106,7 @@ fn resolve_over(
         } => atom(alloc, items, predicate, value, *span),
         Query::Eps { value, span } => Ok(eps(alloc, value, *span)?),
         Query::Or { left, right, span } => {
-            let left = resolve_over(alloc, nesting, items, left)?;
-            let right = resolve_over(alloc, nesting, items, right)?;
+            let (left, right) = resolve_both(alloc, nesting, items, scope, left, right)?;
             choice(alloc, left, right, *span)
         }
         Query::Split {
@@ -89,8 +115,7 @@ fn resolve_over(
             value,
             span,
         } => {
-            let left = resolve_over(alloc, nesting, items, left)?;
-            let right = resolve_over(alloc, nesting, items, right)?;
+            let (left, right) = resolve_both(alloc, nesting, items, scope, left, right)?;
             split(alloc, left, right, value, *span)
         }
         Query::Iter {
@@ -99,7 +124,11 @@ fn resolve_over(
             step,
             span,
         } => {
-            let operand = resolve_over(alloc, nesting, items, operand)?;
+            let inner = Scope {
+                query: operand,
+                ..scope
+            };
+            let operand = resolve_over(alloc, nesting, items, inner)?;
             iter(alloc, operand, first, step, *span)
         }
         Query::Combine {
@@ -108,8 +137,7 @@ fn resolve_over(
             value,
             span,
         } => {
-            let left = resolve_over(alloc, nesting, items, left)?;
-            let right = resolve_over(alloc, nesting, items, right)?;
+            let (left, right) = resolve_both(alloc, nesting, items, scope, left, right)?;
             combine(alloc, left, right, value, *span)
         }
         Query::Apply {
@@ -117,14 +145,15 @@ fn resolve_over(
             value,
             span,
         } => {
-            let operand = resolve_over(alloc, nesting, items, operand)?;
+            let inner = Scope {
+                query: operand,
+                ..scope
+            };
+            let operand = resolve_over(alloc, nesting, items, inner)?;
             apply(alloc, operand, value, *span)
         }
         Query::Compose { left, right, span } => {
-            let left = resolve_over(alloc, nesting, items, left)?;
-            let values = Schema::derived(alloc, left.ty)?;
-            let right = resolve(alloc, Nesting::Inside, &values, right)?;
-            Ok(compose(alloc, left, right, *span)?)
+            resolve_fed(alloc, nesting, items, scope, left, right, *span)
         }
         Query::Collect {
             key,
@@ -134,10 +163,96 @@ fn resolve_over(
             span,
         } => {
             let written = Collection { key, sync, rate };
-            let operand = resolve_over(alloc, Nesting::Inside, items, body)?;
+            let inner = Scope {
+                query: body,
+                ..scope
+            };
+            let operand = resolve_over(alloc, Nesting::Inside, items, inner)?;
             collect(alloc, nesting, items, &written, operand, *span)
         }
     }
+}
+
+// The two operands of a node.
+#[cycle(resolve)]
+fn resolve_both(
+    alloc: Global,
+    nesting: Nesting,
+    items: &Items<'_>,
+    scope: Scope<'_, '_>,
+    left: &Query,
+    right: &Query,
+) -> Result<(Typed, Typed), CheckStop>
+    requires types { HasTypes items.now }
+    requires stands { MayStand (nesting_of nesting) (columns_of items.now) }
+    requires placed { IsPlaced scope }
+    ensures left { IfOk result (λ made. IsMade (nesting_of nesting) (columns_of items.now)
+        (unfolded_at scope.entry (plain_query left.now)) made.0) }
+    ensures right { IfOk result (λ made. IsMade (nesting_of nesting) (columns_of items.now)
+        (unfolded_at scope.entry (plain_query right.now)) made.1) }
+    ensures refused { IfErr result
+        (IsRefusedOfTwo (nesting_of nesting) (columns_of items.now)
+        (unfolded_at scope.entry (plain_query left.now))
+        (unfolded_at scope.entry (plain_query right.now))) }
+{
+    let first = Scope {
+        query: left,
+        ..scope
+    };
+    let left = resolve_over(alloc, nesting, items, first)?;
+    let second = Scope {
+        query: right,
+        ..scope
+    };
+    let right = resolve_over(alloc, nesting, items, second)?;
+    Ok((left, right))
+}
+
+// The second operand on the stream of the values of the first.
+#[cycle(resolve)]
+fn resolve_fed(
+    alloc: Global,
+    nesting: Nesting,
+    items: &Items<'_>,
+    scope: Scope<'_, '_>,
+    left: &Query,
+    right: &Query,
+    span: Span,
+) -> Result<Typed, CheckStop>
+    requires types { HasTypes items.now }
+    requires stands { MayStand (nesting_of nesting) (columns_of items.now) }
+    requires placed { IsPlaced scope }
+    ensures made { IfOk result (IsMade (nesting_of nesting) (columns_of items.now)
+        (q.compose (unfolded_at scope.entry (plain_query left.now))
+        (unfolded_at scope.entry (plain_query right.now)) span)) }
+    ensures refused { IfErr result (IsRefused (nesting_of nesting) (columns_of items.now)
+        (q.compose (unfolded_at scope.entry (plain_query left.now))
+        (unfolded_at scope.entry (plain_query right.now)) span)) }
+{
+    let first = Scope {
+        query: left,
+        ..scope
+    };
+    let left = resolve_over(alloc, nesting, items, first)?;
+    let second = Scope {
+        query: right,
+        ..scope
+    };
+    let right = resolve_on_values(alloc, left.ty, second)?;
+    Ok(compose(alloc, left, right, span)?)
+}
+
+// The query on the stream of values of a type.
+#[cycle(resolve)]
+fn resolve_on_values(alloc: Global, ty: ValueType, scope: Scope<'_, '_>) -> Result<Typed, CheckStop>
+    requires { IsPlaced scope }
+    ensures made { IfOk result
+        (IsMade inside (derived_columns ty) (unfolded_of scope.entry)) }
+    ensures refused { IfErr result
+        (IsRefused inside (derived_columns ty) (unfolded_of scope.entry)) }
+{
+    let values = Schema::derived(alloc, ty)?;
+    resolve(alloc, Nesting::Inside, &values, scope)
 }
 
 /// The types of the fields in the columns.

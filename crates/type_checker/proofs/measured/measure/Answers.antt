@@ -7,58 +7,54 @@ use Rattle.type_checker.specs.Resolved.{outside}
 use Rattle.type_checker.proofs.Measuring.{cells_refused, columns_read, columns_right, count_refused, limits_refused, measured_by, names_refused, values_refused}
 use Rattle.type_checker.proofs.measured.measure.Goals as goal
 
-pub returns-in_err-tree-clause-refused : goal.returns-in_err-tree-clause-refused
-returns-in_err-tree-clause-refused c =
+pub returns-in_err-keep_nodes-clause-refused : goal.returns-in_err-keep_nodes-clause-refused
+returns-in_err-keep_nodes-clause-refused c =
     let err = err_from_is_err_and c.from_residual.result c.from_residual.ensures.1 in
-    rw (err.1, err.2) (count_refused (plain_program c.args.program.now) _ c.in_err-tree.ensures.refused)
+    rw (err.1, err.2) (count_refused (plain_program c.args.program.now) _ c.in_err-keep_nodes.ensures.refused)
 
 pub schema_of-requires-clause-distinct : goal.schema_of-requires-clause-distinct
 schema_of-requires-clause-distinct c =
-    columns_right (plain_program c.args.program.now) c.in_ok-tree.ensures.main.right
+    columns_right (plain_program c.args.program.now) c.in_ok-keep_nodes.ensures.counted.right
 
-pub query_in-requires : goal.query_in-requires
-query_in-requires c =
+pub query_in-requires-clause-stands : goal.query_in-requires-clause-stands
+query_in-requires-clause-stands c =
     subst (λ (layout : Layout). MayStand outside layout.columns) (sym c.in_ok-schema.ensures)
     (columns_read (plain_program c.args.program.now).stream.columns)
 
 pub returns-in_err-query-clause-refused : goal.returns-in_err-query-clause-refused
 returns-in_err-query-clause-refused c =
     let err = err_from_is_err_and c.from_residual-in_err-query.result c.from_residual-in_err-query.ensures.1 in
-    rw (err.1, err.2) (names_refused (plain_program c.args.program.now) c.in_ok-tree.tree.value
-    c.in_ok-tree.ensures.main c.in_ok-schema.schema c.in_ok-schema.ensures _
-    (rw c.deref.ensures at c.in_err-query.ensures.refused))
+    rw (err.1, err.2) (names_refused (plain_program c.args.program.now) c.in_ok-keep_nodes.ensures.counted c.in_ok-schema.schema c.in_ok-schema.ensures _
+    c.in_err-query.ensures.refused)
 
 pub returns-in_err-keep_limits-clause-refused : goal.returns-in_err-keep_limits-clause-refused
 returns-in_err-keep_limits-clause-refused c =
     let err = err_from_is_err_and c.from_residual-in_err-keep_limits.result
     c.from_residual-in_err-keep_limits.ensures.1 in
-    rw (err.1, err.2) (limits_refused (plain_program c.args.program.now) c.in_ok-tree.tree.value
-    c.in_ok-tree.ensures.main c.in_ok-schema.schema c.in_ok-schema.ensures c.in_ok-query.query.value
-    (rw c.deref.ensures at c.in_ok-query.ensures.named) _
-    (rw c.deref-2.ensures at c.in_err-keep_limits.ensures.refused))
+    rw (err.1, err.2) (limits_refused (plain_program c.args.program.now) c.in_ok-keep_nodes.ensures.counted c.in_ok-schema.schema c.in_ok-schema.ensures c.in_ok-query.query.value
+    c.in_ok-query.ensures.named _
+    (rw c.deref.ensures at c.in_err-keep_limits.ensures.refused))
 
 pub returns-in_err-cells-clause-refused : goal.returns-in_err-cells-clause-refused
 returns-in_err-cells-clause-refused c =
     let err = err_from_is_err_and c.from_residual-in_err-cells.result c.from_residual-in_err-cells.ensures.1 in
-    rw (err.1, err.2) (cells_refused (plain_program c.args.program.now) c.in_ok-tree.tree.value
-    c.in_ok-tree.ensures.main c.in_ok-schema.schema c.in_ok-schema.ensures c.in_ok-query.query.value
-    (rw c.deref.ensures at c.in_ok-query.ensures.named) (rw c.deref-2.ensures at c.in_ok-keep_limits.ensures.limited) _
-    (rw c.deref-3.ensures at c.in_err-cells.ensures.refused))
+    rw (err.1, err.2) (cells_refused (plain_program c.args.program.now) c.in_ok-keep_nodes.ensures.counted c.in_ok-schema.schema c.in_ok-schema.ensures c.in_ok-query.query.value
+    c.in_ok-query.ensures.named (rw c.deref.ensures at c.in_ok-keep_limits.ensures.limited) _
+    (rw c.deref-2.ensures at c.in_err-cells.ensures.refused))
 
 pub returns-in_err-keep_values-clause-refused : goal.returns-in_err-keep_values-clause-refused
 returns-in_err-keep_values-clause-refused c =
     let err = err_from_is_err_and c.from_residual-in_err-keep_values.result
     c.from_residual-in_err-keep_values.ensures.1 in
-    rw (err.1, err.2) (values_refused (plain_program c.args.program.now) c.in_ok-tree.tree.value
-    c.in_ok-tree.ensures.main c.in_ok-schema.schema c.in_ok-schema.ensures c.in_ok-query.query.value
-    (rw c.deref.ensures at c.in_ok-query.ensures.named) (rw c.deref-2.ensures at c.in_ok-keep_limits.ensures.limited)
-    (rw c.deref-3.ensures at c.in_ok-cells.ensures.few) _
-    (rw c.deref-4.ensures at c.in_err-keep_values.ensures.refused))
+    rw (err.1, err.2) (values_refused (plain_program c.args.program.now) c.in_ok-keep_nodes.ensures.counted c.in_ok-schema.schema c.in_ok-schema.ensures c.in_ok-query.query.value
+    c.in_ok-query.ensures.named (rw c.deref.ensures at c.in_ok-keep_limits.ensures.limited)
+    (rw c.deref-2.ensures at c.in_ok-cells.ensures.few) _
+    (rw c.deref-3.ensures at c.in_err-keep_values.ensures.refused))
 
 pub returns-clause-measured : goal.returns-clause-measured
 returns-clause-measured c =
-    measured_by (plain_program c.args.program.now) _ c.in_ok-tree.tree.value c.in_ok-tree.ensures.main
-    c.in_ok-schema.ensures (rw c.deref.ensures at c.in_ok-query.ensures.named)
-    (rw c.deref-2.ensures at c.in_ok-keep_limits.ensures.limited) c.in_ok-cells.ensures.layout
-    (rw c.deref-3.ensures at c.in_ok-cells.ensures.few) (rw c.deref-3.ensures at c.in_ok-cells.ensures.members)
-    (rw c.deref-4.ensures at c.in_ok-keep_values.ensures.few)
+    measured_by (plain_program c.args.program.now) _ c.in_ok-keep_nodes.ensures.counted
+    c.in_ok-schema.ensures c.in_ok-query.ensures.named
+    (rw c.deref.ensures at c.in_ok-keep_limits.ensures.limited) c.in_ok-cells.ensures.layout
+    (rw c.deref-2.ensures at c.in_ok-cells.ensures.few) (rw c.deref-2.ensures at c.in_ok-cells.ensures.members)
+    (rw c.deref-3.ensures at c.in_ok-keep_values.ensures.few)

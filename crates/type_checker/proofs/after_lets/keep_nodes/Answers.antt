@@ -1,7 +1,7 @@
 use Rattle.std.proofs.Common.{sym, ◌∙◌}
 use Rattle.query_syntax.specs.Plain.{plain_program}
 use Rattle.type_checker.proofs.Measuring.{wrong_count}
-use Rattle.type_checker.proofs.after_lets.main_query.Goals as goal
+use Rattle.type_checker.proofs.after_lets.keep_nodes.Goals as goal
 
 pub returns-in-Some-clause-refused : goal.returns-in-Some-clause-refused
 returns-in-Some-clause-refused c =

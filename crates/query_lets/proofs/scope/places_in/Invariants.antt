@@ -1,7 +1,7 @@
 use Rattle.std.proofs.Common.{map, take, drop}
 use Rattle.query_syntax.specs.Plain.{plain_let}
 use Rattle.query_lets.proofs.Building.{AreBuilt}
-use Rattle.query_lets.proofs.scope.places_of.Given as goal
+use Rattle.query_lets.proofs.scope.places_in.Given as goal
 
 -- the places of the lets so far
 abbrev pub invariant-lets : goal.invariant-lets
