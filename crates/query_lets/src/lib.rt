@@ -1,5 +1,5 @@
-//! The lets of a query file: its first wrong name, how large its main query is after lets, and which
-//! query a name stands for.
+//! The lets of a query file: its first wrong name, how large its main query is with names replaced,
+//! and which query a name stands for.
 #![tactic(auto)]
 
 mod laws;

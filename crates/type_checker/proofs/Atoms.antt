@@ -11,13 +11,16 @@ use Rattle.query_syntax.specs.Expressions as e
 use Rattle.query_syntax.specs.Predicates as p
 use Rattle.query_syntax.specs.Queries as q
 use Rattle.type_checker.specs.Expressions.{expression_over, is_typed, of_item}
-use Rattle.type_checker.specs.Resolutions.{HasTypes, IsMade, columns_of}
+use Rattle.type_checker.specs.Findings.{IsUnresolved}
+use Rattle.type_checker.specs.Resolutions.{HasTypes, IsMade, IsRefused, columns_of}
 use Rattle.type_checker.specs.Resolved.{Nesting, resolved}
 use Rattle.type_checker.specs.Scopes.{HasFittingNumbers}
-use Rattle.type_checker.specs.Steps.{refusal}
+use Rattle.type_checker.specs.Steps.{found, refusal}
 use Rattle.type_checker.specs.Tests.{resolved_over}
 use Rattle.type_checker.specs.declared.naming.Typed.{Typed}
 use Rattle.type_checker.specs.declared.shapes.Items.{Items}
+use Rattle.type_checker.specs.declared.stop.CheckStop.{CheckStop}
+use Rattle.type_checker.specs.declared.stop.CheckStop.TheVariants.{Refused, Memory}
 use Rattle.type_checker.proofs.Operands.{made_of, no_place}
 use Rattle.type_checker.proofs.WellTyped.{is_typed_true, type_is, untyped, well_typed}
 use Rattle.value_ops.specs.Expressions as values
@@ -34,17 +37,20 @@ are_columns items is =
 
 module _ (nesting : Nesting) (columns : List Column) (predicate : p.Predicate) (tree : e.Expression) (span : Span) where
   -- a name in the predicate is no column's
-  pub untested : None ≡ resolved_over columns predicate
-      → resolved nesting columns (q.atom predicate tree span) ≡ Err (refusal Name span)
+  pub test_refused : (stop : CheckStop) → IsUnresolved (found Name span (resolved_over columns predicate)) stop
+      → IsRefused nesting columns (q.atom predicate tree span) stop
   unfolding resolved
-  untested is = rw (← is) refl
+  test_refused (Refused why) is = rw is refl
+  test_refused Memory is = tt
 
   module _ (pred : plain.Predicate) (tested : Some pred ≡ resolved_over columns predicate) where
     -- or one in the expression
-    pub unnamed : None ≡ expression_over (of_item columns) tree
-        → resolved nesting columns (q.atom predicate tree span) ≡ Err (refusal Name span)
+    pub value_refused : (stop : CheckStop)
+        → IsUnresolved (found Name span (expression_over (of_item columns) tree)) stop
+        → IsRefused nesting columns (q.atom predicate tree span) stop
     unfolding resolved
-    unnamed is = rw (← tested, ← is) refl
+    value_refused (Refused why) is = rw (← tested, is) refl
+    value_refused Memory is = tt
 
     module _ (value : values.Expression) (named : Some value ≡ expression_over (of_item columns) tree) where
       -- a test is of another kind than its column

@@ -16,12 +16,13 @@ use Rattle.query_syntax.specs.Queries as q
 use Rattle.query_syntax.specs.Rates as r
 use Rattle.query_syntax.specs.declared.leaf.Name as leaf
 use Rattle.rate_expr.specs.Rates.{Expression, preds_of}
+use Rattle.type_checker.specs.Findings.{IsUnresolved}
 use Rattle.type_checker.specs.Names.{column_named}
 use Rattle.type_checker.specs.Nestings.{MayStand}
 use Rattle.type_checker.specs.Rates.{rate_over}
 use Rattle.type_checker.specs.Resolutions.{IsMadeOfInner, IsMade, IsRefused, IsRefusedOverInner}
 use Rattle.type_checker.specs.Resolved.{Nesting, inside, may_collect, outside, resolved}
-use Rattle.type_checker.specs.Steps.{refusal}
+use Rattle.type_checker.specs.Steps.{found, refusal}
 use Rattle.type_checker.specs.Tests.{resolved_over}
 use Rattle.type_checker.specs.declared.naming.Typed.{Typed}
 use Rattle.type_checker.specs.declared.stop.CheckStop.{CheckStop}
@@ -55,17 +56,19 @@ module _ (nesting : Nesting) (columns : List Column) (key : leaf.Name) (sync : p
 
     module _ (column : ℕ) (keyed : Some column ≡ column_named columns key.bytes) where
       -- or a name in the predicate is none
-      pub untested_sync : None ≡ resolved_over columns sync
-          → resolved nesting columns (q.collect key sync rate f span) ≡ Err (refusal Name span)
+      pub sync_refused : (stop : CheckStop) → IsUnresolved (found Name span (resolved_over columns sync)) stop
+          → IsRefused nesting columns (q.collect key sync rate f span) stop
       unfolding resolved
-      untested_sync none = rw (is.resolved, ← keyed, ← none) refl
+      sync_refused (Refused why) none = rw (is.resolved, ← keyed, none) refl
+      sync_refused Memory none = tt
 
       module _ (pred : plain.Predicate) (tested : Some pred ≡ resolved_over columns sync) where
         -- or one in the rate
-        pub unrated : None ≡ rate_over columns rate
-            → resolved nesting columns (q.collect key sync rate f span) ≡ Err (refusal Name span)
+        pub rate_refused : (stop : CheckStop) → IsUnresolved (found Name span (rate_over columns rate)) stop
+            → IsRefused nesting columns (q.collect key sync rate f span) stop
         unfolding resolved
-        unrated none = rw (is.resolved, ← keyed, ← tested, ← none) refl
+        rate_refused (Refused why) none = rw (is.resolved, ← keyed, ← tested, none) refl
+        rate_refused Memory none = tt
 
         module _ (words : Expression) (rated : Some words ≡ rate_over columns rate) where
           abbrev parts_fit : Bool

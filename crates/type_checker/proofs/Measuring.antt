@@ -1,5 +1,5 @@
 -- What the passes before the rules of words make of a program, from what each of them finds.
-use Rattle.std.proofs.Common.{◌≡◌, ◌≤◌, ◌<◌, Bool, true, false, cond, List, [], ◌∷◌, ◌++◌, map, length, Option, None, Some, Result, Ok, Err, refl, sym, ap, subst, ◌∙◌, arith}
+use Rattle.std.proofs.Common.{◌≡◌, ◌≤◌, ◌<◌, Bool, true, false, cond, List, [], ◌∷◌, ◌++◌, map, length, Option, None, Some, Result, Ok, Err, refl, sym, ap, subst, ◌∙◌, ⊎_elim, arith}
 use Rattle.std.proofs.lemmas.Bool.Decides.{nat_tests}
 use Rattle.std.specs.List.{Contains, list_all}
 use Rattle.language_base.specs.declared.refusal.Refusal.{Refusal}
@@ -27,7 +27,7 @@ use Rattle.type_checker.specs.Findings.{IsUnresolved, KeepsTypes, derives_many, 
 use Rattle.type_checker.specs.Judged.{limited, measured, parted}
 use Rattle.type_checker.specs.Layouts.{column_of, kind_of, layout_of}
 use Rattle.type_checker.specs.Nodes.{first_where, nodes_in, places_of}
-use Rattle.type_checker.specs.Passes.{IsCounted, IsLimited, IsMeasured, IsNamed, counted, told_apart, values_apart}
+use Rattle.type_checker.specs.Passes.{IsBeyond, IsCounted, IsLimited, IsMeasured, IsNamed, counted, told_apart, values_apart}
 use Rattle.type_checker.specs.Resolved.{outside, resolved}
 use Rattle.query_model.specs.Few.{has_few_cells}
 use Rattle.type_checker.specs.Sizes.{derives_many_cells, first_node, has_few_nodes, has_few_slots, has_many_positions}
@@ -259,6 +259,13 @@ module _ (program : Program) (count : IsCounted program) (schema : Layout)
             (subst (λ (spans : List Span). because Cells (unless (first_where derives_many
             (nodes_in (layout_of program.stream).columns free (plain_of query.shape)) spans)) ≡ Err why) named.places
             (subst (λ (layout : Layout). values_apart layout.columns query ≡ Err why) same is))))
+
+    -- what is beyond the limits is refused
+    pub beyond_refused : (stop : CheckStop) → IsBeyond schema.columns program.stream.span query stop
+        → IsUnresolved (measured program) stop
+    beyond_refused stop = ⊎_elim (limits_refused stop)
+        (λ (limits, cells). ⊎_elim (cells_refused limits stop)
+        (λ (few, values). values_refused limits few stop values) cells)
 
 -- the nodes of a query are those of the tree that it was made of
 few_nodes : (program : Program) (query : memory.Query) → places_in query ≡ places_of (unfolded program)

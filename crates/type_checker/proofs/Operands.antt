@@ -13,11 +13,14 @@ use Rattle.query_syntax.specs.Queries as q
 use Rattle.query_syntax.specs.declared.leaf.Name.{Name}
 use Rattle.query_syntax.specs.declared.leaf.Number.{Number}
 use Rattle.type_checker.specs.Findings.{KeepsTypes, places_in}
+use Rattle.type_checker.specs.Joints.{joint_node}
 use Rattle.type_checker.specs.Nodes.{places_of}
 use Rattle.type_checker.specs.Resolutions.{IsMade, IsMadeOfOne, IsMadeOfTwo, IsRefused, IsRefusedOfTwo, IsRefusedOverOne, IsRefusedOverTwo}
 use Rattle.type_checker.specs.Resolved.{Nesting, resolved}
 use Rattle.type_checker.specs.Steps.{◌>>=◌}
 use Rattle.type_checker.specs.declared.naming.Typed.{Typed}
+use Rattle.type_checker.specs.declared.shapes.Joint.{Joint}
+use Rattle.type_checker.specs.declared.shapes.Joint.TheVariants.{Choice, Split, Combine}
 use Rattle.type_checker.specs.declared.stop.CheckStop.{CheckStop}
 use Rattle.type_checker.specs.declared.stop.CheckStop.TheVariants.{Refused, Memory}
 use Rattle.std.specs.Result.{IfErr, IfOk}
@@ -116,26 +119,16 @@ module _ (nesting : Nesting) (columns : List Column) where
 
     -- where one of its two operands is
     module _ (g : q.Query) where
-      pub or_operands : (span : Span) (stop : CheckStop) → IsRefusedOfTwo nesting columns f g stop
-          → IsRefused nesting columns (q.or f g span) stop
+      pub joint_operands : (joint : Joint) (span : Span) (stop : CheckStop) → IsRefusedOfTwo nesting columns f g stop
+          → IsRefused nesting columns (joint_node joint span f g) stop
       unfolding resolved
-      or_operands span (Refused why) is =
+      joint_operands joint span Memory is = tt
+      joint_operands Choice span (Refused why) is =
           stops_in_two (resolved nesting columns f) (resolved nesting columns g) _ why is
-      or_operands span Memory is = tt
-
-      pub split_operands : (value : e.Expression) (span : Span) (stop : CheckStop)
-          → IsRefusedOfTwo nesting columns f g stop → IsRefused nesting columns (q.split f g value span) stop
-      unfolding resolved
-      split_operands value span (Refused why) is =
+      joint_operands (Split value) span (Refused why) is =
           stops_in_two (resolved nesting columns f) (resolved nesting columns g) _ why is
-      split_operands value span Memory is = tt
-
-      pub combine_operands : (value : e.Expression) (span : Span) (stop : CheckStop)
-          → IsRefusedOfTwo nesting columns f g stop → IsRefused nesting columns (q.combine f g value span) stop
-      unfolding resolved
-      combine_operands value span (Refused why) is =
+      joint_operands (Combine value) span (Refused why) is =
           stops_in_two (resolved nesting columns f) (resolved nesting columns g) _ why is
-      combine_operands value span Memory is = tt
 
       -- which is the first, or the second behind it
       pub first_of_two : (stop : CheckStop) → IsRefused nesting columns f stop

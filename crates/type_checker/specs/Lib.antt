@@ -1,5 +1,6 @@
 pub mod Expressions
 pub mod Findings
+pub mod Joints
 pub mod Judged
 pub mod Layouts
 pub mod Names

@@ -1,5 +1,5 @@
 -- For the prover. What the passes before the rules of words find.
-use Rattle.std.specs.Prelude.{◌≡◌, ◌≤◌, true, List, None, Result, Ok}
+use Rattle.std.specs.Prelude.{◌≡◌, ◌⊎◌, ◌≤◌, true, List, None, Result, Ok}
 use Rattle.item_schema.specs.Layout.{Layout}
 use Rattle.item_schema.specs.declared.column.Column.{Column}
 use Rattle.language_base.specs.declared.refusal.Refusal.{Refusal}
@@ -15,7 +15,7 @@ use Rattle.query_model.specs.declared.query.Query as memory
 use Rattle.query_syntax.specs.Programs.{Program}
 use Rattle.query_syntax.specs.Queries.{Query}
 use Rattle.query_syntax.specs.Spans.{query_span}
-use Rattle.type_checker.specs.Findings.{CanBeAsked, KeepsTypes, derives_many, first_in, places_in}
+use Rattle.type_checker.specs.Findings.{CanBeAsked, IsUnresolved, KeepsTypes, derives_many, first_in, places_in}
 use Rattle.type_checker.specs.Judged.{limited, measured}
 use Rattle.type_checker.specs.Layouts.{layout_of}
 use Rattle.type_checker.specs.Nodes.{places_of}
@@ -24,6 +24,7 @@ use Rattle.query_model.specs.Few.{has_few_cells}
 use Rattle.type_checker.specs.Sizes.{has_few_nodes}
 use Rattle.type_checker.specs.Steps.{◌>>=◌, because, provided, unless}
 use Rattle.type_checker.specs.declared.measured.Measured.{Measured}
+use Rattle.type_checker.specs.declared.stop.CheckStop.{CheckStop}
 
 -- the passes over the names of columns and lets, and over the nodes
 abbrev pub counted : Program → Result (Unit {0}) Refusal
@@ -55,6 +56,16 @@ pub record IsLimited (query : memory.Query) : Type 0 where
   pub slots : slots_of (plain_of query.shape) ≤ max_slots
   pub limited : (layout : Layout) (tree : Query) → places_of tree ≡ places_in query
       → limited layout tree (plain_of query.shape) ≡ Ok tt
+
+-- it is refused because of the limits, or behind them the cells of items, or behind those the cells
+-- of values
+abbrev pub IsBeyond : List Column → Span → memory.Query → CheckStop → Type 0
+IsBeyond columns span query stop =
+    ((layout : Layout) (tree : Query) → places_of tree ≡ places_in query
+    → IsUnresolved (limited layout tree (plain_of query.shape)) stop)
+    ⊎ (IsLimited query × (IsUnresolved (told_apart columns span (plain_of query.shape)) stop
+    ⊎ ((told_apart columns span (plain_of query.shape) ≡ Ok tt)
+    × IsUnresolved (values_apart columns query) stop)))
 
 -- all passes but the last made this of the program
 pub record IsMeasured (program : Program) (made : Measured) : Type 0 where

@@ -1,5 +1,6 @@
 //! Atoms whose names are resolved and whose types fit.
-ghost use Rattle.std.specs.Prelude.{◌≡◌, true, IfErr, IfOk, OnOk};
+ghost use Rattle.std.specs.Prelude.{◌≡◌, true, IfErr, IfOk, OnOk, Some};
+ghost use Rattle.language_base.specs.declared.rule.Rule.TheVariants.{Name};
 ghost use Rattle.predicate_cells.specs.Fits.{fits};
 ghost use Rattle.predicate_cells.specs.Plain as predicates;
 ghost use Rattle.query_model.specs.QueryTypes.{of_columns};
@@ -7,15 +8,19 @@ ghost use Rattle.query_syntax.specs.Expressions as e;
 ghost use Rattle.query_syntax.specs.Plain.{plain_expression, plain_predicate};
 ghost use Rattle.query_syntax.specs.Predicates as p;
 ghost use Rattle.query_syntax.specs.Queries as q;
+ghost use Rattle.type_checker.specs.Expressions.{expression_over, of_item};
+ghost use Rattle.type_checker.specs.Findings.{IsUnresolved};
 ghost use Rattle.type_checker.specs.Resolutions.{HasTypes, IsMade, IsNamedAtom, IsRefused, columns_of};
 ghost use Rattle.type_checker.specs.Resolved.{Nesting};
+ghost use Rattle.type_checker.specs.Scopes.{HasFittingNumbers};
+ghost use Rattle.type_checker.specs.Steps.{found};
 ghost use Rattle.value_ops.specs.Expressions as values;
 ghost use Rattle.value_ops.specs.Typing.{HasType};
 
 use crate::CheckStop;
 use crate::expression::{Scope, expression_over};
 use crate::naming::Typed;
-use crate::predicate::pred_over;
+use crate::predicate::named_pred;
 use crate::shapes::Items;
 use item_schema::Schema;
 use language_base::{Rule, Span};
@@ -40,9 +45,33 @@ pub fn atom(
         → IsRefused nesting (columns_of items.now)
         (q.atom (plain_predicate predicate.now) (plain_expression value.now) span) stop) }
 {
+    let (pred, value, ty) = typed_atom(alloc, items, predicate, value, span)?;
+    Ok(Typed::new(alloc, Shape::Atom(pred, value), span, ty)?)
+}
+
+// The predicate, the value and its type, where names are resolved and types fit.
+fn typed_atom(
+    alloc: Global,
+    items: &Items<'_>,
+    predicate: &Predicate,
+    value: &Expression,
+    span: Span,
+) -> Result<(Pred, Expr, ValueType), CheckStop>
+    requires { HasTypes items.now }
+    ensures named { IfOk result (λ made. IsNamedAtom (columns_of items.now)
+        (plain_predicate predicate.now) (plain_expression value.now)
+        (predicates.plain_of made.0) (values.plain_of made.1)) }
+    ensures fits { IfOk result (λ made.
+        fits (columns_of items.now) (predicates.plain_of made.0) ≡ true) }
+    ensures typed { IfOk result (λ made.
+        HasType (of_columns (columns_of items.now)) (values.plain_of made.1) made.2) }
+    ensures refused { IfErr result (λ stop. (nesting : Nesting)
+        → IsRefused nesting (columns_of items.now)
+        (q.atom (plain_predicate predicate.now) (plain_expression value.now) span) stop) }
+{
     let (pred, value) = named_atom(alloc, items.schema, predicate, value, span)?;
     let ty = type_of_atom(items, &pred, &value, span)?;
-    Ok(Typed::new(alloc, Shape::Atom(pred, value), span, ty)?)
+    Ok((pred, value, ty))
 }
 
 // The predicate and the value of an atom, whose names are resolved.
@@ -60,13 +89,28 @@ fn named_atom(
         → IsRefused nesting schema.now.columns
         (q.atom (plain_predicate predicate.now) (plain_expression value.now) span) stop) }
 {
-    let Some(pred) = pred_over(alloc, schema, predicate)? else {
-        return Err(CheckStop::refused(Rule::Name, span));
-    };
-    let Some(value) = expression_over(alloc, Scope::Item(schema), value)? else {
-        return Err(CheckStop::refused(Rule::Name, span));
-    };
+    let pred = named_pred(alloc, schema, predicate, span)?;
+    let value = named_value(alloc, schema, value, span)?;
     Ok((pred, value))
+}
+
+fn named_value(
+    alloc: Global,
+    schema: &Schema,
+    value: &Expression,
+    span: Span,
+) -> Result<Expr, CheckStop>
+    ensures made { IfOk result (λ made. Some (values.plain_of made)
+        ≡ expression_over (of_item schema.now.columns) (plain_expression value.now)) }
+    ensures numbers { IfOk result (λ made. HasFittingNumbers (values.plain_of made)) }
+    ensures refused { IfErr result (IsUnresolved (found Name span
+        (expression_over (of_item schema.now.columns) (plain_expression value.now)))) }
+{
+    let found = expression_over(alloc, Scope::Item(schema), value)?;
+    match found {
+        Some(value) => Ok(value),
+        None => Err(CheckStop::refused(Rule::Name, span)),
+    }
 }
 
 // The type of the values of an atom whose names are resolved, if its types fit.

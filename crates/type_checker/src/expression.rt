@@ -1,13 +1,14 @@
 //! Expressions whose names are resolved.
 ghost use Rattle.std.specs.Prelude.{◌≡◌, IfOk, IfSome, option_map};
 ghost use Rattle.query_syntax.specs.Plain.{plain_expression};
-ghost use Rattle.type_checker.specs.Expressions.{expression_over, extremum_of, named_in, summary_of, table_form};
+ghost use Rattle.type_checker.specs.Expressions.{both_of, choice_of, expression_over, extremum_of};
+ghost use Rattle.type_checker.specs.Expressions.{named_in, summary_of, table_form};
 ghost use Rattle.type_checker.specs.Scopes.{HasFittingNumbers, plain_scope};
-ghost use Rattle.value_ops.specs.Expressions.{entry, plain_of};
+ghost use Rattle.value_ops.specs.Expressions.{binary, choice, entry, plain_of};
 
 use crate::columns::column_named;
 use item_schema::Schema;
-use query_syntax::{Expression, Extremum, Name, Summary, Text};
+use query_syntax::{BinaryOp, Comparison, Expression, Extremum, Name, Summary, Text};
 use std::alloc::{AllocError, Global};
 use value_ops::{Expr, Var};
 
@@ -53,35 +54,13 @@ pub fn expression_over(
             left,
             right,
             ..
-        } => {
-            let Some(left) = boxed_over(alloc, scope, left)? else {
-                return Ok(None);
-            };
-            let Some(right) = boxed_over(alloc, scope, right)? else {
-                return Ok(None);
-            };
-            Ok(Some(Expr::Binary(*operator, left, right)))
-        }
+        } => binary_over(alloc, scope, *operator, left, right),
         Expression::If {
             test,
             holds,
             fails,
             ..
-        } => {
-            let Some(left) = boxed_over(alloc, scope, &test.left)? else {
-                return Ok(None);
-            };
-            let Some(right) = boxed_over(alloc, scope, &test.right)? else {
-                return Ok(None);
-            };
-            let Some(holds) = boxed_over(alloc, scope, holds)? else {
-                return Ok(None);
-            };
-            let Some(fails) = boxed_over(alloc, scope, fails)? else {
-                return Ok(None);
-            };
-            Ok(Some(Expr::If(test.compare, left, right, holds, fails)))
-        }
+        } => choice_over(alloc, scope, test, holds, fails),
         Expression::Summary { summary, table, .. } => {
             match named_in(scope, table.bytes.as_slice()) {
                 Some(table) => Ok(Some(summary_of(*summary, table))),
@@ -118,6 +97,62 @@ fn boxed_over(
         Some(made) => Ok(Some(Box::new(alloc, made)?)),
         None => Ok(None),
     }
+}
+
+#[cycle(resolve)]
+fn binary_over(
+    alloc: Global,
+    scope: Scope<'_>,
+    operator: BinaryOp,
+    left: &Expression,
+    right: &Expression,
+) -> Result<Option<Expr>, AllocError>
+    ensures made { IfOk result (λ found. option_map plain_of found
+        ≡ both_of (binary operator)
+        (expression_over (plain_scope scope.entry) (plain_expression left.now))
+        (expression_over (plain_scope scope.entry) (plain_expression right.now))) }
+    ensures numbers { IfOk result (λ found.
+        IfSome found (λ made. HasFittingNumbers (plain_of made))) }
+{
+    let Some(left) = boxed_over(alloc, scope, left)? else {
+        return Ok(None);
+    };
+    let Some(right) = boxed_over(alloc, scope, right)? else {
+        return Ok(None);
+    };
+    Ok(Some(Expr::Binary(operator, left, right)))
+}
+
+#[cycle(resolve)]
+fn choice_over(
+    alloc: Global,
+    scope: Scope<'_>,
+    test: &Comparison,
+    holds: &Expression,
+    fails: &Expression,
+) -> Result<Option<Expr>, AllocError>
+    ensures made { IfOk result (λ found. option_map plain_of found
+        ≡ choice_of (choice test.now.compare)
+        (expression_over (plain_scope scope.entry) (plain_expression test.now.left.value))
+        (expression_over (plain_scope scope.entry) (plain_expression test.now.right.value))
+        (expression_over (plain_scope scope.entry) (plain_expression holds.now))
+        (expression_over (plain_scope scope.entry) (plain_expression fails.now))) }
+    ensures numbers { IfOk result (λ found.
+        IfSome found (λ made. HasFittingNumbers (plain_of made))) }
+{
+    let Some(left) = boxed_over(alloc, scope, &test.left)? else {
+        return Ok(None);
+    };
+    let Some(right) = boxed_over(alloc, scope, &test.right)? else {
+        return Ok(None);
+    };
+    let Some(holds) = boxed_over(alloc, scope, holds)? else {
+        return Ok(None);
+    };
+    let Some(fails) = boxed_over(alloc, scope, fails)? else {
+        return Ok(None);
+    };
+    Ok(Some(Expr::If(test.compare, left, right, holds, fails)))
 }
 
 #[cycle(resolve)]

@@ -13,6 +13,7 @@ mod naming;
 mod nesting;
 mod predicate;
 mod rate;
+mod resolving;
 mod roots;
 mod shapes;
 mod sizes;

@@ -10,18 +10,19 @@ ghost use Rattle.query_model.specs.Sizes.{predicates_of};
 ghost use Rattle.query_syntax.specs.Limits.{IsWithin};
 ghost use Rattle.query_syntax.specs.Plain.{plain_program, plain_stream};
 ghost use Rattle.query_syntax.specs.Queries as syntax;
-ghost use Rattle.type_checker.specs.Findings.{CanBeAsked, IsUnresolved, KeepsTypes, places_in};
+ghost use Rattle.type_checker.specs.Findings.{IsUnresolved, KeepsTypes, places_in};
 ghost use Rattle.type_checker.specs.Judged.{limited, measured};
 ghost use Rattle.type_checker.specs.Nestings.{MayStand};
 ghost use Rattle.type_checker.specs.Nodes.{places_of};
-ghost use Rattle.type_checker.specs.Passes.{IsLimited, IsMeasured, IsNamed, told_apart, values_apart};
+ghost use Rattle.type_checker.specs.Passes.{IsBeyond, IsLimited, IsMeasured, IsNamed};
+ghost use Rattle.type_checker.specs.Passes.{told_apart, values_apart};
 ghost use Rattle.type_checker.specs.Resolved.{outside, resolved};
 
 use crate::CheckStop;
 use crate::after_lets::keep_nodes;
 use crate::apart::first_apart;
-use crate::naming::resolve;
 use crate::nesting::Nesting;
+use crate::resolving::resolve;
 use crate::sizes::positions_of;
 use crate::stream_schema::schema_of;
 use item_schema::Schema;
@@ -53,9 +54,7 @@ pub fn measure(alloc: Global, program: &Program) -> Result<Measured, CheckStop>
     keep_nodes(alloc, program)?;
     let schema = schema_of(alloc, &program.stream)?;
     let query = query_in(alloc, &schema, program)?;
-    keep_limits(&query)?;
-    let cells = cells_in(alloc, &schema, &query, program.stream.span)?;
-    keep_values(alloc, &schema, &query)?;
+    let cells = cells_within(alloc, &schema, &query, program.stream.span)?;
     Ok(Measured {
         schema,
         query,
@@ -76,6 +75,29 @@ fn query_in(alloc: Global, schema: &Schema, program: &Program) -> Result<Box<Que
     let main = Scope::main(program, &places);
     let typed = resolve(alloc, Nesting::Outside, schema, main)?;
     Ok(typed.query)
+}
+
+// The cells of a stream's items, where the query keeps the limits.
+fn cells_within(
+    alloc: Global,
+    schema: &Schema,
+    query: &Query,
+    stream: Span,
+) -> Result<Cells, CheckStop>
+    requires { KeepsTypes schema.now.columns (plain_of query.now.shape) }
+    ensures limited { OnOk result (IsLimited query.now) }
+    ensures layout { IfOk result (λ cells. cells.layout ≡ schema.now) }
+    ensures members { IfOk result (λ cells. (pred : Predicate)
+        → Contains (predicates_of (plain_of query.now.shape)) pred → Contains cells.preds pred) }
+    ensures few { OnOk result
+        (told_apart schema.now.columns stream (plain_of query.now.shape) ≡ Ok tt) }
+    ensures values { OnOk result (values_apart schema.now.columns query.now ≡ Ok tt) }
+    ensures refused { IfErr result (IsBeyond schema.now.columns stream query.now) }
+{
+    keep_limits(query)?;
+    let cells = cells_in(alloc, schema, query, stream)?;
+    keep_values(alloc, schema, query)?;
+    Ok(cells)
 }
 
 // Whether each node has few positions, and little is kept for the query.

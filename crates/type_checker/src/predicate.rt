@@ -1,11 +1,16 @@
 //! Predicates over the columns of a stream.
-ghost use Rattle.std.specs.Prelude.{◌≡◌, IfOk, option_map};
+ghost use Rattle.std.specs.Prelude.{◌≡◌, IfErr, IfOk, Some, option_map};
+ghost use Rattle.language_base.specs.declared.rule.Rule.TheVariants.{Name};
 ghost use Rattle.predicate_cells.specs.Plain.{plain_of};
 ghost use Rattle.query_syntax.specs.Plain.{plain_predicate};
-ghost use Rattle.type_checker.specs.Tests.{equality_test, joined_by, order_test, resolved_over};
+ghost use Rattle.type_checker.specs.Findings.{IsUnresolved};
+ghost use Rattle.type_checker.specs.Steps.{found};
+ghost use Rattle.type_checker.specs.Tests.{both, equality_test, joined_by, order_test, resolved_over};
 
+use crate::CheckStop;
 use crate::columns::column_named;
 use item_schema::Schema;
+use language_base::{Rule, Span};
 use predicate_cells::Pred;
 use query_syntax::{Connective, Equality, Literal, Order, Predicate};
 use std::alloc::{AllocError, Global};
@@ -58,19 +63,30 @@ pub fn pred_over(
             left,
             right,
             ..
-        } => {
-            let Some(left) = boxed_over(alloc, schema, left)? else {
-                return Ok(None);
-            };
-            let Some(right) = boxed_over(alloc, schema, right)? else {
-                return Ok(None);
-            };
-            Ok(Some(joined_by(*connective, left, right)))
-        }
+        } => joined_over(alloc, schema, *connective, left, right),
         Predicate::Not { operand, .. } => match boxed_over(alloc, schema, operand)? {
             Some(inner) => Ok(Some(Pred::Not(inner))),
             None => Ok(None),
         },
+    }
+}
+
+/// The predicate of a node at the place, if each name in it is a column's.
+pub fn named_pred(
+    alloc: Global,
+    schema: &Schema,
+    predicate: &Predicate,
+    span: Span,
+) -> Result<Pred, CheckStop>
+    ensures made { IfOk result (λ made. Some (plain_of made)
+        ≡ resolved_over schema.now.columns (plain_predicate predicate.now)) }
+    ensures refused { IfErr result (IsUnresolved
+        (found Name span (resolved_over schema.now.columns (plain_predicate predicate.now)))) }
+{
+    let found = pred_over(alloc, schema, predicate)?;
+    match found {
+        Some(pred) => Ok(pred),
+        None => Err(CheckStop::refused(Rule::Name, span)),
     }
 }
 
@@ -87,6 +103,27 @@ fn boxed_over(
         Some(pred) => Ok(Some(Box::new(alloc, pred)?)),
         None => Ok(None),
     }
+}
+
+#[cycle(resolve)]
+fn joined_over(
+    alloc: Global,
+    schema: &Schema,
+    connective: Connective,
+    left: &Predicate,
+    right: &Predicate,
+) -> Result<Option<Pred>, AllocError>
+    ensures { IfOk result (λ found. option_map plain_of found
+        ≡ both connective (resolved_over schema.now.columns (plain_predicate left.now))
+        (resolved_over schema.now.columns (plain_predicate right.now))) }
+{
+    let Some(left) = boxed_over(alloc, schema, left)? else {
+        return Ok(None);
+    };
+    let Some(right) = boxed_over(alloc, schema, right)? else {
+        return Ok(None);
+    };
+    Ok(Some(joined_by(connective, left, right)))
 }
 
 fn equality_test(

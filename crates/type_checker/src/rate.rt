@@ -1,14 +1,19 @@
 //! Rates over the columns of a stream.
-ghost use Rattle.std.specs.Prelude.{◌≡◌, IfOk, Some, option_map};
+ghost use Rattle.std.specs.Prelude.{◌≡◌, IfErr, IfOk, Some, option_map};
 ghost use Rattle.std.specs.List.{list_all};
+ghost use Rattle.language_base.specs.declared.rule.Rule.TheVariants.{Name};
 ghost use Rattle.predicate_cells.specs.Fits.{fits};
 ghost use Rattle.query_syntax.specs.Plain.{plain_rate};
 ghost use Rattle.rate_expr.specs.Plain.{plain_of};
 ghost use Rattle.rate_expr.specs.Rates.{preds_of};
+ghost use Rattle.type_checker.specs.Findings.{IsUnresolved};
 ghost use Rattle.type_checker.specs.Rates.{joined_rates, rate_over};
+ghost use Rattle.type_checker.specs.Steps.{found};
 
+use crate::CheckStop;
 use crate::predicate::pred_over;
 use item_schema::Schema;
+use language_base::{Rule, Span};
 use query_syntax::Join;
 use rate_expr::Rate;
 use std::alloc::{AllocError, Global};
@@ -49,6 +54,25 @@ pub fn rate_over(
             Some(inner) => Ok(Some(Rate::Star(inner))),
             None => Ok(None),
         },
+    }
+}
+
+/// The rate of a node at the place, if each name in it is a column's.
+pub fn named_rate(
+    alloc: Global,
+    schema: &Schema,
+    rate: &query_syntax::Rate,
+    span: Span,
+) -> Result<Rate, CheckStop>
+    ensures made { IfOk result (λ made. Some (plain_of made)
+        ≡ rate_over schema.now.columns (plain_rate rate.now)) }
+    ensures refused { IfErr result (IsUnresolved
+        (found Name span (rate_over schema.now.columns (plain_rate rate.now)))) }
+{
+    let found = rate_over(alloc, schema, rate)?;
+    match found {
+        Some(rate) => Ok(rate),
+        None => Err(CheckStop::refused(Rule::Name, span)),
     }
 }
 

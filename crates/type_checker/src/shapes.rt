@@ -3,6 +3,7 @@ ghost use Rattle.std.specs.Prelude.{◌≡◌, IfErr, IfOk, List};
 ghost use Rattle.item_schema.specs.declared.column.Column.{Column};
 ghost use Rattle.query_syntax.specs.Plain.{plain_expression};
 ghost use Rattle.query_syntax.specs.Queries as q;
+ghost use Rattle.type_checker.specs.Joints.{joint_node};
 ghost use Rattle.type_checker.specs.Resolutions.{IsMade, IsMadeOfOne, IsMadeOfTwo};
 ghost use Rattle.type_checker.specs.Resolutions.{IsRefusedOverOne, IsRefusedOverTwo};
 ghost use Rattle.type_checker.specs.Resolved.{Nesting, same_type};
@@ -27,6 +28,32 @@ pub struct Items<'s> {
     pub types: &'s [Option<ValueType>],
 }
 
+/// How a node stands over two operands on one stream.
+#[derive(Clone, Copy)]
+pub enum Joint<'t> {
+    Choice,
+    Split(&'t Expression),
+    Combine(&'t Expression),
+}
+
+/// The node of two operands on one stream.
+pub fn joined(
+    alloc: Global,
+    joint: Joint<'_>,
+    left: Typed,
+    right: Typed,
+    span: Span,
+) -> Result<Typed, CheckStop>
+    ensures made { IfOk result (IsMadeOfTwo (joint_node joint.entry span) left right) }
+    ensures refused { IfErr result (IsRefusedOverTwo (joint_node joint.entry span) left right) }
+{
+    match joint {
+        Joint::Choice => choice(alloc, left, right, span),
+        Joint::Split(value) => split(alloc, left, right, value, span),
+        Joint::Combine(value) => combine(alloc, left, right, value, span),
+    }
+}
+
 pub fn eps(alloc: Global, number: &Number, span: Span) -> Result<Typed, AllocError>
     ensures { IfOk result (λ made. (nesting : Nesting) (columns : List Column)
         → IsMade nesting columns (q.eps number.now span) made) }
@@ -34,7 +61,7 @@ pub fn eps(alloc: Global, number: &Number, span: Span) -> Result<Typed, AllocErr
     Typed::new(alloc, Shape::Eps(number.value), span, ValueType::Number)
 }
 
-pub fn choice(alloc: Global, left: Typed, right: Typed, span: Span) -> Result<Typed, CheckStop>
+fn choice(alloc: Global, left: Typed, right: Typed, span: Span) -> Result<Typed, CheckStop>
     ensures made { IfOk result (IsMadeOfTwo (λ f g. q.or f g span) left right) }
     ensures refused { IfErr result (IsRefusedOverTwo (λ f g. q.or f g span) left right) }
 {
@@ -45,7 +72,7 @@ pub fn choice(alloc: Global, left: Typed, right: Typed, span: Span) -> Result<Ty
     Ok(Typed::new(alloc, shape, span, left.ty)?)
 }
 
-pub fn split(
+fn split(
     alloc: Global,
     left: Typed,
     right: Typed,
@@ -63,7 +90,7 @@ pub fn split(
     Ok(Typed::new(alloc, shape, span, ty)?)
 }
 
-pub fn combine(
+fn combine(
     alloc: Global,
     left: Typed,
     right: Typed,

@@ -15,8 +15,8 @@ use crate::CheckStop;
 use crate::columns::{column_named, has_texts};
 use crate::naming::Typed;
 use crate::nesting::Nesting;
-use crate::predicate::pred_over;
-use crate::rate::{all_fit, rate_over};
+use crate::predicate::named_pred;
+use crate::rate::{all_fit, named_rate};
 use crate::shapes::Items;
 use item_schema::Schema;
 use language_base::{Rule, Span};
@@ -68,10 +68,31 @@ pub fn collect(
         (λ f. q.collect written.now.key.now (plain_predicate written.now.sync.now)
         (plain_rate written.now.rate.now) f span) operand) }
 {
-    let parts = named_parts(alloc, items.schema, written, span)?;
-    keep_parts(nesting, items.schema, &parts, span)?;
+    let parts = fitting_parts(alloc, nesting, items.schema, written, span)?;
     let shape = Shape::Collect(parts.key, parts.sync, parts.rate, operand.query);
     Ok(Typed::new(alloc, shape, span, ValueType::Table)?)
+}
+
+// The parts of a collection that may stand there, whose names are resolved and whose types fit.
+fn fitting_parts(
+    alloc: Global,
+    nesting: Nesting,
+    schema: &Schema,
+    written: &Collection<'_>,
+    span: Span,
+) -> Result<Parts, CheckStop>
+    ensures named { IfOk result (IsNamedCollection schema.now.columns written.now.key.now
+        (plain_predicate written.now.sync.now) (plain_rate written.now.rate.now)) }
+    ensures stands { OnOk result (may_collect (nesting_of nesting) ≡ true) }
+    ensures fit { IfOk result (λ parts. parts_fit schema.now.columns parts ≡ true) }
+    ensures refused { IfErr result (λ stop. (operand : Typed)
+        → IsRefusedOverInner (nesting_of nesting) schema.now.columns
+        (λ f. q.collect written.now.key.now (plain_predicate written.now.sync.now)
+        (plain_rate written.now.rate.now) f span) operand stop) }
+{
+    let parts = named_parts(alloc, schema, written, span)?;
+    keep_parts(nesting, schema, &parts, span)?;
+    Ok(parts)
 }
 
 // The parts of a collection, whose names are resolved.
@@ -91,12 +112,8 @@ fn named_parts(
     let Some(key) = column_named(schema, written.key.bytes.as_slice()) else {
         return Err(CheckStop::refused(Rule::Name, span));
     };
-    let Some(sync) = pred_over(alloc, schema, written.sync)? else {
-        return Err(CheckStop::refused(Rule::Name, span));
-    };
-    let Some(rate) = rate_over(alloc, schema, written.rate)? else {
-        return Err(CheckStop::refused(Rule::Name, span));
-    };
+    let sync = named_pred(alloc, schema, written.sync, span)?;
+    let rate = named_rate(alloc, schema, written.rate, span)?;
     Ok(Parts { key, sync, rate })
 }
 

@@ -14,20 +14,13 @@ returns-in_err-pred-clause-refused c =
     let err = err_from_is_err_and c.from_residual.result c.from_residual.ensures.1 in
     rw (err.1, err.2) c.in_err-pred.ensures.refused
 
-pub returns-in_err-ty-clause-refused : goal.returns-in_err-ty-clause-refused
-returns-in_err-ty-clause-refused c =
-    let err = err_from_is_err_and c.from_residual-in_err-ty.result c.from_residual-in_err-ty.ensures.1 in
-    rw (err.1, err.2)
-    (λ nesting. c.in_err-ty.ensures.refused nesting (plain_predicate c.args.predicate.now)
-    (plain_expression c.args.value.now) c.in_ok-pred.ensures.made)
-
 pub returns-clause-made : goal.returns-clause-made
 returns-clause-made c =
     let columns = columns_of c.args.items.now in
-    let named = c.in_ok-pred.ensures.made in
+    let named = c.in_ok-pred.ensures.named in
     λ nesting. atom_made nesting columns (plain_predicate c.args.predicate.now)
     (plain_expression c.args.value.now) c.args.span (predicates.plain_of c.in_ok-pred.pred) named.tested
-    (values.plain_of c.in_ok-pred.value) named.named c.in_ok-ty.ensures.fits named.numbers (of_columns columns) refl
-    c.in_ok-ty.ty _ c.in_ok-ty.ensures.typed
+    (values.plain_of c.in_ok-pred.value) named.named c.in_ok-pred.ensures.fits named.numbers (of_columns columns) refl
+    c.in_ok-pred.ty _ c.in_ok-pred.ensures.typed
     (ap plain_of c.in_ok-new.ensures.shape_is) (ap spans_of c.in_ok-new.ensures.shape_is)
     c.in_ok-new.ensures.span_is c.in_ok-new.ensures.type_is

@@ -1,25 +1,27 @@
+use Rattle.std.proofs.lemmas.Result.{err_from_is_err_and}
 use Rattle.predicate_cells.specs.Plain as predicates
 use Rattle.query_syntax.specs.Plain.{plain_expression, plain_predicate}
-use Rattle.type_checker.proofs.Atoms.{unnamed, untested}
+use Rattle.type_checker.proofs.Atoms.{test_refused, value_refused}
 use Rattle.type_checker.proofs.atom.named_atom.Goals as goal
 
-pub returns-in_default-clause-refused : goal.returns-in_default-clause-refused
-returns-in_default-clause-refused c =
-    rw c.refused.ensures
-    (λ nesting. untested nesting c.args.schema.now.columns (plain_predicate c.args.predicate.now)
-    (plain_expression c.args.value.now) c.args.span (rw c.in_default.is at c.in_ok-pred.ensures))
+pub returns-in_err-pred-clause-refused : goal.returns-in_err-pred-clause-refused
+returns-in_err-pred-clause-refused c =
+    let err = err_from_is_err_and c.from_residual.result c.from_residual.ensures.1 in
+    rw (err.1, err.2)
+    (λ nesting. test_refused nesting c.args.schema.now.columns (plain_predicate c.args.predicate.now)
+    (plain_expression c.args.value.now) c.args.span _ c.in_err-pred.ensures.refused)
 
-pub returns-in_default-2-clause-refused : goal.returns-in_default-2-clause-refused
-returns-in_default-2-clause-refused c =
-    rw c.refused-in_default-2.ensures
-    (λ nesting. unnamed nesting c.args.schema.now.columns (plain_predicate c.args.predicate.now)
-    (plain_expression c.args.value.now) c.args.span
-    (predicates.plain_of c.in-Some.pred) (rw c.in-Some.is at c.in_ok-pred.ensures)
-    (rw c.in_default-2.is at c.in_ok-value.ensures.made))
+pub returns-in_err-value-clause-refused : goal.returns-in_err-value-clause-refused
+returns-in_err-value-clause-refused c =
+    let err = err_from_is_err_and c.from_residual-in_err-value.result c.from_residual-in_err-value.ensures.1 in
+    rw (err.1, err.2)
+    (λ nesting. value_refused nesting c.args.schema.now.columns (plain_predicate c.args.predicate.now)
+    (plain_expression c.args.value.now) c.args.span (predicates.plain_of c.in_ok-pred.pred) c.in_ok-pred.ensures.made _
+    c.in_err-value.ensures.refused)
 
 pub returns-clause-made : goal.returns-clause-made
 returns-clause-made c = record {
-  tested = rw c.in-Some.is at c.in_ok-pred.ensures;
-  named = rw c.in-Some-2.is at c.in_ok-value.ensures.made;
-  numbers = rw c.in-Some-2.is at c.in_ok-value.ensures.numbers;
+  tested = c.in_ok-pred.ensures.made;
+  named = c.in_ok-value.ensures.made;
+  numbers = c.in_ok-value.ensures.numbers;
 }

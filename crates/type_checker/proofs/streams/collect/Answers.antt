@@ -12,24 +12,16 @@ use Rattle.type_checker.proofs.streams.collect.Goals as goal
 pub returns-in_err-parts-clause-refused : goal.returns-in_err-parts-clause-refused
 returns-in_err-parts-clause-refused c =
     let err = err_from_is_err_and c.from_residual.result c.from_residual.ensures.1 in
-    rw (err.1, err.2) (c.in_err-parts.ensures.refused (nesting_of c.args.nesting) c.args.operand)
-
-pub returns-in_err-keep_parts-clause-refused : goal.returns-in_err-keep_parts-clause-refused
-returns-in_err-keep_parts-clause-refused c =
-    let err = err_from_is_err_and c.from_residual-in_err-keep_parts.result
-    c.from_residual-in_err-keep_parts.ensures.1 in
-    rw (err.1, err.2)
-    (c.in_err-keep_parts.ensures.refused c.args.written.now.key.now (plain_predicate c.args.written.now.sync.now)
-    (plain_rate c.args.written.now.rate.now) c.args.operand c.in_ok-parts.ensures.made)
+    rw (err.1, err.2) (c.in_err-parts.ensures.refused c.args.operand)
 
 pub returns-clause-made : goal.returns-clause-made
 returns-clause-made c =
     let parts = c.in_ok-parts.parts in
-    let named = c.in_ok-parts.ensures.made in
+    let named = c.in_ok-parts.ensures.named in
     λ f is. collect_made (nesting_of c.args.nesting) (columns_of c.args.items.now) c.args.written.now.key.now
     (plain_predicate c.args.written.now.sync.now) (plain_rate c.args.written.now.rate.now) f c.args.span c.args.operand
     is parts.key named.keyed (predicates.plain_of parts.sync) named.tested
-    (rates.plain_of parts.rate) named.rated c.in_ok-keep_parts.ensures.stands c.in_ok-keep_parts.ensures.fit _
+    (rates.plain_of parts.rate) named.rated c.in_ok-parts.ensures.stands c.in_ok-parts.ensures.fit _
     c.requires
     (ap plain_of c.in_ok-new.ensures.shape_is) (ap spans_of c.in_ok-new.ensures.shape_is)
     c.in_ok-new.ensures.span_is c.in_ok-new.ensures.type_is

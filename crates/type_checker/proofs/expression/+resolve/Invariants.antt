@@ -1,0 +1,23 @@
+use Rattle.std.proofs.Common.{◌+◌, ◌*◌, max}
+use Rattle.query_syntax.specs.declared.expression.Expression.{size-Expression}
+use Rattle.type_checker.proofs.expression.+resolve.Given as goal
+
+abbrev pub decreases-expression_over : goal.decreases-expression_over
+decreases-expression_over l = 3 * size-Expression l.expression.now
+
+abbrev pub decreases-boxed_over : goal.decreases-boxed_over
+decreases-boxed_over l = 3 * size-Expression l.expression.now + 1
+
+abbrev pub decreases-binary_over : goal.decreases-binary_over
+decreases-binary_over l = 3 * max (size-Expression l.left.now) (size-Expression l.right.now) + 2
+
+abbrev pub decreases-choice_over : goal.decreases-choice_over
+decreases-choice_over l =
+    3 * max (max (size-Expression l.test.now.left.value) (size-Expression l.test.now.right.value))
+    (max (size-Expression l.holds.now) (size-Expression l.fails.now)) + 2
+
+abbrev pub decreases-extremum_over : goal.decreases-extremum_over
+decreases-extremum_over l = 3 * size-Expression l.first.now + 2
+
+abbrev pub decreases-entry_over : goal.decreases-entry_over
+decreases-entry_over l = 3 * size-Expression l.absent.now + 2

@@ -1,0 +1,12 @@
+-- For the prover. A node over two operands, as it is written.
+use Rattle.language_base.specs.declared.span.Span.{Span}
+use Rattle.query_syntax.specs.Plain.{plain_expression}
+use Rattle.query_syntax.specs.Queries as q
+use Rattle.type_checker.specs.declared.shapes.Joint.{Joint}
+use Rattle.type_checker.specs.declared.shapes.Joint.TheVariants.{Choice, Split, Combine}
+
+-- the node, at a place
+abbrev pub joint_node : Joint → Span → q.Query → q.Query → q.Query
+joint_node Choice span f g = q.or f g span
+joint_node (Split value) span f g = q.split f g (plain_expression value.now) span
+joint_node (Combine value) span f g = q.combine f g (plain_expression value.now) span
