@@ -14,6 +14,12 @@ pub behind : {A E : Type 0} (P : A → Type 0) (first : Result A E) (next : A �
 behind P (Ok value) next holds each = each value holds
 behind P (Err why) next holds each = tt
 
+-- where it holds behind each value of the first step of which something else holds
+pub behind_such : {A B E : Type 0} (P : A → Type 0) (Q : B → Type 0) (first : Result A E) (next : A → Result B E)
+    → IfOk first P → ((value : A) → P value → IfOk (next value) Q) → IfOk (first >>= next) Q
+behind_such P Q (Ok value) next holds each = each value holds
+behind_such P Q (Err why) next holds each = tt
+
 -- it holds of a value that is there
 pub of_value : {A E : Type 0} (P : A → Type 0) (found : Result A E) (value : A) → found ≡ Ok value → IfOk found P
     → P value

@@ -1,5 +1,5 @@
 -- A query whose types are kept and that breaks no rule of words keeps all rules.
-use Rattle.std.proofs.Common.{◌≡◌, inl, inr, List, [], ◌∷◌, ◌++◌, length, None, arith}
+use Rattle.std.proofs.Common.{inl, inr, List, [], ◌∷◌, ◌++◌, None}
 use Rattle.std.specs.List.{AllByRecursion, list_all}
 use Rattle.std.proofs.lemmas.Bool.{and_parts}
 use Rattle.language_base.specs.declared.span.Span.{Span}
@@ -23,12 +23,11 @@ abbrev IsKept : Node → Type 0
 IsKept node = Breaks node None
 
 -- where no node is refused, none breaks a rule
-all_kept : (nodes : List Node) (places : List Span) → length nodes ≡ length places → FirstBroken nodes places None
-    → AllByRecursion IsKept nodes
-all_kept [] places same kept = tt
-all_kept (node ∷ nodes) [] same kept = absurd (omega arith)
-all_kept (node ∷ nodes) (span ∷ spans) same (inl (rule, broken, is)) = absurd (cc)
-all_kept (node ∷ nodes) (span ∷ spans) same (inr (here, rest)) = (here, all_kept nodes spans (omega arith) rest)
+all_kept : (nodes : List Node) (places : List Span) → FirstBroken nodes places None → AllByRecursion IsKept nodes
+all_kept [] places kept = tt
+all_kept (node ∷ nodes) [] kept = absurd kept
+all_kept (node ∷ nodes) (span ∷ spans) (inl (rule, broken, is)) = absurd (cc)
+all_kept (node ∷ nodes) (span ∷ spans) (inr (here, rest)) = (here, all_kept nodes spans rest)
 
 module _ (nodes others : List Node) (node : Node) (kept : AllByRecursion IsKept (nodes ++ others ++ node ∷ [])) where
   operands_kept : AllByRecursion IsKept (nodes ++ others)
@@ -122,7 +121,7 @@ clear_of columns standing (collect column sync rate f) (inner, number, single, t
     )
 
 pub clear_from : (columns : List Column) (standing : Standing) (query : Qre) (places : List Span)
-    → KeepsTypes columns query → length (nodes_in columns standing query) ≡ length places
-    → FirstBroken (nodes_in columns standing query) places None → IsClear standing columns query
-clear_from columns standing query places types same kept =
-    clear_of columns standing query types (all_kept (nodes_in columns standing query) places same kept)
+    → KeepsTypes columns query → FirstBroken (nodes_in columns standing query) places None
+    → IsClear standing columns query
+clear_from columns standing query places types kept =
+    clear_of columns standing query types (all_kept (nodes_in columns standing query) places kept)

@@ -1,5 +1,5 @@
 -- From what the passes before the rules of words made of a program to how it is judged.
-use Rattle.std.proofs.Common.{List, length, Option, None, Some, sym, ap, subst, ◌∙◌}
+use Rattle.std.proofs.Common.{List, Option, None, Some, sym, ap, subst}
 use Rattle.item_schema.specs.Layout.{Layout}
 use Rattle.item_schema.specs.declared.column.Column.{Column}
 use Rattle.language_base.specs.declared.refusal.Refusal.{Refusal}
@@ -21,7 +21,6 @@ use Rattle.type_checker.specs.declared.stop.CheckStop.{CheckStop}
 use Rattle.type_checker.specs.declared.stop.CheckStop.TheVariants.{Refused, Memory}
 use Rattle.type_checker.proofs.Clear.{clear_from}
 use Rattle.type_checker.proofs.Measuring.{columns_read}
-use Rattle.type_checker.proofs.Placed.{nodes_have_places}
 
 -- a program of which no query was made is refused for it
 pub unmeasured_stop : (program : Program) (stop : CheckStop) → IsUnresolved (measured program) stop
@@ -60,7 +59,6 @@ module _ (program : Program) (made : Measured) (is : IsMeasured program made) wh
 
     clear : IsClear free (layout_of program.stream).columns query
     clear = clear_from (layout_of program.stream).columns free query (places_of (unfolded program)) is.types
-        (nodes_have_places (layout_of program.stream).columns free made.query.value ∙ ap length is.places)
         (answers None kept)
 
     pub checked : IsChecked (record { layout = made.schema; main = made.query.value })

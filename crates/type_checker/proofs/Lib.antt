@@ -1,4 +1,5 @@
 pub mod Asked
+pub mod AsManyPlaces
 mod Atoms
 pub mod Behind
 pub mod Clear

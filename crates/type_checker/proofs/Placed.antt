@@ -15,10 +15,10 @@ use Rattle.type_checker.specs.Nodes.{Node, first_where, nodes_in}
 use Rattle.type_checker.specs.WordRules.{FirstBroken}
 
 -- the lengths of what stands behind one operand and behind two
-ends_one : {A : Type 0} (xs : List A) (x : A) → length (xs ++ x ∷ []) ≡ length xs + 1
+pub ends_one : {A : Type 0} (xs : List A) (x : A) → length (xs ++ x ∷ []) ≡ length xs + 1
 ends_one xs x = length-append xs (x ∷ [])
 
-ends_two : {A : Type 0} (xs ys : List A) (x : A) → length (xs ++ ys ++ x ∷ []) ≡ length xs + length ys + 1
+pub ends_two : {A : Type 0} (xs ys : List A) (x : A) → length (xs ++ ys ++ x ∷ []) ≡ length xs + length ys + 1
 ends_two xs ys x = let both = length-append xs ys in omega (arith, ends_one (xs ++ ys) x)
 
 spans_two : {A : Type 0} (xs ys : List A) (a b : A) → length (xs ++ a ∷ ys ++ b ∷ []) ≡ length xs + length ys + 2
@@ -136,8 +136,9 @@ broken_behind (node ∷ nodes) others (span ∷ spans) places why same (inr (her
 -- one of the first nodes breaks a rule
 pub broken_before : (nodes others : List Node) (spans places : List Span) (why : Refusal)
     → FirstBroken nodes spans (Some why) → FirstBroken (nodes ++ others) (spans ++ places) (Some why)
-broken_before [] others spans places why broken = absurd (cc)
-broken_before (node ∷ nodes) others [] places why broken = absurd (cc)
+broken_before [] others [] places why broken = absurd (cc)
+broken_before [] others (span ∷ spans) places why broken = absurd broken
+broken_before (node ∷ nodes) others [] places why broken = absurd broken
 broken_before (node ∷ nodes) others (span ∷ spans) places why (inl broken) = inl broken
 broken_before (node ∷ nodes) others (span ∷ spans) places why (inr (here, broken)) =
     inr (here, broken_before nodes others spans places why broken)

@@ -29,6 +29,7 @@ use Rattle.type_checker.specs.Layouts.{layout_of}
 use Rattle.type_checker.specs.Nodes.{Node, nodes_in, places_of}
 use Rattle.type_checker.specs.Steps.{refusal}
 use Rattle.type_checker.specs.WordRules.{BreaksAt, BreaksEqual, BreaksFed, BreaksMet, FirstBroken}
+use Rattle.type_checker.proofs.AsManyPlaces.{measured_placed}
 
 -- parts of one list that are as long are alike
 same_front : {A : Type 0} (u v s t : List A) → length u ≡ length v → u ++ s ≡ v ++ t → (u ≡ v) × (s ≡ t)
@@ -195,12 +196,14 @@ module _ (columns : List Column) (standing : Standing) where
   told_at (collect column sync rate f) never = met_told columns (preds_of rate) never
 
 -- the first node that breaks a rule is refused, or none is
-some_refusal : (nodes : List Node) (spans : List Span) → ((why : Option Refusal) → FirstBroken nodes spans why → ⊥) → ⊥
-some_refusal [] spans never = never None refl
-some_refusal (node ∷ nodes) [] never = never None refl
-some_refusal (node ∷ nodes) (span ∷ spans) never =
+some_refusal : (nodes : List Node) (spans : List Span) → length nodes ≡ length spans
+    → ((why : Option Refusal) → FirstBroken nodes spans why → ⊥) → ⊥
+some_refusal [] [] same never = never None refl
+some_refusal [] (span ∷ spans) same never = absurd (omega arith)
+some_refusal (node ∷ nodes) [] same never = absurd (omega arith)
+some_refusal (node ∷ nodes) (span ∷ spans) same never =
     told_at node.columns node.standing node.query
-    (by (λ kept. some_refusal nodes spans (λ why rest. never why (inr (kept, rest)))))
+    (by (λ kept. some_refusal nodes spans (omega arith) (λ why rest. never why (inr (kept, rest)))))
   where
     by : (BreaksAt node.columns node.standing node.query None → ⊥)
         → Told (BreaksAt node.columns node.standing node.query) → ⊥
@@ -215,7 +218,7 @@ module _ (program : Program) (never : (verdict : Verdict) → IsJudged program v
   of_measured : (made : Result Qre Refusal) → measured program ≡ made → ⊥
   of_measured (Ok query) is =
       some_refusal (nodes_in (layout_of program.stream).columns free query) (places_of (unfolded program))
-      (of_answer query is)
+      (measured_placed program query is (layout_of program.stream).columns free) (of_answer query is)
   of_measured (Err why) is = never (refused why) (unmeasured why is)
 
   pub none_without : ⊥

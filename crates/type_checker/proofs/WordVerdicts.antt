@@ -148,8 +148,9 @@ module _ (columns : List Column) (standing : Standing) where
 -- the first node that breaks a rule of words is refused in one way
 pub one_refusal : (nodes : List Node) (spans : List Span) (why other : Option Refusal) → FirstBroken nodes spans why
     → FirstBroken nodes spans other → other ≡ why
-one_refusal [] spans why other is is' = is' ∙ sym is
-one_refusal (node ∷ nodes) [] why other is is' = is' ∙ sym is
+one_refusal [] [] why other is is' = is' ∙ sym is
+one_refusal [] (span ∷ spans) why other is is' = absurd is
+one_refusal (node ∷ nodes) [] why other is is' = absurd is
 one_refusal (node ∷ nodes) (span ∷ spans) why other (inl (rule, broken, is)) (inl (rule', broken', is')) =
     is' ∙ ap (λ (r : Rule). Some (refusal r span))
     (one_rule node.columns node.standing node.query rule rule' broken broken') ∙ sym is

@@ -1,6 +1,6 @@
 -- Statement. The rules of words: at each node they are asked over all words of items of the node's
 -- stream, the rule of the lower number first.
-use Rattle.std.specs.Prelude.{◌+◌, ◌⊎◌, ◌≡◌, List, ◌∷◌, Option, None, Some}
+use Rattle.std.specs.Prelude.{◌+◌, ◌⊎◌, ◌≡◌, List, [], ◌∷◌, Option, None, Some}
 use Rattle.std.specs.List.{AllByRecursion, Contains}
 use Rattle.language_base.specs.declared.refusal.Refusal.{Refusal}
 use Rattle.language_base.specs.declared.rule.Rule.{Rule}
@@ -82,9 +82,10 @@ BreaksAt columns standing _ _ = ⊥
 abbrev pub Breaks : Node → Option Rule → Type 0
 Breaks node broken = BreaksAt node.columns node.standing node.query broken
 
--- the refusal at the first node that breaks a rule, where the nodes have these places
+-- the refusal at the first node that breaks a rule, where the nodes have these places, one each
 abbrev pub FirstBroken : List Node → List Span → Option Refusal → Type 0
 FirstBroken (node ∷ nodes) (span ∷ spans) why =
     ((rule : Rule) × Breaks node (Some rule) × (why ≡ Some (refusal rule span)))
     ⊎ (Breaks node None × FirstBroken nodes spans why)
-FirstBroken _ _ why = why ≡ None
+FirstBroken [] [] why = why ≡ None
+FirstBroken _ _ why = ⊥

@@ -1,5 +1,6 @@
 //! The top call.
 ghost use Rattle.std.specs.Prelude.{◌≡◌, IfErr, IfOk, None, OnOk};
+ghost use Rattle.query_lets.specs.Unfolded.{unfolded};
 ghost use Rattle.query_model.specs.Monitors.{monitor_of};
 ghost use Rattle.query_model.specs.Queries.{plain_of};
 ghost use Rattle.query_model.specs.Rules.{free};
@@ -7,7 +8,7 @@ ghost use Rattle.query_syntax.specs.Limits.{IsWithin};
 ghost use Rattle.query_syntax.specs.Plain.{plain_program, plain_stream};
 ghost use Rattle.type_checker.specs.Findings.{CanBeAsked, IsBrokenBy, places_in};
 ghost use Rattle.type_checker.specs.Judged.{IsJudged, accepted};
-ghost use Rattle.type_checker.specs.Nodes.{nodes_in};
+ghost use Rattle.type_checker.specs.Nodes.{nodes_in, places_of};
 ghost use Rattle.type_checker.specs.Stops.{IsStopOf};
 ghost use Rattle.type_checker.specs.WordRules.{FirstBroken};
 
@@ -26,6 +27,8 @@ pub fn check(alloc: Global, program: &Program) -> Result<Checked, CheckStop>
     requires { IsWithin (plain_stream program.now.stream) }
     ensures accepted { IfOk result (λ made.
         IsJudged (plain_program program.now) (accepted (monitor_of made))) }
+    ensures places { IfOk result (λ made.
+        places_in made.main ≡ places_of (unfolded (plain_program program.now))) }
     ensures refused { IfErr result (IsStopOf (plain_program program.now)) }
 {
     let found = measure(alloc, program)?;

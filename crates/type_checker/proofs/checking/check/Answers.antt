@@ -28,3 +28,6 @@ returns-clause-accepted c =
     rw c.new.ensures
     (judged_sound (plain_program c.args.program.now) c.in_ok-found.found c.in_ok-found.ensures.measured
     (rw c.deref.ensures at c.in_ok-keep_words_over.ensures.kept))
+
+pub returns-clause-places : goal.returns-clause-places
+returns-clause-places c = rw c.new.ensures c.in_ok-found.ensures.measured.places
