@@ -1,5 +1,5 @@
 -- The first node of a query that is so, by those of its operands.
-use Rattle.std.proofs.Common.{◌≡◌, Bool, cond, List, [], ◌∷◌, ◌++◌, length, length-append, Option, Some, None, refl, ◌∙◌, arith}
+use Rattle.std.proofs.Common.{◌≡◌, Bool, cond, List, [], ◌∷◌, ◌++◌, length, length-append, Option, Some, None, refl, ap, ◌∙◌, arith}
 use Rattle.std.specs.Option.{option_or}
 use Rattle.item_schema.specs.declared.column.Column.{Column}
 use Rattle.language_base.specs.declared.span.Span.{Span}
@@ -59,7 +59,7 @@ module _ (is_so : Node → Bool) (span : Span) (node : Node) (columns : List Col
         (behind ∙ neither))
 
     -- one of the first is
-    pub one_inside_first : (found : Span) → first_in is_so columns standing f ≡ Some found
+    one_inside_first : (found : Span) → first_in is_so columns standing f ≡ Some found
         → first_over_both ≡ Some found
     one_inside_first found some =
         let here = first_before is_so firsts seconds (places_in f) (places_in g) found some in
@@ -67,7 +67,7 @@ module _ (is_so : Node → Bool) (span : Span) (node : Node) (columns : List Col
         (first_before is_so (firsts ++ seconds) (node ∷ []) (places_in f ++ places_in g) (span ∷ []) found here)
 
     -- one of the second is
-    pub one_inside_second : (found : Span) → first_in is_so columns standing f ≡ None
+    one_inside_second : (found : Span) → first_in is_so columns standing f ≡ None
         → first_in is_so others other g ≡ Some found → first_over_both ≡ Some found
     one_inside_second found none some =
         let behind = first_behind is_so firsts seconds (places_in f) (places_in g)
@@ -83,6 +83,14 @@ module _ (is_so : Node → Bool) (span : Span) (node : Node) (columns : List Col
     first_of_two (Some place) later some none = one_inside_first place some
     first_of_two None (Some place) none some = one_inside_second place none some
     first_of_two None None none neither = none_inside_both none neither
+
+    -- one of either is
+    pub one_inside_both : (found : Span)
+        → option_or (first_in is_so columns standing f) (first_in is_so others other g) ≡ Some found
+        → first_over_both ≡ Some found
+    one_inside_both found some =
+        first_of_two _ _ refl refl
+        ∙ ap (λ (place : Option Span). option_or place (cond (is_so node) (Some span) None)) some
 
 -- what was found is found where the node itself is not so
 pub or_none : {A : Type 0} (found : Option A) → option_or found None ≡ found

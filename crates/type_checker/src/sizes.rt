@@ -1,5 +1,6 @@
 //! The positions of the rates of a query's nodes.
 ghost use Rattle.std.specs.Prelude.{◌≡◌, ◌≤◌, ◌<◌, ◌+◌, List, None, Some, IfErr, IfOk, OnOk};
+ghost use Rattle.std.specs.Option.{option_or};
 ghost use Rattle.item_schema.specs.declared.column.Column.{Column};
 ghost use Rattle.language_base.specs.Limits.{max_positions};
 ghost use Rattle.query_model.specs.Queries.{plain_of};
@@ -8,7 +9,7 @@ ghost use Rattle.query_model.specs.Rules.{Standing};
 ghost use Rattle.query_model.specs.Sizes.{HasFewPositions};
 ghost use Rattle.rate_expr.specs.Plain as rates;
 ghost use Rattle.rate_expr.specs.Rates.{size_of};
-ghost use Rattle.type_checker.specs.Findings.{places_in};
+ghost use Rattle.type_checker.specs.Findings.{first_in, places_in};
 ghost use Rattle.type_checker.specs.Nodes.{first_where, nodes_in};
 ghost use Rattle.type_checker.specs.Sizes.{has_many_positions};
 
@@ -16,7 +17,15 @@ use language_base::Span;
 use query_model::{Query, Shape};
 use rate_expr::{MAX_POSITIONS, Rate};
 
+// The positions of the rates of two operands.
+#[derive(Drop)]
+struct Counts {
+    left: u32,
+    right: u32,
+}
+
 /// The positions of the query's rate, or the place of the first node whose rate has too many.
+#[cycle(positions)]
 pub fn positions_of(query: &Query) -> Result<u32, Span>
     ensures count { IfOk result (λ count.
         count ≡ size_of (rate_of (plain_of query.now.shape))) }
@@ -33,30 +42,51 @@ pub fn positions_of(query: &Query) -> Result<u32, Span>
         Shape::Atom(..) => Ok(1),
         Shape::Eps(_) => Ok(0),
         Shape::Or(first, second) => {
-            let count = positions_of(first)?;
-            few_together(count, positions_of(second)?, query.span)
+            let counts = positions_of_two(first, second)?;
+            few_together(counts.left, counts.right, query.span)
         }
         Shape::Split(first, second, _) => {
-            let count = positions_of(first)?;
-            few_together(count, positions_of(second)?, query.span)
+            let counts = positions_of_two(first, second)?;
+            few_together(counts.left, counts.right, query.span)
         }
         Shape::Iter(inner, ..) => positions_of(inner),
         Shape::Combine(first, second, _) => {
-            let count = positions_of(first)?;
-            positions_of(second)?;
-            Ok(count)
+            let counts = positions_of_two(first, second)?;
+            Ok(counts.left)
         }
         Shape::Apply(inner, _) => positions_of(inner),
         Shape::Compose(first, second) => {
-            let count = positions_of(first)?;
-            positions_of(second)?;
-            Ok(count)
+            let counts = positions_of_two(first, second)?;
+            Ok(counts.left)
         }
         Shape::Collect(_, _, rate, inner) => {
             positions_of(inner)?;
             few_in(rate, query.span)
         }
     }
+}
+
+// The same of two operands.
+#[cycle(positions)]
+fn positions_of_two(first: &Query, second: &Query) -> Result<Counts, Span>
+    ensures left { IfOk result (λ counts.
+        counts.left ≡ size_of (rate_of (plain_of first.now.shape))) }
+    ensures right { IfOk result (λ counts.
+        counts.right ≡ size_of (rate_of (plain_of second.now.shape))) }
+    ensures small { IfOk result (λ counts.
+        (counts.left ≤ max_positions) × (counts.right ≤ max_positions)) }
+    ensures few { OnOk result (HasFewPositions (plain_of first.now.shape)
+        × HasFewPositions (plain_of second.now.shape)) }
+    ensures none { OnOk result ((columns : List Column) (standing : Standing)
+        → (first_in has_many_positions columns standing first.now ≡ None)
+        × (first_in has_many_positions columns standing second.now ≡ None)) }
+    ensures first { IfErr result (λ span. (columns others : List Column) (standing other : Standing)
+        → option_or (first_in has_many_positions columns standing first.now)
+        (first_in has_many_positions others other second.now) ≡ Some span) }
+{
+    let left = positions_of(first)?;
+    let right = positions_of(second)?;
+    Ok(Counts { left, right })
 }
 
 // The positions of two operands, or the place of their node where they are too many.
