@@ -1,5 +1,5 @@
 -- The first composition that tells too many values apart, by those in the operands of a query.
-use Rattle.std.proofs.Common.{◌≡◌, Bool, false, cond, not, List, [], ◌∷◌, ◌++◌, Option, Some, None, sym, subst, ap, ap₂, ◌∙◌}
+use Rattle.std.proofs.Common.{◌≡◌, Bool, true, false, cond, not, List, [], ◌∷◌, ◌++◌, Option, Some, None, refl, sym, subst, ap, ap₂, ◌∙◌}
 use Rattle.std.specs.Option.{option_or}
 use Rattle.item_schema.specs.Layout.{Layout, derived_layout}
 use Rattle.item_schema.specs.declared.column.Column.{Column}
@@ -9,7 +9,7 @@ use Rattle.query_model.specs.QueryTypes.{derived_columns, type_of}
 use Rattle.query_model.specs.Rules.{Standing, bound}
 use Rattle.query_model.specs.declared.query.Query.{Query}
 use Rattle.query_model.specs.declared.query.Shape.{Shape}
-use Rattle.type_checker.specs.Findings.{KeepsTypes, derives_many, first_in}
+use Rattle.type_checker.specs.Findings.{KeepsTypes, derives_many, first_behind, first_in}
 use Rattle.type_checker.specs.Nodes.{Node, first_where, nodes_in}
 use Rattle.query_model.specs.Few.{has_few_cells}
 use Rattle.type_checker.specs.Sizes.{derives_many_cells}
@@ -77,6 +77,23 @@ beside query shape f g is keeps nodes single spans = record {
       ∙ or_none (option_or found later);
 }
 
+-- the first of three places
+or_either : {A : Type 0} (a b c : Option A) → option_or (option_or a b) c ≡ option_or a (option_or b c)
+or_either (Some x) b c = refl
+or_either None b c = refl
+
+if_not : (few : Bool) (span : Span) → cond few None (Some span) ≡ cond (not few) (Some span) None
+if_not true span = refl
+if_not false span = refl
+
+-- the first behind an operand, by what is found of each
+pub here_behind : (values : List Column) (standing : Standing) (g : Query) (span : Span) (later here : Option Span)
+    → first_in derives_many values standing g ≡ later
+    → here ≡ cond (not (has_few_cells values (plain_of g.shape))) (Some span) None
+    → option_or later here ≡ first_behind values standing g span
+here_behind values standing g span later here one many =
+    ap₂ option_or (sym one) (many ∙ sym (if_not (has_few_cells values (plain_of g.shape)) span))
+
 -- the query is a composition
 module _ (query : Query) (shape : Shape) (f g : Query) (is : query.shape ≡ shape)
     (plain : plain_of shape ≡ compose (plain_of f.shape) (plain_of g.shape))
@@ -100,6 +117,13 @@ module _ (query : Query) (shape : Shape) (f g : Query) (is : query.shape ≡ sha
       ∙ first_of_two derives_many query.span (root columns standing (compose (plain_of f.shape) (plain_of g.shape)))
       columns standing f values standing g found later one other
       ∙ ap (option_or (option_or found later)) (sym many)
+
+  pub compose_behind : (standing : Standing) (found behind : Option Span)
+      → first_in derives_many columns standing f ≡ found → behind ≡ first_behind values standing g query.span
+      → first_in derives_many columns standing query ≡ option_or found behind
+  compose_behind standing found behind one later =
+      compose_first standing found _ _ one refl (if_not (has_few_cells values (plain_of g.shape)) query.span)
+      ∙ or_either found _ _ ∙ ap (option_or found) (sym later)
 
 -- what holds over the stream of values
 pub on_stream : (layout : Layout) (columns : List Column) (f : Query)

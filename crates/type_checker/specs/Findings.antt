@@ -1,6 +1,7 @@
 -- For the prover. What a pass over a query finds, as its caller needs it.
-use Rattle.std.specs.Prelude.{◌≡◌, Bool, true, Result, Err, List, ◌∷◌, [], ◌++◌, Option, None, Some, FitsSigned}
+use Rattle.std.specs.Prelude.{◌≡◌, Bool, true, Result, Err, List, ◌∷◌, [], ◌++◌, Option, None, Some, FitsSigned, if◌then◌else◌}
 use Rattle.std.specs.List.{Contains}
+use Rattle.std.specs.Option.{option_or}
 use Rattle.language_base.specs.declared.refusal.Refusal.{Refusal}
 use Rattle.language_base.specs.declared.rule.Rule.{Rule}
 use Rattle.language_base.specs.declared.span.Span.{Span}
@@ -13,6 +14,7 @@ use Rattle.rate_expr.specs.Paths.{AreOf}
 use Rattle.rate_expr.specs.Rates.{Expression, preds_of}
 use Rattle.rate_expr.specs.Sets.{Sets}
 use Rattle.symbolic_nfa.specs.Automata.{Automaton}
+use Rattle.query_model.specs.Few.{has_few_cells}
 use Rattle.query_model.specs.QueryTypes.{derived_columns, type_of, of_columns, of_one, of_two}
 use Rattle.query_model.specs.Rates.{rate_of}
 use Rattle.query_model.specs.Rules.{HasNoCollect, Standing, bound, IsTyped}
@@ -48,6 +50,12 @@ first_in is_so columns standing query =
 -- the node is a composition whose right operand tells too many values of the left one apart
 abbrev pub derives_many : Node → Bool
 derives_many node = derives_many_cells node.columns node.query
+
+-- the place of the first such in the second operand of a composition, on these columns of values, or
+-- else that of the composition, where it is one itself
+abbrev pub first_behind : List Column → Standing → Query → Span → Option Span
+first_behind values standing second span = option_or (first_in derives_many values standing second)
+    (if has_few_cells values (plain_of second.shape) then None else Some span)
 
 -- At each node tests are of the kinds of their columns, expressions are well typed and numbers of
 -- 64 bits; no collection stands on the right of a composition or in another, and what is collected

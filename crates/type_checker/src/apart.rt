@@ -2,9 +2,11 @@
 ghost use Rattle.std.specs.Prelude.{◌≡◌, Some, None, not, if◌then◌else◌, IfOk};
 ghost use Rattle.predicate_cells.specs.Cells.{AllFit};
 ghost use Rattle.query_model.specs.Queries.{plain_of};
+ghost use Rattle.query_model.specs.QueryTypes.{derived_columns, type_of};
 ghost use Rattle.query_model.specs.Rules.{Standing};
 ghost use Rattle.query_model.specs.Sizes.{predicates_of};
-ghost use Rattle.type_checker.specs.Findings.{KeepsTypes, derives_many, first_in};
+ghost use Rattle.type_checker.specs.Findings.{KeepsTypes, derives_many, first_behind};
+ghost use Rattle.type_checker.specs.Findings.{first_in};
 ghost use Rattle.query_model.specs.Few.{has_few_cells};
 
 use crate::values::values_of;
@@ -15,6 +17,7 @@ use query_model::{Query, Shape, cells_of};
 use std::alloc::{AllocError, Global};
 
 /// The place of the first composition that tells too many of its first operand's values apart.
+#[cycle(apart)]
 pub fn first_apart(
     alloc: Global,
     schema: &Schema,
@@ -38,12 +41,31 @@ pub fn first_apart(
         }
         Shape::Compose(first, second) => {
             let left = first_apart(alloc, schema, first)?;
-            let values = values_of(alloc, schema, first)?;
-            let right = first_apart(alloc, &values, second)?;
-            let here = place_of_many(alloc, &values, second, query.span)?;
-            Ok(left.or(right).or(here))
+            let behind = first_behind(alloc, schema, first, second, query.span)?;
+            Ok(left.or(behind))
         }
     }
+}
+
+// The same of the second operand of a composition, and of the composition itself.
+#[cycle(apart)]
+fn first_behind(
+    alloc: Global,
+    schema: &Schema,
+    first: &Query,
+    second: &Query,
+    span: Span,
+) -> Result<Option<Span>, AllocError>
+    requires { KeepsTypes (derived_columns (type_of schema.now.columns (plain_of first.now.shape)))
+        (plain_of second.now.shape) }
+    ensures { IfOk result (λ found. (standing : Standing) → found ≡ first_behind
+        (derived_columns (type_of schema.now.columns (plain_of first.now.shape))) standing
+        second.now span) }
+{
+    let values = values_of(alloc, schema, first)?;
+    let right = first_apart(alloc, &values, second)?;
+    let here = place_of_many(alloc, &values, second, span)?;
+    Ok(right.or(here))
 }
 
 // The place, where the predicates of the query tell too many items of its stream apart.
