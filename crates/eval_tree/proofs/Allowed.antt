@@ -14,14 +14,14 @@ use Rattle.query_model.specs.Rules.{bound}
 use Rattle.query_model.proofs.ItemFields.{atom_types}
 use Rattle.split_eval.specs.Entries.{Contents}
 use Rattle.eval_tree.specs.declared.hit.Hit.{Hit}
-use Rattle.eval_tree.specs.Holdings.{Holding, waiting, both, operand, pending, Seen}
+use Rattle.eval_tree.specs.Holdings.{Holding, atom_held, choice_held, apply_held, split_held, Seen}
 use Rattle.eval_tree.specs.Lefts.{AreTypedWith, IsTypedOnHit, IsTypedWith}
 use Rattle.eval_tree.specs.Steps.{CanStart, CanStep, StartsSoundly, StepsSoundly}
 use Rattle.eval_tree.proofs.Typed.{all_typed_with, hit_of, typed_on_hit, typed_with}
 
 module _ {R : Type 0} (seen : R → Seen R) where
   -- starts
-  unfoldable pub start_first : (f g : Qre) (a b : Holding R) (at : ℕ) → CanStart seen (choice f g) (both a b) at
+  unfoldable pub start_first : (f g : Qre) (a b : Holding R) (at : ℕ) → CanStart seen (choice f g) (choice_held a b) at
       → CanStart seen f a at
   start_first f g a b at can =
       let room : at + (composes_of f + composes_of g) < 2 ^ 64 = can.room in record {
@@ -32,7 +32,7 @@ module _ {R : Type 0} (seen : R → Seen R) where
         room = omega (arith, room);
       }
 
-  unfoldable pub start_second : (f g : Qre) (a b : Holding R) (at : ℕ) → CanStart seen (choice f g) (both a b) at
+  unfoldable pub start_second : (f g : Qre) (a b : Holding R) (at : ℕ) → CanStart seen (choice f g) (choice_held a b) at
       → CanStart seen g b at
   start_second f g a b at can =
       let room : at + (composes_of f + composes_of g) < 2 ^ 64 = can.room in record {
@@ -44,7 +44,7 @@ module _ {R : Type 0} (seen : R → Seen R) where
       }
 
   unfoldable pub start_operand : (f : Qre) (e : Expression) (a : Holding R) (at : ℕ)
-      → CanStart seen (apply f e) (operand a) at
+      → CanStart seen (apply f e) (apply_held a) at
       → CanStart seen f a at
   start_operand f e a at can = record {
     standing = bound;
@@ -55,7 +55,7 @@ module _ {R : Type 0} (seen : R → Seen R) where
   }
 
   unfoldable pub start_left : (f g : Qre) (e : Expression) (a b : Holding R) (held : Contents Value) (at : ℕ)
-      → CanStart seen (split f g e) (pending a b held) at → CanStart seen f a at
+      → CanStart seen (split f g e) (split_held a b held) at → CanStart seen f a at
   start_left f g e a b held at can =
       let room : at + (composes_of f + composes_of g) < 2 ^ 64 = can.room in record {
         standing = bound;
@@ -66,7 +66,7 @@ module _ {R : Type 0} (seen : R → Seen R) where
       }
 
   unfoldable pub start_right : (f g : Qre) (e : Expression) (a b : Holding R) (held : Contents Value) (at : ℕ)
-      → CanStart seen (split f g e) (pending a b held) at → CanStart seen g b at
+      → CanStart seen (split f g e) (split_held a b held) at → CanStart seen g b at
   start_right f g e a b held at can =
       let room : at + (composes_of f + composes_of g) < 2 ^ 64 = can.room in record {
         standing = bound;
@@ -76,14 +76,8 @@ module _ {R : Type 0} (seen : R → Seen R) where
         room = omega (arith, room);
       }
 
-  pub started_apply : (f : Qre) (e : Expression) (a a' : Holding R) (at : ℕ) (hit : Option Hit)
-      → CanStart seen (apply f e) (operand a) at → StartsSoundly seen f a at a' hit → IsTypedOnHit e hit
-  started_apply f e a a' at hit can started =
-      let x = started bound can.columns can.clear.0 can.sound in
-      typed_on_hit (type_of can.columns f) _ e hit (hit_of (type_of can.columns f) at hit x.hit) can.clear.1
-
   pub started_split : (f g : Qre) (e : Expression) (a b a' b' : Holding R) (held : Contents Value) (at : ℕ) (left : Hit)
-      (right : Option Hit) → CanStart seen (split f g e) (pending a b held) at
+      (right : Option Hit) → CanStart seen (split f g e) (split_held a b held) at
       → StartsSoundly seen f a at a' (Some left) → StartsSoundly seen g b at b' right
       → IsTypedWith e left.value right
   started_split f g e a b a' b' held at left right can first second =
@@ -94,7 +88,7 @@ module _ {R : Type 0} (seen : R → Seen R) where
 
   -- steps
   unfoldable pub step_first : (f g : Qre) (a b : Holding R) (now : ℕ) (item : List Field)
-      → CanStep seen (choice f g) (both a b) now item → CanStep seen f a now item
+      → CanStep seen (choice f g) (choice_held a b) now item → CanStep seen f a now item
   step_first f g a b now item can =
       let room : now + (composes_of f + composes_of g) < 2 ^ 64 = can.room in record {
         standing = bound;
@@ -108,7 +102,7 @@ module _ {R : Type 0} (seen : R → Seen R) where
       }
 
   unfoldable pub step_second : (f g : Qre) (a b : Holding R) (now : ℕ) (item : List Field)
-      → CanStep seen (choice f g) (both a b) now item → CanStep seen g b now item
+      → CanStep seen (choice f g) (choice_held a b) now item → CanStep seen g b now item
   step_second f g a b now item can =
       let room : now + (composes_of f + composes_of g) < 2 ^ 64 = can.room in record {
         standing = bound;
@@ -122,7 +116,7 @@ module _ {R : Type 0} (seen : R → Seen R) where
       }
 
   unfoldable pub step_operand : (f : Qre) (e : Expression) (a : Holding R) (now : ℕ) (item : List Field)
-      → CanStep seen (apply f e) (operand a) now item → CanStep seen f a now item
+      → CanStep seen (apply f e) (apply_held a) now item → CanStep seen f a now item
   step_operand f e a now item can = record {
     standing = bound;
     columns = can.columns;
@@ -136,7 +130,7 @@ module _ {R : Type 0} (seen : R → Seen R) where
 
   unfoldable pub step_left : (f g : Qre) (e : Expression) (a b : Holding R) (held : Contents Value) (now : ℕ)
       (item : List Field)
-      → CanStep seen (split f g e) (pending a b held) now item → CanStep seen f a now item
+      → CanStep seen (split f g e) (split_held a b held) now item → CanStep seen f a now item
   step_left f g e a b held now item can =
       let room : now + (composes_of f + composes_of g) < 2 ^ 64 = can.room in record {
         standing = bound;
@@ -151,7 +145,7 @@ module _ {R : Type 0} (seen : R → Seen R) where
 
   unfoldable pub step_right : (f g : Qre) (e : Expression) (a b : Holding R) (held : Contents Value) (now : ℕ)
       (item : List Field)
-      → CanStep seen (split f g e) (pending a b held) now item → CanStep seen g b now item
+      → CanStep seen (split f g e) (split_held a b held) now item → CanStep seen g b now item
   step_right f g e a b held now item can =
       let room : now + (composes_of f + composes_of g) < 2 ^ 64 = can.room in record {
         standing = bound;
@@ -166,7 +160,7 @@ module _ {R : Type 0} (seen : R → Seen R) where
 
   -- the right operand is started behind the item that it has just seen
   unfoldable pub start_behind : (f g : Qre) (e : Expression) (a b b' : Holding R) (held : Contents Value) (now : ℕ)
-      (item : List Field) (right : Option Hit) → CanStep seen (split f g e) (pending a b held) now item
+      (item : List Field) (right : Option Hit) → CanStep seen (split f g e) (split_held a b held) now item
       → StepsSoundly seen g b now item b' right → CanStart seen g b' now
   start_behind f g e a b b' held now item right can second =
       let room : now + (composes_of f + composes_of g) < 2 ^ 64 = can.room in
@@ -180,7 +174,7 @@ module _ {R : Type 0} (seen : R → Seen R) where
       }
 
   pub stepped_atom : (pred : Predicate) (e : Expression) (found : Option ℕ) (now : ℕ) (item : List Field)
-      → CanStep seen (atom pred e) (waiting found) now item
+      → CanStep seen (atom pred e) (atom_held found) now item
       → (type : ValueType) × HasType (types_of (given item None None)) e type
   stepped_atom pred e found now item can = (
     type_of_expression (of_columns can.columns) e,
@@ -188,14 +182,8 @@ module _ {R : Type 0} (seen : R → Seen R) where
         (sym (atom_types can.columns item can.is_item)) can.clear.1,
   )
 
-  pub stepped_apply : (f : Qre) (e : Expression) (a a' : Holding R) (now : ℕ) (item : List Field) (hit : Option Hit)
-      → CanStep seen (apply f e) (operand a) now item → StepsSoundly seen f a now item a' hit → IsTypedOnHit e hit
-  stepped_apply f e a a' now item hit can stepped =
-      let x = stepped bound can.columns can.position can.behind can.clear.0 can.is_item can.sound in
-      typed_on_hit (type_of can.columns f) _ e hit x.hit can.clear.1
-
   pub stepped_ended : (f g : Qre) (e : Expression) (a b b' : Holding R) (held : Contents Value) (now : ℕ)
-      (item : List Field) (right : Option Hit) → CanStep seen (split f g e) (pending a b held) now item
+      (item : List Field) (right : Option Hit) → CanStep seen (split f g e) (split_held a b held) now item
       → StepsSoundly seen g b now item b' right → AreTypedWith e held.entries right
   stepped_ended f g e a b b' held now item right can second =
       let y = second bound can.columns can.position can.behind can.clear.1 can.is_item can.sound.1 in
@@ -204,7 +192,7 @@ module _ {R : Type 0} (seen : R → Seen R) where
 
   pub stepped_joined : (f g : Qre) (e : Expression) (a b a' b' b'' : Holding R) (held : Contents Value) (now : ℕ)
       (item : List Field) (left : Hit) (right begun : Option Hit)
-      → CanStep seen (split f g e) (pending a b held) now item
+      → CanStep seen (split f g e) (split_held a b held) now item
       → StepsSoundly seen f a now item a' (Some left) → StepsSoundly seen g b now item b' right
       → StartsSoundly seen g b' now b'' begun → IsTypedWith e left.value begun
   stepped_joined f g e a b a' b' b'' held now item left right begun can first second third =

@@ -29,11 +29,6 @@ same_query x y same = ap (λ (query : Query). plain_of query.shape) (sym same)
 pub same_node : (x y : Node) → x ≡ y → holding_of y.state ≡ holding_of x.state
 same_node x y same = ap (λ (node : Node). holding_of node.state) (sym same)
 
--- what a box leads to that stands in a node
-pub same_in : (x : Node) (b a : Box Node Global) → x ≡ b.value → b ≡ a → holding_of a.value.state ≡ holding_of x.state
-same_in x b a same is =
-    ap (λ (c : Box Node Global). holding_of c.value.state) (sym is) ∙ same_node x b.value same
-
 pub live_as : (query other : Query) (node beside : Node) (start : ℕ) (live : Bool) → query ≡ other → node ≡ beside
     → live ≡ live_of (plain_of query.shape) (holding_of node.state) start
     → live ≡ live_of (plain_of other.shape) (holding_of beside.state) start

@@ -8,7 +8,7 @@ use Rattle.query_model.specs.Denotation.{Den}
 use Rattle.query_model.specs.Queries.{Qre, choice, apply}
 use Rattle.query_model.specs.Rules.{bound}
 use Rattle.eval_tree.specs.declared.hit.Hit.{Hit}
-use Rattle.eval_tree.specs.Holdings.{Holding, both, operand, Seen}
+use Rattle.eval_tree.specs.Holdings.{Holding, choice_held, apply_held, Seen}
 use Rattle.eval_tree.specs.Lefts.{IsApplied}
 use Rattle.eval_tree.specs.Steps.{IsFirstHit, IsHit, Starts, Steps}
 use Rattle.eval_tree.proofs.Apart.{apart_first, apart_second}
@@ -63,7 +63,7 @@ module _ (f : Qre) (e : Expression) where
 module _ {R : Type 0} (seen : R → Seen R) where
   pub start_choice : (f g : Qre) (a b a' b' : Holding R) (at : ℕ) (left right : Option Hit)
       → Starts seen f a at a' left → Starts seen g b at b' right
-      → Starts seen (choice f g) (both a b) at (both a' b') (option_or left right)
+      → Starts seen (choice f g) (choice_held a b) at (choice_held a' b') (option_or left right)
   start_choice f g a b a' b' at left right first second = λ standing columns word starts clear is positions rep
       fresh end apart.
       let x = first bound columns word starts clear.0 is positions rep.0 fresh end
@@ -77,7 +77,7 @@ module _ {R : Type 0} (seen : R → Seen R) where
 
   pub step_choice : (f g : Qre) (a b a' b' : Holding R) (now : ℕ) (item : List Field) (left right : Option Hit)
       → Steps seen f a now item a' left → Steps seen g b now item b' right
-      → Steps seen (choice f g) (both a b) now item (both a' b') (option_or left right)
+      → Steps seen (choice f g) (choice_held a b) now item (choice_held a' b') (option_or left right)
   step_choice f g a b a' b' now item left right first second = λ standing columns word starts clear is positions
       rep end apart.
       let x = first bound columns word starts clear.0 is positions rep.0 end
@@ -91,7 +91,7 @@ module _ {R : Type 0} (seen : R → Seen R) where
 
   pub start_apply : (f : Qre) (e : Expression) (a a' : Holding R) (at : ℕ) (inner hit : Option Hit)
       → Starts seen f a at a' inner → IsApplied e inner hit
-      → Starts seen (apply f e) (operand a) at (operand a') hit
+      → Starts seen (apply f e) (apply_held a) at (apply_held a') hit
   start_apply f e a a' at inner hit starts_ applied = λ standing columns word starts clear is positions rep
       fresh end apart.
       let x = starts_ bound columns word starts clear.0 is positions rep fresh end apart in
@@ -102,7 +102,7 @@ module _ {R : Type 0} (seen : R → Seen R) where
 
   pub step_apply : (f : Qre) (e : Expression) (a a' : Holding R) (now : ℕ) (item : List Field) (inner hit : Option Hit)
       → Steps seen f a now item a' inner → IsApplied e inner hit
-      → Steps seen (apply f e) (operand a) now item (operand a') hit
+      → Steps seen (apply f e) (apply_held a) now item (apply_held a') hit
   step_apply f e a a' now item inner hit steps applied = λ standing columns word starts clear is positions
       rep end apart.
       let x = steps bound columns word starts clear.0 is positions rep end apart in

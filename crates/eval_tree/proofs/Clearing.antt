@@ -23,7 +23,7 @@ use Rattle.compose_eval.specs.Followers.{Contents, live_instances, outers_of, re
 use Rattle.compose_eval.specs.declared.instance.Instance.{Instance}
 use Rattle.eval_tree.specs.Counts.{size_of_answer, stored_in}
 use Rattle.eval_tree.specs.Feeds.{AreCleared, IsCleared, IsClearedIn, IsSoundOf}
-use Rattle.eval_tree.specs.Holdings.{Holding, waiting, nothing, both, paired, operand, pending, chained, fed, Seen}
+use Rattle.eval_tree.specs.Holdings.{Holding, atom_held, eps_held, choice_held, combine_held, apply_held, split_held, iter_held, compose_held, Seen}
 use Rattle.eval_tree.specs.Represents.{AreWaiting, KeepsFew}
 use Rattle.eval_tree.specs.Sound.{AreEntriesOf, IsSound, IsSoundWithin, IsTyped}
 use Rattle.eval_tree.specs.Starts.{AreDifferent}
@@ -46,36 +46,33 @@ no_entries type places old new are none same =
 
 module _ {R : Type 0} (seen : R → Seen R) where
   pub clear_atom : (pred : Predicate) (e : Expression) (found : Option ℕ)
-      → IsCleared seen (atom pred e) (waiting found) (waiting None)
+      → IsCleared seen (atom pred e) (atom_held found) (atom_held None)
   clear_atom pred e found = λ no_collect columns position sound. (
     λ others start. (λ is. absurd (none-some start is), λ there. absurd (no_member start there.0)),
     λ now. tt,
   )
 
-  pub clear_eps : (number : ℤ) → IsCleared seen (eps number) nothing nothing
-  clear_eps number = λ no_collect columns position sound. (λ others. tt, λ now. tt)
-
   pub clear_choice : (f g : Qre) (a b a' b' : Holding R) → IsCleared seen f a a' → IsCleared seen g b b'
-      → IsCleared seen (choice f g) (both a b) (both a' b')
+      → IsCleared seen (choice f g) (choice_held a b) (choice_held a' b')
   clear_choice f g a b a' b' first second = λ no_collect columns position sound.
       let x = first no_collect.0 columns position sound.0 in
       let y = second no_collect.1 columns position sound.1 in
       (λ others. (x.0 others, y.0 others), λ now. (x.1 now, y.1 now))
 
   pub clear_combine : (f g : Qre) (e : Expression) (a b a' b' : Holding R) → IsCleared seen f a a'
-      → IsCleared seen g b b' → IsCleared seen (combine f g e) (paired a b) (paired a' b')
+      → IsCleared seen g b b' → IsCleared seen (combine f g e) (combine_held a b) (combine_held a' b')
   clear_combine f g e a b a' b' first second = λ no_collect columns position sound.
       let x = first no_collect.0 columns position sound.0 in
       let y = second no_collect.1 columns position sound.1 in
       (λ others. (x.0 others, y.0 others), λ now. (x.1 now, y.1 now))
 
   pub clear_apply : (f : Qre) (e : Expression) (a a' : Holding R) → IsCleared seen f a a'
-      → IsCleared seen (apply f e) (operand a) (operand a')
+      → IsCleared seen (apply f e) (apply_held a) (apply_held a')
   clear_apply f e a a' first = λ no_collect columns position sound. first no_collect columns position sound
 
   pub clear_split : (f g : Qre) (e : Expression) (a b a' b' : Holding R) (held new : entries.Contents Value)
       → IsCleared seen f a a' → IsCleared seen g b b' → new.entries ≡ [] → new.room ≡ held.room
-      → IsCleared seen (split f g e) (pending a b held) (pending a' b' new)
+      → IsCleared seen (split f g e) (split_held a b held) (split_held a' b' new)
   clear_split f g e a b a' b' held new first second none room = λ no_collect columns position sound.
       let x = first no_collect.0 columns position sound.0 in
       let y = second no_collect.1 columns position sound.1 in (
@@ -91,7 +88,7 @@ module _ {R : Type 0} (seen : R → Seen R) where
 
   pub clear_iter : (f : Qre) (number : ℤ) (e : Expression) (a a' : Holding R) (held new : entries.Contents Value)
       → IsCleared seen f a a' → new.entries ≡ [] → new.room ≡ held.room
-      → IsCleared seen (iter f number e) (chained a held) (chained a' new)
+      → IsCleared seen (iter f number e) (iter_held a held) (iter_held a' new)
   clear_iter f number e a a' held new first none room = λ no_collect columns position sound.
       let x = first no_collect columns position sound.0 in (
         λ others.
@@ -175,7 +172,7 @@ module _ {R : Type 0} (seen : R → Seen R) where
       → resting.live ≡ live_instances (λ start. false) held.live
       → resting.idle ≡ held.idle ++ retired (λ start. false) held.live
       → new.live ≡ resting.live → AreCleared seen g (length resting.idle) resting.idle new.idle
-      → IsCleared seen (compose f g) (fed a held) (fed a' new)
+      → IsCleared seen (compose f g) (compose_held a held) (compose_held a' new)
   clear_compose f g a a' held resting new first live idle same are = λ no_collect columns position sound.
       let x = first no_collect.0 columns position sound.0 in
       let derived = derived_columns (type_of columns f) in

@@ -16,7 +16,7 @@ use Rattle.map_collect.specs.declared.keys.Keys.{Keys}
 use Rattle.map_collect.specs.declared.track.Track.{Track}
 use Rattle.eval_tree.specs.Collects.{AreSoundOf, CanPush, IsPushed}
 use Rattle.eval_tree.specs.Feeds.{CanCarry, IsCarried, IsSoundOf}
-use Rattle.eval_tree.specs.Holdings.{Seen, tracked}
+use Rattle.eval_tree.specs.Holdings.{Seen, collect_held}
 use Rattle.eval_tree.specs.Pushes.{AreCarried, AreCarriedBelow, ArePushed, ArePushedBelow, CanMake, CanPassBy, CanPushAll, HasKey}
 use Rattle.eval_tree.specs.Sound.{IsSoundWithin}
 use Rattle.eval_tree.specs.Steps.{CanStart, CanStep}
@@ -34,7 +34,7 @@ with_length (t ∷ tracks) (suc i) keys = ap suc (with_length tracks i keys)
 module _ {R : Type 0} (seen : R → Seen R) where
   -- a runner may be made for a new start
   pub make_allowed : (column : ℕ) (sync : Predicate) (rate : rates.Expression) (f : Qre) (all : Contents R) (at : ℕ)
-      → CanStart seen (collect column sync rate f) (tracked all) at → CanMake f
+      → CanStart seen (collect column sync rate f) (collect_held all) at → CanMake f
   make_allowed column sync rate f all at can =
       let room : at + composes_of f < 2 ^ 64 = can.room in
       record {
@@ -47,7 +47,7 @@ module _ {R : Type 0} (seen : R → Seen R) where
       }
 
   module _ (column : ℕ) (sync : Predicate) (rate : rates.Expression) (f : Qre) (all : Contents R) (now : ℕ)
-      (item : List Field) (can : CanStep seen (collect column sync rate f) (tracked all) now item) where
+      (item : List Field) (can : CanStep seen (collect column sync rate f) (collect_held all) now item) where
     -- the states may go on by the item
     advance_allowed : IsItemOf all.nfa.cells.layout.columns item
     advance_allowed = subst (λ (columns : List Column). IsItemOf columns item) (sym can.sound.1) can.is_item

@@ -9,11 +9,11 @@ use Rattle.eval_tree.specs.declared.hit.Hit.{Hit}
 use Rattle.eval_tree.specs.declared.node.Node.{Node}
 use Rattle.eval_tree.specs.declared.node.State.{State, out-State}
 use Rattle.eval_tree.specs.declared.node.State.TheOpen.{State-F}
-use Rattle.eval_tree.specs.declared.node.State.TheVariants.{Tracked}
+use Rattle.eval_tree.specs.declared.node.State.TheVariants.{Collect}
 use Rattle.eval_tree.specs.declared.node.State.TheViews.{out-roll-State, roll-State}
 use Rattle.eval_tree.specs.declared.progress.Progress.{Progress}
 use Rattle.eval_tree.specs.Calls.{HasStarted, HasStepped}
-use Rattle.eval_tree.specs.Holdings.{tracked}
+use Rattle.eval_tree.specs.Holdings.{collect_held}
 use Rattle.eval_tree.specs.Plain.{holding_of, seen_of, tracks_of}
 use Rattle.eval_tree.specs.Pushes.{BeginsAt, PassesBy}
 use Rattle.eval_tree.proofs.CollectSoundness.{sound_start_collect, sound_step_collect}
@@ -21,19 +21,19 @@ use Rattle.eval_tree.proofs.CollectStarts.{start_collect}
 use Rattle.eval_tree.proofs.CollectSteps.{step_collect}
 
 -- what it holds
-pub tracked_is : (all : Contents Progress) → holding_of (Tracked all) ≡ tracked all
+pub tracked_is : (all : Contents Progress) → holding_of (Collect all) ≡ collect_held all
 unfolding roll-State denote.Hole.Carrier.roll
 tracked_is all =
-    ap (λ (x : State-F State Node Progress). tracked (tracks_of x)) (out-roll-State (State-F.Tracked all))
+    ap (λ (x : State-F State Node Progress). collect_held (tracks_of x)) (out-roll-State (State-F.Collect all))
 
 -- and its starts
-pub tracks_are : (all : Contents Progress) → tracks_of (out-State (Tracked all)) ≡ all
+pub tracks_are : (all : Contents Progress) → tracks_of (out-State (Collect all)) ≡ all
 unfolding roll-State denote.Hole.Carrier.roll
-tracks_are all = ap (λ (x : State-F State Node Progress). tracks_of x) (out-roll-State (State-F.Tracked all))
+tracks_are all = ap (λ (x : State-F State Node Progress). tracks_of x) (out-roll-State (State-F.Collect all))
 
 module _ (column : ℕ) (sync : Predicate) (rate : rates.Expression) (f : Qre) (old new : Contents Progress) where
   pub collect_starts : (at : ℕ) (hit : Option Hit) → BeginsAt seen_of f old at new hit
-      → HasStarted seen_of (collect column sync rate f) (tracked old) at (tracked new) (Ok hit)
+      → HasStarted seen_of (collect column sync rate f) (collect_held old) at (collect_held new) (Ok hit)
   collect_starts at hit begins = record {
     word = start_collect seen_of column sync rate f old new at hit begins.puts begins.first;
     sound = sound_start_collect seen_of column sync rate f old new at hit begins.puts begins.first;
@@ -42,7 +42,7 @@ module _ (column : ℕ) (sync : Predicate) (rate : rates.Expression) (f : Qre) (
 
   pub collect_steps : (now : ℕ) (item : List Field) (hit : Option Hit)
       → PassesBy seen_of f column sync item old new hit
-      → HasStepped seen_of (collect column sync rate f) (tracked old) now item (tracked new) (Ok hit)
+      → HasStepped seen_of (collect column sync rate f) (collect_held old) now item (collect_held new) (Ok hit)
   collect_steps now item hit passes = record {
     word = step_collect seen_of column sync rate f old (record { nfa = old.nfa; tracks = passes.advanced })
         (record { nfa = old.nfa; tracks = passes.pushed }) new now item hit passes.advances refl passes.pushes

@@ -12,7 +12,7 @@ use Rattle.query_model.specs.Sizes.{max_slots}
 use Rattle.map_collect.specs.Tracks.{Contents, starts_of}
 use Rattle.map_collect.specs.declared.track.Track.{Track}
 use Rattle.eval_tree.specs.Collects.{AreSoundOf}
-use Rattle.eval_tree.specs.Holdings.{Seen, tracked}
+use Rattle.eval_tree.specs.Holdings.{Seen, collect_held}
 use Rattle.eval_tree.specs.Represents.{Represents}
 use Rattle.eval_tree.specs.Sound.{IsSound}
 use Rattle.eval_tree.specs.Starts.{AreDifferent, IsLive}
@@ -33,7 +33,7 @@ body_small column sync rate f small =
 module _ {R : Type 0} (seen : R → Seen R) (columns : List Column) (column : ℕ) (sync : Predicate) (rate : rates.Expression)
     (f : Qre) (all : Contents R) (of_rate : AreSetsOf all.nfa.sets rate)
     (on : all.nfa.cells.layout.columns ≡ columns) (none : all.tracks ≡ []) where
-  pub new_collect : Represents seen columns (collect column sync rate f) (tracked all) [] []
+  pub new_collect : Represents seen columns (collect column sync rate f) (collect_held all) [] []
   new_collect = (
     of_rate,
     on,
@@ -45,7 +45,7 @@ module _ {R : Type 0} (seen : R → Seen R) (columns : List Column) (column : �
   )
 
   pub new_collect_sound : slots_of (collect column sync rate f) ≤ max_slots → (position : ℕ)
-      → IsSound seen columns (collect column sync rate f) position (tracked all)
+      → IsSound seen columns (collect column sync rate f) position (collect_held all)
   new_collect_sound small position = (
     of_rate,
     on,

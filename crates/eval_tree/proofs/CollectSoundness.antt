@@ -23,7 +23,7 @@ use Rattle.map_collect.specs.declared.track.Track.{Track}
 use Rattle.eval_tree.specs.declared.hit.Hit.{Hit}
 use Rattle.eval_tree.specs.Collects.{AreSoundOf}
 use Rattle.eval_tree.specs.Feeds.{IsSoundOf}
-use Rattle.eval_tree.specs.Holdings.{Seen, tracked}
+use Rattle.eval_tree.specs.Holdings.{Seen, collect_held}
 use Rattle.eval_tree.specs.Pushes.{AddsStart, AreNew, ArePushed, IsFirstTable, IsPushedAt, IsTabled}
 use Rattle.eval_tree.specs.Sound.{IsSoundWithin}
 use Rattle.eval_tree.specs.Starts.{AreDifferent}
@@ -77,7 +77,7 @@ module _ {R : Type 0} (seen : R → Seen R) where
       → AllAdvance old.nfa.sets item old.tracks advanced.tracks → pushed.nfa ≡ old.nfa
       → ArePushed seen f column sync item advanced.tracks pushed.tracks → IsTabled seen pushed hit
       → KeepsExtending pushed.nfa pushed.tracks kept.tracks → kept.nfa ≡ pushed.nfa
-      → StepsSoundly seen (collect column sync rate f) (tracked old) now item (tracked kept) hit
+      → StepsSoundly seen (collect column sync rate f) (collect_held old) now item (collect_held kept) hit
   sound_step_collect column sync rate f old advanced pushed kept now item hit advances same pushes tabled keeps same_kept =
       λ standing columns position behind clear is_item sound.
       let before : AreSoundTracks columns f position old.tracks = record { distinct = sound.3; keys = sound.4 } in
@@ -125,7 +125,7 @@ module _ {R : Type 0} (seen : R → Seen R) where
 
   pub sound_start_collect : (column : ℕ) (sync : Predicate) (rate : rates.Expression) (f : Qre) (old new : Contents R)
       (at : ℕ) (hit : Option Hit) → AddsStart seen f old at new → IsFirstTable old.nfa.sets at hit
-      → StartsSoundly seen (collect column sync rate f) (tracked old) at (tracked new) hit
+      → StartsSoundly seen (collect column sync rate f) (collect_held old) at (collect_held new) hit
   sound_start_collect column sync rate f old new at hit (same, puts) first = λ standing columns clear sound.
       let before : AreSoundTracks columns f at old.tracks = record { distinct = sound.3; keys = sound.4 } in
       let after : AreSoundTracks columns f at new.tracks = elim puts [

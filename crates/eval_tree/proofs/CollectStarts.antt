@@ -26,7 +26,7 @@ use Rattle.map_collect.specs.declared.track.Track.{Track}
 use Rattle.eval_tree.specs.declared.hit.Hit.{Hit}
 use Rattle.eval_tree.specs.Collects.{StandsFor}
 use Rattle.eval_tree.specs.Feeds.{FollowsWord}
-use Rattle.eval_tree.specs.Holdings.{Seen, tracked}
+use Rattle.eval_tree.specs.Holdings.{Seen, collect_held}
 use Rattle.eval_tree.specs.Pushes.{AddsStart, AreNew, IsFirstTable}
 use Rattle.eval_tree.specs.Starts.{AreDifferent, IsLive}
 use Rattle.eval_tree.specs.Steps.{IsFirstHit, Starts}
@@ -127,7 +127,7 @@ module _ {R : Type 0} (seen : R → Seen R) where
 
   pub start_collect : (column : ℕ) (sync : Predicate) (rate : rates.Expression) (f : Qre) (old new : Contents R) (at : ℕ)
       (hit : Option Hit) → AddsStart seen f old at new → IsFirstTable old.nfa.sets at hit
-      → Starts seen (collect column sync rate f) (tracked old) at (tracked new) hit
+      → Starts seen (collect column sync rate f) (collect_held old) at (collect_held new) hit
   start_collect column sync rate f old new at hit (same, puts) first =
       λ standing columns word starts clear is positions rep fresh end apart.
       let row = (λ (tracks : List (Track R)). RowOf seen columns column sync rate f old.nfa

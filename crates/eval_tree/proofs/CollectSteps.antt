@@ -25,7 +25,7 @@ use Rattle.map_collect.specs.declared.keys.Keys.{Keys}
 use Rattle.map_collect.specs.declared.track.Track.{Track}
 use Rattle.eval_tree.specs.declared.hit.Hit.{Hit}
 use Rattle.eval_tree.specs.Collects.{StandsFor}
-use Rattle.eval_tree.specs.Holdings.{Seen, tracked}
+use Rattle.eval_tree.specs.Holdings.{Seen, collect_held}
 use Rattle.eval_tree.specs.Keyed.{AreTracked}
 use Rattle.eval_tree.specs.Pushes.{ArePushed, IsPushedAt, IsTabled, IsTabledAt}
 use Rattle.eval_tree.specs.Starts.{AreDifferent, ArePositions, IsLive}
@@ -198,7 +198,7 @@ module _ {R : Type 0} (seen : R → Seen R) where
       → AllAdvance old.nfa.sets item old.tracks advanced.tracks → pushed.nfa ≡ old.nfa
       → ArePushed seen f column sync item advanced.tracks pushed.tracks → IsTabled seen pushed hit
       → KeepsExtending pushed.nfa pushed.tracks kept.tracks → kept.nfa ≡ pushed.nfa
-      → Steps seen (collect column sync rate f) (tracked old) now item (tracked kept) hit
+      → Steps seen (collect column sync rate f) (collect_held old) now item (collect_held kept) hit
   step_collect column sync rate f old advanced pushed kept now item hit advances same pushes tabled keeps same_kept =
       λ standing columns word starts clear is positions rep end apart.
       let whole : IsClear bound columns (collect column sync rate f) = clear in

@@ -11,7 +11,7 @@ use Rattle.query_model.specs.Rates.{rate_of}
 use Rattle.query_model.specs.Rules.{bound, IsClear}
 use Rattle.query_model.proofs.InRates.{den_in}
 use Rattle.eval_tree.specs.declared.hit.Hit.{Hit}
-use Rattle.eval_tree.specs.Holdings.{Holding, paired, Seen}
+use Rattle.eval_tree.specs.Holdings.{Holding, combine_held, Seen}
 use Rattle.eval_tree.specs.Lefts.{AreCombined}
 use Rattle.eval_tree.specs.Starts.{AreApart}
 use Rattle.eval_tree.specs.Steps.{IsFirstHit, IsHit, Starts, Steps}
@@ -67,7 +67,7 @@ module _ (f g : Qre) (e : Expression) where
 module _ {R : Type 0} (seen : R → Seen R) (f g : Qre) (e : Expression) where
   pub start_combine : (a b a' b' : Holding R) (at : ℕ) (left right hit : Option Hit)
       → Starts seen f a at a' left → Starts seen g b at b' right → AreCombined e left right hit
-      → Starts seen (combine f g e) (paired a b) at (paired a' b') hit
+      → Starts seen (combine f g e) (combine_held a b) at (combine_held a' b') hit
   start_combine a b a' b' at left right hit first second combined =
       λ standing columns word starts clear is positions rep fresh end apart.
       let x = first bound columns word starts clear.0 is positions rep.0 fresh end apart in
@@ -80,7 +80,7 @@ module _ {R : Type 0} (seen : R → Seen R) (f g : Qre) (e : Expression) where
 
   pub step_combine : (a b a' b' : Holding R) (now : ℕ) (item : List Field) (left right hit : Option Hit)
       → Steps seen f a now item a' left → Steps seen g b now item b' right → AreCombined e left right hit
-      → Steps seen (combine f g e) (paired a b) now item (paired a' b') hit
+      → Steps seen (combine f g e) (combine_held a b) now item (combine_held a' b') hit
   step_combine a b a' b' now item left right hit first second combined =
       λ standing columns word starts clear is positions rep end apart.
       let longer = word ++ item ∷ [] in

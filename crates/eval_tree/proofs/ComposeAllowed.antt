@@ -7,14 +7,14 @@ use Rattle.query_model.specs.QueryTypes.{derived_columns, type_of}
 use Rattle.compose_eval.specs.Followers.{Contents}
 use Rattle.eval_tree.specs.declared.hit.Hit.{Hit}
 use Rattle.eval_tree.specs.Feeds.{CanBegin, CanCarry, CanFeed, CanPassOn, IsCleared, IsRenewed, item_of}
-use Rattle.eval_tree.specs.Holdings.{Holding, fed, Seen}
+use Rattle.eval_tree.specs.Holdings.{Holding, compose_held, Seen}
 use Rattle.eval_tree.specs.Steps.{CanStart, CanStep, StartsSoundly, StepsSoundly}
 use Rattle.eval_tree.proofs.Outputs.{hit_item}
 use Rattle.eval_tree.proofs.Typed.{hit_of}
 
 module _ {R : Type 0} (seen : R → Seen R) where
   unfoldable pub start_fed : (f g : Qre) (a : Holding R) (held : Contents R) (at : ℕ)
-      → CanStart seen (compose f g) (fed a held) at
+      → CanStart seen (compose f g) (compose_held a held) at
       → CanStart seen f a at
   start_fed f g a held at can =
       let room : at + (composes_of f + composes_of g + 1) < 2 ^ 64 = can.room in record {
@@ -26,7 +26,7 @@ module _ {R : Type 0} (seen : R → Seen R) where
       }
 
   unfoldable pub step_fed : (f g : Qre) (a : Holding R) (held : Contents R) (now : ℕ) (item : List Field)
-      → CanStep seen (compose f g) (fed a held) now item → CanStep seen f a now item
+      → CanStep seen (compose f g) (compose_held a held) now item → CanStep seen f a now item
   step_fed f g a held now item can =
       let room : now + (composes_of f + composes_of g + 1) < 2 ^ 64 = can.room in record {
         standing = can.standing;
@@ -41,7 +41,7 @@ module _ {R : Type 0} (seen : R → Seen R) where
 
   -- the runners may take the value of the left hit
   unfoldable pub passes_allowed : (f g : Qre) (a a' : Holding R) (held : Contents R) (now : ℕ) (item : List Field)
-      (left : Option Hit) → CanStep seen (compose f g) (fed a held) now item → StepsSoundly seen f a now item a' left
+      (left : Option Hit) → CanStep seen (compose f g) (compose_held a held) now item → StepsSoundly seen f a now item a' left
       → CanPassOn seen g held left
   passes_allowed f g a a' held now item left can first =
       let room : now + (composes_of f + composes_of g + 1) < 2 ^ 64 = can.room in
@@ -58,7 +58,7 @@ module _ {R : Type 0} (seen : R → Seen R) where
       }
 
   unfoldable pub feeds_allowed : (f g : Qre) (a a' : Holding R) (held : Contents R) (at : ℕ) (left : Option Hit)
-      → CanStart seen (compose f g) (fed a held) at → StartsSoundly seen f a at a' left → CanFeed seen g held left
+      → CanStart seen (compose f g) (compose_held a held) at → StartsSoundly seen f a at a' left → CanFeed seen g held left
   feeds_allowed f g a a' held at left can first =
       let room : at + (composes_of f + composes_of g + 1) < 2 ^ 64 = can.room in
       let x = first can.standing can.columns can.clear.0 can.sound.0 in

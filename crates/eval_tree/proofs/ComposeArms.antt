@@ -9,12 +9,12 @@ use Rattle.eval_tree.specs.declared.hit.Hit.{Hit}
 use Rattle.eval_tree.specs.declared.node.Node.{Node}
 use Rattle.eval_tree.specs.declared.node.State.{State}
 use Rattle.eval_tree.specs.declared.node.State.TheOpen.{State-F}
-use Rattle.eval_tree.specs.declared.node.State.TheVariants.{Fed}
+use Rattle.eval_tree.specs.declared.node.State.TheVariants.{Compose}
 use Rattle.eval_tree.specs.declared.node.State.TheViews.{out-State, out-roll-State, roll-State}
 use Rattle.eval_tree.specs.declared.progress.Progress.{Progress}
 use Rattle.eval_tree.specs.Calls.{HasStarted, HasStepped}
 use Rattle.eval_tree.specs.Feeds.{Feeds, PassesOn}
-use Rattle.eval_tree.specs.Holdings.{Holding, fed}
+use Rattle.eval_tree.specs.Holdings.{Holding, compose_held}
 use Rattle.eval_tree.specs.Live.{live_of}
 use Rattle.eval_tree.specs.Plain.{holding_of, runners_of, seen_of}
 use Rattle.eval_tree.proofs.ComposeSoundness.{sound_start_compose, sound_step_compose}
@@ -23,23 +23,23 @@ use Rattle.eval_tree.proofs.ComposeSteps.{step_compose}
 
 -- what it holds
 pub fed_is : (a : Box Node Global) (held : Contents Progress)
-    → holding_of (Fed a held) ≡ fed (holding_of a.value.state) held
+    → holding_of (Compose a held) ≡ compose_held (holding_of a.value.state) held
 unfolding roll-State denote.Hole.Carrier.roll
 fed_is a held =
-    ap (λ (x : State-F State Node Progress). fed (holding_of a.value.state) (runners_of x))
-    (out-roll-State (State-F.Fed a held))
+    ap (λ (x : State-F State Node Progress). compose_held (holding_of a.value.state) (runners_of x))
+    (out-roll-State (State-F.Compose a held))
 
 -- and its runners
-pub runners_are : (a : Box Node Global) (held : Contents Progress) → runners_of (out-State (Fed a held)) ≡ held
+pub runners_are : (a : Box Node Global) (held : Contents Progress) → runners_of (out-State (Compose a held)) ≡ held
 unfolding roll-State denote.Hole.Carrier.roll
 runners_are a held =
-    ap (λ (x : State-F State Node Progress). runners_of x) (out-roll-State (State-F.Fed a held))
+    ap (λ (x : State-F State Node Progress). runners_of x) (out-roll-State (State-F.Compose a held))
 
 module _ (f g : Qre) (a a' : Holding Progress) where
   pub compose_starts : (held new : Contents Progress) (at : ℕ) (left hit : Option Hit) (live : Bool)
       → HasStarted seen_of f a at a' (Ok left) → live ≡ live_of f a' at
       → Feeds seen_of g held live at left new hit
-      → HasStarted seen_of (compose f g) (fed a held) at (fed a' new) (Ok hit)
+      → HasStarted seen_of (compose f g) (compose_held a held) at (compose_held a' new) (Ok hit)
   compose_starts held new at left hit live first is_live feeds = record {
     word = start_compose seen_of f g a a' held new at left hit live first.word is_live feeds;
     sound = sound_start_compose seen_of f g a a' held new at live left hit first.sound feeds;
@@ -50,7 +50,7 @@ module _ (f g : Qre) (a a' : Holding Progress) where
       → HasStepped seen_of f a now item a' (Ok left) → PassesOn seen_of g held left passed hit
       → kept.live ≡ live_instances (live_of f a') passed.live
       → kept.idle ≡ passed.idle ++ retired (live_of f a') passed.live
-      → HasStepped seen_of (compose f g) (fed a held) now item (fed a' kept) (Ok hit)
+      → HasStepped seen_of (compose f g) (compose_held a held) now item (compose_held a' kept) (Ok hit)
   compose_steps held passed kept now item left hit first passes live idle = record {
     word = step_compose seen_of f g a a' held passed kept now item left hit first.word passes live idle;
     sound = sound_step_compose seen_of f g a a' held passed kept now item left hit (live_of f a') first.sound passes live

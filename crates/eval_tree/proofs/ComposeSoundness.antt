@@ -7,7 +7,7 @@ use Rattle.query_model.specs.QueryTypes.{derived_columns, type_of}
 use Rattle.compose_eval.specs.Followers.{Contents, live_instances, retired}
 use Rattle.eval_tree.specs.declared.hit.Hit.{Hit}
 use Rattle.eval_tree.specs.Feeds.{Feeds, PassesOn}
-use Rattle.eval_tree.specs.Holdings.{Holding, fed, Seen}
+use Rattle.eval_tree.specs.Holdings.{Holding, compose_held, Seen}
 use Rattle.eval_tree.specs.Steps.{StartsSoundly, StepsSoundly}
 use Rattle.eval_tree.proofs.FedSoundness.{AreSoundly, fed_soundly, kept_soundly, passed_soundly}
 use Rattle.eval_tree.proofs.Outputs.{hit_item}
@@ -18,7 +18,7 @@ module _ {R : Type 0} (seen : R → Seen R) where
       (left hit : Option Hit) (p : ℕ → Bool) → StepsSoundly seen f a now item a' left
       → PassesOn seen g held left passed hit
       → kept.live ≡ live_instances p passed.live → kept.idle ≡ passed.idle ++ retired p passed.live
-      → StepsSoundly seen (compose f g) (fed a held) now item (fed a' kept) hit
+      → StepsSoundly seen (compose f g) (compose_held a held) now item (compose_held a' kept) hit
   sound_step_compose f g a a' held passed kept now item left hit p first passes live idle =
       λ standing columns position behind clear is sound.
       let derived = derived_columns (type_of columns f) in
@@ -42,7 +42,7 @@ module _ {R : Type 0} (seen : R → Seen R) where
 
   pub sound_start_compose : (f g : Qre) (a a' : Holding R) (held new : Contents R) (at : ℕ) (live : Bool)
       (left hit : Option Hit) → StartsSoundly seen f a at a' left → Feeds seen g held live at left new hit
-      → StartsSoundly seen (compose f g) (fed a held) at (fed a' new) hit
+      → StartsSoundly seen (compose f g) (compose_held a held) at (compose_held a' new) hit
   sound_start_compose f g a a' held new at live left hit first feeds = λ standing columns clear sound.
       let derived = derived_columns (type_of columns f) in
       let count = places_of f + 1 in

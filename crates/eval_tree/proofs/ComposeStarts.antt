@@ -13,7 +13,7 @@ use Rattle.compose_eval.specs.Followers.{Contents, outers_of}
 use Rattle.compose_eval.specs.declared.instance.Instance.{Instance}
 use Rattle.eval_tree.specs.declared.hit.Hit.{Hit}
 use Rattle.eval_tree.specs.Feeds.{Feeds, FollowsWord, HasIdle, IsBegun, IsFedFrom, item_of}
-use Rattle.eval_tree.specs.Holdings.{Holding, fed, Seen}
+use Rattle.eval_tree.specs.Holdings.{Holding, compose_held, Seen}
 use Rattle.eval_tree.specs.Live.{live_of}
 use Rattle.eval_tree.specs.Starts.{AreApart, AreDifferent, ArePositions, IsLive}
 use Rattle.eval_tree.specs.Steps.{IsFirstHit, Starts}
@@ -162,7 +162,7 @@ module _ {R : Type 0} (seen : R → Seen R) (standing : Standing) (columns : Lis
 module _ {R : Type 0} (seen : R → Seen R) where
   pub start_compose : (f g : Qre) (a a' : Holding R) (held new : Contents R) (at : ℕ) (left hit : Option Hit)
       (live : Bool) → Starts seen f a at a' left → live ≡ live_of f a' at
-      → Feeds seen g held live at left new hit → Starts seen (compose f g) (fed a held) at (fed a' new) hit
+      → Feeds seen g held live at left new hit → Starts seen (compose f g) (compose_held a held) at (compose_held a' new) hit
   start_compose f g a a' held new at left hit live first is_live feeds =
       λ standing columns word starts clear is positions rep fresh end apart.
       let x = first standing columns word starts clear.0 is positions rep.0 fresh end apart in

@@ -12,7 +12,7 @@ use Rattle.compose_eval.specs.Followers.{Contents, live_instances, retired}
 use Rattle.compose_eval.specs.declared.instance.Instance.{Instance}
 use Rattle.eval_tree.specs.declared.hit.Hit.{Hit}
 use Rattle.eval_tree.specs.Feeds.{PassesOn}
-use Rattle.eval_tree.specs.Holdings.{Holding, fed, Seen}
+use Rattle.eval_tree.specs.Holdings.{Holding, compose_held, Seen}
 use Rattle.eval_tree.specs.Live.{live_of}
 use Rattle.eval_tree.specs.Starts.{AreApart, ArePositions, IsLive}
 use Rattle.eval_tree.specs.Steps.{IsHit, Steps}
@@ -58,7 +58,7 @@ module _ {R : Type 0} (seen : R → Seen R) where
       (left hit : Option Hit) → Steps seen f a now item a' left → PassesOn seen g held left passed hit
       → kept.live ≡ live_instances (live_of f a') passed.live
       → kept.idle ≡ passed.idle ++ retired (live_of f a') passed.live
-      → Steps seen (compose f g) (fed a held) now item (fed a' kept) hit
+      → Steps seen (compose f g) (compose_held a held) now item (compose_held a' kept) hit
   step_compose f g a a' held passed kept now item left hit first passes live idle =
       λ standing columns word starts clear is positions rep end apart.
       let x = first standing columns word starts clear.0 is positions rep.0 end apart in

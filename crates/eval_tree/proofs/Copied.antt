@@ -21,7 +21,7 @@ use Rattle.memory_bound.specs.KeysMet.{keys_met}
 use Rattle.eval_tree.specs.Copies.{AreAlike, IsCopy, IsCopyOf}
 use Rattle.eval_tree.specs.Counts.{size_of_answer, size_of_runner, sizes_of, stored_in}
 use Rattle.eval_tree.specs.Feeds.{FollowsWord, IsSoundOf}
-use Rattle.eval_tree.specs.Holdings.{Holding, waiting, nothing, both, paired, operand, pending, chained, fed, tracked, Seen}
+use Rattle.eval_tree.specs.Holdings.{Holding, atom_held, eps_held, choice_held, combine_held, apply_held, split_held, iter_held, compose_held, collect_held, Seen}
 use Rattle.eval_tree.specs.Keyed.{AreTracked, StandFor}
 use Rattle.eval_tree.specs.Represents.{AreWaiting, KeepsFew, Represents}
 use Rattle.eval_tree.specs.Sound.{AreEntriesOf, IsSound, IsSoundWithin, IsTyped}
@@ -49,28 +49,28 @@ module _ {R : Type 0} (seen : R → Seen R) where
 
   pub copy_stored : (q : Qre) (old new : Holding R) → IsCopy seen q old new
       → stored_in seen q new ≡ stored_in seen q old
-  copy_stored (atom pred e) (waiting found) new copy = ap (stored_in seen (atom pred e)) copy
-  copy_stored (eps number) nothing new copy = ap (stored_in seen (eps number)) copy
-  copy_stored (choice f g) (both a b) (both a' b') copy =
+  copy_stored (atom pred e) (atom_held found) new copy = ap (stored_in seen (atom pred e)) copy
+  copy_stored (eps number) eps_held new copy = ap (stored_in seen (eps number)) copy
+  copy_stored (choice f g) (choice_held a b) (choice_held a' b') copy =
       let x = copy_stored f a a' copy.0 in let y = copy_stored g b b' copy.1 in omega (arith, x, y)
-  copy_stored (choice f g) (both a b) new copy = absurd copy
-  copy_stored (combine f g e) (paired a b) (paired a' b') copy =
+  copy_stored (choice f g) (choice_held a b) new copy = absurd copy
+  copy_stored (combine f g e) (combine_held a b) (combine_held a' b') copy =
       let x = copy_stored f a a' copy.0 in let y = copy_stored g b b' copy.1 in omega (arith, x, y)
-  copy_stored (combine f g e) (paired a b) new copy = absurd copy
-  copy_stored (apply f e) (operand a) (operand a') copy = copy_stored f a a' copy
-  copy_stored (apply f e) (operand a) new copy = absurd copy
-  copy_stored (split f g e) (pending a b left) (pending a' b' left') copy =
+  copy_stored (combine f g e) (combine_held a b) new copy = absurd copy
+  copy_stored (apply f e) (apply_held a) (apply_held a') copy = copy_stored f a a' copy
+  copy_stored (apply f e) (apply_held a) new copy = absurd copy
+  copy_stored (split f g e) (split_held a b left) (split_held a' b' left') copy =
       let x = copy_stored f a a' copy.0 in
       let y = copy_stored g b b' copy.1 in
       let z = ap (λ (s : entries.Contents Value). sizes_of s.entries) copy.2 in
       omega (arith, x, y, z)
-  copy_stored (split f g e) (pending a b left) new copy = absurd copy
-  copy_stored (iter f number e) (chained a so_far) (chained a' so_far') copy =
+  copy_stored (split f g e) (split_held a b left) new copy = absurd copy
+  copy_stored (iter f number e) (iter_held a so_far) (iter_held a' so_far') copy =
       let x = copy_stored f a a' copy.0 in
       let z = ap (λ (s : entries.Contents Value). sizes_of s.entries) copy.1 in
       omega (arith, x, z)
-  copy_stored (iter f number e) (chained a so_far) new copy = absurd copy
-  copy_stored (compose f g) (fed a held) (fed a' held') copy =
+  copy_stored (iter f number e) (iter_held a so_far) new copy = absurd copy
+  copy_stored (compose f g) (compose_held a held) (compose_held a' held') copy =
       let x = copy_stored f a a' copy.0 in
       let size : R → ℕ = (λ (runner : R). 1 + size_of_runner seen (stored_in seen g) runner) in
       let one : (was runner : R) → IsCopyOf seen (IsCopy seen g) was runner → size runner ≡ size was =
@@ -81,49 +81,49 @@ module _ {R : Type 0} (seen : R → Seen R) where
       copy.1.live in
       let rests = sums_alike (IsCopyOf seen (IsCopy seen g)) size held.idle held'.idle one copy.1.idle in
       omega (arith, x, lives, rests)
-  copy_stored (compose f g) (fed a held) new copy = absurd copy
-  copy_stored (collect column sync rate f) (tracked all) (tracked all') copy =
+  copy_stored (compose f g) (compose_held a held) new copy = absurd copy
+  copy_stored (collect column sync rate f) (collect_held all) (collect_held all') copy =
       tracks_stored seen (IsCopy seen f) (stored_in seen f) all.tracks all'.tracks
       (λ was runner copied. size_same f was runner copied
       (copy_stored f (seen was).node (seen runner).node copied.node)) copy.tracks
-  copy_stored (collect column sync rate f) (tracked all) new copy = absurd copy
+  copy_stored (collect column sync rate f) (collect_held all) new copy = absurd copy
   copy_stored q old new copy = ap (stored_in seen q) copy
 
   pub copy_represents : (columns : List Column) (q : Qre) (old new : Holding R) (word : Word) (starts : List ℕ)
       → IsCopy seen q old new → Represents seen columns q old word starts → Represents seen columns q new word starts
-  copy_represents columns (atom pred e) (waiting found) new word starts copy rep =
+  copy_represents columns (atom pred e) (atom_held found) new word starts copy rep =
       subst (λ (h : Holding R). Represents seen columns (atom pred e) h word starts) (sym copy) rep
-  copy_represents columns (eps number) nothing new word starts copy rep =
+  copy_represents columns (eps number) eps_held new word starts copy rep =
       subst (λ (h : Holding R). Represents seen columns (eps number) h word starts) (sym copy) rep
-  copy_represents columns (choice f g) (both a b) (both a' b') word starts copy rep = (
+  copy_represents columns (choice f g) (choice_held a b) (choice_held a' b') word starts copy rep = (
     copy_represents columns f a a' word starts copy.0 rep.0,
     copy_represents columns g b b' word starts copy.1 rep.1,
   )
-  copy_represents columns (choice f g) (both a b) new word starts copy rep = absurd copy
-  copy_represents columns (combine f g e) (paired a b) (paired a' b') word starts copy rep = (
+  copy_represents columns (choice f g) (choice_held a b) new word starts copy rep = absurd copy
+  copy_represents columns (combine f g e) (combine_held a b) (combine_held a' b') word starts copy rep = (
     copy_represents columns f a a' word starts copy.0 rep.0,
     copy_represents columns g b b' word starts copy.1 rep.1,
   )
-  copy_represents columns (combine f g e) (paired a b) new word starts copy rep = absurd copy
-  copy_represents columns (apply f e) (operand a) (operand a') word starts copy rep =
+  copy_represents columns (combine f g e) (combine_held a b) new word starts copy rep = absurd copy
+  copy_represents columns (apply f e) (apply_held a) (apply_held a') word starts copy rep =
       copy_represents columns f a a' word starts copy rep
-  copy_represents columns (apply f e) (operand a) new word starts copy rep = absurd copy
-  copy_represents columns (split f g e) (pending a b left) (pending a' b' left') word starts copy rep = (
+  copy_represents columns (apply f e) (apply_held a) new word starts copy rep = absurd copy
+  copy_represents columns (split f g e) (split_held a b left) (split_held a' b' left') word starts copy rep = (
     copy_represents columns f a a' word starts copy.0 rep.0,
     (rep.1.0, rep.1.1, copy_represents columns g b b' word rep.1.0 copy.1 rep.1.2),
     subst (λ (s : entries.Contents Value). AreWaiting (Den f) (HasExtension columns (rate_of g)) word starts s.entries)
         (sym copy.2) rep.2,
     ap (λ (s : entries.Contents Value). s.room) copy.2 ∙ rep.3,
   )
-  copy_represents columns (split f g e) (pending a b left) new word starts copy rep = absurd copy
-  copy_represents columns (iter f number e) (chained a so_far) (chained a' so_far') word starts copy rep = (
+  copy_represents columns (split f g e) (split_held a b left) new word starts copy rep = absurd copy
+  copy_represents columns (iter f number e) (iter_held a so_far) (iter_held a' so_far') word starts copy rep = (
     (rep.0.0, rep.0.1, copy_represents columns f a a' word rep.0.0 copy.0 rep.0.2),
     subst (λ (s : entries.Contents Value).
         AreWaiting (Den (iter f number e)) (HasExtension columns (rate_of f)) word starts s.entries) (sym copy.1) rep.1,
     ap (λ (s : entries.Contents Value). s.room) copy.1 ∙ rep.2,
   )
-  copy_represents columns (iter f number e) (chained a so_far) new word starts copy rep = absurd copy
-  copy_represents columns (compose f g) (fed a held) (fed a' held') word starts copy rep =
+  copy_represents columns (iter f number e) (iter_held a so_far) new word starts copy rep = absurd copy
+  copy_represents columns (compose f g) (compose_held a held) (compose_held a' held') word starts copy rep =
       let row = rep.1 in
       let full = row.full in
       let many = all_copied g held held' copy.1.live copy.1.idle in (
@@ -155,8 +155,8 @@ module _ {R : Type 0} (seen : R → Seen R) where
             let same = size_same g was runner copied (copy_stored g (seen was).node (seen runner).node copied.node) in
             omega (arith, few, same)) copy.1.idle rep.2,
       )
-  copy_represents columns (compose f g) (fed a held) new word starts copy rep = absurd copy
-  copy_represents columns (collect column sync rate f) (tracked all) (tracked all') word starts copy rep =
+  copy_represents columns (compose f g) (compose_held a held) new word starts copy rep = absurd copy
+  copy_represents columns (collect column sync rate f) (collect_held all) (collect_held all') word starts copy rep =
       let follows : (u : Word) (was runner : R) → IsCopyOf seen (IsCopy seen f) was runner
       → FollowsWord seen columns f u was → FollowsWord seen columns f u runner =
       (λ u was runner copied follows. record {
@@ -175,36 +175,36 @@ module _ {R : Type 0} (seen : R → Seen R) where
             (λ start track. IsBehind a.sets (drop start word) track.state
             × StandFor (FollowsWord seen columns f) column sync (drop start word) track.keys) all.tracks) (sym copy.nfa) rep.2),
       )
-  copy_represents columns (collect column sync rate f) (tracked all) new word starts copy rep = absurd copy
+  copy_represents columns (collect column sync rate f) (collect_held all) new word starts copy rep = absurd copy
   copy_represents columns q old new word starts copy rep = absurd rep
 
   pub copy_sound : (columns : List Column) (q : Qre) (position : ℕ) (old new : Holding R) → IsCopy seen q old new
       → IsSound seen columns q position old → IsSound seen columns q position new
-  copy_sound columns (atom pred e) position (waiting found) new copy sound =
+  copy_sound columns (atom pred e) position (atom_held found) new copy sound =
       subst (IsSound seen columns (atom pred e) position) (sym copy) sound
-  copy_sound columns (eps number) position nothing new copy sound =
+  copy_sound columns (eps number) position eps_held new copy sound =
       subst (IsSound seen columns (eps number) position) (sym copy) sound
-  copy_sound columns (choice f g) position (both a b) (both a' b') copy sound =
+  copy_sound columns (choice f g) position (choice_held a b) (choice_held a' b') copy sound =
       (copy_sound columns f position a a' copy.0 sound.0, copy_sound columns g position b b' copy.1 sound.1)
-  copy_sound columns (choice f g) position (both a b) new copy sound = absurd copy
-  copy_sound columns (combine f g e) position (paired a b) (paired a' b') copy sound =
+  copy_sound columns (choice f g) position (choice_held a b) new copy sound = absurd copy
+  copy_sound columns (combine f g e) position (combine_held a b) (combine_held a' b') copy sound =
       (copy_sound columns f position a a' copy.0 sound.0, copy_sound columns g position b b' copy.1 sound.1)
-  copy_sound columns (combine f g e) position (paired a b) new copy sound = absurd copy
-  copy_sound columns (apply f e) position (operand a) (operand a') copy sound =
+  copy_sound columns (combine f g e) position (combine_held a b) new copy sound = absurd copy
+  copy_sound columns (apply f e) position (apply_held a) (apply_held a') copy sound =
       copy_sound columns f position a a' copy sound
-  copy_sound columns (apply f e) position (operand a) new copy sound = absurd copy
-  copy_sound columns (split f g e) position (pending a b left) (pending a' b' left') copy sound = (
+  copy_sound columns (apply f e) position (apply_held a) new copy sound = absurd copy
+  copy_sound columns (split f g e) position (split_held a b left) (split_held a' b' left') copy sound = (
     copy_sound columns f position a a' copy.0 sound.0,
     copy_sound columns g position b b' copy.1 sound.1,
     subst (AreEntriesOf (type_of columns f) (places_of g)) (sym copy.2) sound.2,
   )
-  copy_sound columns (split f g e) position (pending a b left) new copy sound = absurd copy
-  copy_sound columns (iter f number e) position (chained a so_far) (chained a' so_far') copy sound = (
+  copy_sound columns (split f g e) position (split_held a b left) new copy sound = absurd copy
+  copy_sound columns (iter f number e) position (iter_held a so_far) (iter_held a' so_far') copy sound = (
     copy_sound columns f position a a' copy.0 sound.0,
     subst (AreEntriesOf Number (places_of f)) (sym copy.1) sound.1,
   )
-  copy_sound columns (iter f number e) position (chained a so_far) new copy sound = absurd copy
-  copy_sound columns (compose f g) position (fed a held) (fed a' held') copy sound =
+  copy_sound columns (iter f number e) position (iter_held a so_far) new copy sound = absurd copy
+  copy_sound columns (compose f g) position (compose_held a held) (compose_held a' held') copy sound =
       let derived = derived_columns (type_of columns f) in
       let count : length held.live + length held.idle ≡ places_of f + 1 = sound.2 in
       let many = all_copied g held held' copy.1.live copy.1.idle in
@@ -228,8 +228,8 @@ module _ {R : Type 0} (seen : R → Seen R) where
             (all_followers (IsSoundWithin seen (IsSoundOf seen derived g) (position + 1)) held.live sound.3)),
         all_alike (IsCopyOf seen (IsCopy seen g)) (IsSoundOf seen derived g) held.idle held'.idle one copy.1.idle sound.4,
       )
-  copy_sound columns (compose f g) position (fed a held) new copy sound = absurd copy
-  copy_sound columns (collect column sync rate f) position (tracked all) (tracked all') copy sound =
+  copy_sound columns (compose f g) position (compose_held a held) new copy sound = absurd copy
+  copy_sound columns (collect column sync rate f) position (collect_held all) (collect_held all') copy sound =
       let (distinct, keys) = tracks_sound seen (IsCopy seen f) (IsSoundOf seen columns f) position all.tracks all'.tracks
       (λ was runner copied is. record {
         node = subst (λ (n : ℕ). IsSound seen columns f n (seen runner).node) (sym copied.position)
@@ -242,5 +242,5 @@ module _ {R : Type 0} (seen : R → Seen R) where
         distinct,
         keys,
       )
-  copy_sound columns (collect column sync rate f) position (tracked all) new copy sound = absurd copy
+  copy_sound columns (collect column sync rate f) position (collect_held all) new copy sound = absurd copy
   copy_sound columns q position old new copy sound = absurd sound

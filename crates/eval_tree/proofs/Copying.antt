@@ -26,11 +26,6 @@ module _ {V : Type 0} where
       take_more es i e (slice_get_within es i e at)
       ∙ ap (λ (x : Entry V). take i es ++ x ∷ []) (get_or_from_slice_get es i e e at)
 
-  pub same_contents : (a b : Contents V) → a.entries ≡ b.entries → a.room ≡ b.room → a ≡ b
-  same_contents a b entries room =
-      ap (λ (es : List (Entry V)). record { entries = es; room = a.room }) entries
-      ∙ ap (λ (n : ℕ). record { entries = b.entries; room = n }) room
-
   -- and it is put
   pub put_entry : (es : List (Entry V)) (i : ℕ) (e : Entry V) (old new : List (Entry V)) (v : V)
       → slice_get es i ≡ Some e

@@ -12,7 +12,7 @@ use Rattle.query_model.specs.QueryTypes.{type_of}
 use Rattle.query_model.specs.Rules.{bound}
 use Rattle.split_eval.specs.Entries.{Contents, live_entries}
 use Rattle.eval_tree.specs.declared.hit.Hit.{Hit}
-use Rattle.eval_tree.specs.Holdings.{Holding, paired, chained, Seen}
+use Rattle.eval_tree.specs.Holdings.{Holding, combine_held, iter_held, Seen}
 use Rattle.eval_tree.specs.Lefts.{AreCombined, IsEnded, IsPut}
 use Rattle.eval_tree.specs.Steps.{StartsSoundly, StepsSoundly}
 use Rattle.eval_tree.proofs.Typed.{combined_at, combined_of, ended_of, entries_kept, entries_put, hit_of}
@@ -21,7 +21,7 @@ module _ {R : Type 0} (seen : R → Seen R) where
   pub sound_start_combine : (f g : Qre) (e : Expression) (a b a' b' : Holding R) (at : ℕ)
       (left right hit : Option Hit)
       → StartsSoundly seen f a at a' left → StartsSoundly seen g b at b' right → AreCombined e left right hit
-      → StartsSoundly seen (combine f g e) (paired a b) at (paired a' b') hit
+      → StartsSoundly seen (combine f g e) (combine_held a b) at (combine_held a' b') hit
   sound_start_combine f g e a b a' b' at left right hit first second combined = λ standing columns clear sound.
       let x = first bound columns clear.0 sound.0 in
       let y = second bound columns clear.1 sound.1 in
@@ -35,7 +35,7 @@ module _ {R : Type 0} (seen : R → Seen R) where
       (left right hit : Option Hit)
       → StepsSoundly seen f a now item a' left → StepsSoundly seen g b now item b' right
       → AreCombined e left right hit
-      → StepsSoundly seen (combine f g e) (paired a b) now item (paired a' b') hit
+      → StepsSoundly seen (combine f g e) (combine_held a b) now item (combine_held a' b') hit
   sound_step_combine f g e a b a' b' now item left right hit first second combined =
       λ standing columns position behind clear is sound.
       let x = first bound columns position behind clear.0 is sound.0 in
@@ -48,7 +48,7 @@ module _ {R : Type 0} (seen : R → Seen R) where
   pub sound_start_iter : (f : Qre) (number : ℤ) (e : Expression) (a a' : Holding R) (so_far new : Contents Value)
       (at : ℕ) (operand : Option Hit) (live : Bool) → StartsSoundly seen f a at a' operand
       → IsPut live so_far (record { inner = at; outer = at; value = value.Scalar (scalar.Number number) }) new
-      → StartsSoundly seen (iter f number e) (chained a so_far) at (chained a' new)
+      → StartsSoundly seen (iter f number e) (iter_held a so_far) at (iter_held a' new)
       (Some (record { start = at; value = value.Scalar (scalar.Number number) }))
   sound_start_iter f number e a a' so_far new at operand live first put = λ standing columns clear sound.
       let x = first bound columns clear.0 sound.0 in
@@ -65,7 +65,7 @@ module _ {R : Type 0} (seen : R → Seen R) where
       (now : ℕ) (item : List Field) (live : ℕ → Bool) (piece : Option Hit)
       → StepsSoundly seen f a now item a' piece
       → kept.entries ≡ live_entries live so_far.entries → kept.room ≡ so_far.room
-      → StepsSoundly seen (iter f number e) (chained a so_far) now item (chained a' kept) None
+      → StepsSoundly seen (iter f number e) (iter_held a so_far) now item (iter_held a' kept) None
   sound_step_iter_none f number e a a' so_far kept now item live piece first keeps room =
       λ standing columns position behind clear is sound.
       let x = first bound columns position behind clear.0 is sound.0 in
@@ -78,7 +78,7 @@ module _ {R : Type 0} (seen : R → Seen R) where
       → kept.entries ≡ live_entries live so_far.entries → kept.room ≡ so_far.room
       → StartsSoundly seen f a' now a'' begun
       → IsPut is_live kept (record { inner = now; outer = hit.start; value = hit.value }) new
-      → StepsSoundly seen (iter f number e) (chained a so_far) now item (chained a'' new) (Some hit)
+      → StepsSoundly seen (iter f number e) (iter_held a so_far) now item (iter_held a'' new) (Some hit)
   sound_step_iter_some f number e a a' a'' so_far kept new now item live piece begun hit is_live first ended keeps room
       second put =
       λ standing columns position behind clear is sound.

@@ -11,7 +11,7 @@ use Rattle.query_model.specs.QueryTypes.{type_of}
 use Rattle.query_model.specs.Rules.{bound}
 use Rattle.split_eval.specs.Entries.{Contents}
 use Rattle.eval_tree.specs.declared.hit.Hit.{Hit}
-use Rattle.eval_tree.specs.Holdings.{Holding, paired, chained, Seen}
+use Rattle.eval_tree.specs.Holdings.{Holding, combine_held, iter_held, Seen}
 use Rattle.eval_tree.specs.Lefts.{AreTypedOnHits, AreTypedWith}
 use Rattle.eval_tree.specs.Steps.{CanStart, CanStep, StartsSoundly, StepsSoundly}
 use Rattle.eval_tree.proofs.Typed.{all_typed_with, hit_of, typed_on_hits}
@@ -19,7 +19,7 @@ use Rattle.eval_tree.proofs.Typed.{all_typed_with, hit_of, typed_on_hits}
 module _ {R : Type 0} (seen : R → Seen R) where
   -- starts
   unfoldable pub start_one : (f g : Qre) (e : Expression) (a b : Holding R) (at : ℕ)
-      → CanStart seen (combine f g e) (paired a b) at → CanStart seen f a at
+      → CanStart seen (combine f g e) (combine_held a b) at → CanStart seen f a at
   start_one f g e a b at can =
       let room : at + (composes_of f + composes_of g) < 2 ^ 64 = can.room in record {
         standing = bound;
@@ -30,7 +30,7 @@ module _ {R : Type 0} (seen : R → Seen R) where
       }
 
   unfoldable pub start_other : (f g : Qre) (e : Expression) (a b : Holding R) (at : ℕ)
-      → CanStart seen (combine f g e) (paired a b) at → CanStart seen g b at
+      → CanStart seen (combine f g e) (combine_held a b) at → CanStart seen g b at
   start_other f g e a b at can =
       let room : at + (composes_of f + composes_of g) < 2 ^ 64 = can.room in record {
         standing = bound;
@@ -41,7 +41,7 @@ module _ {R : Type 0} (seen : R → Seen R) where
       }
 
   pub started_combine : (f g : Qre) (e : Expression) (a b a' b' : Holding R) (at : ℕ) (left right : Option Hit)
-      → CanStart seen (combine f g e) (paired a b) at → StartsSoundly seen f a at a' left
+      → CanStart seen (combine f g e) (combine_held a b) at → StartsSoundly seen f a at a' left
       → StartsSoundly seen g b at b' right → AreTypedOnHits e left right
   started_combine f g e a b a' b' at left right can first second =
       let x = first bound can.columns can.clear.0 can.sound.0 in
@@ -51,7 +51,7 @@ module _ {R : Type 0} (seen : R → Seen R) where
 
   unfoldable pub start_piece : (f : Qre) (number : ℤ) (e : Expression) (a : Holding R) (so_far : Contents Value)
       (at : ℕ)
-      → CanStart seen (iter f number e) (chained a so_far) at → CanStart seen f a at
+      → CanStart seen (iter f number e) (iter_held a so_far) at → CanStart seen f a at
   start_piece f number e a so_far at can = record {
     standing = bound;
     columns = can.columns;
@@ -62,7 +62,7 @@ module _ {R : Type 0} (seen : R → Seen R) where
 
   -- steps
   unfoldable pub step_one : (f g : Qre) (e : Expression) (a b : Holding R) (now : ℕ) (item : List Field)
-      → CanStep seen (combine f g e) (paired a b) now item → CanStep seen f a now item
+      → CanStep seen (combine f g e) (combine_held a b) now item → CanStep seen f a now item
   step_one f g e a b now item can =
       let room : now + (composes_of f + composes_of g) < 2 ^ 64 = can.room in record {
         standing = bound;
@@ -76,7 +76,7 @@ module _ {R : Type 0} (seen : R → Seen R) where
       }
 
   unfoldable pub step_other : (f g : Qre) (e : Expression) (a b : Holding R) (now : ℕ) (item : List Field)
-      → CanStep seen (combine f g e) (paired a b) now item → CanStep seen g b now item
+      → CanStep seen (combine f g e) (combine_held a b) now item → CanStep seen g b now item
   step_other f g e a b now item can =
       let room : now + (composes_of f + composes_of g) < 2 ^ 64 = can.room in record {
         standing = bound;
@@ -90,7 +90,7 @@ module _ {R : Type 0} (seen : R → Seen R) where
       }
 
   pub stepped_combine : (f g : Qre) (e : Expression) (a b a' b' : Holding R) (now : ℕ) (item : List Field)
-      (left right : Option Hit) → CanStep seen (combine f g e) (paired a b) now item
+      (left right : Option Hit) → CanStep seen (combine f g e) (combine_held a b) now item
       → StepsSoundly seen f a now item a' left → StepsSoundly seen g b now item b' right → AreTypedOnHits e left right
   stepped_combine f g e a b a' b' now item left right can first second =
       let x = first bound can.columns can.position can.behind can.clear.0 can.is_item can.sound.0 in
@@ -99,7 +99,7 @@ module _ {R : Type 0} (seen : R → Seen R) where
 
   unfoldable pub step_piece : (f : Qre) (number : ℤ) (e : Expression) (a : Holding R) (so_far : Contents Value)
       (now : ℕ)
-      (item : List Field) → CanStep seen (iter f number e) (chained a so_far) now item → CanStep seen f a now item
+      (item : List Field) → CanStep seen (iter f number e) (iter_held a so_far) now item → CanStep seen f a now item
   step_piece f number e a so_far now item can = record {
     standing = bound;
     columns = can.columns;
@@ -112,7 +112,7 @@ module _ {R : Type 0} (seen : R → Seen R) where
   }
 
   pub stepped_iter : (f : Qre) (number : ℤ) (e : Expression) (a a' : Holding R) (so_far : Contents Value) (now : ℕ)
-      (item : List Field) (piece : Option Hit) → CanStep seen (iter f number e) (chained a so_far) now item
+      (item : List Field) (piece : Option Hit) → CanStep seen (iter f number e) (iter_held a so_far) now item
       → StepsSoundly seen f a now item a' piece → AreTypedWith e so_far.entries piece
   stepped_iter f number e a a' so_far now item piece can first =
       let x = first bound can.columns can.position can.behind can.clear.0 can.is_item can.sound.0 in
@@ -122,7 +122,7 @@ module _ {R : Type 0} (seen : R → Seen R) where
   -- the next piece begins behind the item that has just gone by
   unfoldable pub start_next : (f : Qre) (number : ℤ) (e : Expression) (a a' : Holding R) (so_far : Contents Value)
       (now : ℕ)
-      (item : List Field) (piece : Option Hit) → CanStep seen (iter f number e) (chained a so_far) now item
+      (item : List Field) (piece : Option Hit) → CanStep seen (iter f number e) (iter_held a so_far) now item
       → StepsSoundly seen f a now item a' piece → CanStart seen f a' now
   start_next f number e a a' so_far now item piece can first =
       let x = first bound can.columns can.position can.behind can.clear.0 can.is_item can.sound.0 in

@@ -14,7 +14,7 @@ use Rattle.predicate_cells.specs.Predicates.{Predicate}
 use Rattle.predicate_cells.specs.Truth.{holds}
 use Rattle.rate_expr.specs.Words.{Word}
 use Rattle.query_model.specs.Queries.{atom, eps}
-use Rattle.eval_tree.specs.Holdings.{waiting, nothing, Seen}
+use Rattle.eval_tree.specs.Holdings.{atom_held, eps_held, Seen}
 use Rattle.eval_tree.specs.Starts.{ArePositions}
 use Rattle.eval_tree.specs.Steps.{Starts, Steps}
 use Rattle.eval_tree.proofs.Pieces.{at_end, behind_end, drop_more, length_more, one_item}
@@ -33,7 +33,7 @@ last_item word item start end =
 
 module _ {R : Type 0} (seen : R → Seen R) where
   pub start_atom : (pred : Predicate) (e : Expression) (old : Option ℕ) (at : ℕ)
-      → Starts seen (atom pred e) (waiting old) at (waiting (Some at)) None
+      → Starts seen (atom pred e) (atom_held old) at (atom_held (Some at)) None
   start_atom pred e old at = λ standing columns word starts clear is positions rep fresh end apart. record {
     after = λ start. (
       λ found. let same : at ≡ start = same_Some at start found in
@@ -52,7 +52,7 @@ module _ {R : Type 0} (seen : R → Seen R) where
       omega (arith, inside, more, end)
 
   pub step_atom_none : (pred : Predicate) (e : Expression) (now : ℕ) (item : List Field)
-      → Steps seen (atom pred e) (waiting None) now item (waiting None) None
+      → Steps seen (atom pred e) (atom_held None) now item (atom_held None) None
   step_atom_none pred e now item = λ standing columns word starts clear is positions rep end apart. record {
     after = λ start. (
       λ found. absurd (none-some start found),
@@ -67,7 +67,7 @@ module _ {R : Type 0} (seen : R → Seen R) where
   }
 
   pub step_atom_other : (pred : Predicate) (e : Expression) (begun now : ℕ) (item : List Field)
-      → holds pred item ≡ false → Steps seen (atom pred e) (waiting (Some begun)) now item (waiting None) None
+      → holds pred item ≡ false → Steps seen (atom pred e) (atom_held (Some begun)) now item (atom_held None) None
   step_atom_other pred e begun now item not = λ standing columns word starts clear is positions rep end apart. record {
     after = λ start. (
       λ found. absurd (none-some start found),
@@ -85,7 +85,7 @@ module _ {R : Type 0} (seen : R → Seen R) where
 
   pub step_atom : (pred : Predicate) (e : Expression) (begun now : ℕ) (item : List Field) (v : Value)
       → holds pred item ≡ true → value_of (given item None None) e ≡ Some v
-      → Steps seen (atom pred e) (waiting (Some begun)) now item (waiting None)
+      → Steps seen (atom pred e) (atom_held (Some begun)) now item (atom_held None)
       (Some (record { start = begun; value = v }))
   step_atom pred e begun now item v meets gives = λ standing columns word starts clear is positions rep end apart.
       let there = (rep begun).0 refl in
@@ -100,14 +100,7 @@ module _ {R : Type 0} (seen : R → Seen R) where
         };
       }
 
-  pub start_eps : (number : ℤ) (at : ℕ)
-      → Starts seen (eps number) nothing at nothing (Some (record { start = at; value = value.Scalar (Number number) }))
-  start_eps number at = λ standing columns word starts clear is positions rep fresh end apart. record {
-    after = tt;
-    hit = (refl, (refl, refl));
-  }
-
-  pub step_eps : (number : ℤ) (now : ℕ) (item : List Field) → Steps seen (eps number) nothing now item nothing None
+  pub step_eps : (number : ℤ) (now : ℕ) (item : List Field) → Steps seen (eps number) eps_held now item eps_held None
   step_eps number now item = λ standing columns word starts clear is positions rep end apart. record {
     after = tt;
     hit = record {

@@ -11,7 +11,7 @@ use Rattle.split_eval.specs.Entries.{Contents, live_entries}
 use Rattle.eval_tree.specs.declared.hit.Hit.{Hit}
 use Rattle.eval_tree.specs.declared.progress.Progress.{Progress}
 use Rattle.eval_tree.specs.Calls.{HasStarted, HasStepped}
-use Rattle.eval_tree.specs.Holdings.{Holding, chained}
+use Rattle.eval_tree.specs.Holdings.{Holding, iter_held}
 use Rattle.eval_tree.specs.Lefts.{IsEnded, IsPut}
 use Rattle.eval_tree.specs.Live.{live_of}
 use Rattle.eval_tree.specs.Plain.{seen_of}
@@ -25,7 +25,7 @@ module _ (f : Qre) (number : ℤ) (e : Expression) (a a' : Holding Progress) whe
   pub iter_starts : (so_far new : Contents Value) (at : ℕ) (operand : Option Hit) (live : Bool)
       → HasStarted seen_of f a at a' (Ok operand) → live ≡ live_of f a' at
       → IsPut live so_far (record { inner = at; outer = at; value = value.Scalar (Number number) }) new
-      → HasStarted seen_of (iter f number e) (chained a so_far) at (chained a' new)
+      → HasStarted seen_of (iter f number e) (iter_held a so_far) at (iter_held a' new)
       (Ok (Some (record { start = at; value = value.Scalar (Number number) })))
   iter_starts so_far new at operand live first is_live put = record {
     word = start_iter seen_of f number e a a' so_far new at operand live first.word is_live put
@@ -37,7 +37,7 @@ module _ (f : Qre) (number : ℤ) (e : Expression) (a a' : Holding Progress) whe
   pub iter_steps_none : (so_far kept : Contents Value) (now : ℕ) (item : List Field) (piece : Option Hit)
       → HasStepped seen_of f a now item a' (Ok piece) → IsEnded e so_far.entries piece None
       → kept.entries ≡ live_entries (elsewhere now (live_of f a')) so_far.entries → kept.room ≡ so_far.room
-      → HasStepped seen_of (iter f number e) (chained a so_far) now item (chained a' kept) (Ok None)
+      → HasStepped seen_of (iter f number e) (iter_held a so_far) now item (iter_held a' kept) (Ok None)
   iter_steps_none so_far kept now item piece first ended keeps room = record {
     word = step_iter_none seen_of f number e a a' so_far kept now item piece first.word ended keeps room;
     sound = sound_step_iter_none seen_of f number e a a' so_far kept now item (elsewhere now (live_of f a')) piece
@@ -51,7 +51,7 @@ module _ (f : Qre) (number : ℤ) (e : Expression) (a a' : Holding Progress) whe
       → kept.entries ≡ live_entries (elsewhere now (live_of f a')) so_far.entries → kept.room ≡ so_far.room
       → HasStarted seen_of f a' now a'' (Ok begun) → live ≡ live_of f a'' now
       → IsPut live kept (record { inner = now; outer = hit.start; value = hit.value }) new
-      → HasStepped seen_of (iter f number e) (chained a so_far) now item (chained a'' new) (Ok (Some hit))
+      → HasStepped seen_of (iter f number e) (iter_held a so_far) now item (iter_held a'' new) (Ok (Some hit))
   iter_steps_some a'' so_far kept new now item piece begun hit live first ended keeps room second is_live put = record {
     word = step_iter_some seen_of f number e a a' a'' so_far kept new now item piece begun hit live first.word ended keeps
         room second.word is_live put

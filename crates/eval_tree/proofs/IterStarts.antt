@@ -16,7 +16,7 @@ use Rattle.query_model.specs.Rules.{bound}
 use Rattle.query_model.proofs.InRates.{den_in}
 use Rattle.split_eval.specs.Entries.{Contents}
 use Rattle.eval_tree.specs.declared.hit.Hit.{Hit}
-use Rattle.eval_tree.specs.Holdings.{Holding, chained, Seen}
+use Rattle.eval_tree.specs.Holdings.{Holding, iter_held, Seen}
 use Rattle.eval_tree.specs.Lefts.{IsPut}
 use Rattle.eval_tree.specs.Live.{live_of}
 use Rattle.eval_tree.specs.Represents.{Represents}
@@ -37,7 +37,7 @@ module _ {R : Type 0} (seen : R → Seen R) (f : Qre) (number : ℤ) (e : Expres
       → Starts seen f a at a' operand → live ≡ live_of f a' at
       → IsPut live so_far (record { inner = at; outer = at; value = value.Scalar (Number number) }) new
       → new.room ≡ so_far.room
-      → Starts seen (iter f number e) (chained a so_far) at (chained a' new)
+      → Starts seen (iter f number e) (iter_held a so_far) at (iter_held a' new)
       (Some (record { start = at; value = value.Scalar (Number number) }))
   start_iter a a' so_far new at operand live first is_live put room =
       λ standing columns word starts clear is positions rep fresh end apart.

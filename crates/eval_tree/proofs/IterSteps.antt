@@ -18,7 +18,7 @@ use Rattle.query_model.proofs.InRates.{den_in}
 use Rattle.split_eval.specs.Entries.{Contents, live_entries, AreDistinct}
 use Rattle.split_eval.proofs.Distinct.{AreDistinct-live}
 use Rattle.eval_tree.specs.declared.hit.Hit.{Hit}
-use Rattle.eval_tree.specs.Holdings.{Holding, chained, Seen}
+use Rattle.eval_tree.specs.Holdings.{Holding, iter_held, Seen}
 use Rattle.eval_tree.specs.Lefts.{IsEnded, IsPut}
 use Rattle.eval_tree.specs.Live.{live_of}
 use Rattle.eval_tree.specs.Represents.{AreWaiting, Represents}
@@ -79,7 +79,7 @@ module _ {R : Type 0} (seen : R → Seen R) (f : Qre) (number : ℤ) (e : Expres
   pub step_iter_none : (a a' : Holding R) (so_far kept : Contents Value) (now : ℕ) (item : List Field)
       (piece : Option Hit) → Steps seen f a now item a' piece → IsEnded e so_far.entries piece None
       → kept.entries ≡ live_entries (elsewhere now (live_of f a')) so_far.entries → kept.room ≡ so_far.room
-      → Steps seen (iter f number e) (chained a so_far) now item (chained a' kept) None
+      → Steps seen (iter f number e) (iter_held a so_far) now item (iter_held a' kept) None
   step_iter_none a a' so_far kept now item piece first ended keeps room =
       λ standing columns word starts clear is positions rep end apart.
       let q = iter f number e in
@@ -121,7 +121,7 @@ module _ {R : Type 0} (seen : R → Seen R) (f : Qre) (number : ℤ) (e : Expres
       → kept.entries ≡ live_entries (elsewhere now (live_of f a')) so_far.entries → kept.room ≡ so_far.room
       → Starts seen f a' now a'' begun → live ≡ live_of f a'' now
       → IsPut live kept (record { inner = now; outer = hit.start; value = hit.value }) new → new.room ≡ kept.room
-      → Steps seen (iter f number e) (chained a so_far) now item (chained a'' new) (Some hit)
+      → Steps seen (iter f number e) (iter_held a so_far) now item (iter_held a'' new) (Some hit)
   step_iter_some a a' a'' so_far kept new now item piece begun hit live first ended keeps room second is_live put
       same_room =
       λ standing columns word starts clear is positions rep end apart.

@@ -4,7 +4,7 @@ use Rattle.query_model.specs.declared.query.Shape.{Shape}
 use Rattle.query_model.specs.declared.query.Shape.TheVariants.{Atom, Eps, Or', Split', Iter', Combine', Apply', Compose', Collect'}
 use Rattle.query_model.specs.Queries.{Qre, plain_of}
 use Rattle.eval_tree.specs.declared.node.State.{State}
-use Rattle.eval_tree.specs.declared.node.State.TheVariants.{Item}
+use Rattle.eval_tree.specs.declared.node.State.TheVariants as variant
 use Rattle.eval_tree.specs.Live.{live_of}
 use Rattle.eval_tree.specs.Plain.{holding_of, seen_of}
 use Rattle.eval_tree.specs.Starts.{IsLive}
@@ -33,7 +33,7 @@ IsOther (Collect' key sync rate p f a) = ⊥
 pub other_none : (shape : Shape) (state : State) (start : ℕ) → IsOther shape
     → live_of (plain_of shape) (holding_of state) start ≡ false
 other_none (Atom pred value) state start other = absurd other
-other_none (Eps number) (Item found) start other = refl
+other_none (Eps number) (variant.Atom found) start other = refl
 other_none (Eps number) state start other = refl
 other_none (Or' p f a q g b) state start other = absurd other
 other_none (Split' p f a q g b value) state start other = absurd other

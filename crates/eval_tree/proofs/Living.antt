@@ -20,7 +20,7 @@ use Rattle.split_eval.specs.declared.entry.Entry.{Entry}
 use Rattle.split_eval.proofs.Found.{found_behind, found_first}
 use Rattle.map_collect.specs.Tracks.{begins_at, starts_of}
 use Rattle.map_collect.specs.declared.track.Track.{Track}
-use Rattle.eval_tree.specs.Holdings.{Holding, waiting, nothing, both, paired, operand, pending, chained, fed, tracked, Seen}
+use Rattle.eval_tree.specs.Holdings.{Holding, atom_held, eps_held, choice_held, combine_held, apply_held, split_held, iter_held, compose_held, collect_held, Seen}
 use Rattle.eval_tree.specs.Live.{is_outer, is_waiting, live_of}
 use Rattle.eval_tree.specs.Represents.{Represents}
 use Rattle.eval_tree.specs.Starts.{ArePositions, IsLive}
@@ -94,7 +94,7 @@ start_read (x ∷ tracks) start there = elim (member_cases x.start start (starts
 module _ {R : Type 0} (seen : R → Seen R) where
   living_atom : (standing : Standing) (columns : List Column) (pred : Predicate) (e : Expression) (found : Option ℕ)
       (word : Word) (starts : List ℕ) (start : ℕ) → IsClear standing columns (atom pred e)
-      → ArePositions word starts → Represents seen columns (atom pred e) (waiting found) word starts
+      → ArePositions word starts → Represents seen columns (atom pred e) (atom_held found) word starts
       → IsTrue (is_waiting found start) ↔ IsLive columns (atom pred e) word starts start
   living_atom standing columns pred e None word starts start clear positions rep = (
     λ is. let wrong : false ≡ true = is in cc,
@@ -126,13 +126,13 @@ module _ {R : Type 0} (seen : R → Seen R) where
       (starts : List ℕ) (start : ℕ) → IsClear standing columns q → IsWordOf columns word
       → ArePositions word starts → Represents seen columns q holding word starts
       → IsTrue (live_of q holding start) ↔ IsLive columns q word starts start
-  living standing columns (atom pred e) (waiting found) word starts start clear is positions rep =
+  living standing columns (atom pred e) (atom_held found) word starts start clear is positions rep =
       living_atom standing columns pred e found word starts start clear positions rep
-  living standing columns (eps number) nothing word starts start clear is positions rep = (
+  living standing columns (eps number) eps_held word starts start clear is positions rep = (
     λ live. let wrong : false ≡ true = live in cc,
     λ live. absurd (no_live columns number word starts start live),
   )
-  living standing columns (choice f g) (both a b) word starts start clear is positions rep =
+  living standing columns (choice f g) (choice_held a b) word starts start clear is positions rep =
       let first = living bound columns f a word starts start clear.0 is positions rep.0 in
       let second = living bound columns g b word starts start clear.1 is positions rep.1 in (
         λ live. elim (either_true (live_of f a start) (live_of g b start) live) [
@@ -147,7 +147,7 @@ module _ {R : Type 0} (seen : R → Seen R) where
               (second.1 (there, (item, more, more_is, in_g)))
         ],
       )
-  living standing columns (split f g e) (pending a b left) word starts start clear is positions rep =
+  living standing columns (split f g e) (split_held a b left) word starts start clear is positions rep =
       let first = living bound columns f a word starts start clear.0 is positions rep.0 in (
         λ live. elim (either_true (live_of f a start) (is_outer left.entries start) live) [
           | inl begun ↦
@@ -199,7 +199,7 @@ module _ {R : Type 0} (seen : R → Seen R) where
               ((rep.2.each at start den.0).1 (from, (piece, cut, den.1), more)))
         ],
       )
-  living standing columns (iter f number e) (chained a so_far) word starts start clear is positions rep = (
+  living standing columns (iter f number e) (iter_held a so_far) word starts start clear is positions rep = (
     λ live.
         let (entry, found, outer) = outer_found so_far.entries start rep.1.distinct live in
         let (from, (piece, cut, den), (item, more, more_is, in_f)) =
@@ -225,13 +225,13 @@ module _ {R : Type 0} (seen : R → Seen R) where
         outer_is so_far.entries at (record { inner = at; outer = start; value = den.0 })
         ((rep.1.each at start den.0).1 (from, (piece, cut, den.1), more)),
   )
-  living standing columns (combine f g e) (paired a b) word starts start clear is positions rep =
+  living standing columns (combine f g e) (combine_held a b) word starts start clear is positions rep =
       living bound columns f a word starts start clear.0 is positions rep.0
-  living standing columns (apply f e) (operand a) word starts start clear is positions rep =
+  living standing columns (apply f e) (apply_held a) word starts start clear is positions rep =
       living bound columns f a word starts start clear.0 is positions rep
-  living standing columns (compose f g) (fed a held) word starts start clear is positions rep =
+  living standing columns (compose f g) (compose_held a held) word starts start clear is positions rep =
       living standing columns f a word starts start clear.0 is positions rep.0
-  living standing columns (collect column sync rate f) (tracked all) word starts start clear is positions rep = (
+  living standing columns (collect column sync rate f) (collect_held all) word starts start clear is positions rep = (
     λ live. (rep.2.there start).0 (start_there all.tracks start live),
     λ live. start_read all.tracks start ((rep.2.there start).1 live),
   )

@@ -13,7 +13,7 @@ use Rattle.compose_eval.specs.declared.instance.Instance.{Instance}
 use Rattle.eval_tree.specs.declared.progress.Progress.{Progress}
 use Rattle.eval_tree.specs.Counts.{size_of_answer, stored_in}
 use Rattle.eval_tree.specs.Feeds.{IsSoundOf}
-use Rattle.eval_tree.specs.Holdings.{Holding, fed, Seen}
+use Rattle.eval_tree.specs.Holdings.{Holding, compose_held, Seen}
 use Rattle.eval_tree.specs.Plain.{holding_of, seen_of}
 use Rattle.eval_tree.specs.Represents.{KeepsFew, Represents}
 use Rattle.eval_tree.specs.Sound.{IsSound, IsSoundWithin}
@@ -22,13 +22,6 @@ use Rattle.eval_tree.proofs.Instances.{all_mapped}
 use Rattle.eval_tree.proofs.Made.{places_few}
 use Rattle.eval_tree.proofs.Members.{no_member}
 use Rattle.eval_tree.proofs.StoredNone.{silent_few}
-
--- the right operand is not larger than the whole
-pub right_small : (f g : Qre) → slots_of (compose f g) ≤ max_slots → slots_of g ≤ max_slots
-right_small f g small =
-    let whole : inner_of f + (places_of f + 1) * (1 + (inner_of g + 2)) + 2 ≤ max_slots = small in
-    let parts = add-mul (places_of f) 1 (1 + (inner_of g + 2)) in
-    omega (arith, whole, parts)
 
 -- there are as many runners as there are to be
 pub runners_fit : (f g : Qre) (places count : ℕ) → slots_of (compose f g) ≤ max_slots
@@ -42,7 +35,7 @@ module _ {R : Type 0} (seen : R → Seen R) where
   pub new_compose : (columns : List Column) (f g : Qre) (a : Holding R) (held : Contents R)
       → Represents seen columns f a [] [] → held.live ≡ [] → length held.idle ≡ places_of f + 1
       → AllByRecursion (KeepsFew seen (stored_in seen g) (slots_of g)) held.idle
-      → Represents seen columns (compose f g) (fed a held) [] []
+      → Represents seen columns (compose f g) (compose_held a held) [] []
   new_compose columns f g a held first none count few =
       let nobody = ap length none in (
         first,
@@ -65,7 +58,7 @@ module _ {R : Type 0} (seen : R → Seen R) where
   pub new_compose_sound : (columns : List Column) (f g : Qre) (a : Holding R) (held : Contents R)
       → IsSound seen columns f 0 a → held.live ≡ [] → length held.idle ≡ places_of f + 1
       → ((columns : List Column) → AllByRecursion (IsSoundOf seen columns g) held.idle)
-      → IsSound seen columns (compose f g) 0 (fed a held)
+      → IsSound seen columns (compose f g) 0 (compose_held a held)
   new_compose_sound columns f g a held first none count idle =
       let nobody = ap length none in (
         first,

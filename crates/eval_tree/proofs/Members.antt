@@ -15,7 +15,3 @@ later_member x y xs (k, below, is) = (suc k, omega (arith, below), is)
 pub member_cases : {A : Type 0} (x y : A) (xs : List A) → Contains (x ∷ xs) y → (x ≡ y) ⊎ Contains xs y
 member_cases x y xs (zero, below, is) = inl is
 member_cases x y xs (suc k, below, is) = inr (k, omega (arith, below), is)
-
--- with one more
-pub same_members : (xs : List ℕ) (y : ℕ) → Contains (xs ++ y ∷ []) y
-same_members xs y = Contains-push xs y

@@ -9,7 +9,7 @@ use Rattle.split_eval.specs.Entries as entries
 use Rattle.compose_eval.specs.Followers.{Contents, followers_of}
 use Rattle.eval_tree.specs.declared.hit.Hit.{Hit}
 use Rattle.eval_tree.specs.Feeds.{IsCleared, IsRenewed, item_of}
-use Rattle.eval_tree.specs.Holdings.{Holding, both, paired, operand, pending, chained, fed, Seen}
+use Rattle.eval_tree.specs.Holdings.{Holding, choice_held, combine_held, apply_held, split_held, iter_held, compose_held, Seen}
 use Rattle.eval_tree.specs.Numbers.{BeginsNumbers, CarriesNumbers, FeedsNumbers, PassesNumbers, StartsNumbers, StepsNumbers}
 use Rattle.eval_tree.specs.Steps.{StartsSoundly, StepsSoundly}
 use Rattle.eval_tree.proofs.Allowed.{start_behind, start_first, start_left, start_operand, start_right, start_second, step_first, step_left, step_operand, step_right, step_second}
@@ -20,20 +20,20 @@ use Rattle.eval_tree.proofs.NumberQueries.{out_numbers}
 
 module _ {R : Type 0} (seen : R → Seen R) where
   -- a choice
-  pub first_starts : (f g : Qre) (a b : Holding R) (at : ℕ) → StartsNumbers seen (choice f g) (both a b) at
+  pub first_starts : (f g : Qre) (a b : Holding R) (at : ℕ) → StartsNumbers seen (choice f g) (choice_held a b) at
       → StartsNumbers seen f a at
   unfolding start_first
   first_starts f g a b at free =
       (start_first seen f g a b at free.0, record { no_collect = free.1.no_collect.0; no_tables = free.1.no_tables })
 
-  pub second_starts : (f g : Qre) (a b : Holding R) (at : ℕ) → StartsNumbers seen (choice f g) (both a b) at
+  pub second_starts : (f g : Qre) (a b : Holding R) (at : ℕ) → StartsNumbers seen (choice f g) (choice_held a b) at
       → StartsNumbers seen g b at
   unfolding start_second
   second_starts f g a b at free =
       (start_second seen f g a b at free.0, record { no_collect = free.1.no_collect.1; no_tables = free.1.no_tables })
 
   pub first_steps : (f g : Qre) (a b : Holding R) (now : ℕ) (item : List Field)
-      → StepsNumbers seen (choice f g) (both a b) now item → StepsNumbers seen f a now item
+      → StepsNumbers seen (choice f g) (choice_held a b) now item → StepsNumbers seen f a now item
   unfolding step_first
   first_steps f g a b now item free = (
     step_first seen f g a b now item free.0,
@@ -41,7 +41,7 @@ module _ {R : Type 0} (seen : R → Seen R) where
   )
 
   pub second_steps : (f g : Qre) (a b : Holding R) (now : ℕ) (item : List Field)
-      → StepsNumbers seen (choice f g) (both a b) now item → StepsNumbers seen g b now item
+      → StepsNumbers seen (choice f g) (choice_held a b) now item → StepsNumbers seen g b now item
   unfolding step_second
   second_steps f g a b now item free = (
     step_second seen f g a b now item free.0,
@@ -50,13 +50,13 @@ module _ {R : Type 0} (seen : R → Seen R) where
 
   -- an apply
   pub operand_starts : (f : Qre) (e : Expression) (a : Holding R) (at : ℕ)
-      → StartsNumbers seen (apply f e) (operand a) at → StartsNumbers seen f a at
+      → StartsNumbers seen (apply f e) (apply_held a) at → StartsNumbers seen f a at
   unfolding start_operand
   operand_starts f e a at free =
       (start_operand seen f e a at free.0, record { no_collect = free.1.no_collect; no_tables = free.1.no_tables })
 
   pub operand_steps : (f : Qre) (e : Expression) (a : Holding R) (now : ℕ) (item : List Field)
-      → StepsNumbers seen (apply f e) (operand a) now item → StepsNumbers seen f a now item
+      → StepsNumbers seen (apply f e) (apply_held a) now item → StepsNumbers seen f a now item
   unfolding step_operand
   operand_steps f e a now item free = (
     step_operand seen f e a now item free.0,
@@ -65,7 +65,7 @@ module _ {R : Type 0} (seen : R → Seen R) where
 
   -- a split
   pub left_starts : (f g : Qre) (e : Expression) (a b : Holding R) (held : entries.Contents Value) (at : ℕ)
-      → StartsNumbers seen (split f g e) (pending a b held) at → StartsNumbers seen f a at
+      → StartsNumbers seen (split f g e) (split_held a b held) at → StartsNumbers seen f a at
   unfolding start_left
   left_starts f g e a b held at free = (
     start_left seen f g e a b held at free.0,
@@ -73,7 +73,7 @@ module _ {R : Type 0} (seen : R → Seen R) where
   )
 
   pub right_starts : (f g : Qre) (e : Expression) (a b : Holding R) (held : entries.Contents Value) (at : ℕ)
-      → StartsNumbers seen (split f g e) (pending a b held) at → StartsNumbers seen g b at
+      → StartsNumbers seen (split f g e) (split_held a b held) at → StartsNumbers seen g b at
   unfolding start_right
   right_starts f g e a b held at free = (
     start_right seen f g e a b held at free.0,
@@ -81,7 +81,7 @@ module _ {R : Type 0} (seen : R → Seen R) where
   )
 
   pub left_steps : (f g : Qre) (e : Expression) (a b : Holding R) (held : entries.Contents Value) (now : ℕ)
-      (item : List Field) → StepsNumbers seen (split f g e) (pending a b held) now item
+      (item : List Field) → StepsNumbers seen (split f g e) (split_held a b held) now item
       → StepsNumbers seen f a now item
   unfolding step_left
   left_steps f g e a b held now item free = (
@@ -90,7 +90,7 @@ module _ {R : Type 0} (seen : R → Seen R) where
   )
 
   pub right_steps : (f g : Qre) (e : Expression) (a b : Holding R) (held : entries.Contents Value) (now : ℕ)
-      (item : List Field) → StepsNumbers seen (split f g e) (pending a b held) now item
+      (item : List Field) → StepsNumbers seen (split f g e) (split_held a b held) now item
       → StepsNumbers seen g b now item
   unfolding step_right
   right_steps f g e a b held now item free = (
@@ -99,7 +99,7 @@ module _ {R : Type 0} (seen : R → Seen R) where
   )
 
   pub right_begins : (f g : Qre) (e : Expression) (a b b' : Holding R) (held : entries.Contents Value) (now : ℕ)
-      (item : List Field) (right : Option Hit) → StepsNumbers seen (split f g e) (pending a b held) now item
+      (item : List Field) (right : Option Hit) → StepsNumbers seen (split f g e) (split_held a b held) now item
       → StepsSoundly seen g b now item b' right → StartsNumbers seen g b' now
   unfolding start_behind
   right_begins f g e a b b' held now item right free second = (
@@ -109,19 +109,19 @@ module _ {R : Type 0} (seen : R → Seen R) where
 
   -- a combine
   pub one_starts : (f g : Qre) (e : Expression) (a b : Holding R) (at : ℕ)
-      → StartsNumbers seen (combine f g e) (paired a b) at → StartsNumbers seen f a at
+      → StartsNumbers seen (combine f g e) (combine_held a b) at → StartsNumbers seen f a at
   unfolding start_one
   one_starts f g e a b at free =
       (start_one seen f g e a b at free.0, record { no_collect = free.1.no_collect.0; no_tables = free.1.no_tables })
 
   pub other_starts : (f g : Qre) (e : Expression) (a b : Holding R) (at : ℕ)
-      → StartsNumbers seen (combine f g e) (paired a b) at → StartsNumbers seen g b at
+      → StartsNumbers seen (combine f g e) (combine_held a b) at → StartsNumbers seen g b at
   unfolding start_other
   other_starts f g e a b at free =
       (start_other seen f g e a b at free.0, record { no_collect = free.1.no_collect.1; no_tables = free.1.no_tables })
 
   pub one_steps : (f g : Qre) (e : Expression) (a b : Holding R) (now : ℕ) (item : List Field)
-      → StepsNumbers seen (combine f g e) (paired a b) now item → StepsNumbers seen f a now item
+      → StepsNumbers seen (combine f g e) (combine_held a b) now item → StepsNumbers seen f a now item
   unfolding step_one
   one_steps f g e a b now item free = (
     step_one seen f g e a b now item free.0,
@@ -129,7 +129,7 @@ module _ {R : Type 0} (seen : R → Seen R) where
   )
 
   pub other_steps : (f g : Qre) (e : Expression) (a b : Holding R) (now : ℕ) (item : List Field)
-      → StepsNumbers seen (combine f g e) (paired a b) now item → StepsNumbers seen g b now item
+      → StepsNumbers seen (combine f g e) (combine_held a b) now item → StepsNumbers seen g b now item
   unfolding step_other
   other_steps f g e a b now item free = (
     step_other seen f g e a b now item free.0,
@@ -138,7 +138,7 @@ module _ {R : Type 0} (seen : R → Seen R) where
 
   -- an iter
   pub piece_starts : (f : Qre) (number : ℤ) (e : Expression) (a : Holding R) (so_far : entries.Contents Value)
-      (at : ℕ) → StartsNumbers seen (iter f number e) (chained a so_far) at → StartsNumbers seen f a at
+      (at : ℕ) → StartsNumbers seen (iter f number e) (iter_held a so_far) at → StartsNumbers seen f a at
   unfolding start_piece
   piece_starts f number e a so_far at free = (
     start_piece seen f number e a so_far at free.0,
@@ -146,7 +146,7 @@ module _ {R : Type 0} (seen : R → Seen R) where
   )
 
   pub piece_steps : (f : Qre) (number : ℤ) (e : Expression) (a : Holding R) (so_far : entries.Contents Value)
-      (now : ℕ) (item : List Field) → StepsNumbers seen (iter f number e) (chained a so_far) now item
+      (now : ℕ) (item : List Field) → StepsNumbers seen (iter f number e) (iter_held a so_far) now item
       → StepsNumbers seen f a now item
   unfolding step_piece
   piece_steps f number e a so_far now item free = (
@@ -156,7 +156,7 @@ module _ {R : Type 0} (seen : R → Seen R) where
 
   pub piece_begins : (f : Qre) (number : ℤ) (e : Expression) (a a' : Holding R) (so_far : entries.Contents Value)
       (now : ℕ) (item : List Field) (piece : Option Hit)
-      → StepsNumbers seen (iter f number e) (chained a so_far) now item → StepsSoundly seen f a now item a' piece
+      → StepsNumbers seen (iter f number e) (iter_held a so_far) now item → StepsSoundly seen f a now item a' piece
       → StartsNumbers seen f a' now
   unfolding start_next
   piece_begins f number e a a' so_far now item piece free first = (
@@ -166,13 +166,13 @@ module _ {R : Type 0} (seen : R → Seen R) where
 
   -- a compose
   pub fed_starts : (f g : Qre) (a : Holding R) (held : Contents R) (at : ℕ)
-      → StartsNumbers seen (compose f g) (fed a held) at → StartsNumbers seen f a at
+      → StartsNumbers seen (compose f g) (compose_held a held) at → StartsNumbers seen f a at
   unfolding start_fed
   fed_starts f g a held at free =
       (start_fed seen f g a held at free.0, record { no_collect = free.1.no_collect.0; no_tables = free.1.no_tables })
 
   pub fed_steps : (f g : Qre) (a : Holding R) (held : Contents R) (now : ℕ) (item : List Field)
-      → StepsNumbers seen (compose f g) (fed a held) now item → StepsNumbers seen f a now item
+      → StepsNumbers seen (compose f g) (compose_held a held) now item → StepsNumbers seen f a now item
   unfolding step_fed
   fed_steps f g a held now item free = (
     step_fed seen f g a held now item free.0,
@@ -180,14 +180,14 @@ module _ {R : Type 0} (seen : R → Seen R) where
   )
 
   pub passes_on : (f g : Qre) (a a' : Holding R) (held : Contents R) (now : ℕ) (item : List Field)
-      (left : Option Hit) → StepsNumbers seen (compose f g) (fed a held) now item
+      (left : Option Hit) → StepsNumbers seen (compose f g) (compose_held a held) now item
       → StepsSoundly seen f a now item a' left → PassesNumbers seen g held left
   unfolding passes_allowed
   passes_on f g a a' held now item left free first =
       (passes_allowed seen f g a a' held now item left free.0 first, out_numbers free.0.columns f g free.1)
 
   pub feeds_on : (f g : Qre) (a a' : Holding R) (held : Contents R) (at : ℕ) (left : Option Hit)
-      → StartsNumbers seen (compose f g) (fed a held) at → StartsSoundly seen f a at a' left
+      → StartsNumbers seen (compose f g) (compose_held a held) at → StartsSoundly seen f a at a' left
       → FeedsNumbers seen g held left
   unfolding feeds_allowed
   feeds_on f g a a' held at left free first =

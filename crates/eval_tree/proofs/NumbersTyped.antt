@@ -22,7 +22,7 @@ use Rattle.split_eval.specs.Entries.{Contents}
 use Rattle.split_eval.specs.declared.entry.Entry.{Entry}
 use Rattle.eval_tree.specs.declared.hit.Hit.{Hit}
 use Rattle.eval_tree.specs.Feeds.{IsCarried}
-use Rattle.eval_tree.specs.Holdings.{Holding, waiting, paired, operand, pending, chained, Seen}
+use Rattle.eval_tree.specs.Holdings.{Holding, atom_held, combine_held, apply_held, split_held, iter_held, Seen}
 use Rattle.eval_tree.specs.Lefts.{AreNumbersOnHits, AreNumbersWith, IsEnded, IsNumberOnBoth, IsNumberOnHit, IsNumberOnOne, IsNumberWith}
 use Rattle.eval_tree.specs.Numbers.{CarriesNumbers, StartsNumbers, StepsNumbers}
 use Rattle.eval_tree.specs.Sound.{IsTyped}
@@ -74,7 +74,7 @@ with_entries type other e entries (Some found) all is typed = λ entry there.
 module _ {R : Type 0} (seen : R → Seen R) where
   -- starts
   pub applied_started : (f : Qre) (e : Expression) (a a' : Holding R) (at : ℕ) (hit : Option Hit)
-      → StartsNumbers seen (apply f e) (operand a) at → StartsSoundly seen f a at a' hit → IsNumberOnHit e hit
+      → StartsNumbers seen (apply f e) (apply_held a) at → StartsSoundly seen f a at a' hit → IsNumberOnHit e hit
   applied_started f e a a' at hit free started =
       let can = free.0 in
       let type = type_of can.columns f in
@@ -83,7 +83,7 @@ module _ {R : Type 0} (seen : R → Seen R) where
       (number_type can.columns (apply f e) free.1.no_collect free.1.no_tables))
 
   pub combined_started : (f g : Qre) (e : Expression) (a b a' b' : Holding R) (at : ℕ) (left right : Option Hit)
-      → StartsNumbers seen (combine f g e) (paired a b) at → StartsSoundly seen f a at a' left
+      → StartsNumbers seen (combine f g e) (combine_held a b) at → StartsSoundly seen f a at a' left
       → StartsSoundly seen g b at b' right → AreNumbersOnHits e left right
   combined_started f g e a b a' b' at left right free first second =
       let can = free.0 in
@@ -96,7 +96,7 @@ module _ {R : Type 0} (seen : R → Seen R) where
       (number_type can.columns (combine f g e) free.1.no_collect free.1.no_tables))
 
   pub joined_started : (f g : Qre) (e : Expression) (a b a' b' : Holding R) (held : Contents Value) (at : ℕ)
-      (left : Hit) (right : Option Hit) → StartsNumbers seen (split f g e) (pending a b held) at
+      (left : Hit) (right : Option Hit) → StartsNumbers seen (split f g e) (split_held a b held) at
       → StartsSoundly seen f a at a' (Some left) → StartsSoundly seen g b at b' right
       → IsNumberWith e left.value right
   joined_started f g e a b a' b' held at left right free first second =
@@ -111,7 +111,7 @@ module _ {R : Type 0} (seen : R → Seen R) where
 
   -- steps
   pub given_stepped : (pred : Predicate) (e : Expression) (found : Option ℕ) (now : ℕ) (item : List Field)
-      → StepsNumbers seen (atom pred e) (waiting found) now item → IsNumber (types_of (given item None None)) e
+      → StepsNumbers seen (atom pred e) (atom_held found) now item → IsNumber (types_of (given item None None)) e
   given_stepped pred e found now item free =
       let can = free.0 in
       subst (λ (types : Types). HasType types e Number) (sym (atom_types can.columns item can.is_item))
@@ -119,7 +119,7 @@ module _ {R : Type 0} (seen : R → Seen R) where
       (number_type can.columns (atom pred e) free.1.no_collect free.1.no_tables))
 
   pub applied_stepped : (f : Qre) (e : Expression) (a a' : Holding R) (now : ℕ) (item : List Field) (hit : Option Hit)
-      → StepsNumbers seen (apply f e) (operand a) now item → StepsSoundly seen f a now item a' hit
+      → StepsNumbers seen (apply f e) (apply_held a) now item → StepsSoundly seen f a now item a' hit
       → IsNumberOnHit e hit
   applied_stepped f e a a' now item hit free stepped =
       let can = free.0 in
@@ -129,7 +129,7 @@ module _ {R : Type 0} (seen : R → Seen R) where
       (number_type can.columns (apply f e) free.1.no_collect free.1.no_tables))
 
   pub combined_stepped : (f g : Qre) (e : Expression) (a b a' b' : Holding R) (now : ℕ) (item : List Field)
-      (left right : Option Hit) → StepsNumbers seen (combine f g e) (paired a b) now item
+      (left right : Option Hit) → StepsNumbers seen (combine f g e) (combine_held a b) now item
       → StepsSoundly seen f a now item a' left → StepsSoundly seen g b now item b' right
       → AreNumbersOnHits e left right
   combined_stepped f g e a b a' b' now item left right free first second =
@@ -142,7 +142,7 @@ module _ {R : Type 0} (seen : R → Seen R) where
       (number_type can.columns (combine f g e) free.1.no_collect free.1.no_tables))
 
   pub ended_stepped : (f g : Qre) (e : Expression) (a b b' : Holding R) (held : Contents Value) (now : ℕ)
-      (item : List Field) (right : Option Hit) → StepsNumbers seen (split f g e) (pending a b held) now item
+      (item : List Field) (right : Option Hit) → StepsNumbers seen (split f g e) (split_held a b held) now item
       → StepsSoundly seen g b now item b' right → AreNumbersWith e held.entries right
   ended_stepped f g e a b b' held now item right free second =
       let can = free.0 in
@@ -155,7 +155,7 @@ module _ {R : Type 0} (seen : R → Seen R) where
 
   pub joined_stepped : (f g : Qre) (e : Expression) (a b a' b' b'' : Holding R) (held : Contents Value) (now : ℕ)
       (item : List Field) (left : Hit) (right begun : Option Hit)
-      → StepsNumbers seen (split f g e) (pending a b held) now item
+      → StepsNumbers seen (split f g e) (split_held a b held) now item
       → StepsSoundly seen f a now item a' (Some left) → StepsSoundly seen g b now item b' right
       → StartsSoundly seen g b' now b'' begun → IsNumberWith e left.value begun
   joined_stepped f g e a b a' b' b'' held now item left right begun free first second third =
@@ -170,7 +170,7 @@ module _ {R : Type 0} (seen : R → Seen R) where
       (number_type can.columns (split f g e) free.1.no_collect free.1.no_tables))
 
   pub ended_piece : (f : Qre) (number : ℤ) (e : Expression) (a a' : Holding R) (so_far : Contents Value) (now : ℕ)
-      (item : List Field) (piece : Option Hit) → StepsNumbers seen (iter f number e) (chained a so_far) now item
+      (item : List Field) (piece : Option Hit) → StepsNumbers seen (iter f number e) (iter_held a so_far) now item
       → StepsSoundly seen f a now item a' piece → AreNumbersWith e so_far.entries piece
   ended_piece f number e a a' so_far now item piece free first =
       let can = free.0 in
@@ -180,7 +180,7 @@ module _ {R : Type 0} (seen : R → Seen R) where
   -- a value so far is none either
   pub ended_no_table : (f : Qre) (number : ℤ) (e : Expression) (a a' : Holding R) (so_far : Contents Value) (now : ℕ)
       (item : List Field) (piece : Option Hit) (hit : Hit)
-      → StepsNumbers seen (iter f number e) (chained a so_far) now item → StepsSoundly seen f a now item a' piece
+      → StepsNumbers seen (iter f number e) (iter_held a so_far) now item → StepsSoundly seen f a now item a' piece
       → IsEnded e so_far.entries piece (Some hit) → IsNoTable hit.value
   ended_no_table f number e a a' so_far now item piece hit free first ended =
       let can = free.0 in

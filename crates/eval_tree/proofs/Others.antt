@@ -4,18 +4,18 @@ use Rattle.query_model.specs.declared.query.Shape.{Shape}
 use Rattle.query_model.specs.declared.query.Shape.TheVariants.{Atom, Eps, Or', Split', Iter', Combine', Apply', Compose', Collect'}
 use Rattle.query_model.specs.Queries.{plain_of}
 use Rattle.eval_tree.specs.declared.node.State.{State}
-use Rattle.eval_tree.specs.declared.node.State.TheVariants.{Empty, Item}
+use Rattle.eval_tree.specs.declared.node.State.TheVariants as variant
 use Rattle.eval_tree.specs.Copies.{IsCopy}
 use Rattle.eval_tree.specs.Counts.{stored_in}
 use Rattle.eval_tree.specs.Feeds.{IsCleared}
-use Rattle.eval_tree.specs.Holdings.{nothing}
+use Rattle.eval_tree.specs.Holdings.{eps_held}
 use Rattle.eval_tree.specs.Plain.{holding_of, seen_of}
 use Rattle.eval_tree.proofs.Lived.{IsOther}
 
 pub other_stored : (shape : Shape) (state : State) → IsOther shape
     → stored_in seen_of (plain_of shape) (holding_of state) ≡ 0
 other_stored (Atom pred value) state other = absurd other
-other_stored (Eps number) (Item found) other = refl
+other_stored (Eps number) (variant.Atom found) other = refl
 other_stored (Eps number) state other = refl
 other_stored (Or' p f a q g b) state other = absurd other
 other_stored (Split' p f a q g b value) state other = absurd other
@@ -40,7 +40,7 @@ IsLeft (Collect' key sync rate p f a) = Unit {0}
 pub left_cleared : (shape : Shape) (state : State) → IsLeft shape
     → IsCleared seen_of (plain_of shape) (holding_of state) (holding_of state)
 left_cleared (Atom pred value) state left = absurd left
-left_cleared (Eps number) Empty left = λ no_collect columns position sound. (λ others. tt, λ now. tt)
+left_cleared (Eps number) variant.Eps left = λ no_collect columns position sound. (λ others. tt, λ now. tt)
 left_cleared (Eps number) state left = λ no_collect columns position sound. absurd sound
 left_cleared (Or' p f a q g b) state left = absurd left
 left_cleared (Split' p f a q g b value) state left = absurd left
@@ -51,9 +51,9 @@ left_cleared (Compose' p f a q g b) state left = absurd left
 left_cleared (Collect' key sync rate p f a) state left = λ no_collect columns position sound. absurd no_collect
 
 pub other_copied : (shape : Shape) (state : State) → IsOther shape
-    → IsCopy seen_of (plain_of shape) (holding_of state) nothing
+    → IsCopy seen_of (plain_of shape) (holding_of state) eps_held
 other_copied (Atom pred value) state other = absurd other
-other_copied (Eps number) Empty other = refl
+other_copied (Eps number) variant.Eps other = refl
 other_copied (Eps number) state other = refl
 other_copied (Or' p f a q g b) state other = absurd other
 other_copied (Split' p f a q g b value) state other = absurd other

@@ -91,13 +91,6 @@ empty_is word from to piece is end =
     nothing [] none = refl
     nothing (x ∷ u) none = absurd (omega (arith, none))
 
-pub empty_piece : (word : Word) (at : ℕ) → at ≡ length word → IsPiece word at [] at
-empty_piece word at end = record {
-  end = omega arith;
-  inside = omega (arith, end);
-  cut = refl;
-}
-
 -- what is behind a position in two parts
 pub split_piece : (word : Word) (from : ℕ) (first second : Word) → from ≤ length word
     → drop from word ≡ first ++ second

@@ -14,18 +14,18 @@ use Rattle.query_model.specs.Queries.{Qre, atom, eps, choice, combine, apply}
 use Rattle.eval_tree.specs.declared.hit.Hit.{Hit}
 use Rattle.eval_tree.specs.declared.progress.Progress.{Progress}
 use Rattle.eval_tree.specs.Calls.{HasStarted, HasStepped}
-use Rattle.eval_tree.specs.Holdings.{Holding, waiting, nothing, both, paired, operand}
+use Rattle.eval_tree.specs.Holdings.{Holding, atom_held, eps_held, choice_held, combine_held, apply_held}
 use Rattle.eval_tree.specs.Lefts.{AreCombined, IsApplied}
 use Rattle.eval_tree.specs.Plain.{seen_of}
 use Rattle.eval_tree.proofs.Choices.{start_apply, start_choice, step_apply, step_choice}
 use Rattle.eval_tree.proofs.Combines.{start_combine, step_combine}
 use Rattle.eval_tree.proofs.FoldSoundness.{sound_start_combine, sound_step_combine}
-use Rattle.eval_tree.proofs.Items.{start_atom, start_eps, step_atom, step_atom_none, step_atom_other, step_eps}
-use Rattle.eval_tree.proofs.Soundness.{sound_start_apply, sound_start_atom, sound_start_choice, sound_start_eps, sound_step_apply, sound_step_atom, sound_step_atom_none, sound_step_choice, sound_step_eps}
+use Rattle.eval_tree.proofs.Items.{start_atom, step_atom, step_atom_none, step_atom_other, step_eps}
+use Rattle.eval_tree.proofs.Soundness.{sound_start_apply, sound_start_atom, sound_start_choice, sound_step_apply, sound_step_atom, sound_step_atom_none, sound_step_choice, sound_step_eps}
 
 -- an atom
 pub atom_starts : (pred : Predicate) (e : Expression) (old : Option ℕ) (at : ℕ)
-    → HasStarted seen_of (atom pred e) (waiting old) at (waiting (Some at)) (Ok None)
+    → HasStarted seen_of (atom pred e) (atom_held old) at (atom_held (Some at)) (Ok None)
 atom_starts pred e old at = record {
   word = start_atom seen_of pred e old at;
   sound = sound_start_atom seen_of pred e old at;
@@ -34,7 +34,7 @@ atom_starts pred e old at = record {
 
 pub atom_steps : (pred : Predicate) (e : Expression) (begun now : ℕ) (item : List Field) (v : Value)
     → holds pred item ≡ true → value_of (given item None None) e ≡ Some v
-    → HasStepped seen_of (atom pred e) (waiting (Some begun)) now item (waiting None)
+    → HasStepped seen_of (atom pred e) (atom_held (Some begun)) now item (atom_held None)
     (Ok (Some (record { start = begun; value = v })))
 atom_steps pred e begun now item v meets gives = record {
   word = step_atom seen_of pred e begun now item v meets gives;
@@ -44,7 +44,7 @@ atom_steps pred e begun now item v meets gives = record {
 
 pub atom_steps_other : (pred : Predicate) (e : Expression) (begun now : ℕ) (item : List Field)
     → holds pred item ≡ false
-    → HasStepped seen_of (atom pred e) (waiting (Some begun)) now item (waiting None) (Ok None)
+    → HasStepped seen_of (atom pred e) (atom_held (Some begun)) now item (atom_held None) (Ok None)
 atom_steps_other pred e begun now item not = record {
   word = step_atom_other seen_of pred e begun now item not;
   sound = sound_step_atom_none seen_of pred e (Some begun) now item;
@@ -52,7 +52,7 @@ atom_steps_other pred e begun now item not = record {
 }
 
 pub atom_steps_none : (pred : Predicate) (e : Expression) (now : ℕ) (item : List Field)
-    → HasStepped seen_of (atom pred e) (waiting None) now item (waiting None) (Ok None)
+    → HasStepped seen_of (atom pred e) (atom_held None) now item (atom_held None) (Ok None)
 atom_steps_none pred e now item = record {
   word = step_atom_none seen_of pred e now item;
   sound = sound_step_atom_none seen_of pred e None now item;
@@ -60,16 +60,8 @@ atom_steps_none pred e now item = record {
 }
 
 -- the empty word
-pub eps_starts : (number : ℤ) (at : ℕ) → HasStarted seen_of (eps number) nothing at nothing
-    (Ok (Some (record { start = at; value = value.Scalar (Number number) })))
-eps_starts number at = record {
-  word = start_eps seen_of number at;
-  sound = sound_start_eps seen_of number at;
-  no_memory = λ free. refl;
-}
-
 pub eps_steps : (number : ℤ) (now : ℕ) (item : List Field)
-    → HasStepped seen_of (eps number) nothing now item nothing (Ok None)
+    → HasStepped seen_of (eps number) eps_held now item eps_held (Ok None)
 eps_steps number now item = record {
   word = step_eps seen_of number now item;
   sound = sound_step_eps seen_of number now item;
@@ -80,7 +72,7 @@ module _ (f g : Qre) (a b a' b' : Holding Progress) where
   -- either of two
   pub choice_starts : (at : ℕ) (left right : Option Hit) → HasStarted seen_of f a at a' (Ok left)
       → HasStarted seen_of g b at b' (Ok right)
-      → HasStarted seen_of (choice f g) (both a b) at (both a' b') (Ok (option_or left right))
+      → HasStarted seen_of (choice f g) (choice_held a b) at (choice_held a' b') (Ok (option_or left right))
   choice_starts at left right first second = record {
     word = start_choice seen_of f g a b a' b' at left right first.word second.word;
     sound = sound_start_choice seen_of f g a b a' b' at left right first.sound second.sound;
@@ -89,7 +81,7 @@ module _ (f g : Qre) (a b a' b' : Holding Progress) where
 
   pub choice_steps : (now : ℕ) (item : List Field) (left right : Option Hit)
       → HasStepped seen_of f a now item a' (Ok left) → HasStepped seen_of g b now item b' (Ok right)
-      → HasStepped seen_of (choice f g) (both a b) now item (both a' b') (Ok (option_or left right))
+      → HasStepped seen_of (choice f g) (choice_held a b) now item (choice_held a' b') (Ok (option_or left right))
   choice_steps now item left right first second = record {
     word = step_choice seen_of f g a b a' b' now item left right first.word second.word;
     sound = sound_step_choice seen_of f g a b a' b' now item left right first.sound second.sound;
@@ -99,7 +91,7 @@ module _ (f g : Qre) (a b a' b' : Holding Progress) where
   -- a combine
   pub combine_starts : (e : Expression) (at : ℕ) (left right hit : Option Hit)
       → HasStarted seen_of f a at a' (Ok left) → HasStarted seen_of g b at b' (Ok right)
-      → AreCombined e left right hit → HasStarted seen_of (combine f g e) (paired a b) at (paired a' b') (Ok hit)
+      → AreCombined e left right hit → HasStarted seen_of (combine f g e) (combine_held a b) at (combine_held a' b') (Ok hit)
   combine_starts e at left right hit first second combined = record {
     word = start_combine seen_of f g e a b a' b' at left right hit first.word second.word combined;
     sound = sound_start_combine seen_of f g e a b a' b' at left right hit first.sound second.sound combined;
@@ -109,7 +101,7 @@ module _ (f g : Qre) (a b a' b' : Holding Progress) where
   pub combine_steps : (e : Expression) (now : ℕ) (item : List Field) (left right hit : Option Hit)
       → HasStepped seen_of f a now item a' (Ok left) → HasStepped seen_of g b now item b' (Ok right)
       → AreCombined e left right hit
-      → HasStepped seen_of (combine f g e) (paired a b) now item (paired a' b') (Ok hit)
+      → HasStepped seen_of (combine f g e) (combine_held a b) now item (combine_held a' b') (Ok hit)
   combine_steps e now item left right hit first second combined = record {
     word = step_combine seen_of f g e a b a' b' now item left right hit first.word second.word combined;
     sound = sound_step_combine seen_of f g e a b a' b' now item left right hit first.sound second.sound combined;
@@ -119,7 +111,7 @@ module _ (f g : Qre) (a b a' b' : Holding Progress) where
 -- an expression on a value
 module _ (f : Qre) (e : Expression) (a a' : Holding Progress) where
   pub apply_starts : (at : ℕ) (inner hit : Option Hit) → HasStarted seen_of f a at a' (Ok inner)
-      → IsApplied e inner hit → HasStarted seen_of (apply f e) (operand a) at (operand a') (Ok hit)
+      → IsApplied e inner hit → HasStarted seen_of (apply f e) (apply_held a) at (apply_held a') (Ok hit)
   apply_starts at inner hit first applied = record {
     word = start_apply seen_of f e a a' at inner hit first.word applied;
     sound = sound_start_apply seen_of f e a a' at inner hit first.sound applied;
@@ -128,7 +120,7 @@ module _ (f : Qre) (e : Expression) (a a' : Holding Progress) where
 
   pub apply_steps : (now : ℕ) (item : List Field) (inner hit : Option Hit)
       → HasStepped seen_of f a now item a' (Ok inner) → IsApplied e inner hit
-      → HasStepped seen_of (apply f e) (operand a) now item (operand a') (Ok hit)
+      → HasStepped seen_of (apply f e) (apply_held a) now item (apply_held a') (Ok hit)
   apply_steps now item inner hit first applied = record {
     word = step_apply seen_of f e a a' now item inner hit first.word applied;
     sound = sound_step_apply seen_of f e a a' now item inner hit first.sound applied;

@@ -16,7 +16,7 @@ use Rattle.query_model.specs.Rules.{bound}
 use Rattle.query_model.proofs.Expressed.{atom_ranges}
 use Rattle.split_eval.specs.Entries.{Contents, live_entries}
 use Rattle.eval_tree.specs.declared.hit.Hit.{Hit}
-use Rattle.eval_tree.specs.Holdings.{Holding, waiting, nothing, both, operand, pending, Seen}
+use Rattle.eval_tree.specs.Holdings.{Holding, atom_held, eps_held, choice_held, apply_held, split_held, Seen}
 use Rattle.eval_tree.specs.Lefts.{IsApplied, IsEnded, IsJoined, IsPut}
 use Rattle.eval_tree.specs.Steps.{IsHitAt, IsHitOf, StartsSoundly, StepsSoundly}
 use Rattle.eval_tree.proofs.Typed.{applied_at, applied_of, ended_of, entries_kept, entries_put, hit_of, joined_of}
@@ -33,16 +33,12 @@ either_of type (Some found) right a b = a
 
 module _ {R : Type 0} (seen : R → Seen R) where
   pub sound_start_atom : (pred : Predicate) (e : Expression) (old : Option ℕ) (at : ℕ)
-      → StartsSoundly seen (atom pred e) (waiting old) at (waiting (Some at)) None
+      → StartsSoundly seen (atom pred e) (atom_held old) at (atom_held (Some at)) None
   sound_start_atom pred e old at = λ standing columns clear sound. record { node = tt; hit = tt }
-
-  pub sound_start_eps : (number : ℤ) (at : ℕ) → StartsSoundly seen (eps number) nothing at nothing
-      (Some (record { start = at; value = value.Scalar (Number number) }))
-  sound_start_eps number at = λ standing columns clear sound. record { node = tt; hit = (refl, clear) }
 
   pub sound_start_choice : (f g : Qre) (a b a' b' : Holding R) (at : ℕ) (left right : Option Hit)
       → StartsSoundly seen f a at a' left → StartsSoundly seen g b at b' right
-      → StartsSoundly seen (choice f g) (both a b) at (both a' b') (option_or left right)
+      → StartsSoundly seen (choice f g) (choice_held a b) at (choice_held a' b') (option_or left right)
   sound_start_choice f g a b a' b' at left right first second = λ standing columns clear sound.
       let x = first bound columns clear.0 sound.0 in
       let y = second bound columns clear.1 sound.1 in
@@ -54,14 +50,14 @@ module _ {R : Type 0} (seen : R → Seen R) where
 
   pub sound_start_apply : (f : Qre) (e : Expression) (a a' : Holding R) (at : ℕ) (inner hit : Option Hit)
       → StartsSoundly seen f a at a' inner → IsApplied e inner hit
-      → StartsSoundly seen (apply f e) (operand a) at (operand a') hit
+      → StartsSoundly seen (apply f e) (apply_held a) at (apply_held a') hit
   sound_start_apply f e a a' at inner hit first applied = λ standing columns clear sound.
       let x = first bound columns clear.0 sound in
       record { node = x.node; hit = applied_at (type_of columns f) _ e at inner hit x.hit clear.1 applied }
 
   pub sound_start_split_none : (f g : Qre) (e : Expression) (a b a' : Holding R) (held : Contents Value) (at : ℕ)
       → StartsSoundly seen f a at a' None
-      → StartsSoundly seen (split f g e) (pending a b held) at (pending a' b held) None
+      → StartsSoundly seen (split f g e) (split_held a b held) at (split_held a' b held) None
   sound_start_split_none f g e a b a' held at first = λ standing columns clear sound.
       let x = first bound columns clear.0 sound.0 in
       record { node = (x.node, sound.1, sound.2); hit = tt }
@@ -71,7 +67,7 @@ module _ {R : Type 0} (seen : R → Seen R) where
       → StartsSoundly seen f a at a' (Some left) → StartsSoundly seen g b at b' right
       → IsJoined e left.start left.value right hit
       → IsPut live held (record { inner = at; outer = left.start; value = left.value }) new
-      → StartsSoundly seen (split f g e) (pending a b held) at (pending a' b' new) hit
+      → StartsSoundly seen (split f g e) (split_held a b held) at (split_held a' b' new) hit
   sound_start_split_some f g e a b a' b' held new at left right hit live first second joined put =
       λ standing columns clear sound.
       let x = first bound columns clear.0 sound.0 in
@@ -89,14 +85,14 @@ module _ {R : Type 0} (seen : R → Seen R) where
       }
 
   pub sound_step_atom_none : (pred : Predicate) (e : Expression) (old : Option ℕ) (now : ℕ) (item : List Field)
-      → StepsSoundly seen (atom pred e) (waiting old) now item (waiting None) None
+      → StepsSoundly seen (atom pred e) (atom_held old) now item (atom_held None) None
   sound_step_atom_none pred e old now item = λ standing columns position behind clear is sound.
       record { node = tt; hit = tt }
 
   pub sound_step_atom : (pred : Predicate) (e : Expression) (old : Option ℕ) (now start : ℕ)
       (item : List Field) (v : Value)
       → value_of (given item None None) e ≡ Some v
-      → StepsSoundly seen (atom pred e) (waiting old) now item (waiting None)
+      → StepsSoundly seen (atom pred e) (atom_held old) now item (atom_held None)
       (Some (record { start = start; value = v }))
   sound_step_atom pred e old now start item v gives = λ standing columns position behind clear is sound. record {
     node = tt;
@@ -104,12 +100,12 @@ module _ {R : Type 0} (seen : R → Seen R) where
   }
 
   pub sound_step_eps : (number : ℤ) (now : ℕ) (item : List Field)
-      → StepsSoundly seen (eps number) nothing now item nothing None
+      → StepsSoundly seen (eps number) eps_held now item eps_held None
   sound_step_eps number now item = λ standing columns position behind clear is sound. record { node = tt; hit = tt }
 
   pub sound_step_choice : (f g : Qre) (a b a' b' : Holding R) (now : ℕ) (item : List Field) (left right : Option Hit)
       → StepsSoundly seen f a now item a' left → StepsSoundly seen g b now item b' right
-      → StepsSoundly seen (choice f g) (both a b) now item (both a' b') (option_or left right)
+      → StepsSoundly seen (choice f g) (choice_held a b) now item (choice_held a' b') (option_or left right)
   sound_step_choice f g a b a' b' now item left right first second = λ standing columns position behind clear is sound.
       let x = first bound columns position behind clear.0 is sound.0 in
       let y = second bound columns position behind clear.1 is sound.1 in
@@ -121,7 +117,7 @@ module _ {R : Type 0} (seen : R → Seen R) where
   pub sound_step_apply : (f : Qre) (e : Expression) (a a' : Holding R) (now : ℕ) (item : List Field)
       (inner hit : Option Hit)
       → StepsSoundly seen f a now item a' inner → IsApplied e inner hit
-      → StepsSoundly seen (apply f e) (operand a) now item (operand a') hit
+      → StepsSoundly seen (apply f e) (apply_held a) now item (apply_held a') hit
   sound_step_apply f e a a' now item inner hit first applied = λ standing columns position behind clear is sound.
       let x = first bound columns position behind clear.0 is sound in
       record { node = x.node; hit = applied_of (type_of columns f) _ e inner hit x.hit clear.1 applied }
@@ -132,7 +128,7 @@ module _ {R : Type 0} (seen : R → Seen R) where
       → StepsSoundly seen f a now item a' None → StepsSoundly seen g b now item b' right
       → IsEnded e held.entries right hit
       → kept.entries ≡ live_entries live held.entries → kept.room ≡ held.room
-      → StepsSoundly seen (split f g e) (pending a b held) now item (pending a' b' kept) hit
+      → StepsSoundly seen (split f g e) (split_held a b held) now item (split_held a' b' kept) hit
   sound_step_split_none f g e a b a' b' held kept now item live right hit first second ended keeps room =
       λ standing columns position behind clear is sound.
       let x = first bound columns position behind clear.0 is sound.0 in
@@ -151,7 +147,7 @@ module _ {R : Type 0} (seen : R → Seen R) where
       → kept.entries ≡ live_entries live held.entries → kept.room ≡ held.room
       → StartsSoundly seen g b' now b'' begun → IsJoined e left.start left.value begun second_hit
       → IsPut is_live kept (record { inner = now; outer = left.start; value = left.value }) new
-      → StepsSoundly seen (split f g e) (pending a b held) now item (pending a' b'' new) (option_or hit second_hit)
+      → StepsSoundly seen (split f g e) (split_held a b held) now item (split_held a' b'' new) (option_or hit second_hit)
   sound_step_split_some f g e a b a' b' b'' held kept new now item live left right begun hit second_hit is_live first
       second ended keeps room third joined put =
       λ standing columns position behind clear is sound.

@@ -11,7 +11,7 @@ use Rattle.split_eval.specs.declared.entry.Entry.{Entry}
 use Rattle.eval_tree.specs.declared.hit.Hit.{Hit}
 use Rattle.eval_tree.specs.declared.progress.Progress.{Progress}
 use Rattle.eval_tree.specs.Calls.{HasStarted, HasStepped}
-use Rattle.eval_tree.specs.Holdings.{Holding, pending}
+use Rattle.eval_tree.specs.Holdings.{Holding, split_held}
 use Rattle.eval_tree.specs.Lefts.{IsEnded, IsJoined, IsPut}
 use Rattle.eval_tree.specs.Live.{live_of}
 use Rattle.eval_tree.specs.Plain.{seen_of}
@@ -29,7 +29,7 @@ put_room live old new entry put = elim put [
 
 module _ (f g : Qre) (e : Expression) (a b a' b' : Holding Progress) where
   pub split_starts_none : (held : Contents Value) (at : ℕ) → HasStarted seen_of f a at a' (Ok None)
-      → HasStarted seen_of (split f g e) (pending a b held) at (pending a' b held) (Ok None)
+      → HasStarted seen_of (split f g e) (split_held a b held) at (split_held a' b held) (Ok None)
   split_starts_none held at first = record {
     word = start_split_none seen_of f g e a b a' held at first.word;
     sound = sound_start_split_none seen_of f g e a b a' held at first.sound;
@@ -40,7 +40,7 @@ module _ (f g : Qre) (e : Expression) (a b a' b' : Holding Progress) where
       → HasStarted seen_of f a at a' (Ok (Some left)) → HasStarted seen_of g b at b' (Ok right)
       → IsJoined e left.start left.value right hit → live ≡ live_of g b' at
       → IsPut live held (record { inner = at; outer = left.start; value = left.value }) new
-      → HasStarted seen_of (split f g e) (pending a b held) at (pending a' b' new) (Ok hit)
+      → HasStarted seen_of (split f g e) (split_held a b held) at (split_held a' b' new) (Ok hit)
   split_starts held new at left right hit live first second joined is_live put = record {
     word = start_split_some seen_of f g e a b a' b' held new at left right hit live first.word second.word joined
         is_live put (put_room live held new (record { inner = at; outer = left.start; value = left.value }) put);
@@ -53,7 +53,7 @@ module _ (f g : Qre) (e : Expression) (a b a' b' : Holding Progress) where
       → HasStepped seen_of f a now item a' (Ok None) → HasStepped seen_of g b now item b' (Ok right)
       → IsEnded e held.entries right hit
       → kept.entries ≡ live_entries (elsewhere now (live_of g b')) held.entries → kept.room ≡ held.room
-      → HasStepped seen_of (split f g e) (pending a b held) now item (pending a' b' kept) (Ok hit)
+      → HasStepped seen_of (split f g e) (split_held a b held) now item (split_held a' b' kept) (Ok hit)
   split_steps_none held kept now item right hit first second ended keeps room = record {
     word = step_split_none seen_of f g e a b a' b' held kept now item right hit first.word second.word ended keeps room;
     sound = sound_step_split_none seen_of f g e a b a' b' held kept now item (elsewhere now (live_of g b')) right hit
@@ -69,7 +69,7 @@ module _ (f g : Qre) (e : Expression) (a b a' b' : Holding Progress) where
       → HasStarted seen_of g b' now b'' (Ok begun) → IsJoined e left.start left.value begun second_hit
       → live ≡ live_of g b'' now
       → IsPut live kept (record { inner = now; outer = left.start; value = left.value }) new
-      → HasStepped seen_of (split f g e) (pending a b held) now item (pending a' b'' new)
+      → HasStepped seen_of (split f g e) (split_held a b held) now item (split_held a' b'' new)
       (Ok (option_or hit second_hit))
   split_steps_some b'' held kept new now item left right begun hit second_hit live first second ended keeps room third
       joined is_live put = record {

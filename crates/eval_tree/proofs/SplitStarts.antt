@@ -15,7 +15,7 @@ use Rattle.query_model.proofs.Defined.{in_den}
 use Rattle.query_model.proofs.InRates.{den_in}
 use Rattle.split_eval.specs.Entries.{Contents}
 use Rattle.eval_tree.specs.declared.hit.Hit.{Hit}
-use Rattle.eval_tree.specs.Holdings.{Holding, pending, Seen}
+use Rattle.eval_tree.specs.Holdings.{Holding, split_held, Seen}
 use Rattle.eval_tree.specs.Lefts.{IsJoined, IsPut}
 use Rattle.eval_tree.specs.Live.{live_of}
 use Rattle.eval_tree.specs.Represents.{Represents}
@@ -44,7 +44,7 @@ joined_first f g e at start x (Some found) hit same den first (v, is, gives) =
 module _ {R : Type 0} (seen : R → Seen R) where
   pub start_split_none : (f g : Qre) (e : Expression) (a b a' : Holding R) (held : Contents Value) (at : ℕ)
       → Starts seen f a at a' None
-      → Starts seen (split f g e) (pending a b held) at (pending a' b held) None
+      → Starts seen (split f g e) (split_held a b held) at (split_held a' b held) None
   start_split_none f g e a b a' held at first = λ standing columns word starts clear is positions rep fresh end apart.
       let x = first bound columns word starts clear.0 is positions rep.0 fresh end
       (apart_left columns f g e word (starts ++ at ∷ []) clear.1 apart) in
@@ -70,7 +70,7 @@ module _ {R : Type 0} (seen : R → Seen R) where
       → IsJoined e left.start left.value right hit → live ≡ live_of g b' at
       → IsPut live held (record { inner = at; outer = left.start; value = left.value }) new
       → new.room ≡ held.room
-      → Starts seen (split f g e) (pending a b held) at (pending a' b' new) hit
+      → Starts seen (split f g e) (split_held a b held) at (split_held a' b' new) hit
   start_split_some f g e a b a' b' held new at left right hit live first second joined is_live put room =
       λ standing columns word starts clear is positions rep fresh end apart.
       let all = starts ++ at ∷ [] in

@@ -19,7 +19,7 @@ use Rattle.split_eval.specs.Entries.{Contents, live_entries, AreDistinct}
 use Rattle.split_eval.specs.declared.entry.Entry.{Entry}
 use Rattle.split_eval.proofs.Distinct.{AreDistinct-live}
 use Rattle.eval_tree.specs.declared.hit.Hit.{Hit}
-use Rattle.eval_tree.specs.Holdings.{Holding, pending, Seen}
+use Rattle.eval_tree.specs.Holdings.{Holding, split_held, Seen}
 use Rattle.eval_tree.specs.Lefts.{IsEnded, IsJoined, IsPut}
 use Rattle.eval_tree.specs.Live.{live_of}
 use Rattle.eval_tree.specs.Represents.{AreReached, AreWaiting, Represents}
@@ -75,7 +75,7 @@ module _ {R : Type 0} (seen : R → Seen R) where
       (item : List Field) (right hit : Option Hit)
       → Steps seen f a now item a' None → Steps seen g b now item b' right → IsEnded e held.entries right hit
       → kept.entries ≡ live_entries (elsewhere now (live_of g b')) held.entries → kept.room ≡ held.room
-      → Steps seen (split f g e) (pending a b held) now item (pending a' b' kept) hit
+      → Steps seen (split f g e) (split_held a b held) now item (split_held a' b' kept) hit
   step_split_none f g e a b a' b' held kept now item right hit first second ended keeps room =
       λ standing columns word starts clear is positions rep end apart.
       let longer = word ++ item ∷ [] in
@@ -126,7 +126,7 @@ module _ {R : Type 0} (seen : R → Seen R) where
       → Starts seen g b' now b'' begun → IsJoined e left.start left.value begun second_hit
       → live ≡ live_of g b'' now
       → IsPut live kept (record { inner = now; outer = left.start; value = left.value }) new → new.room ≡ kept.room
-      → Steps seen (split f g e) (pending a b held) now item (pending a' b'' new) (option_or hit second_hit)
+      → Steps seen (split f g e) (split_held a b held) now item (split_held a' b'' new) (option_or hit second_hit)
   step_split_some f g e a b a' b' b'' held kept new now item left right begun hit second_hit live first second ended
       keeps room third joined is_live put same_room =
       λ standing columns word starts clear is positions rep end apart.

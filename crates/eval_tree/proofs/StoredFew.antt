@@ -30,7 +30,7 @@ use Rattle.map_collect.specs.declared.keys.Keys.{Keys}
 use Rattle.map_collect.specs.declared.track.Track.{Track}
 use Rattle.eval_tree.specs.Counts.{size_of_answer, size_of_keys, size_of_runner, size_of_track, stored_in}
 use Rattle.eval_tree.specs.Feeds.{FollowsWord}
-use Rattle.eval_tree.specs.Holdings.{Holding, waiting, nothing, both, paired, operand, pending, chained, fed, tracked, Seen}
+use Rattle.eval_tree.specs.Holdings.{Holding, atom_held, eps_held, choice_held, combine_held, apply_held, split_held, iter_held, compose_held, collect_held, Seen}
 use Rattle.eval_tree.specs.Keyed.{StandFor}
 use Rattle.eval_tree.specs.Represents.{KeepsFew, Represents}
 use Rattle.eval_tree.specs.Starts.{AreApart, ArePositions}
@@ -128,11 +128,11 @@ module _ {R : Type 0} (seen : R → Seen R) where
       (starts : List ℕ) → IsClear standing columns q → HasTextsAlone columns → IsWordOf columns word
       → ArePositions word starts → AreApart columns q word starts → Represents seen columns q holding word starts
       → stored_in seen q holding ≤ inner_of q * (1 + keys_met q word)
-  stored_few standing columns (atom pred e) (waiting None) word starts clear texts is positions apart rep = omega arith
-  stored_few standing columns (atom pred e) (waiting (Some start)) word starts clear texts is positions apart rep =
+  stored_few standing columns (atom pred e) (atom_held None) word starts clear texts is positions apart rep = omega arith
+  stored_few standing columns (atom pred e) (atom_held (Some start)) word starts clear texts is positions apart rep =
       omega arith
-  stored_few standing columns (eps number) nothing word starts clear texts is positions apart rep = omega arith
-  stored_few standing columns (choice f g) (both a b) word starts clear texts is positions apart rep =
+  stored_few standing columns (eps number) eps_held word starts clear texts is positions apart rep = omega arith
+  stored_few standing columns (choice f g) (choice_held a b) word starts clear texts is positions apart rep =
       let q = choice f g in
       let first = stored_few bound columns f a word starts clear.0 texts is positions
       (apart_first columns f g word starts apart) rep.0 in
@@ -143,7 +143,7 @@ module _ {R : Type 0} (seen : R → Seen R) where
       (keys_mono f q word word (among_first (key_columns f) (key_columns g)) (among_all word)))
       (scaled (stored_in seen g b) (inner_of g) (keys_met g word) (keys_met q word) second
       (keys_mono g q word word (among_second (key_columns f) (key_columns g)) (among_all word)))
-  stored_few standing columns (combine f g e) (paired a b) word starts clear texts is positions apart rep =
+  stored_few standing columns (combine f g e) (combine_held a b) word starts clear texts is positions apart rep =
       let q = combine f g e in
       let first = stored_few bound columns f a word starts clear.0 texts is positions apart rep.0 in
       let second = stored_few bound columns g b word starts clear.1 texts is positions
@@ -153,9 +153,9 @@ module _ {R : Type 0} (seen : R → Seen R) where
       (keys_mono f q word word (among_first (key_columns f) (key_columns g)) (among_all word)))
       (scaled (stored_in seen g b) (inner_of g) (keys_met g word) (keys_met q word) second
       (keys_mono g q word word (among_second (key_columns f) (key_columns g)) (among_all word)))
-  stored_few standing columns (apply f e) (operand a) word starts clear texts is positions apart rep =
+  stored_few standing columns (apply f e) (apply_held a) word starts clear texts is positions apart rep =
       stored_few bound columns f a word starts clear.0 texts is positions apart rep
-  stored_few standing columns (split f g e) (pending a b left) word starts clear texts is positions apart rep =
+  stored_few standing columns (split f g e) (split_held a b left) word starts clear texts is positions apart rep =
       let q = split f g e in
       let (ends, reached, right) = rep.1 in
       let at_ends = λ (at : ℕ) (there : Contains ends at). (reached at).0 there in
@@ -173,7 +173,7 @@ module _ {R : Type 0} (seen : R → Seen R) where
       (scaled (stored_in seen g b) (inner_of g) (keys_met g word) (keys_met q word) second
       (keys_mono g q word word (among_second (key_columns f) (key_columns g)) (among_all word)))
       (scaled _ (3 * places_of g) (keys_met f word) (keys_met q word) lefts less)
-  stored_few standing columns (iter f number e) (chained a so_far) word starts clear texts is positions apart rep =
+  stored_few standing columns (iter f number e) (iter_held a so_far) word starts clear texts is positions apart rep =
       let q = iter f number e in
       let (ends, reached, operand_rep) = rep.0 in
       let two = chain_clear columns f number e clear in
@@ -186,7 +186,7 @@ module _ {R : Type 0} (seen : R → Seen R) where
       operand_rep in
       let lefts = entries_size columns q f e word starts ends so_far.entries two is positions apart_two reached rep.1 in
       two_parts _ _ (inner_of f) (3 * places_of f) (keys_met q word) first lefts
-  stored_few standing columns (compose f g) (fed a held) word starts clear texts is positions apart rep =
+  stored_few standing columns (compose f g) (compose_held a held) word starts clear texts is positions apart rep =
       let derived = derived_columns (type_of columns f) in
       let n = keys_met (compose f g) word in
       let first = stored_few standing columns f a word starts clear.0 texts is positions apart rep.0 in
@@ -211,7 +211,7 @@ module _ {R : Type 0} (seen : R → Seen R) where
       live idle (omega (arith, count, full)) in
       let all = two_parts (stored_in seen f a) _ (inner_of f) ((places_of f + 1) * (1 + slots_of g)) n first both in
       omega (arith, all)
-  stored_few standing columns (collect column sync rate f) (tracked all) word starts clear texts is positions apart
+  stored_few standing columns (collect column sync rate f) (collect_held all) word starts clear texts is positions apart
       rep =
       let q = collect column sync rate f in
       let n = keys_met q word in

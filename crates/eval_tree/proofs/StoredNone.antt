@@ -13,7 +13,7 @@ use Rattle.compose_eval.specs.Followers.{followers_of}
 use Rattle.compose_eval.specs.declared.instance.Instance.{Instance}
 use Rattle.map_collect.specs.declared.track.Track.{Track}
 use Rattle.eval_tree.specs.Counts.{size_of_runner, size_of_track, sizes_of, stored_in}
-use Rattle.eval_tree.specs.Holdings.{Holding, waiting, nothing, both, paired, operand, pending, chained, fed, tracked, Seen}
+use Rattle.eval_tree.specs.Holdings.{Holding, atom_held, eps_held, choice_held, combine_held, apply_held, split_held, iter_held, compose_held, collect_held, Seen}
 use Rattle.eval_tree.specs.Represents.{AreReached, AreWaiting, KeepsFew, Represents}
 use Rattle.eval_tree.proofs.Instances.{all_member, outer_member}
 use Rattle.eval_tree.proofs.Members.{first_member, no_member}
@@ -38,32 +38,32 @@ no_lefts D goes_on word entries lefts = none_of entries (λ entry there.
 module _ {R : Type 0} (seen : R → Seen R) where
   pub silent_few : (columns : List Column) (q : Qre) (holding : Holding R) → Represents seen columns q holding [] []
       → stored_in seen q holding ≤ inner_of q
-  silent_few columns (atom pred e) (waiting None) rep = omega arith
-  silent_few columns (atom pred e) (waiting (Some start)) rep = omega arith
-  silent_few columns (eps number) nothing rep = omega arith
-  silent_few columns (choice f g) (both a b) rep =
+  silent_few columns (atom pred e) (atom_held None) rep = omega arith
+  silent_few columns (atom pred e) (atom_held (Some start)) rep = omega arith
+  silent_few columns (eps number) eps_held rep = omega arith
+  silent_few columns (choice f g) (choice_held a b) rep =
       let first = silent_few columns f a rep.0 in
       let second = silent_few columns g b rep.1 in
       omega (arith, first, second)
-  silent_few columns (combine f g e) (paired a b) rep =
+  silent_few columns (combine f g e) (combine_held a b) rep =
       let first = silent_few columns f a rep.0 in
       let second = silent_few columns g b rep.1 in
       omega (arith, first, second)
-  silent_few columns (apply f e) (operand a) rep = silent_few columns f a rep
-  silent_few columns (split f g e) (pending a b left) rep =
+  silent_few columns (apply f e) (apply_held a) rep = silent_few columns f a rep
+  silent_few columns (split f g e) (split_held a b left) rep =
       let (ends, reached, right) = rep.1 in
       let first = silent_few columns f a rep.0 in
       let second = silent_few columns g b
       (subst (Represents seen columns g b []) (no_ends _ [] ends reached) right) in
       let none = ap sizes_of (no_lefts _ _ [] left.entries rep.2) in
       omega (arith, first, second, none)
-  silent_few columns (iter f number e) (chained a so_far) rep =
+  silent_few columns (iter f number e) (iter_held a so_far) rep =
       let (ends, reached, operand_rep) = rep.0 in
       let first = silent_few columns f a
       (subst (Represents seen columns f a []) (no_ends _ [] ends reached) operand_rep) in
       let none = ap sizes_of (no_lefts _ _ [] so_far.entries rep.1) in
       omega (arith, first, none)
-  silent_few columns (compose f g) (fed a held) rep =
+  silent_few columns (compose f g) (compose_held a held) rep =
       let size : R → ℕ = (λ (runner : R). 1 + size_of_runner seen (stored_in seen g) runner) in
       let first = silent_few columns f a rep.0 in
       let nobody = none_of held.live (λ one there.
@@ -78,7 +78,7 @@ module _ {R : Type 0} (seen : R → Seen R) where
       let fewer : length held.idle ≤ places_of f + 1 = omega (arith, full, absent) in
       let up = mul-le-mul_right (1 + slots_of g) fewer in
       omega (arith, first, none, idle, up)
-  silent_few columns (collect column sync rate f) (tracked all) rep =
+  silent_few columns (collect column sync rate f) (collect_held all) rep =
       let none = ap (λ (tracks : List (Track R)). sum_by (size_of_track seen (stored_in seen f)) tracks)
       (none_of all.tracks (λ track there.
       no_member track.start

@@ -6,7 +6,7 @@ use Rattle.map_collect.specs.Keys.{fallback_of, followers_of as keyed_followers,
 use Rattle.map_collect.specs.Tracks as tracks
 use Rattle.map_collect.specs.declared.keys.Keys.{Keys}
 use Rattle.map_collect.specs.declared.track.Track.{Track}
-use Rattle.eval_tree.specs.Holdings.{Holding, waiting, nothing, both, paired, operand, pending, chained, fed, tracked, Seen}
+use Rattle.eval_tree.specs.Holdings.{Holding, atom_held, eps_held, choice_held, combine_held, apply_held, split_held, iter_held, compose_held, collect_held, Seen}
 
 -- each of the one list is so to the one of the other at the same place
 abbrev pub AreAlike : {A : Type 0} → (A → A → Type 0) → List A → List A → Type 0
@@ -47,24 +47,24 @@ module _ {R : Type 0} (seen : R → Seen R) where
 
   -- for nodes of the query; of one of another shape nothing is kept
   abbrev pub IsCopy : Qre → Holding R → Holding R → Type 0
-  IsCopy (atom pred expression) (waiting found) new = new ≡ waiting found
-  IsCopy (eps number) nothing new = new ≡ nothing
-  IsCopy (choice f g) (both a b) (both a' b') = IsCopy f a a' × IsCopy g b b'
-  IsCopy (choice f g) (both a b) new = ⊥
-  IsCopy (combine f g expression) (paired a b) (paired a' b') = IsCopy f a a' × IsCopy g b b'
-  IsCopy (combine f g expression) (paired a b) new = ⊥
-  IsCopy (apply f expression) (operand a) (operand a') = IsCopy f a a'
-  IsCopy (apply f expression) (operand a) new = ⊥
-  IsCopy (split f g expression) (pending a b left) (pending a' b' left') =
+  IsCopy (atom pred expression) (atom_held found) new = new ≡ atom_held found
+  IsCopy (eps number) eps_held new = new ≡ eps_held
+  IsCopy (choice f g) (choice_held a b) (choice_held a' b') = IsCopy f a a' × IsCopy g b b'
+  IsCopy (choice f g) (choice_held a b) new = ⊥
+  IsCopy (combine f g expression) (combine_held a b) (combine_held a' b') = IsCopy f a a' × IsCopy g b b'
+  IsCopy (combine f g expression) (combine_held a b) new = ⊥
+  IsCopy (apply f expression) (apply_held a) (apply_held a') = IsCopy f a a'
+  IsCopy (apply f expression) (apply_held a) new = ⊥
+  IsCopy (split f g expression) (split_held a b left) (split_held a' b' left') =
       IsCopy f a a' × IsCopy g b b' × (left' ≡ left)
-  IsCopy (split f g expression) (pending a b left) new = ⊥
-  IsCopy (iter f number expression) (chained a so_far) (chained a' so_far') =
+  IsCopy (split f g expression) (split_held a b left) new = ⊥
+  IsCopy (iter f number expression) (iter_held a so_far) (iter_held a' so_far') =
       IsCopy f a a' × (so_far' ≡ so_far)
-  IsCopy (iter f number expression) (chained a so_far) new = ⊥
-  IsCopy (compose f g) (fed a held) (fed a' held') =
+  IsCopy (iter f number expression) (iter_held a so_far) new = ⊥
+  IsCopy (compose f g) (compose_held a held) (compose_held a' held') =
       IsCopy f a a' × AreCopied (IsCopy g) held held'
-  IsCopy (compose f g) (fed a held) new = ⊥
-  IsCopy (collect column sync rate f) (tracked all) (tracked all') =
+  IsCopy (compose f g) (compose_held a held) new = ⊥
+  IsCopy (collect column sync rate f) (collect_held all) (collect_held all') =
       AreCopiedTracks (IsCopy f) all all'
-  IsCopy (collect column sync rate f) (tracked all) new = ⊥
-  IsCopy query old new = new ≡ nothing
+  IsCopy (collect column sync rate f) (collect_held all) new = ⊥
+  IsCopy query old new = new ≡ eps_held

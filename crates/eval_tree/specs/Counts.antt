@@ -13,7 +13,7 @@ use Rattle.compose_eval.specs.Followers.{followers_of}
 use Rattle.map_collect.specs.Keys.{fallback_of, followers_of as keyed_followers}
 use Rattle.map_collect.specs.declared.keys.Keys.{Keys}
 use Rattle.map_collect.specs.declared.track.Track.{Track}
-use Rattle.eval_tree.specs.Holdings.{Holding, waiting, both, paired, operand, pending, chained, fed, tracked, Seen}
+use Rattle.eval_tree.specs.Holdings.{Holding, atom_held, choice_held, combine_held, apply_held, split_held, iter_held, compose_held, collect_held, Seen}
 
 -- a value: one, and one for each entry of a table
 abbrev pub size_of_value : Value → ℕ
@@ -55,17 +55,17 @@ module _ {R : Type 0} (seen : R → Seen R) where
 
   -- what is kept for a node of the query
   abbrev pub stored_in : Qre → Holding R → ℕ
-  stored_in (atom pred expression) (waiting found) = size_of_start found
-  stored_in (choice f g) (both a b) = stored_in f a + stored_in g b
-  stored_in (combine f g expression) (paired a b) = stored_in f a + stored_in g b
-  stored_in (apply f expression) (operand a) = stored_in f a
-  stored_in (split f g expression) (pending a b left) =
+  stored_in (atom pred expression) (atom_held found) = size_of_start found
+  stored_in (choice f g) (choice_held a b) = stored_in f a + stored_in g b
+  stored_in (combine f g expression) (combine_held a b) = stored_in f a + stored_in g b
+  stored_in (apply f expression) (apply_held a) = stored_in f a
+  stored_in (split f g expression) (split_held a b left) =
       stored_in f a + stored_in g b + sizes_of left.entries
-  stored_in (iter f number expression) (chained a so_far) =
+  stored_in (iter f number expression) (iter_held a so_far) =
       stored_in f a + sizes_of so_far.entries
-  stored_in (compose f g) (fed a held) = stored_in f a
+  stored_in (compose f g) (compose_held a held) = stored_in f a
       + sum_by (λ runner. 1 + size_of_runner (stored_in g) runner) (followers_of held.live)
       + sum_by (λ runner. 1 + size_of_runner (stored_in g) runner) held.idle
-  stored_in (collect column sync rate f) (tracked all) =
+  stored_in (collect column sync rate f) (collect_held all) =
       sum_by (λ track. size_of_track (stored_in f) track) all.tracks
   stored_in query holding = 0

@@ -10,24 +10,24 @@ use Rattle.map_collect.specs.Tracks as tracks
 -- what is kept for a node
 pub data Holding (R : Type 0) : Type 0 where
   -- an atom: the start at the end of the word, if there is one
-  waiting : Option ℕ → Holding R
+  atom_held : Option ℕ → Holding R
   -- the empty word: nothing
-  nothing : Holding R
+  eps_held : Holding R
   -- a choice: the operands
-  both : Holding R → Holding R → Holding R
+  choice_held : Holding R → Holding R → Holding R
   -- a combine: the operands
-  paired : Holding R → Holding R → Holding R
+  combine_held : Holding R → Holding R → Holding R
   -- an apply: the operand
-  operand : Holding R → Holding R
+  apply_held : Holding R → Holding R
   -- a split: the operands, and the left values that wait for a right one
-  pending : Holding R → Holding R → Contents Value → Holding R
+  split_held : Holding R → Holding R → Contents Value → Holding R
   -- an iter: the operand, and the values so far that wait for a further piece
-  chained : Holding R → Contents Value → Holding R
+  iter_held : Holding R → Contents Value → Holding R
   -- a compose: the left operand, and the runners, those that starts feed and the idle ones
-  fed : Holding R → instances.Contents R → Holding R
+  compose_held : Holding R → instances.Contents R → Holding R
   -- a collect: the automaton of its rate, and the starts, each with a state, a runner for each key
   -- and the one that those of later keys begin as
-  tracked : tracks.Contents R → Holding R
+  collect_held : tracks.Contents R → Holding R
 
 -- what is seen of a runner
 pub record Seen (R : Type 0) : Type 0 where

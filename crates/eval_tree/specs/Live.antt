@@ -5,7 +5,7 @@ use Rattle.value_ops.specs.declared.value.Value.{Value}
 use Rattle.query_model.specs.Queries.{Qre, atom, choice, split, iter, combine, apply, compose, collect}
 use Rattle.split_eval.specs.declared.entry.Entry.{Entry}
 use Rattle.map_collect.specs.Tracks.{begins_at}
-use Rattle.eval_tree.specs.Holdings.{Holding, waiting, both, paired, operand, pending, chained, fed, tracked}
+use Rattle.eval_tree.specs.Holdings.{Holding, atom_held, choice_held, combine_held, apply_held, split_held, iter_held, compose_held, collect_held}
 
 -- the start is the one that waits
 abbrev pub is_waiting : Option ℕ → ℕ → Bool
@@ -18,14 +18,14 @@ is_outer entries start = list_any (λ entry. entry.outer == start) entries
 
 module _ {R : Type 0} where
   abbrev pub live_of : Qre → Holding R → ℕ → Bool
-  live_of (atom pred expression) (waiting found) start = is_waiting found start
-  live_of (choice f g) (both a b) start = live_of f a start || live_of g b start
-  live_of (split f g expression) (pending a b left) start =
+  live_of (atom pred expression) (atom_held found) start = is_waiting found start
+  live_of (choice f g) (choice_held a b) start = live_of f a start || live_of g b start
+  live_of (split f g expression) (split_held a b left) start =
       live_of f a start || is_outer left.entries start
-  live_of (iter f number expression) (chained a so_far) start = is_outer so_far.entries start
-  live_of (combine f g expression) (paired a b) start = live_of f a start
-  live_of (apply f expression) (operand a) start = live_of f a start
-  live_of (compose f g) (fed a held) start = live_of f a start
-  live_of (collect column sync rate f) (tracked all) start =
+  live_of (iter f number expression) (iter_held a so_far) start = is_outer so_far.entries start
+  live_of (combine f g expression) (combine_held a b) start = live_of f a start
+  live_of (apply f expression) (apply_held a) start = live_of f a start
+  live_of (compose f g) (compose_held a held) start = live_of f a start
+  live_of (collect column sync rate f) (collect_held all) start =
       list_any (begins_at start) all.tracks
   live_of query holding start = false

@@ -4,21 +4,21 @@ use Rattle.value_ops.specs.declared.value.Value.{Value}
 use Rattle.split_eval.specs.Entries as entries
 use Rattle.compose_eval.specs.Followers.{Contents}
 use Rattle.map_collect.specs.Tracks as tracks
-use Rattle.eval_tree.specs.Holdings.{Holding, waiting, nothing, both, paired, operand, pending, chained, fed, tracked, Seen}
+use Rattle.eval_tree.specs.Holdings.{Holding, atom_held, eps_held, choice_held, combine_held, apply_held, split_held, iter_held, compose_held, collect_held, Seen}
 use Rattle.eval_tree.specs.declared.node.Node.{Node}
 use Rattle.eval_tree.specs.declared.node.State.{State, out-State}
 use Rattle.eval_tree.specs.declared.node.State.TheOpen.{State-F}
-use Rattle.eval_tree.specs.declared.node.State.TheVariants.{Item, Empty, Both', Operand', Sequence', Pair', Repeated', Fed', Tracked'}
+use Rattle.eval_tree.specs.declared.node.State.TheVariants.{Atom, Eps, Or', Apply', Split', Combine', Iter', Compose', Collect'}
 use Rattle.eval_tree.specs.declared.progress.Progress.{Progress}
 
 -- the runners of a compose; there are none of another shape
 abbrev pub runners_of : State-F State Node Progress → Contents Progress
-runners_of (State-F.Fed a held) = held
+runners_of (State-F.Compose a held) = held
 runners_of state = record { live = []; idle = []; room = 0 }
 
 -- the starts of a collect; there are none of another shape
 abbrev pub tracks_of : State-F State Node Progress → tracks.Contents Progress
-tracks_of (State-F.Tracked all) = all
+tracks_of (State-F.Collect all) = all
 tracks_of state = record {
   nfa = record {
     sets = record { nullable = false; first = 0; last = 0; follow = []; preds = [] };
@@ -29,16 +29,16 @@ tracks_of state = record {
 
 -- what is kept
 abbrev pub holding_of : State → Holding Progress
-holding_of (Item found) = waiting found
-holding_of Empty = nothing
-holding_of (Both' p a q b) = both (holding_of a) (holding_of b)
-holding_of (Operand' p a) = operand (holding_of a)
-holding_of (Sequence' p a q b left) = pending (holding_of a) (holding_of b) left
-holding_of (Pair' p a q b) = paired (holding_of a) (holding_of b)
-holding_of (Repeated' p a so_far) = chained (holding_of a) so_far
-holding_of (Fed' p a held runners) =
-    fed (holding_of a) (runners_of (out-State (Fed' p a held runners)))
-holding_of (Tracked' all tracks) = tracked (tracks_of (out-State (Tracked' all tracks)))
+holding_of (Atom found) = atom_held found
+holding_of Eps = eps_held
+holding_of (Or' p a q b) = choice_held (holding_of a) (holding_of b)
+holding_of (Apply' p a) = apply_held (holding_of a)
+holding_of (Split' p a q b left) = split_held (holding_of a) (holding_of b) left
+holding_of (Combine' p a q b) = combine_held (holding_of a) (holding_of b)
+holding_of (Iter' p a so_far) = iter_held (holding_of a) so_far
+holding_of (Compose' p a held runners) =
+    compose_held (holding_of a) (runners_of (out-State (Compose' p a held runners)))
+holding_of (Collect' all tracks) = collect_held (tracks_of (out-State (Collect' all tracks)))
 
 -- what is seen of a runner
 abbrev pub seen_of : Progress → Seen Progress
@@ -50,8 +50,8 @@ seen_of progress = record {
 
 -- what is kept for a split whose operands and left values these are
 abbrev pub pending_of : Node → Node → entries.Contents Value → Holding Progress
-pending_of a b held = pending (holding_of a.state) (holding_of b.state) held
+pending_of a b held = split_held (holding_of a.state) (holding_of b.state) held
 
 -- what is kept for an iteration whose operand and values so far these are
 abbrev pub chained_of : Node → entries.Contents Value → Holding Progress
-chained_of a so_far = chained (holding_of a.state) so_far
+chained_of a so_far = iter_held (holding_of a.state) so_far

@@ -21,7 +21,7 @@ use Rattle.split_eval.specs.declared.entry.Entry.{Entry}
 use Rattle.compose_eval.specs.Followers.{Contents, outers_of}
 use Rattle.memory_bound.specs.KeysMet.{keys_met}
 use Rattle.eval_tree.specs.Counts.{size_of_runner, stored_in}
-use Rattle.eval_tree.specs.Holdings.{Holding, waiting, nothing, both, paired, operand, pending, chained, fed, tracked, Seen}
+use Rattle.eval_tree.specs.Holdings.{Holding, atom_held, eps_held, choice_held, combine_held, apply_held, split_held, iter_held, compose_held, collect_held, Seen}
 use Rattle.eval_tree.specs.Keyed.{AreTracked, StandFor}
 use Rattle.eval_tree.specs.Starts.{IsLive, IsPiece, AreDifferent}
 
@@ -73,28 +73,28 @@ module _ {R : Type 0} (seen : R → Seen R) where
 
   -- what is kept for the query stands for the word and the starts
   abbrev pub Represents : List Column → Qre → Holding R → Word → List ℕ → Type 0
-  Represents columns (atom pred expression) (waiting found) word starts =
+  Represents columns (atom pred expression) (atom_held found) word starts =
       (start : ℕ) → (found ≡ Some start) ↔ (Contains starts start × (start ≡ length word))
-  Represents columns (eps number) nothing word starts = Unit {0}
-  Represents columns (choice f g) (both a b) word starts =
+  Represents columns (eps number) eps_held word starts = Unit {0}
+  Represents columns (choice f g) (choice_held a b) word starts =
       Represents columns f a word starts × Represents columns g b word starts
-  Represents columns (split f g expression) (pending a b left) word starts =
+  Represents columns (split f g expression) (split_held a b left) word starts =
       Represents columns f a word starts
       × ((ends : List ℕ) × AreReached (In (rate_of f)) word starts ends
       × Represents columns g b word ends)
       × AreWaiting (Den f) (HasExtension columns (rate_of g)) word starts left.entries
       × (left.room ≡ places_of g)
-  Represents columns (iter f number expression) (chained a so_far) word starts =
+  Represents columns (iter f number expression) (iter_held a so_far) word starts =
       ((ends : List ℕ) × AreReached (In (rate.star (rate_of f))) word starts ends
       × Represents columns f a word ends)
       × AreWaiting (Den (iter f number expression)) (HasExtension columns (rate_of f)) word starts
       so_far.entries
       × (so_far.room ≡ places_of f)
-  Represents columns (combine f g expression) (paired a b) word starts =
+  Represents columns (combine f g expression) (combine_held a b) word starts =
       Represents columns f a word starts × Represents columns g b word starts
-  Represents columns (apply f expression) (operand a) word starts =
+  Represents columns (apply f expression) (apply_held a) word starts =
       Represents columns f a word starts
-  Represents columns (compose f g) (fed a held) word starts =
+  Represents columns (compose f g) (compose_held a held) word starts =
       Represents columns f a word starts
       × AreFed (IsLive columns f word starts)
       (λ start runner. IsFed (Den f)
@@ -103,7 +103,7 @@ module _ {R : Type 0} (seen : R → Seen R) where
       (places_of f + 1) held
       × AllByRecursion
       (KeepsFew (stored_in seen g) (slots_of g * (1 + keys_met (compose f g) word))) held.idle
-  Represents columns (collect column sync rate f) (tracked all) word starts =
+  Represents columns (collect column sync rate f) (collect_held all) word starts =
       AreSetsOf all.nfa.sets rate × (all.nfa.cells.layout.columns ≡ columns)
       × AreTracked (IsLive columns (collect column sync rate f) word starts)
       (λ start track. IsBehind all.nfa.sets (drop start word) track.state

@@ -17,7 +17,7 @@ use Rattle.compose_eval.specs.Followers.{outers_of}
 use Rattle.map_collect.specs.Keys.{fallback_of, followers_of}
 use Rattle.map_collect.specs.Tracks.{starts_of}
 use Rattle.map_collect.specs.declared.keys.Keys.{Keys}
-use Rattle.eval_tree.specs.Holdings.{Holding, waiting, nothing, both, paired, operand, pending, chained, fed, tracked, Seen}
+use Rattle.eval_tree.specs.Holdings.{Holding, atom_held, eps_held, choice_held, combine_held, apply_held, split_held, iter_held, compose_held, collect_held, Seen}
 use Rattle.eval_tree.specs.Starts.{AreDifferent}
 
 -- an answer that is there has the type
@@ -50,19 +50,19 @@ module _ {R : Type 0} (seen : R → Seen R) where
 
   -- what is kept for the query is sound where so many items of its stream went by
   abbrev pub IsSound : List Column → Qre → ℕ → Holding R → Type 0
-  IsSound columns (atom pred expression) position (waiting found) = Unit {0}
-  IsSound columns (eps number) position nothing = Unit {0}
-  IsSound columns (choice f g) position (both a b) =
+  IsSound columns (atom pred expression) position (atom_held found) = Unit {0}
+  IsSound columns (eps number) position eps_held = Unit {0}
+  IsSound columns (choice f g) position (choice_held a b) =
       IsSound columns f position a × IsSound columns g position b
-  IsSound columns (split f g expression) position (pending a b left) =
+  IsSound columns (split f g expression) position (split_held a b left) =
       IsSound columns f position a × IsSound columns g position b
       × AreEntriesOf (type_of columns f) (places_of g) left
-  IsSound columns (iter f number expression) position (chained a so_far) =
+  IsSound columns (iter f number expression) position (iter_held a so_far) =
       IsSound columns f position a × AreEntriesOf Number (places_of f) so_far
-  IsSound columns (combine f g expression) position (paired a b) =
+  IsSound columns (combine f g expression) position (combine_held a b) =
       IsSound columns f position a × IsSound columns g position b
-  IsSound columns (apply f expression) position (operand a) = IsSound columns f position a
-  IsSound columns (compose f g) position (fed a held) =
+  IsSound columns (apply f expression) position (apply_held a) = IsSound columns f position a
+  IsSound columns (compose f g) position (compose_held a held) =
       IsSound columns f position a
       × AreDifferent (outers_of held.live)
       × (length held.live + length held.idle ≡ places_of f + 1)
@@ -72,7 +72,7 @@ module _ {R : Type 0} (seen : R → Seen R) where
       (position + 1) one.follower) held.live
       × AllByRecursion (IsSoundRunner (IsSound (derived_columns (type_of columns f)) g)
       (type_of (derived_columns (type_of columns f)) g)) held.idle
-  IsSound columns (collect column sync rate f) position (tracked all) =
+  IsSound columns (collect column sync rate f) position (collect_held all) =
       AreSetsOf all.nfa.sets rate × (all.nfa.cells.layout.columns ≡ columns)
       × (slots_of f ≤ max_slots) × AreDifferent (starts_of all.tracks)
       × AllByRecursion (λ track. AreSoundKeys

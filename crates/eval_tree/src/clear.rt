@@ -15,28 +15,28 @@ pub(crate) fn clear(query: &Query, node: &mut Node)
         (holding_of node.new.state) }
 {
     match (&query.shape, &mut node.state) {
-        (Shape::Atom(..), State::Item(found)) => *found = None,
-        (Shape::Or(first, second), State::Both(a, b)) => {
+        (Shape::Atom(..), State::Atom(found)) => *found = None,
+        (Shape::Or(first, second), State::Or(a, b)) => {
             clear(first, a);
             clear(second, b);
         }
-        (Shape::Apply(inner, _), State::Operand(a)) => {
+        (Shape::Apply(inner, _), State::Apply(a)) => {
             clear(inner, a);
         }
-        (Shape::Split(first, second, _), State::Sequence(a, b, held)) => {
+        (Shape::Split(first, second, _), State::Split(a, b, held)) => {
             clear(first, a);
             clear(second, b);
             held.keep(|_| false);
         }
-        (Shape::Combine(first, second, _), State::Pair(a, b)) => {
+        (Shape::Combine(first, second, _), State::Combine(a, b)) => {
             clear(first, a);
             clear(second, b);
         }
-        (Shape::Iter(inner, ..), State::Repeated(a, so_far)) => {
+        (Shape::Iter(inner, ..), State::Iter(a, so_far)) => {
             clear(inner, a);
             so_far.keep(|_| false);
         }
-        (Shape::Compose(first, second), State::Fed(a, runners)) => {
+        (Shape::Compose(first, second), State::Compose(a, runners)) => {
             clear(first, a);
             runners.keep(|_| false);
             clear_idle(second, runners);

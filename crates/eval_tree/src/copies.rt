@@ -21,46 +21,44 @@ pub fn copy(query: &Query, node: &Node, alloc: Global) -> Result<Node, AllocErro
         (holding_of node.now.state) (holding_of copy.state)) }
 {
     match (&query.shape, &node.state) {
-        (Shape::Atom(..), State::Item(found)) => Ok(Node {
-            state: State::Item(*found),
+        (Shape::Atom(..), State::Atom(found)) => Ok(Node {
+            state: State::Atom(*found),
         }),
-        (Shape::Or(first, second), State::Both(a, b)) => {
+        (Shape::Or(first, second), State::Or(a, b)) => {
             let a = boxed_copy(first, a, alloc)?;
-            let state = State::Both(a, boxed_copy(second, b, alloc)?);
+            let state = State::Or(a, boxed_copy(second, b, alloc)?);
             Ok(Node { state })
         }
-        (Shape::Apply(inner, _), State::Operand(a)) => {
-            let state = State::Operand(boxed_copy(inner, a, alloc)?);
+        (Shape::Apply(inner, _), State::Apply(a)) => {
+            let state = State::Apply(boxed_copy(inner, a, alloc)?);
             Ok(Node { state })
         }
-        (Shape::Split(first, second, _), State::Sequence(a, b, held)) => {
+        (Shape::Split(first, second, _), State::Split(a, b, held)) => {
             let held = copied(alloc, held)?;
             let a = boxed_copy(first, a, alloc)?;
-            let state = State::Sequence(a, boxed_copy(second, b, alloc)?, held);
+            let state = State::Split(a, boxed_copy(second, b, alloc)?, held);
             Ok(Node { state })
         }
-        (Shape::Combine(first, second, _), State::Pair(a, b)) => {
+        (Shape::Combine(first, second, _), State::Combine(a, b)) => {
             let a = boxed_copy(first, a, alloc)?;
-            let state = State::Pair(a, boxed_copy(second, b, alloc)?);
+            let state = State::Combine(a, boxed_copy(second, b, alloc)?);
             Ok(Node { state })
         }
-        (Shape::Iter(inner, ..), State::Repeated(a, so_far)) => {
+        (Shape::Iter(inner, ..), State::Iter(a, so_far)) => {
             let so_far = Chain::from_pending(copied(alloc, so_far.as_pending())?);
-            let state = State::Repeated(boxed_copy(inner, a, alloc)?, so_far);
+            let state = State::Iter(boxed_copy(inner, a, alloc)?, so_far);
             Ok(Node { state })
         }
-        (Shape::Compose(first, second), State::Fed(a, runners)) => {
+        (Shape::Compose(first, second), State::Compose(a, runners)) => {
             let a = boxed_copy(first, a, alloc)?;
-            let state = State::Fed(a, copied_runners(second, runners, alloc)?);
+            let state = State::Compose(a, copied_runners(second, runners, alloc)?);
             Ok(Node { state })
         }
-        (Shape::Collect(_, _, _, inner), State::Tracked(tracks)) => {
-            let state = State::Tracked(copied_tracks(inner, tracks, alloc)?);
+        (Shape::Collect(_, _, _, inner), State::Collect(tracks)) => {
+            let state = State::Collect(copied_tracks(inner, tracks, alloc)?);
             Ok(Node { state })
         }
-        _ => Ok(Node {
-            state: State::Empty,
-        }),
+        _ => Ok(Node { state: State::Eps }),
     }
 }
 

@@ -20,26 +20,26 @@ pub fn stored(query: &Query, node: &Node) -> u64
         (holding_of node.now.state)) (2 ^ 64 - 1) }
 {
     match (&query.shape, &node.state) {
-        (Shape::Atom(..), State::Item(Some(_))) => 1,
-        (Shape::Or(first, second), State::Both(a, b)) => {
+        (Shape::Atom(..), State::Atom(Some(_))) => 1,
+        (Shape::Or(first, second), State::Or(a, b)) => {
             stored(first, a).saturating_add(stored(second, b))
         }
-        (Shape::Apply(inner, _), State::Operand(a)) => stored(inner, a),
-        (Shape::Split(first, second, _), State::Sequence(a, b, held)) => {
+        (Shape::Apply(inner, _), State::Apply(a)) => stored(inner, a),
+        (Shape::Split(first, second, _), State::Split(a, b, held)) => {
             let operands = stored(first, a).saturating_add(stored(second, b));
             operands.saturating_add(size_of_entries(held))
         }
-        (Shape::Combine(first, second, _), State::Pair(a, b)) => {
+        (Shape::Combine(first, second, _), State::Combine(a, b)) => {
             stored(first, a).saturating_add(stored(second, b))
         }
-        (Shape::Iter(inner, ..), State::Repeated(a, so_far)) => {
+        (Shape::Iter(inner, ..), State::Iter(a, so_far)) => {
             stored(inner, a).saturating_add(size_of_entries(so_far.as_pending()))
         }
-        (Shape::Compose(first, second), State::Fed(a, runners)) => {
+        (Shape::Compose(first, second), State::Compose(a, runners)) => {
             let fed = stored(first, a).saturating_add(size_of_live(second, runners));
             fed.saturating_add(size_of_idle(second, runners))
         }
-        (Shape::Collect(_, _, _, inner), State::Tracked(tracks)) => size_of_tracks(inner, tracks),
+        (Shape::Collect(_, _, _, inner), State::Collect(tracks)) => size_of_tracks(inner, tracks),
         _ => 0,
     }
 }

@@ -6,7 +6,7 @@ ghost use Rattle.eval_tree.specs.Numbers.{BeginsNumbers, CarriesNumbers, FeedsNu
 ghost use Rattle.eval_tree.specs.Plain.{seen_of};
 
 use crate::clear::clear;
-use crate::runner::value_of;
+use crate::progress::value_of;
 use crate::{Hit, Progress, start, step};
 use compose_eval::Instances;
 use item_schema::Item;

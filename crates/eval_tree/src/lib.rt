@@ -4,14 +4,15 @@
 
 mod automaton;
 mod clear;
-mod composing;
+mod collect;
+mod compose;
 mod copies;
 mod counts;
 mod feeds;
 mod folds;
 mod follow;
 mod hit;
-mod iterating;
+mod iter;
 mod keys;
 mod laws;
 mod lefts;
@@ -20,11 +21,10 @@ mod make;
 mod node;
 mod progress;
 mod runner;
-mod splitting;
+mod split;
 mod steps;
 mod stream_cells;
 mod tables;
-mod tracks;
 
 pub use copies::copy;
 pub use counts::stored;

@@ -16,19 +16,19 @@ pub fn is_live(query: &Query, node: &Node, start: u64) -> bool
     ensures read { result ≡ live_of (plain_of query.now.shape) (holding_of node.now.state) start }
 {
     match (&query.shape, &node.state) {
-        (Shape::Atom(..), State::Item(Some(found))) => *found == start,
-        (Shape::Or(first, second), State::Both(a, b)) => {
+        (Shape::Atom(..), State::Atom(Some(found))) => *found == start,
+        (Shape::Or(first, second), State::Or(a, b)) => {
             is_live(first, a, start) || is_live(second, b, start)
         }
-        (Shape::Apply(inner, _), State::Operand(a)) => is_live(inner, a, start),
-        (Shape::Split(first, ..), State::Sequence(a, _, held)) => {
+        (Shape::Apply(inner, _), State::Apply(a)) => is_live(inner, a, start),
+        (Shape::Split(first, ..), State::Split(a, _, held)) => {
             is_live(first, a, start) || has_outer(held, start)
         }
-        (Shape::Combine(first, ..), State::Pair(a, _)) => is_live(first, a, start),
-        (Shape::Iter(..), State::Repeated(_, so_far)) => has_outer(so_far.as_pending(), start),
-        (Shape::Compose(first, _), State::Fed(a, _)) => is_live(first, a, start),
+        (Shape::Combine(first, ..), State::Combine(a, _)) => is_live(first, a, start),
+        (Shape::Iter(..), State::Iter(_, so_far)) => has_outer(so_far.as_pending(), start),
+        (Shape::Compose(first, _), State::Compose(a, _)) => is_live(first, a, start),
         // Only starts that can go on are kept.
-        (Shape::Collect(..), State::Tracked(tracks)) => tracks.place(start).is_some(),
+        (Shape::Collect(..), State::Collect(tracks)) => tracks.place(start).is_some(),
         _ => false,
     }
 }

@@ -40,33 +40,33 @@ impl Node {
             → IsSound seen_of columns (plain_of query.now.shape) 0 (holding_of node.state)) }
     {
         let state = match &query.shape {
-            Shape::Atom(..) => State::Item(None),
-            Shape::Eps(_) => State::Empty,
+            Shape::Atom(..) => State::Atom(None),
+            Shape::Eps(_) => State::Eps,
             Shape::Or(first, second) => {
                 let first = Node::boxed(alloc, first, cells)?;
-                State::Both(first, Node::boxed(alloc, second, cells)?)
+                State::Or(first, Node::boxed(alloc, second, cells)?)
             }
-            Shape::Apply(inner, _) => State::Operand(Node::boxed(alloc, inner, cells)?),
+            Shape::Apply(inner, _) => State::Apply(Node::boxed(alloc, inner, cells)?),
             Shape::Split(first, second, _) => {
                 let held = Pending::new(alloc, places(second))?;
                 let first = Node::boxed(alloc, first, cells)?;
-                State::Sequence(first, Node::boxed(alloc, second, cells)?, held)
+                State::Split(first, Node::boxed(alloc, second, cells)?, held)
             }
             Shape::Combine(first, second, _) => {
                 let first = Node::boxed(alloc, first, cells)?;
-                State::Pair(first, Node::boxed(alloc, second, cells)?)
+                State::Combine(first, Node::boxed(alloc, second, cells)?)
             }
             Shape::Iter(inner, ..) => {
                 let so_far = Chain::new(alloc, places(inner))?;
-                State::Repeated(Node::boxed(alloc, inner, cells)?, so_far)
+                State::Iter(Node::boxed(alloc, inner, cells)?, so_far)
             }
             Shape::Compose(first, second) => {
                 let runners = idle_runners(alloc, second, places(first).saturating_add(1))?;
-                let state = State::Fed(Node::boxed(alloc, first, cells)?, runners);
+                let state = State::Compose(Node::boxed(alloc, first, cells)?, runners);
                 return Ok(Node { state });
             }
             Shape::Collect(_, _, rate, _) => {
-                let state = State::Tracked(no_tracks(alloc, rate, cells)?);
+                let state = State::Collect(no_tracks(alloc, rate, cells)?);
                 return Ok(Node { state });
             }
         };

@@ -19,22 +19,22 @@ pub struct Node {
 #[cycle(node)]
 pub enum State {
     /// For an atom: the start at the end of the word, if there is one.
-    Item(Option<u64>),
+    Atom(Option<u64>),
     /// For the empty word: nothing.
-    Empty,
+    Eps,
     /// For either of two: both.
-    Both(Box<Node>, Box<Node>),
+    Or(Box<Node>, Box<Node>),
     /// For an expression on a value: the operand.
-    Operand(Box<Node>),
+    Apply(Box<Node>),
     /// For a split: the operands, and the left values behind which a right piece may go on.
-    Sequence(Box<Node>, Box<Node>, Pending<Value>),
+    Split(Box<Node>, Box<Node>, Pending<Value>),
     /// For a combine: the operands.
-    Pair(Box<Node>, Box<Node>),
+    Combine(Box<Node>, Box<Node>),
     /// For an iter: the operand, and the values so far behind which a further piece may go on.
-    Repeated(Box<Node>, Chain<Value>),
+    Iter(Box<Node>, Chain<Value>),
     /// For a compose: the left operand, and the runners of the right one that it feeds.
-    Fed(Box<Node>, Instances<Progress>),
+    Compose(Box<Node>, Instances<Progress>),
     /// For a collect: the starts that can go on, each with a state of the rate's automaton, with a
     /// runner for each key, and with the one that those of later keys begin as.
-    Tracked(Tracks<Progress>),
+    Collect(Tracks<Progress>),
 }

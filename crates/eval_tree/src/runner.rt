@@ -1,15 +1,11 @@
 //! A query and how far a word of it has come.
 ghost use Rattle.std.specs.Prelude.{◌≡◌};
-ghost use Rattle.std.specs.Option.{option_map};
 ghost use Rattle.query_model.specs.Queries.{plain_of};
-ghost use Rattle.eval_tree.specs.declared.hit.Hit.{Hit};
 
+use crate::Progress;
 use crate::feeds::renew;
-use crate::stream_cells::stream_cells;
-use crate::{Hit, Node, Progress, start};
 use query_model::Checked;
 use std::alloc::{AllocError, Global};
-use value_ops::Value;
 
 /// It follows a word item by item. What it keeps does not grow with the word.
 #[derive(Drop)]
@@ -52,36 +48,5 @@ impl<'q> Runner<'q> {
             unreachable!()
         }
         self.failed = false;
-    }
-}
-
-impl Progress {
-    ghost use Rattle.std.specs.Prelude.{[], IfOk};
-    ghost use Rattle.eval_tree.specs.Following.{IsAt};
-
-    /// Before the first item.
-    pub(crate) fn new(alloc: Global, checked: &Checked) -> Result<Progress, AllocError>
-        ensures { IfOk result (IsAt checked.now.layout.columns
-            (plain_of checked.now.main.shape) []) }
-    {
-        let query = checked.main();
-        let cells = stream_cells(alloc, checked)?;
-        let mut node = Node::new(alloc, query, cells.as_ref())?;
-        let hit = start(query, &mut node, alloc, 0)?;
-        Ok(Progress {
-            node,
-            position: 0,
-            answer: value_of(hit),
-        })
-    }
-}
-
-/// The value of a hit.
-pub(crate) fn value_of(hit: Option<Hit>) -> Option<Value>
-    ensures { result ≡ option_map (λ (found : Hit). found.value) hit }
-{
-    match hit {
-        Some(hit) => Some(hit.value),
-        None => None,
     }
 }

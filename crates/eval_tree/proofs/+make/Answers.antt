@@ -15,7 +15,7 @@ use Rattle.split_eval.specs.Entries.{Contents}
 use Rattle.eval_tree.specs.declared.node.State.TheViews.{out-State, roll-Progress, roll-State}
 use Rattle.eval_tree.specs.Counts.{stored_in}
 use Rattle.eval_tree.specs.Feeds.{IsSoundOf}
-use Rattle.eval_tree.specs.Holdings.{chained, fed, pending, tracked}
+use Rattle.eval_tree.specs.Holdings.{iter_held, compose_held, split_held, collect_held}
 use Rattle.eval_tree.specs.Plain.{holding_of, seen_of}
 use Rattle.eval_tree.specs.Represents.{KeepsFew}
 use Rattle.eval_tree.specs.Sound.{IsSound}
@@ -53,7 +53,7 @@ node::Node::new-returns-clause-word t c = λ columns on. elim c.match-query.bran
       let a = holding_of w.in_ok-first-in-Split.first.value.state in
       let b = holding_of w.in_ok-boxed-in-Split.field-0.value.state in
       made_as seen_of columns _ _ _ _ (ap plain_of w.in-Split.is)
-      (ap holding_of w.state-is ∙ ap (λ (held : Contents Value). pending a b held) w.in_ok-held-in-Split.ensures)
+      (ap holding_of w.state-is ∙ ap (λ (held : Contents Value). split_held a b held) w.in_ok-held-in-Split.ensures)
       (new_split seen_of columns f g a b w.places.result
       (made_as seen_of columns _ _ _ _ (same_query _ _ w.deref-in-Split-2.ensures) refl
       (w.in_ok-first-in-Split.ensures.word columns on))
@@ -74,7 +74,7 @@ node::Node::new-returns-clause-word t c = λ columns on. elim c.match-query.bran
       let f = plain_of w.in-Iter.inner.value.shape in
       let a = holding_of w.in_ok-boxed-in-Iter.field-0.value.state in
       made_as seen_of columns _ _ _ _ (ap plain_of w.in-Iter.is)
-      (ap holding_of w.state-is ∙ ap (λ (so_far : Contents Value). chained a so_far) w.in_ok-so_far-in-Iter.ensures)
+      (ap holding_of w.state-is ∙ ap (λ (so_far : Contents Value). iter_held a so_far) w.in_ok-so_far-in-Iter.ensures)
       (new_chain seen_of columns f w.in-Iter.field-1 (values.plain_of w.in-Iter.field-2) a w.places-in-Iter.result
       (made_as seen_of columns _ _ _ _ (same_query _ _ w.deref-in-Iter-2.ensures) refl
       (w.in_ok-boxed-in-Iter.ensures.word columns on))
@@ -120,7 +120,7 @@ node::Node::new-returns-in-Compose-clause-sound t c = λ columns on.
     let g = plain_of s.second.value.shape in
     let a = c.in_ok-boxed-in-Compose.field-0 in
     let runners = c.in_ok-runners-in-Compose.runners in
-    made_soundly_as seen_of columns (compose f g) _ (fed (holding_of a.value.state) runners) _ (ap plain_of s.is)
+    made_soundly_as seen_of columns (compose f g) _ (compose_held (holding_of a.value.state) runners) _ (ap plain_of s.is)
     (fed_is a runners)
     (new_compose_sound seen_of columns f g (holding_of a.value.state) runners
     (subst (λ (q : Query). IsSound seen_of columns (plain_of q.shape) 0 (holding_of a.value.state))
@@ -143,7 +143,7 @@ node::Node::new-returns-in-Compose-clause-word t c = λ columns on.
     let g = plain_of s.second.value.shape in
     let a = c.in_ok-boxed-in-Compose.field-0 in
     let runners = c.in_ok-runners-in-Compose.runners in
-    made_as seen_of columns (compose f g) _ (fed (holding_of a.value.state) runners) _ (ap plain_of s.is) (fed_is a runners)
+    made_as seen_of columns (compose f g) _ (compose_held (holding_of a.value.state) runners) _ (ap plain_of s.is) (fed_is a runners)
     (new_compose seen_of columns f g (holding_of a.value.state) runners
     (made_as seen_of columns _ _ _ _ (same_query _ _ c.deref-in-Compose-3.ensures) refl
     (c.in_ok-boxed-in-Compose.ensures.word columns on))
@@ -163,7 +163,7 @@ unfolding roll-State out-State denote.Hole.Carrier.roll denote.Hole.Carrier.out
 node::Node::new-returns-in-Collect-clause-word t c = λ columns on.
     let s = c.in-Collect in
     let all = c.in_ok-no_tracks-in-Collect.field-0 in
-    made_as seen_of columns _ _ (tracked all) _ (ap plain_of s.is) (tracked_is all)
+    made_as seen_of columns _ _ (collect_held all) _ (ap plain_of s.is) (tracked_is all)
     (new_collect seen_of columns s.field-0 (predicates.plain_of s.field-1) (rates.plain_of s.rate) (plain_of s.field-3.value.shape)
     all c.in_ok-no_tracks-in-Collect.ensures.rate (c.in_ok-no_tracks-in-Collect.ensures.columns columns on)
     c.in_ok-no_tracks-in-Collect.ensures.none)
@@ -173,7 +173,7 @@ unfolding roll-State out-State denote.Hole.Carrier.roll denote.Hole.Carrier.out
 node::Node::new-returns-in-Collect-clause-sound t c = λ columns on.
     let s = c.in-Collect in
     let all = c.in_ok-no_tracks-in-Collect.field-0 in
-    made_soundly_as seen_of columns _ _ (tracked all) _ (ap plain_of s.is) (tracked_is all)
+    made_soundly_as seen_of columns _ _ (collect_held all) _ (ap plain_of s.is) (tracked_is all)
     (new_collect_sound seen_of columns s.field-0 (predicates.plain_of s.field-1) (rates.plain_of s.rate)
     (plain_of s.field-3.value.shape) all c.in_ok-no_tracks-in-Collect.ensures.rate
     (c.in_ok-no_tracks-in-Collect.ensures.columns columns on) c.in_ok-no_tracks-in-Collect.ensures.none

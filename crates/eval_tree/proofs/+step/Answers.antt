@@ -23,8 +23,8 @@ use Rattle.eval_tree.proofs.+step.Answers.Unlike as unlike
 use Rattle.eval_tree.proofs.+step.Goals as goal
 
 -- an atom and the empty word
-pub steps::start-returns-in-Atom-Item : goal.steps::start-returns-in-Atom-Item
-steps::start-returns-in-Atom-Item = atom.steps::start-returns-in-Atom-Item
+pub steps::start-returns-in-Atom-Atom : goal.steps::start-returns-in-Atom-Atom
+steps::start-returns-in-Atom-Atom = atom.steps::start-returns-in-Atom-Atom
 
 pub steps::step-eval-requires : goal.steps::step-eval-requires
 steps::step-eval-requires = atom.steps::step-eval-requires
@@ -38,197 +38,194 @@ steps::step-returns-in_err-value-in-Some = atom.steps::step-returns-in_err-value
 pub steps::step-returns-in_default-take : goal.steps::step-returns-in_default-take
 steps::step-returns-in_default-take = atom.steps::step-returns-in_default-take
 
-pub steps::step-returns-in-Eps-Empty : goal.steps::step-returns-in-Eps-Empty
-steps::step-returns-in-Eps-Empty = atom.steps::step-returns-in-Eps-Empty
+pub steps::step-returns-in-Eps-Eps : goal.steps::step-returns-in-Eps-Eps
+steps::step-returns-in-Eps-Eps = atom.steps::step-returns-in-Eps-Eps
 
 -- either of two
-pub steps::start-returns-in_ok-right-in-Or-Both : goal.steps::start-returns-in_ok-right-in-Or-Both
-steps::start-returns-in_ok-right-in-Or-Both = choice.steps::start-returns-in_ok-right-in-Or-Both
+pub steps::start-returns-in_ok-right-in-Or-Or : goal.steps::start-returns-in_ok-right-in-Or-Or
+steps::start-returns-in_ok-right-in-Or-Or = choice.steps::start-returns-in_ok-right-in-Or-Or
 
-pub steps::start-returns-in_err-left-in-Or-Both : goal.steps::start-returns-in_err-left-in-Or-Both
-steps::start-returns-in_err-left-in-Or-Both = choice.steps::start-returns-in_err-left-in-Or-Both
+pub steps::start-returns-in_err-left-in-Or-Or : goal.steps::start-returns-in_err-left-in-Or-Or
+steps::start-returns-in_err-left-in-Or-Or = choice.steps::start-returns-in_err-left-in-Or-Or
 
-pub steps::start-returns-in_err-right-in-Or-Both : goal.steps::start-returns-in_err-right-in-Or-Both
-steps::start-returns-in_err-right-in-Or-Both = choice.steps::start-returns-in_err-right-in-Or-Both
+pub steps::start-returns-in_err-right-in-Or-Or : goal.steps::start-returns-in_err-right-in-Or-Or
+steps::start-returns-in_err-right-in-Or-Or = choice.steps::start-returns-in_err-right-in-Or-Or
 
-pub steps::step-returns-in_ok-right-in-Or-Both : goal.steps::step-returns-in_ok-right-in-Or-Both
-steps::step-returns-in_ok-right-in-Or-Both = choice.steps::step-returns-in_ok-right-in-Or-Both
+pub steps::step-returns-in_ok-right-in-Or-Or : goal.steps::step-returns-in_ok-right-in-Or-Or
+steps::step-returns-in_ok-right-in-Or-Or = choice.steps::step-returns-in_ok-right-in-Or-Or
 
-pub steps::step-returns-in_err-left-in-Or-Both : goal.steps::step-returns-in_err-left-in-Or-Both
-steps::step-returns-in_err-left-in-Or-Both = choice.steps::step-returns-in_err-left-in-Or-Both
+pub steps::step-returns-in_err-left-in-Or-Or : goal.steps::step-returns-in_err-left-in-Or-Or
+steps::step-returns-in_err-left-in-Or-Or = choice.steps::step-returns-in_err-left-in-Or-Or
 
-pub steps::step-returns-in_err-right-in-Or-Both : goal.steps::step-returns-in_err-right-in-Or-Both
-steps::step-returns-in_err-right-in-Or-Both = choice.steps::step-returns-in_err-right-in-Or-Both
+pub steps::step-returns-in_err-right-in-Or-Or : goal.steps::step-returns-in_err-right-in-Or-Or
+steps::step-returns-in_err-right-in-Or-Or = choice.steps::step-returns-in_err-right-in-Or-Or
 
 -- an expression on a value
-pub steps::start-returns-in_ok-hit-in-Apply-Operand : goal.steps::start-returns-in_ok-hit-in-Apply-Operand
-steps::start-returns-in_ok-hit-in-Apply-Operand = apply.steps::start-returns-in_ok-hit-in-Apply-Operand
+pub steps::start-returns-in_ok-hit-in-Apply-Apply : goal.steps::start-returns-in_ok-hit-in-Apply-Apply
+steps::start-returns-in_ok-hit-in-Apply-Apply = apply.steps::start-returns-in_ok-hit-in-Apply-Apply
 
-pub steps::start-returns-in_err-hit-in-Apply-Operand : goal.steps::start-returns-in_err-hit-in-Apply-Operand
-steps::start-returns-in_err-hit-in-Apply-Operand = apply.steps::start-returns-in_err-hit-in-Apply-Operand
+pub steps::start-returns-in_err-hit-in-Apply-Apply : goal.steps::start-returns-in_err-hit-in-Apply-Apply
+steps::start-returns-in_err-hit-in-Apply-Apply = apply.steps::start-returns-in_err-hit-in-Apply-Apply
 
-pub steps::step-returns-in_ok-hit-in-Apply-Operand : goal.steps::step-returns-in_ok-hit-in-Apply-Operand
-steps::step-returns-in_ok-hit-in-Apply-Operand = apply.steps::step-returns-in_ok-hit-in-Apply-Operand
+pub steps::step-returns-in_ok-hit-in-Apply-Apply : goal.steps::step-returns-in_ok-hit-in-Apply-Apply
+steps::step-returns-in_ok-hit-in-Apply-Apply = apply.steps::step-returns-in_ok-hit-in-Apply-Apply
 
-pub steps::step-returns-in_err-hit-in-Apply-Operand : goal.steps::step-returns-in_err-hit-in-Apply-Operand
-steps::step-returns-in_err-hit-in-Apply-Operand = apply.steps::step-returns-in_err-hit-in-Apply-Operand
+pub steps::step-returns-in_err-hit-in-Apply-Apply : goal.steps::step-returns-in_err-hit-in-Apply-Apply
+steps::step-returns-in_err-hit-in-Apply-Apply = apply.steps::step-returns-in_err-hit-in-Apply-Apply
 
 -- a combine
 pub steps::start-combined-requires : goal.steps::start-combined-requires
 steps::start-combined-requires = combine.steps::start-combined-requires
 
-pub steps::start-returns-in_ok-right-in-Combine-Pair : goal.steps::start-returns-in_ok-right-in-Combine-Pair
-steps::start-returns-in_ok-right-in-Combine-Pair = combine.steps::start-returns-in_ok-right-in-Combine-Pair
+pub steps::start-returns-in_ok-right-in-Combine-Combine : goal.steps::start-returns-in_ok-right-in-Combine-Combine
+steps::start-returns-in_ok-right-in-Combine-Combine = combine.steps::start-returns-in_ok-right-in-Combine-Combine
 
-pub steps::start-returns-in_err-left-in-Combine-Pair : goal.steps::start-returns-in_err-left-in-Combine-Pair
-steps::start-returns-in_err-left-in-Combine-Pair = combine.steps::start-returns-in_err-left-in-Combine-Pair
+pub steps::start-returns-in_err-left-in-Combine-Combine : goal.steps::start-returns-in_err-left-in-Combine-Combine
+steps::start-returns-in_err-left-in-Combine-Combine = combine.steps::start-returns-in_err-left-in-Combine-Combine
 
-pub steps::start-returns-in_err-right-in-Combine-Pair : goal.steps::start-returns-in_err-right-in-Combine-Pair
-steps::start-returns-in_err-right-in-Combine-Pair = combine.steps::start-returns-in_err-right-in-Combine-Pair
+pub steps::start-returns-in_err-right-in-Combine-Combine : goal.steps::start-returns-in_err-right-in-Combine-Combine
+steps::start-returns-in_err-right-in-Combine-Combine = combine.steps::start-returns-in_err-right-in-Combine-Combine
 
 pub steps::step-combined-requires : goal.steps::step-combined-requires
 steps::step-combined-requires = combine.steps::step-combined-requires
 
-pub steps::step-returns-in_ok-right-in-Combine-Pair : goal.steps::step-returns-in_ok-right-in-Combine-Pair
-steps::step-returns-in_ok-right-in-Combine-Pair = combine.steps::step-returns-in_ok-right-in-Combine-Pair
+pub steps::step-returns-in_ok-right-in-Combine-Combine : goal.steps::step-returns-in_ok-right-in-Combine-Combine
+steps::step-returns-in_ok-right-in-Combine-Combine = combine.steps::step-returns-in_ok-right-in-Combine-Combine
 
-pub steps::step-returns-in_err-left-in-Combine-Pair : goal.steps::step-returns-in_err-left-in-Combine-Pair
-steps::step-returns-in_err-left-in-Combine-Pair = combine.steps::step-returns-in_err-left-in-Combine-Pair
+pub steps::step-returns-in_err-left-in-Combine-Combine : goal.steps::step-returns-in_err-left-in-Combine-Combine
+steps::step-returns-in_err-left-in-Combine-Combine = combine.steps::step-returns-in_err-left-in-Combine-Combine
 
-pub steps::step-returns-in_err-right-in-Combine-Pair : goal.steps::step-returns-in_err-right-in-Combine-Pair
-steps::step-returns-in_err-right-in-Combine-Pair = combine.steps::step-returns-in_err-right-in-Combine-Pair
+pub steps::step-returns-in_err-right-in-Combine-Combine : goal.steps::step-returns-in_err-right-in-Combine-Combine
+steps::step-returns-in_err-right-in-Combine-Combine = combine.steps::step-returns-in_err-right-in-Combine-Combine
 
 -- a split
 pub steps::start-start_split-requires : goal.steps::start-start_split-requires
 steps::start-start_split-requires = split.steps::start-start_split-requires
 
-pub steps::start-returns-in-Split-Sequence : goal.steps::start-returns-in-Split-Sequence
-steps::start-returns-in-Split-Sequence = split.steps::start-returns-in-Split-Sequence
+pub steps::start-returns-in-Split-Split : goal.steps::start-returns-in-Split-Split
+steps::start-returns-in-Split-Split = split.steps::start-returns-in-Split-Split
 
 pub steps::step-step_split-requires : goal.steps::step-step_split-requires
 steps::step-step_split-requires = split.steps::step-step_split-requires
 
-pub steps::step-returns-in-Split-Sequence : goal.steps::step-returns-in-Split-Sequence
-steps::step-returns-in-Split-Sequence = split.steps::step-returns-in-Split-Sequence
+pub steps::step-returns-in-Split-Split : goal.steps::step-returns-in-Split-Split
+steps::step-returns-in-Split-Split = split.steps::step-returns-in-Split-Split
 
-pub splitting::start_split-joined-requires : goal.splitting::start_split-joined-requires
-splitting::start_split-joined-requires = split.splitting::start_split-joined-requires
+pub split::start_split-joined-requires : goal.split::start_split-joined-requires
+split::start_split-joined-requires = split.split::start_split-joined-requires
 
-pub splitting::start_split-returns-in_ok-hit-in-Some : goal.splitting::start_split-returns-in_ok-hit-in-Some
-splitting::start_split-returns-in_ok-hit-in-Some = split.splitting::start_split-returns-in_ok-hit-in-Some
+pub split::start_split-returns-in_ok-hit-in-Some : goal.split::start_split-returns-in_ok-hit-in-Some
+split::start_split-returns-in_ok-hit-in-Some = split.split::start_split-returns-in_ok-hit-in-Some
 
-pub splitting::start_split-returns-in-None : goal.splitting::start_split-returns-in-None
-splitting::start_split-returns-in-None = split.splitting::start_split-returns-in-None
+pub split::start_split-returns-in-None : goal.split::start_split-returns-in-None
+split::start_split-returns-in-None = split.split::start_split-returns-in-None
 
-pub splitting::start_split-returns-in_err-left-in-Split : goal.splitting::start_split-returns-in_err-left-in-Split
-splitting::start_split-returns-in_err-left-in-Split = split.splitting::start_split-returns-in_err-left-in-Split
+pub split::start_split-returns-in_err-left-in-Split : goal.split::start_split-returns-in_err-left-in-Split
+split::start_split-returns-in_err-left-in-Split = split.split::start_split-returns-in_err-left-in-Split
 
-pub splitting::start_split-returns-in_err-right-in-Some : goal.splitting::start_split-returns-in_err-right-in-Some
-splitting::start_split-returns-in_err-right-in-Some = split.splitting::start_split-returns-in_err-right-in-Some
+pub split::start_split-returns-in_err-right-in-Some : goal.split::start_split-returns-in_err-right-in-Some
+split::start_split-returns-in_err-right-in-Some = split.split::start_split-returns-in_err-right-in-Some
 
-pub splitting::start_split-returns-in_err-hit-in-Some : goal.splitting::start_split-returns-in_err-hit-in-Some
-splitting::start_split-returns-in_err-hit-in-Some = split.splitting::start_split-returns-in_err-hit-in-Some
+pub split::start_split-returns-in_err-hit-in-Some : goal.split::start_split-returns-in_err-hit-in-Some
+split::start_split-returns-in_err-hit-in-Some = split.split::start_split-returns-in_err-hit-in-Some
 
-pub splitting::step_split-ended-requires : goal.splitting::step_split-ended-requires
-splitting::step_split-ended-requires = split.splitting::step_split-ended-requires
+pub split::step_split-ended-requires : goal.split::step_split-ended-requires
+split::step_split-ended-requires = split.split::step_split-ended-requires
 
-pub splitting::step_split-joined-requires : goal.splitting::step_split-joined-requires
-splitting::step_split-joined-requires = split.splitting::step_split-joined-requires
+pub split::step_split-joined-requires : goal.split::step_split-joined-requires
+split::step_split-joined-requires = split.split::step_split-joined-requires
 
-pub splitting::step_split-wait-requires : goal.splitting::step_split-wait-requires
-splitting::step_split-wait-requires = split.splitting::step_split-wait-requires
+pub split::step_split-wait-requires : goal.split::step_split-wait-requires
+split::step_split-wait-requires = split.split::step_split-wait-requires
 
-pub splitting::step_split-returns-in_ok-begun-in-Some : goal.splitting::step_split-returns-in_ok-begun-in-Some
-splitting::step_split-returns-in_ok-begun-in-Some = split.splitting::step_split-returns-in_ok-begun-in-Some
+pub split::step_split-returns-in_ok-begun-in-Some : goal.split::step_split-returns-in_ok-begun-in-Some
+split::step_split-returns-in_ok-begun-in-Some = split.split::step_split-returns-in_ok-begun-in-Some
 
-pub splitting::step_split-returns-in-None : goal.splitting::step_split-returns-in-None
-splitting::step_split-returns-in-None = split.splitting::step_split-returns-in-None
+pub split::step_split-returns-in-None : goal.split::step_split-returns-in-None
+split::step_split-returns-in-None = split.split::step_split-returns-in-None
 
-pub splitting::step_split-returns-in_err-left-in-Split : goal.splitting::step_split-returns-in_err-left-in-Split
-splitting::step_split-returns-in_err-left-in-Split = split.splitting::step_split-returns-in_err-left-in-Split
+pub split::step_split-returns-in_err-left-in-Split : goal.split::step_split-returns-in_err-left-in-Split
+split::step_split-returns-in_err-left-in-Split = split.split::step_split-returns-in_err-left-in-Split
 
-pub splitting::step_split-returns-in_err-right-in-Split : goal.splitting::step_split-returns-in_err-right-in-Split
-splitting::step_split-returns-in_err-right-in-Split = split.splitting::step_split-returns-in_err-right-in-Split
+pub split::step_split-returns-in_err-right-in-Split : goal.split::step_split-returns-in_err-right-in-Split
+split::step_split-returns-in_err-right-in-Split = split.split::step_split-returns-in_err-right-in-Split
 
-pub splitting::step_split-returns-in_err-hit-in-Split : goal.splitting::step_split-returns-in_err-hit-in-Split
-splitting::step_split-returns-in_err-hit-in-Split = split.splitting::step_split-returns-in_err-hit-in-Split
+pub split::step_split-returns-in_err-hit-in-Split : goal.split::step_split-returns-in_err-hit-in-Split
+split::step_split-returns-in_err-hit-in-Split = split.split::step_split-returns-in_err-hit-in-Split
 
-pub splitting::step_split-returns-in_err-right-in-Some : goal.splitting::step_split-returns-in_err-right-in-Some
-splitting::step_split-returns-in_err-right-in-Some = split.splitting::step_split-returns-in_err-right-in-Some
+pub split::step_split-returns-in_err-right-in-Some : goal.split::step_split-returns-in_err-right-in-Some
+split::step_split-returns-in_err-right-in-Some = split.split::step_split-returns-in_err-right-in-Some
 
-pub splitting::step_split-returns-in_err-begun-in-Some : goal.splitting::step_split-returns-in_err-begun-in-Some
-splitting::step_split-returns-in_err-begun-in-Some = split.splitting::step_split-returns-in_err-begun-in-Some
+pub split::step_split-returns-in_err-begun-in-Some : goal.split::step_split-returns-in_err-begun-in-Some
+split::step_split-returns-in_err-begun-in-Some = split.split::step_split-returns-in_err-begun-in-Some
 
 -- an iteration
-pub steps::start-returns-in_ok-go_on_if_new-in-Iter-Repeated :
-    goal.steps::start-returns-in_ok-go_on_if_new-in-Iter-Repeated
-steps::start-returns-in_ok-go_on_if_new-in-Iter-Repeated = iter.steps::start-returns-in_ok-go_on_if_new-in-Iter-Repeated
+pub steps::start-returns-in_ok-go_on_if_new-in-Iter-Iter : goal.steps::start-returns-in_ok-go_on_if_new-in-Iter-Iter
+steps::start-returns-in_ok-go_on_if_new-in-Iter-Iter = iter.steps::start-returns-in_ok-go_on_if_new-in-Iter-Iter
 
-pub steps::start-returns-in_err-start-in-Iter-Repeated : goal.steps::start-returns-in_err-start-in-Iter-Repeated
-steps::start-returns-in_err-start-in-Iter-Repeated = iter.steps::start-returns-in_err-start-in-Iter-Repeated
+pub steps::start-returns-in_err-start-in-Iter-Iter : goal.steps::start-returns-in_err-start-in-Iter-Iter
+steps::start-returns-in_err-start-in-Iter-Iter = iter.steps::start-returns-in_err-start-in-Iter-Iter
 
-pub steps::start-returns-in_err-go_on_if_new-in-Iter-Repeated :
-    goal.steps::start-returns-in_err-go_on_if_new-in-Iter-Repeated
-steps::start-returns-in_err-go_on_if_new-in-Iter-Repeated =
-    iter.steps::start-returns-in_err-go_on_if_new-in-Iter-Repeated
+pub steps::start-returns-in_err-go_on_if_new-in-Iter-Iter : goal.steps::start-returns-in_err-go_on_if_new-in-Iter-Iter
+steps::start-returns-in_err-go_on_if_new-in-Iter-Iter = iter.steps::start-returns-in_err-go_on_if_new-in-Iter-Iter
 
 pub steps::step-step_iter-requires : goal.steps::step-step_iter-requires
 steps::step-step_iter-requires = iter.steps::step-step_iter-requires
 
-pub steps::step-returns-in-Iter-Repeated : goal.steps::step-returns-in-Iter-Repeated
-steps::step-returns-in-Iter-Repeated = iter.steps::step-returns-in-Iter-Repeated
+pub steps::step-returns-in-Iter-Iter : goal.steps::step-returns-in-Iter-Iter
+steps::step-returns-in-Iter-Iter = iter.steps::step-returns-in-Iter-Iter
 
-pub iterating::step_iter-ended-requires : goal.iterating::step_iter-ended-requires
-iterating::step_iter-ended-requires = iter.iterating::step_iter-ended-requires
+pub iter::step_iter-ended-requires : goal.iter::step_iter-ended-requires
+iter::step_iter-ended-requires = iter.iter::step_iter-ended-requires
 
-pub iterating::step_iter-go_on-requires : goal.iterating::step_iter-go_on-requires
-iterating::step_iter-go_on-requires = iter.iterating::step_iter-go_on-requires
+pub iter::step_iter-go_on-requires : goal.iter::step_iter-go_on-requires
+iter::step_iter-go_on-requires = iter.iter::step_iter-go_on-requires
 
-pub iterating::step_iter-returns-in_ok-go_on-in-Some : goal.iterating::step_iter-returns-in_ok-go_on-in-Some
-iterating::step_iter-returns-in_ok-go_on-in-Some = iter.iterating::step_iter-returns-in_ok-go_on-in-Some
+pub iter::step_iter-returns-in_ok-go_on-in-Some : goal.iter::step_iter-returns-in_ok-go_on-in-Some
+iter::step_iter-returns-in_ok-go_on-in-Some = iter.iter::step_iter-returns-in_ok-go_on-in-Some
 
-pub iterating::step_iter-returns-in-None : goal.iterating::step_iter-returns-in-None
-iterating::step_iter-returns-in-None = iter.iterating::step_iter-returns-in-None
+pub iter::step_iter-returns-in-None : goal.iter::step_iter-returns-in-None
+iter::step_iter-returns-in-None = iter.iter::step_iter-returns-in-None
 
-pub iterating::step_iter-returns-in_err-piece-in-Iter : goal.iterating::step_iter-returns-in_err-piece-in-Iter
-iterating::step_iter-returns-in_err-piece-in-Iter = iter.iterating::step_iter-returns-in_err-piece-in-Iter
+pub iter::step_iter-returns-in_err-piece-in-Iter : goal.iter::step_iter-returns-in_err-piece-in-Iter
+iter::step_iter-returns-in_err-piece-in-Iter = iter.iter::step_iter-returns-in_err-piece-in-Iter
 
-pub iterating::step_iter-returns-in_err-hit-in-Iter : goal.iterating::step_iter-returns-in_err-hit-in-Iter
-iterating::step_iter-returns-in_err-hit-in-Iter = iter.iterating::step_iter-returns-in_err-hit-in-Iter
+pub iter::step_iter-returns-in_err-hit-in-Iter : goal.iter::step_iter-returns-in_err-hit-in-Iter
+iter::step_iter-returns-in_err-hit-in-Iter = iter.iter::step_iter-returns-in_err-hit-in-Iter
 
-pub iterating::step_iter-returns-in_err-start-in-Some : goal.iterating::step_iter-returns-in_err-start-in-Some
-iterating::step_iter-returns-in_err-start-in-Some = iter.iterating::step_iter-returns-in_err-start-in-Some
+pub iter::step_iter-returns-in_err-start-in-Some : goal.iter::step_iter-returns-in_err-start-in-Some
+iter::step_iter-returns-in_err-start-in-Some = iter.iter::step_iter-returns-in_err-start-in-Some
 
-pub iterating::step_iter-returns-in_err-go_on-in-Some : goal.iterating::step_iter-returns-in_err-go_on-in-Some
-iterating::step_iter-returns-in_err-go_on-in-Some = iter.iterating::step_iter-returns-in_err-go_on-in-Some
+pub iter::step_iter-returns-in_err-go_on-in-Some : goal.iter::step_iter-returns-in_err-go_on-in-Some
+iter::step_iter-returns-in_err-go_on-in-Some = iter.iter::step_iter-returns-in_err-go_on-in-Some
 
 -- a compose
 pub steps::start-feed-requires : goal.steps::start-feed-requires
 steps::start-feed-requires = compose.steps::start-feed-requires
 
-pub steps::start-returns-in_ok-left-in-Compose-Fed : goal.steps::start-returns-in_ok-left-in-Compose-Fed
-steps::start-returns-in_ok-left-in-Compose-Fed = compose.steps::start-returns-in_ok-left-in-Compose-Fed
+pub steps::start-returns-in_ok-left-in-Compose-Compose : goal.steps::start-returns-in_ok-left-in-Compose-Compose
+steps::start-returns-in_ok-left-in-Compose-Compose = compose.steps::start-returns-in_ok-left-in-Compose-Compose
 
-pub steps::start-returns-in_err-left-in-Compose-Fed : goal.steps::start-returns-in_err-left-in-Compose-Fed
-steps::start-returns-in_err-left-in-Compose-Fed = compose.steps::start-returns-in_err-left-in-Compose-Fed
+pub steps::start-returns-in_err-left-in-Compose-Compose : goal.steps::start-returns-in_err-left-in-Compose-Compose
+steps::start-returns-in_err-left-in-Compose-Compose = compose.steps::start-returns-in_err-left-in-Compose-Compose
 
 pub steps::step-step_compose-requires : goal.steps::step-step_compose-requires
 steps::step-step_compose-requires = compose.steps::step-step_compose-requires
 
-pub steps::step-returns-in-Compose-Fed : goal.steps::step-returns-in-Compose-Fed
-steps::step-returns-in-Compose-Fed = compose.steps::step-returns-in-Compose-Fed
+pub steps::step-returns-in-Compose-Compose : goal.steps::step-returns-in-Compose-Compose
+steps::step-returns-in-Compose-Compose = compose.steps::step-returns-in-Compose-Compose
 
-pub composing::step_compose-pass_on-requires : goal.composing::step_compose-pass_on-requires
-composing::step_compose-pass_on-requires = compose.composing::step_compose-pass_on-requires
+pub compose::step_compose-pass_on-requires : goal.compose::step_compose-pass_on-requires
+compose::step_compose-pass_on-requires = compose.compose::step_compose-pass_on-requires
 
-pub composing::step_compose-returns : goal.composing::step_compose-returns
-composing::step_compose-returns = compose.composing::step_compose-returns
+pub compose::step_compose-returns : goal.compose::step_compose-returns
+compose::step_compose-returns = compose.compose::step_compose-returns
 
-pub composing::step_compose-returns-in_err-left-in-Compose : goal.composing::step_compose-returns-in_err-left-in-Compose
-composing::step_compose-returns-in_err-left-in-Compose = compose.composing::step_compose-returns-in_err-left-in-Compose
+pub compose::step_compose-returns-in_err-left-in-Compose : goal.compose::step_compose-returns-in_err-left-in-Compose
+compose::step_compose-returns-in_err-left-in-Compose = compose.compose::step_compose-returns-in_err-left-in-Compose
 
-pub composing::step_compose-returns-in_err-hit-in-Compose : goal.composing::step_compose-returns-in_err-hit-in-Compose
-composing::step_compose-returns-in_err-hit-in-Compose = compose.composing::step_compose-returns-in_err-hit-in-Compose
+pub compose::step_compose-returns-in_err-hit-in-Compose : goal.compose::step_compose-returns-in_err-hit-in-Compose
+compose::step_compose-returns-in_err-hit-in-Compose = compose.compose::step_compose-returns-in_err-hit-in-Compose
 
 -- the runners of its right operand
 pub feeds::renew-start-requires : goal.feeds::renew-start-requires
@@ -309,50 +306,50 @@ feeds::feed-returns-in_err-hit-clause-no_memory = runner.feeds::feed-returns-in_
 pub steps::start-begin_at-requires : goal.steps::start-begin_at-requires
 steps::start-begin_at-requires = collect.steps::start-begin_at-requires
 
-pub steps::start-returns-in-Collect-Tracked : goal.steps::start-returns-in-Collect-Tracked
-steps::start-returns-in-Collect-Tracked = collect.steps::start-returns-in-Collect-Tracked
+pub steps::start-returns-in-Collect-Collect : goal.steps::start-returns-in-Collect-Collect
+steps::start-returns-in-Collect-Collect = collect.steps::start-returns-in-Collect-Collect
 
-pub tracks::begin_at-returns : goal.tracks::begin_at-returns
-tracks::begin_at-returns = collect.tracks::begin_at-returns
+pub collect::begin_at-returns : goal.collect::begin_at-returns
+collect::begin_at-returns = collect.collect::begin_at-returns
 
-pub tracks::track-returns-then-not-can_track : goal.tracks::track-returns-then-not-can_track
-tracks::track-returns-then-not-can_track = collect.tracks::track-returns-then-not-can_track
+pub collect::track-returns-then-not-can_track : goal.collect::track-returns-then-not-can_track
+collect::track-returns-then-not-can_track = collect.collect::track-returns-then-not-can_track
 
-pub tracks::track-returns : goal.tracks::track-returns
-tracks::track-returns = collect.tracks::track-returns
+pub collect::track-returns : goal.collect::track-returns
+collect::track-returns = collect.collect::track-returns
 
-pub tracks::new_runner-new-requires-clause-cells : goal.tracks::new_runner-new-requires-clause-cells
-tracks::new_runner-new-requires-clause-cells = collect.tracks::new_runner-new-requires-clause-cells
+pub collect::new_runner-new-requires-clause-cells : goal.collect::new_runner-new-requires-clause-cells
+collect::new_runner-new-requires-clause-cells = collect.collect::new_runner-new-requires-clause-cells
 
-pub tracks::new_runner-start-requires : goal.tracks::new_runner-start-requires
-tracks::new_runner-start-requires = collect.tracks::new_runner-start-requires
+pub collect::new_runner-start-requires : goal.collect::new_runner-start-requires
+collect::new_runner-start-requires = collect.collect::new_runner-start-requires
 
-pub tracks::new_runner-returns : goal.tracks::new_runner-returns
-tracks::new_runner-returns = collect.tracks::new_runner-returns
+pub collect::new_runner-returns : goal.collect::new_runner-returns
+collect::new_runner-returns = collect.collect::new_runner-returns
 
 pub steps::step-pass_by-requires : goal.steps::step-pass_by-requires
 steps::step-pass_by-requires = collect.steps::step-pass_by-requires
 
-pub steps::step-returns-in-Collect-Tracked : goal.steps::step-returns-in-Collect-Tracked
-steps::step-returns-in-Collect-Tracked = collect.steps::step-returns-in-Collect-Tracked
+pub steps::step-returns-in-Collect-Collect : goal.steps::step-returns-in-Collect-Collect
+steps::step-returns-in-Collect-Collect = collect.steps::step-returns-in-Collect-Collect
 
-pub tracks::pass_by-push_all-requires : goal.tracks::pass_by-push_all-requires
-tracks::pass_by-push_all-requires = collect.tracks::pass_by-push_all-requires
+pub collect::pass_by-push_all-requires : goal.collect::pass_by-push_all-requires
+collect::pass_by-push_all-requires = collect.collect::pass_by-push_all-requires
 
-pub tracks::pass_by-returns : goal.tracks::pass_by-returns
-tracks::pass_by-returns = collect.tracks::pass_by-returns
+pub collect::pass_by-returns : goal.collect::pass_by-returns
+collect::pass_by-returns = collect.collect::pass_by-returns
 
-pub tracks::push_all-keys_push-requires : goal.tracks::push_all-keys_push-requires
-tracks::push_all-keys_push-requires = collect.tracks::push_all-keys_push-requires
+pub collect::push_all-keys_push-requires : goal.collect::push_all-keys_push-requires
+collect::push_all-keys_push-requires = collect.collect::push_all-keys_push-requires
 
-pub tracks::push_all-starts-preserved : goal.tracks::push_all-starts-preserved
-tracks::push_all-starts-preserved = collect.tracks::push_all-starts-preserved
+pub collect::push_all-starts-preserved : goal.collect::push_all-starts-preserved
+collect::push_all-starts-preserved = collect.collect::push_all-starts-preserved
 
-pub tracks::push_all-returns-clause-pushed : goal.tracks::push_all-returns-clause-pushed
-tracks::push_all-returns-clause-pushed = collect.tracks::push_all-returns-clause-pushed
+pub collect::push_all-returns-clause-pushed : goal.collect::push_all-returns-clause-pushed
+collect::push_all-returns-clause-pushed = collect.collect::push_all-returns-clause-pushed
 
-pub tracks::pass_by-advance-requires : goal.tracks::pass_by-advance-requires
-tracks::pass_by-advance-requires = collect.tracks::pass_by-advance-requires
+pub collect::pass_by-advance-requires : goal.collect::pass_by-advance-requires
+collect::pass_by-advance-requires = collect.collect::pass_by-advance-requires
 
 -- its runners for keys
 pub keys::keys_push-returns-then-holds : goal.keys::keys_push-returns-then-holds

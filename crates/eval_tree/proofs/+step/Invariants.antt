@@ -16,8 +16,8 @@ invariant-keys::push_to_each-keys l =
     × (l.i-end ≡ length (names_of l.fn.keys)) × (length (followers_of l.keys) ≡ length (names_of l.fn.keys))
 
 -- the item has gone by at the starts below the index
-abbrev pub invariant-tracks::push_all-starts : goal.invariant-tracks::push_all-starts
-invariant-tracks::push_all-starts l =
+abbrev pub invariant-collect::push_all-starts : goal.invariant-collect::push_all-starts
+invariant-collect::push_all-starts l =
     ArePushedBelow seen_of (plain_of l.query.shape) l.column (predicates.plain_of l.sync) l.item l.i l.fn.tracks.tracks
     l.tracks.tracks
     × (l.tracks.nfa ≡ l.fn.tracks.nfa) × (l.i-end ≡ length l.fn.tracks.tracks)

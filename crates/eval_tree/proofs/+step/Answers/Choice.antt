@@ -9,69 +9,69 @@ use Rattle.eval_tree.proofs.NumbersAllowed.{first_starts, first_steps, second_st
 use Rattle.eval_tree.proofs.PlainArms.{choice_starts, choice_steps}
 use Rattle.eval_tree.proofs.+step.Goals as goal
 
-pub steps::start-returns-in_ok-right-in-Or-Both : goal.steps::start-returns-in_ok-right-in-Or-Both
-steps::start-returns-in_ok-right-in-Or-Both t c =
-    let s = c.in-Or-Both in
+pub steps::start-returns-in_ok-right-in-Or-Or : goal.steps::start-returns-in_ok-right-in-Or-Or
+steps::start-returns-in_ok-right-in-Or-Or t c =
+    let s = c.in-Or-Or in
     started_as _ _ _ _ _ _ c.args.at _ _ (ap plain_of s.is-0) (ap holding_of s.is-1) refl (ap Ok c.or.ensures)
     (choice_starts (plain_of s.first.value.shape) (plain_of s.second.value.shape) (holding_of s.a.value.state)
-    (holding_of s.b.value.state) (holding_of c.start.new.node.state) (holding_of c.start-in-Or-Both.new.node.state)
-    c.args.at c.in_ok-left-in-Or-Both.left c.in_ok-right-in-Or-Both.right
+    (holding_of s.b.value.state) (holding_of c.start.new.node.state) (holding_of c.start-in-Or-Or.new.node.state)
+    c.args.at c.in_ok-left-in-Or-Or.left c.in_ok-right-in-Or-Or.right
     (started_from _ _ (holding_of c.deref_mut.result.now.state) (holding_of s.a.value.state) _ c.args.at _
-    (same_query _ _ c.deref.ensures) (search rules) c.in_ok-left-in-Or-Both.ensures)
-    (started_from _ _ (holding_of c.deref_mut-in-Or-Both.result.now.state) (holding_of s.b.value.state) _ c.args.at _
-    (same_query _ _ c.deref-in-Or-Both.ensures) (search rules) c.in_ok-right-in-Or-Both.ensures))
+    (same_query _ _ c.deref.ensures) (search rules) c.in_ok-left-in-Or-Or.ensures)
+    (started_from _ _ (holding_of c.deref_mut-in-Or-Or.result.now.state) (holding_of s.b.value.state) _ c.args.at _
+    (same_query _ _ c.deref-in-Or-Or.ensures) (search rules) c.in_ok-right-in-Or-Or.ensures))
 
-pub steps::start-returns-in_err-left-in-Or-Both : goal.steps::start-returns-in_err-left-in-Or-Both
-steps::start-returns-in_err-left-in-Or-Both t c =
-    let s = c.in-Or-Both in
+pub steps::start-returns-in_err-left-in-Or-Or : goal.steps::start-returns-in_err-left-in-Or-Or
+steps::start-returns-in_err-left-in-Or-Or t c =
+    let s = c.in-Or-Or in
     let same : holding_of s.a.value.state ≡ holding_of c.deref_mut.result.now.state = search rules in
     start_fails _ _ _ _ _ c.args.at _ (search rules) (ap plain_of s.is-0) (ap holding_of s.is-1)
-    (λ free. false≢true (c.in_err-left-in-Or-Both.ensures.no_memory
+    (λ free. false≢true (c.in_err-left-in-Or-Or.ensures.no_memory
     (numbers_start_as _ _ _ _ c.args.at (sym (same_query _ _ c.deref.ensures)) (sym same)
     (first_starts seen_of (plain_of s.first.value.shape) (plain_of s.second.value.shape)
     (holding_of s.a.value.state) (holding_of s.b.value.state) c.args.at free))))
 
-pub steps::start-returns-in_err-right-in-Or-Both : goal.steps::start-returns-in_err-right-in-Or-Both
-steps::start-returns-in_err-right-in-Or-Both t c =
-    let s = c.in-Or-Both in
-    let same : holding_of s.b.value.state ≡ holding_of c.deref_mut-in-Or-Both.result.now.state = search rules in
+pub steps::start-returns-in_err-right-in-Or-Or : goal.steps::start-returns-in_err-right-in-Or-Or
+steps::start-returns-in_err-right-in-Or-Or t c =
+    let s = c.in-Or-Or in
+    let same : holding_of s.b.value.state ≡ holding_of c.deref_mut-in-Or-Or.result.now.state = search rules in
     start_fails _ _ _ _ _ c.args.at _ (search rules) (ap plain_of s.is-0) (ap holding_of s.is-1)
-    (λ free. false≢true (c.in_err-right-in-Or-Both.ensures.no_memory
-    (numbers_start_as _ _ _ _ c.args.at (sym (same_query _ _ c.deref-in-Or-Both.ensures)) (sym same)
+    (λ free. false≢true (c.in_err-right-in-Or-Or.ensures.no_memory
+    (numbers_start_as _ _ _ _ c.args.at (sym (same_query _ _ c.deref-in-Or-Or.ensures)) (sym same)
     (second_starts seen_of (plain_of s.first.value.shape) (plain_of s.second.value.shape)
     (holding_of s.a.value.state) (holding_of s.b.value.state) c.args.at free))))
 
-pub steps::step-returns-in_ok-right-in-Or-Both : goal.steps::step-returns-in_ok-right-in-Or-Both
+pub steps::step-returns-in_ok-right-in-Or-Or : goal.steps::step-returns-in_ok-right-in-Or-Or
 unfolding roll-State out-State denote.Hole.Carrier.roll denote.Hole.Carrier.out
-steps::step-returns-in_ok-right-in-Or-Both t c =
-    let s = c.in-Or-Both in
+steps::step-returns-in_ok-right-in-Or-Or t c =
+    let s = c.in-Or-Or in
     stepped_as _ _ _ _ _ _ c.args.now c.args.item.now _ _ (ap plain_of s.is-0) (ap holding_of s.is-1) refl
     (ap Ok c.or.ensures)
     (choice_steps (plain_of s.first.value.shape) (plain_of s.second.value.shape) (holding_of s.a.value.state)
-    (holding_of s.b.value.state) (holding_of c.step.new.node.state) (holding_of c.step-in-Or-Both.new.node.state)
-    c.args.now c.args.item.now c.in_ok-left-in-Or-Both.left c.in_ok-right-in-Or-Both.right
+    (holding_of s.b.value.state) (holding_of c.step.new.node.state) (holding_of c.step-in-Or-Or.new.node.state)
+    c.args.now c.args.item.now c.in_ok-left-in-Or-Or.left c.in_ok-right-in-Or-Or.right
     (stepped_from _ _ (holding_of c.deref_mut.result.now.state) (holding_of s.a.value.state) _ c.args.now
-    c.args.item.now _ (same_query _ _ c.deref.ensures) (search rules) c.in_ok-left-in-Or-Both.ensures)
-    (stepped_from _ _ (holding_of c.deref_mut-in-Or-Both.result.now.state) (holding_of s.b.value.state) _ c.args.now
-    c.args.item.now _ (same_query _ _ c.deref-in-Or-Both.ensures) (search rules)
-    c.in_ok-right-in-Or-Both.ensures))
+    c.args.item.now _ (same_query _ _ c.deref.ensures) (search rules) c.in_ok-left-in-Or-Or.ensures)
+    (stepped_from _ _ (holding_of c.deref_mut-in-Or-Or.result.now.state) (holding_of s.b.value.state) _ c.args.now
+    c.args.item.now _ (same_query _ _ c.deref-in-Or-Or.ensures) (search rules)
+    c.in_ok-right-in-Or-Or.ensures))
 
-pub steps::step-returns-in_err-left-in-Or-Both : goal.steps::step-returns-in_err-left-in-Or-Both
-steps::step-returns-in_err-left-in-Or-Both t c =
-    let s = c.in-Or-Both in
+pub steps::step-returns-in_err-left-in-Or-Or : goal.steps::step-returns-in_err-left-in-Or-Or
+steps::step-returns-in_err-left-in-Or-Or t c =
+    let s = c.in-Or-Or in
     let same : holding_of s.a.value.state ≡ holding_of c.deref_mut.result.now.state = search rules in
     step_fails _ _ _ _ _ c.args.now c.args.item.now _ (search rules) (ap plain_of s.is-0) (ap holding_of s.is-1)
-    (λ free. false≢true (c.in_err-left-in-Or-Both.ensures.no_memory
+    (λ free. false≢true (c.in_err-left-in-Or-Or.ensures.no_memory
     (numbers_step_as _ _ _ _ c.args.now c.args.item.now (sym (same_query _ _ c.deref.ensures)) (sym same)
     (first_steps seen_of (plain_of s.first.value.shape) (plain_of s.second.value.shape) (holding_of s.a.value.state)
     (holding_of s.b.value.state) c.args.now c.args.item.now free))))
 
-pub steps::step-returns-in_err-right-in-Or-Both : goal.steps::step-returns-in_err-right-in-Or-Both
-steps::step-returns-in_err-right-in-Or-Both t c =
-    let s = c.in-Or-Both in
-    let same : holding_of s.b.value.state ≡ holding_of c.deref_mut-in-Or-Both.result.now.state = search rules in
+pub steps::step-returns-in_err-right-in-Or-Or : goal.steps::step-returns-in_err-right-in-Or-Or
+steps::step-returns-in_err-right-in-Or-Or t c =
+    let s = c.in-Or-Or in
+    let same : holding_of s.b.value.state ≡ holding_of c.deref_mut-in-Or-Or.result.now.state = search rules in
     step_fails _ _ _ _ _ c.args.now c.args.item.now _ (search rules) (ap plain_of s.is-0) (ap holding_of s.is-1)
-    (λ free. false≢true (c.in_err-right-in-Or-Both.ensures.no_memory
-    (numbers_step_as _ _ _ _ c.args.now c.args.item.now (sym (same_query _ _ c.deref-in-Or-Both.ensures)) (sym same)
+    (λ free. false≢true (c.in_err-right-in-Or-Or.ensures.no_memory
+    (numbers_step_as _ _ _ _ c.args.now c.args.item.now (sym (same_query _ _ c.deref-in-Or-Or.ensures)) (sym same)
     (second_steps seen_of (plain_of s.first.value.shape) (plain_of s.second.value.shape)
     (holding_of s.a.value.state) (holding_of s.b.value.state) c.args.now c.args.item.now free))))

@@ -5,8 +5,8 @@ use Rattle.query_model.specs.Queries.{Qre, plain_of}
 use Rattle.eval_tree.specs.Plain.{holding_of, seen_of, tracks_of}
 use Rattle.eval_tree.proofs.Arms.{can_start_as, can_step_as, same_query, started_as, stepped_as, when_started, when_stepped}
 use Rattle.predicate_cells.specs.Plain as predicates
-use Rattle.eval_tree.specs.Holdings.{tracked}
-use Rattle.eval_tree.specs.declared.node.State.TheVariants.{Tracked}
+use Rattle.eval_tree.specs.Holdings.{collect_held}
+use Rattle.eval_tree.specs.declared.node.State.TheVariants.{Collect}
 use Rattle.eval_tree.specs.declared.node.State.TheViews.{out-State, roll-State}
 use Rattle.eval_tree.specs.declared.progress.Progress.{Progress}
 use Rattle.symbolic_nfa.specs.Automata.{Automaton}
@@ -26,45 +26,45 @@ Tracks = tracks.Contents Progress
 pub steps::start-begin_at-requires : goal.steps::start-begin_at-requires
 unfolding roll-State out-State denote.Hole.Carrier.roll denote.Hole.Carrier.out
 steps::start-begin_at-requires t c =
-    let s = c.in-Collect-Tracked in (
+    let s = c.in-Collect-Collect in (
       search (rules, the_lemmas),
-      subst CanMake (same_query _ _ c.deref-in-Collect-Tracked.ensures)
+      subst CanMake (same_query _ _ c.deref-in-Collect-Collect.ensures)
           (make_allowed seen_of _ _ _ (plain_of s.inner.value.shape) s.tracks c.args.at
           (can_start_as _ _ _ _ c.args.at (sym (ap plain_of s.is-0)) (sym (ap holding_of s.is-1 ∙ tracked_is s.tracks))
           c.requires)),
     )
 
-pub steps::start-returns-in-Collect-Tracked : goal.steps::start-returns-in-Collect-Tracked
+pub steps::start-returns-in-Collect-Collect : goal.steps::start-returns-in-Collect-Collect
 unfolding roll-State out-State denote.Hole.Carrier.roll denote.Hole.Carrier.out
-steps::start-returns-in-Collect-Tracked t c =
-    let s = c.in-Collect-Tracked in
-    let same = same_query _ _ c.deref-in-Collect-Tracked.ensures in
+steps::start-returns-in-Collect-Collect t c =
+    let s = c.in-Collect-Collect in
+    let same = same_query _ _ c.deref-in-Collect-Collect.ensures in
     when_started _ _ _ c.args.at c.begin_at.result
-    (BeginsAt seen_of (plain_of c.deref-in-Collect-Tracked.result.now.shape) (tracks_of (out-State (Tracked s.tracks)))
+    (BeginsAt seen_of (plain_of c.deref-in-Collect-Collect.result.now.shape) (tracks_of (out-State (Collect s.tracks)))
     c.args.at c.begin_at.new.tracks)
-    (λ hit begins. started_as _ _ _ _ (tracked c.begin_at.new.tracks) _ c.args.at _ _ (ap plain_of s.is-0)
+    (λ hit begins. started_as _ _ _ _ (collect_held c.begin_at.new.tracks) _ c.args.at _ _ (ap plain_of s.is-0)
     (ap holding_of s.is-1 ∙ tracked_is s.tracks) (rw s.is-1 (tracked_is c.begin_at.new.tracks)) refl
     (collect_starts _ _ _ (plain_of s.inner.value.shape) s.tracks c.begin_at.new.tracks c.args.at hit
     (subst (λ (q : Qre). BeginsAt seen_of q s.tracks c.args.at c.begin_at.new.tracks hit) (sym same)
-    (subst (λ (all : Tracks). BeginsAt seen_of (plain_of c.deref-in-Collect-Tracked.result.now.shape) all
+    (subst (λ (all : Tracks). BeginsAt seen_of (plain_of c.deref-in-Collect-Collect.result.now.shape) all
     c.args.at c.begin_at.new.tracks hit) (tracks_are s.tracks) begins)))) (rw s.is-1 at c.begin_at.ensures)
     (λ free. absurd (subst HasNoCollect (ap plain_of s.is-0) free.1.no_collect))
 
-pub tracks::begin_at-returns : goal.tracks::begin_at-returns
-tracks::begin_at-returns t c = record {
+pub collect::begin_at-returns : goal.collect::begin_at-returns
+collect::begin_at-returns t c = record {
   puts = c.in_ok-track.ensures;
   first = subst (λ (nfa : Automaton). IsFirstTable nfa.sets c.args.at c.first_table.result) c.in_ok-track.ensures.0
       c.first_table.ensures;
 }
 
-pub tracks::track-returns-then-not-can_track : goal.tracks::track-returns-then-not-can_track
-tracks::track-returns-then-not-can_track t c = (
+pub collect::track-returns-then-not-can_track : goal.collect::track-returns-then-not-can_track
+collect::track-returns-then-not-can_track t c = (
   refl,
   inr ((λ can. let is = c.can_track.ensures.1 can in let not_is = c.if-not-can_track.true in cc), refl),
 )
 
-pub tracks::track-returns : goal.tracks::track-returns
-tracks::track-returns t c = (
+pub collect::track-returns : goal.collect::track-returns
+collect::track-returns t c = (
   c.put.ensures.nfa,
   inl (
     c.can_track.ensures.0 (let not_is = c.if-not-can_track.false in search (rules, not_is)),
@@ -78,19 +78,19 @@ tracks::track-returns t c = (
   ),
 )
 
-pub tracks::new_runner-new-requires-clause-cells : goal.tracks::new_runner-new-requires-clause-cells
-tracks::new_runner-new-requires-clause-cells t c =
+pub collect::new_runner-new-requires-clause-cells : goal.collect::new_runner-new-requires-clause-cells
+collect::new_runner-new-requires-clause-cells t c =
     without_collect (plain_of c.args.query.now.shape) c.requires.no_collect
 
-pub tracks::new_runner-start-requires : goal.tracks::new_runner-start-requires
-tracks::new_runner-start-requires t c = (
+pub collect::new_runner-start-requires : goal.collect::new_runner-start-requires
+collect::new_runner-start-requires t c = (
   search rules,
   start_made (plain_of c.args.query.now.shape) (holding_of c.in_ok-node.node.state) c.requires
       (λ columns. c.in_ok-node.ensures.sound columns tt),
 )
 
-pub tracks::new_runner-returns : goal.tracks::new_runner-returns
-tracks::new_runner-returns t c =
+pub collect::new_runner-returns : goal.collect::new_runner-returns
+collect::new_runner-returns t c =
     made_new (plain_of c.args.query.now.shape) (holding_of c.in_ok-node.node.state) _ c.in_ok-hit.hit
     (λ columns. c.in_ok-node.ensures.word columns tt) (λ columns. c.in_ok-node.ensures.sound columns tt)
     c.in_ok-hit.ensures.word c.in_ok-hit.ensures.sound refl c.value_of.ensures
@@ -98,46 +98,46 @@ tracks::new_runner-returns t c =
 pub steps::step-pass_by-requires : goal.steps::step-pass_by-requires
 unfolding roll-State out-State denote.Hole.Carrier.roll denote.Hole.Carrier.out
 steps::step-pass_by-requires t c =
-    let s = c.in-Collect-Tracked in
+    let s = c.in-Collect-Collect in
     let can = can_step_as _ _ _ _ c.args.now c.args.item.now (sym (ap plain_of s.is-0))
     (sym (ap holding_of s.is-1 ∙ tracked_is s.tracks)) c.requires in (
       search (rules, the_lemmas),
       rw s.is-1 (subst (λ (all : Tracks).
-          CanPassBy seen_of (plain_of c.deref-in-Collect-Tracked.result.now.shape) all c.args.item.now)
+          CanPassBy seen_of (plain_of c.deref-in-Collect-Collect.result.now.shape) all c.args.item.now)
           (sym (tracks_are s.tracks))
           (subst (λ (q : Qre). CanPassBy seen_of q s.tracks c.args.item.now)
-          (same_query _ _ c.deref-in-Collect-Tracked.ensures)
+          (same_query _ _ c.deref-in-Collect-Collect.ensures)
           (pass_allowed seen_of _ _ _ (plain_of s.inner.value.shape) s.tracks c.args.now c.args.item.now can))),
     )
 
-pub steps::step-returns-in-Collect-Tracked : goal.steps::step-returns-in-Collect-Tracked
+pub steps::step-returns-in-Collect-Collect : goal.steps::step-returns-in-Collect-Collect
 unfolding roll-State out-State denote.Hole.Carrier.roll denote.Hole.Carrier.out
-steps::step-returns-in-Collect-Tracked t c =
-    let s = c.in-Collect-Tracked in
+steps::step-returns-in-Collect-Collect t c =
+    let s = c.in-Collect-Collect in
     let sync = predicates.plain_of s.sync in
-    let same = same_query _ _ c.deref-in-Collect-Tracked.ensures in
+    let same = same_query _ _ c.deref-in-Collect-Collect.ensures in
     when_stepped _ _ _ c.args.now c.args.item.now c.pass_by.result
-    (PassesBy seen_of (plain_of c.deref-in-Collect-Tracked.result.now.shape) s.column sync c.args.item.now
-    (tracks_of (out-State (Tracked s.tracks))) c.pass_by.new.tracks)
-    (λ hit passes. stepped_as _ _ _ _ (tracked c.pass_by.new.tracks) _ c.args.now c.args.item.now _ _
+    (PassesBy seen_of (plain_of c.deref-in-Collect-Collect.result.now.shape) s.column sync c.args.item.now
+    (tracks_of (out-State (Collect s.tracks))) c.pass_by.new.tracks)
+    (λ hit passes. stepped_as _ _ _ _ (collect_held c.pass_by.new.tracks) _ c.args.now c.args.item.now _ _
     (ap plain_of s.is-0) (ap holding_of s.is-1 ∙ tracked_is s.tracks)
     (rw s.is-1 (tracked_is c.pass_by.new.tracks)) refl
     (collect_steps s.column sync _ (plain_of s.inner.value.shape) s.tracks c.pass_by.new.tracks c.args.now
     c.args.item.now hit
     (subst (λ (q : Qre). PassesBy seen_of q s.column sync c.args.item.now s.tracks c.pass_by.new.tracks hit) (sym same)
-    (subst (λ (all : Tracks). PassesBy seen_of (plain_of c.deref-in-Collect-Tracked.result.now.shape) s.column
+    (subst (λ (all : Tracks). PassesBy seen_of (plain_of c.deref-in-Collect-Collect.result.now.shape) s.column
     sync c.args.item.now all c.pass_by.new.tracks hit) (tracks_are s.tracks) passes)))) (rw s.is-1 at c.pass_by.ensures)
     (λ free. absurd (subst HasNoCollect (ap plain_of s.is-0) free.1.no_collect))
 
-pub tracks::pass_by-push_all-requires : goal.tracks::pass_by-push_all-requires
-tracks::pass_by-push_all-requires t c = (
+pub collect::pass_by-push_all-requires : goal.collect::pass_by-push_all-requires
+collect::pass_by-push_all-requires t c = (
   search rules,
   advanced_allowed seen_of (plain_of c.args.query.now.shape) c.args.item.now c.args.tracks.now.nfa.sets
       c.args.tracks.now.tracks c.advance.new.self.tracks c.requires.keys c.advance.ensures.advanced,
 )
 
-pub tracks::pass_by-returns : goal.tracks::pass_by-returns
-tracks::pass_by-returns t c =
+pub collect::pass_by-returns : goal.collect::pass_by-returns
+collect::pass_by-returns t c =
     let pushed = c.push_all.new.tracks in
     let same = c.in_ok-push_all.ensures.nfa ∙ c.advance.ensures.nfa in
     record {
@@ -151,16 +151,16 @@ tracks::pass_by-returns t c =
       nfa = c.keep.ensures.nfa ∙ same;
     }
 
-pub tracks::push_all-keys_push-requires : goal.tracks::push_all-keys_push-requires
-tracks::push_all-keys_push-requires t c = (
+pub collect::push_all-keys_push-requires : goal.collect::push_all-keys_push-requires
+collect::push_all-keys_push-requires t c = (
   search rules,
   push_allowed seen_of (plain_of c.args.query.now.shape) c.args.column (predicates.plain_of c.args.sync.now)
       c.args.item.now c.starts.i c.args.tracks.now.tracks c.starts.tracks.tracks c.keys_mut.result.now c.requires
       c.starts.invariant.0 c.keys_mut.ensures.value,
 )
 
-pub tracks::push_all-starts-preserved : goal.tracks::push_all-starts-preserved
-tracks::push_all-starts-preserved t c =
+pub collect::push_all-starts-preserved : goal.collect::push_all-starts-preserved
+collect::push_all-starts-preserved t c =
     let before = c.starts.invariant in (
       pushed_next seen_of (plain_of c.args.query.now.shape) c.args.column (predicates.plain_of c.args.sync.now)
           c.args.item.now c.starts.i c.args.tracks.now.tracks c.starts.tracks.tracks c.keys_mut.result.now
@@ -170,8 +170,8 @@ tracks::push_all-starts-preserved t c =
       with_length c.starts.tracks.tracks c.starts.i c.keys_push.new.keys ∙ before.3,
     )
 
-pub tracks::push_all-returns-clause-pushed : goal.tracks::push_all-returns-clause-pushed
-tracks::push_all-returns-clause-pushed t c =
+pub collect::push_all-returns-clause-pushed : goal.collect::push_all-returns-clause-pushed
+collect::push_all-returns-clause-pushed t c =
     let before = c.starts.invariant in
     let over = c.starts-test.false in
     let end = before.2 in
@@ -179,5 +179,5 @@ tracks::push_all-returns-clause-pushed t c =
     pushed_end seen_of (plain_of c.args.query.now.shape) c.args.column (predicates.plain_of c.args.sync.now)
     c.args.item.now c.starts.i c.args.tracks.now.tracks c.starts.tracks.tracks before.0 (omega (arith, over, end, many))
 
-pub tracks::pass_by-advance-requires : goal.tracks::pass_by-advance-requires
-tracks::pass_by-advance-requires t c = c.requires.is_item
+pub collect::pass_by-advance-requires : goal.collect::pass_by-advance-requires
+collect::pass_by-advance-requires t c = c.requires.is_item

@@ -14,35 +14,35 @@ use Rattle.eval_tree.proofs.+step.Goals as goal
 
 pub steps::start-combined-requires : goal.steps::start-combined-requires
 steps::start-combined-requires t c =
-    let s = c.in-Combine-Pair in
+    let s = c.in-Combine-Combine in
     started_combine seen_of (plain_of s.first.value.shape) (plain_of s.second.value.shape)
     (values.plain_of s.expression)
-    (holding_of s.a.value.state) (holding_of s.b.value.state) (holding_of c.start-in-Combine-Pair.new.node.state)
-    (holding_of c.start-in-Combine-Pair-2.new.node.state) c.args.at c.in_ok-left-in-Combine-Pair.left
-    c.in_ok-right-in-Combine-Pair.right
+    (holding_of s.a.value.state) (holding_of s.b.value.state) (holding_of c.start-in-Combine-Combine.new.node.state)
+    (holding_of c.start-in-Combine-Combine-2.new.node.state) c.args.at c.in_ok-left-in-Combine-Combine.left
+    c.in_ok-right-in-Combine-Combine.right
     (can_start_as _ _ _ _ c.args.at (sym (ap plain_of s.is-0)) (sym (ap holding_of s.is-1)) c.requires)
-    (soundly_started_as _ _ (holding_of c.deref_mut-in-Combine-Pair.result.now.state)
-    (holding_of s.a.value.state) _ _ c.args.at _ _ (same_query _ _ c.deref-in-Combine-Pair.ensures)
-    (search rules) refl refl c.in_ok-left-in-Combine-Pair.ensures.sound)
-    (soundly_started_as _ _ (holding_of c.deref_mut-in-Combine-Pair-2.result.now.state)
-    (holding_of s.b.value.state) _ _ c.args.at _ _ (same_query _ _ c.deref-in-Combine-Pair-2.ensures)
-    (search rules) refl refl c.in_ok-right-in-Combine-Pair.ensures.sound)
+    (soundly_started_as _ _ (holding_of c.deref_mut-in-Combine-Combine.result.now.state)
+    (holding_of s.a.value.state) _ _ c.args.at _ _ (same_query _ _ c.deref-in-Combine-Combine.ensures)
+    (search rules) refl refl c.in_ok-left-in-Combine-Combine.ensures.sound)
+    (soundly_started_as _ _ (holding_of c.deref_mut-in-Combine-Combine-2.result.now.state)
+    (holding_of s.b.value.state) _ _ c.args.at _ _ (same_query _ _ c.deref-in-Combine-Combine-2.ensures)
+    (search rules) refl refl c.in_ok-right-in-Combine-Combine.ensures.sound)
 
-pub steps::start-returns-in_ok-right-in-Combine-Pair : goal.steps::start-returns-in_ok-right-in-Combine-Pair
-steps::start-returns-in_ok-right-in-Combine-Pair t c =
-    let s = c.in-Combine-Pair in
+pub steps::start-returns-in_ok-right-in-Combine-Combine : goal.steps::start-returns-in_ok-right-in-Combine-Combine
+steps::start-returns-in_ok-right-in-Combine-Combine t c =
+    let s = c.in-Combine-Combine in
     let f = plain_of s.first.value.shape in
     let g = plain_of s.second.value.shape in
     let a = holding_of s.a.value.state in
     let b = holding_of s.b.value.state in
-    let next_a = holding_of c.start-in-Combine-Pair.new.node.state in
-    let next_b = holding_of c.start-in-Combine-Pair-2.new.node.state in
-    let left = c.in_ok-left-in-Combine-Pair.left in
-    let right = c.in_ok-right-in-Combine-Pair.right in
-    let first = started_from _ _ (holding_of c.deref_mut-in-Combine-Pair.result.now.state) a next_a c.args.at _
-    (same_query _ _ c.deref-in-Combine-Pair.ensures) (search rules) c.in_ok-left-in-Combine-Pair.ensures in
-    let second = started_from _ _ (holding_of c.deref_mut-in-Combine-Pair-2.result.now.state) b next_b c.args.at _
-    (same_query _ _ c.deref-in-Combine-Pair-2.ensures) (search rules) c.in_ok-right-in-Combine-Pair.ensures in
+    let next_a = holding_of c.start-in-Combine-Combine.new.node.state in
+    let next_b = holding_of c.start-in-Combine-Combine-2.new.node.state in
+    let left = c.in_ok-left-in-Combine-Combine.left in
+    let right = c.in_ok-right-in-Combine-Combine.right in
+    let first = started_from _ _ (holding_of c.deref_mut-in-Combine-Combine.result.now.state) a next_a c.args.at _
+    (same_query _ _ c.deref-in-Combine-Combine.ensures) (search rules) c.in_ok-left-in-Combine-Combine.ensures in
+    let second = started_from _ _ (holding_of c.deref_mut-in-Combine-Combine-2.result.now.state) b next_b c.args.at _
+    (same_query _ _ c.deref-in-Combine-Combine-2.ensures) (search rules) c.in_ok-right-in-Combine-Combine.ensures in
     when_started _ _ _ c.args.at c.combined.result _ (λ hit combined. started_as _ _ _ _ _ _ c.args.at _ _
     (ap plain_of s.is-0) (ap holding_of s.is-1) refl refl
     (combine_starts f g a b next_a next_b (values.plain_of s.expression) c.args.at left right hit first second combined))
@@ -52,61 +52,61 @@ steps::start-returns-in_ok-right-in-Combine-Pair t c =
     (numbers_start_as _ _ _ _ c.args.at (sym (ap plain_of s.is-0)) (sym (ap holding_of s.is-1)) free)
     first.sound second.sound))
 
-pub steps::start-returns-in_err-left-in-Combine-Pair : goal.steps::start-returns-in_err-left-in-Combine-Pair
-steps::start-returns-in_err-left-in-Combine-Pair t c =
-    let s = c.in-Combine-Pair in
-    let same : holding_of s.a.value.state ≡ holding_of c.deref_mut-in-Combine-Pair.result.now.state = search rules
+pub steps::start-returns-in_err-left-in-Combine-Combine : goal.steps::start-returns-in_err-left-in-Combine-Combine
+steps::start-returns-in_err-left-in-Combine-Combine t c =
+    let s = c.in-Combine-Combine in
+    let same : holding_of s.a.value.state ≡ holding_of c.deref_mut-in-Combine-Combine.result.now.state = search rules
     in
     start_fails _ _ _ _ _ c.args.at _ (search rules) (ap plain_of s.is-0) (ap holding_of s.is-1)
-    (λ free. false≢true (c.in_err-left-in-Combine-Pair.ensures.no_memory
-    (numbers_start_as _ _ _ _ c.args.at (sym (same_query _ _ c.deref-in-Combine-Pair.ensures)) (sym same)
+    (λ free. false≢true (c.in_err-left-in-Combine-Combine.ensures.no_memory
+    (numbers_start_as _ _ _ _ c.args.at (sym (same_query _ _ c.deref-in-Combine-Combine.ensures)) (sym same)
     (one_starts seen_of (plain_of s.first.value.shape) (plain_of s.second.value.shape)
     (values.plain_of s.expression) (holding_of s.a.value.state) (holding_of s.b.value.state) c.args.at free))))
 
-pub steps::start-returns-in_err-right-in-Combine-Pair : goal.steps::start-returns-in_err-right-in-Combine-Pair
-steps::start-returns-in_err-right-in-Combine-Pair t c =
-    let s = c.in-Combine-Pair in
-    let same : holding_of s.b.value.state ≡ holding_of c.deref_mut-in-Combine-Pair-2.result.now.state = search rules
+pub steps::start-returns-in_err-right-in-Combine-Combine : goal.steps::start-returns-in_err-right-in-Combine-Combine
+steps::start-returns-in_err-right-in-Combine-Combine t c =
+    let s = c.in-Combine-Combine in
+    let same : holding_of s.b.value.state ≡ holding_of c.deref_mut-in-Combine-Combine-2.result.now.state = search rules
     in
     start_fails _ _ _ _ _ c.args.at _ (search rules) (ap plain_of s.is-0) (ap holding_of s.is-1)
-    (λ free. false≢true (c.in_err-right-in-Combine-Pair.ensures.no_memory
-    (numbers_start_as _ _ _ _ c.args.at (sym (same_query _ _ c.deref-in-Combine-Pair-2.ensures)) (sym same)
+    (λ free. false≢true (c.in_err-right-in-Combine-Combine.ensures.no_memory
+    (numbers_start_as _ _ _ _ c.args.at (sym (same_query _ _ c.deref-in-Combine-Combine-2.ensures)) (sym same)
     (other_starts seen_of (plain_of s.first.value.shape) (plain_of s.second.value.shape)
     (values.plain_of s.expression) (holding_of s.a.value.state) (holding_of s.b.value.state) c.args.at free))))
 
 pub steps::step-combined-requires : goal.steps::step-combined-requires
 steps::step-combined-requires t c =
-    let s = c.in-Combine-Pair in
+    let s = c.in-Combine-Combine in
     stepped_combine seen_of (plain_of s.first.value.shape) (plain_of s.second.value.shape)
     (values.plain_of s.expression)
-    (holding_of s.a.value.state) (holding_of s.b.value.state) (holding_of c.step-in-Combine-Pair.new.node.state)
-    (holding_of c.step-in-Combine-Pair-2.new.node.state) c.args.now c.args.item.now c.in_ok-left-in-Combine-Pair.left
-    c.in_ok-right-in-Combine-Pair.right
+    (holding_of s.a.value.state) (holding_of s.b.value.state) (holding_of c.step-in-Combine-Combine.new.node.state)
+    (holding_of c.step-in-Combine-Combine-2.new.node.state) c.args.now c.args.item.now c.in_ok-left-in-Combine-Combine.left
+    c.in_ok-right-in-Combine-Combine.right
     (can_step_as _ _ _ _ c.args.now c.args.item.now (sym (ap plain_of s.is-0)) (sym (ap holding_of s.is-1)) c.requires)
-    (soundly_stepped_as _ _ (holding_of c.deref_mut-in-Combine-Pair.result.now.state)
-    (holding_of s.a.value.state) _ _ c.args.now c.args.item.now _ _ (same_query _ _ c.deref-in-Combine-Pair.ensures)
-    (search rules) refl refl c.in_ok-left-in-Combine-Pair.ensures.sound)
-    (soundly_stepped_as _ _ (holding_of c.deref_mut-in-Combine-Pair-2.result.now.state)
-    (holding_of s.b.value.state) _ _ c.args.now c.args.item.now _ _ (same_query _ _ c.deref-in-Combine-Pair-2.ensures)
-    (search rules) refl refl c.in_ok-right-in-Combine-Pair.ensures.sound)
+    (soundly_stepped_as _ _ (holding_of c.deref_mut-in-Combine-Combine.result.now.state)
+    (holding_of s.a.value.state) _ _ c.args.now c.args.item.now _ _ (same_query _ _ c.deref-in-Combine-Combine.ensures)
+    (search rules) refl refl c.in_ok-left-in-Combine-Combine.ensures.sound)
+    (soundly_stepped_as _ _ (holding_of c.deref_mut-in-Combine-Combine-2.result.now.state)
+    (holding_of s.b.value.state) _ _ c.args.now c.args.item.now _ _ (same_query _ _ c.deref-in-Combine-Combine-2.ensures)
+    (search rules) refl refl c.in_ok-right-in-Combine-Combine.ensures.sound)
 
-pub steps::step-returns-in_ok-right-in-Combine-Pair : goal.steps::step-returns-in_ok-right-in-Combine-Pair
-steps::step-returns-in_ok-right-in-Combine-Pair t c =
-    let s = c.in-Combine-Pair in
+pub steps::step-returns-in_ok-right-in-Combine-Combine : goal.steps::step-returns-in_ok-right-in-Combine-Combine
+steps::step-returns-in_ok-right-in-Combine-Combine t c =
+    let s = c.in-Combine-Combine in
     let f = plain_of s.first.value.shape in
     let g = plain_of s.second.value.shape in
     let a = holding_of s.a.value.state in
     let b = holding_of s.b.value.state in
-    let next_a = holding_of c.step-in-Combine-Pair.new.node.state in
-    let next_b = holding_of c.step-in-Combine-Pair-2.new.node.state in
-    let left = c.in_ok-left-in-Combine-Pair.left in
-    let right = c.in_ok-right-in-Combine-Pair.right in
-    let first = stepped_from _ _ (holding_of c.deref_mut-in-Combine-Pair.result.now.state) a next_a c.args.now
-    c.args.item.now _ (same_query _ _ c.deref-in-Combine-Pair.ensures) (search rules)
-    c.in_ok-left-in-Combine-Pair.ensures in
-    let second = stepped_from _ _ (holding_of c.deref_mut-in-Combine-Pair-2.result.now.state) b next_b c.args.now
-    c.args.item.now _ (same_query _ _ c.deref-in-Combine-Pair-2.ensures) (search rules)
-    c.in_ok-right-in-Combine-Pair.ensures in
+    let next_a = holding_of c.step-in-Combine-Combine.new.node.state in
+    let next_b = holding_of c.step-in-Combine-Combine-2.new.node.state in
+    let left = c.in_ok-left-in-Combine-Combine.left in
+    let right = c.in_ok-right-in-Combine-Combine.right in
+    let first = stepped_from _ _ (holding_of c.deref_mut-in-Combine-Combine.result.now.state) a next_a c.args.now
+    c.args.item.now _ (same_query _ _ c.deref-in-Combine-Combine.ensures) (search rules)
+    c.in_ok-left-in-Combine-Combine.ensures in
+    let second = stepped_from _ _ (holding_of c.deref_mut-in-Combine-Combine-2.result.now.state) b next_b c.args.now
+    c.args.item.now _ (same_query _ _ c.deref-in-Combine-Combine-2.ensures) (search rules)
+    c.in_ok-right-in-Combine-Combine.ensures in
     when_stepped _ _ _ c.args.now c.args.item.now c.combined.result _ (λ hit combined. stepped_as _ _ _ _ _ _
     c.args.now c.args.item.now _ _ (ap plain_of s.is-0) (ap holding_of s.is-1) refl refl
     (combine_steps f g a b next_a next_b (values.plain_of s.expression) c.args.now c.args.item.now left right hit first
@@ -116,26 +116,26 @@ steps::step-returns-in_ok-right-in-Combine-Pair t c =
     (numbers_step_as _ _ _ _ c.args.now c.args.item.now (sym (ap plain_of s.is-0)) (sym (ap holding_of s.is-1)) free)
     first.sound second.sound))
 
-pub steps::step-returns-in_err-left-in-Combine-Pair : goal.steps::step-returns-in_err-left-in-Combine-Pair
-steps::step-returns-in_err-left-in-Combine-Pair t c =
-    let s = c.in-Combine-Pair in
-    let same : holding_of s.a.value.state ≡ holding_of c.deref_mut-in-Combine-Pair.result.now.state = search rules
+pub steps::step-returns-in_err-left-in-Combine-Combine : goal.steps::step-returns-in_err-left-in-Combine-Combine
+steps::step-returns-in_err-left-in-Combine-Combine t c =
+    let s = c.in-Combine-Combine in
+    let same : holding_of s.a.value.state ≡ holding_of c.deref_mut-in-Combine-Combine.result.now.state = search rules
     in
     step_fails _ _ _ _ _ c.args.now c.args.item.now _ (search rules) (ap plain_of s.is-0) (ap holding_of s.is-1)
-    (λ free. false≢true (c.in_err-left-in-Combine-Pair.ensures.no_memory
-    (numbers_step_as _ _ _ _ c.args.now c.args.item.now (sym (same_query _ _ c.deref-in-Combine-Pair.ensures))
+    (λ free. false≢true (c.in_err-left-in-Combine-Combine.ensures.no_memory
+    (numbers_step_as _ _ _ _ c.args.now c.args.item.now (sym (same_query _ _ c.deref-in-Combine-Combine.ensures))
     (sym same)
     (one_steps seen_of (plain_of s.first.value.shape) (plain_of s.second.value.shape) (values.plain_of s.expression)
     (holding_of s.a.value.state) (holding_of s.b.value.state) c.args.now c.args.item.now free))))
 
-pub steps::step-returns-in_err-right-in-Combine-Pair : goal.steps::step-returns-in_err-right-in-Combine-Pair
-steps::step-returns-in_err-right-in-Combine-Pair t c =
-    let s = c.in-Combine-Pair in
-    let same : holding_of s.b.value.state ≡ holding_of c.deref_mut-in-Combine-Pair-2.result.now.state = search rules
+pub steps::step-returns-in_err-right-in-Combine-Combine : goal.steps::step-returns-in_err-right-in-Combine-Combine
+steps::step-returns-in_err-right-in-Combine-Combine t c =
+    let s = c.in-Combine-Combine in
+    let same : holding_of s.b.value.state ≡ holding_of c.deref_mut-in-Combine-Combine-2.result.now.state = search rules
     in
     step_fails _ _ _ _ _ c.args.now c.args.item.now _ (search rules) (ap plain_of s.is-0) (ap holding_of s.is-1)
-    (λ free. false≢true (c.in_err-right-in-Combine-Pair.ensures.no_memory
-    (numbers_step_as _ _ _ _ c.args.now c.args.item.now (sym (same_query _ _ c.deref-in-Combine-Pair-2.ensures))
+    (λ free. false≢true (c.in_err-right-in-Combine-Combine.ensures.no_memory
+    (numbers_step_as _ _ _ _ c.args.now c.args.item.now (sym (same_query _ _ c.deref-in-Combine-Combine-2.ensures))
     (sym same)
     (other_steps seen_of (plain_of s.first.value.shape) (plain_of s.second.value.shape)
     (values.plain_of s.expression) (holding_of s.a.value.state) (holding_of s.b.value.state) c.args.now

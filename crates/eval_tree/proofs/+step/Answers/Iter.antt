@@ -19,64 +19,64 @@ use Rattle.eval_tree.proofs.IterArms.{iter_starts, iter_steps_none, iter_steps_s
 use Rattle.eval_tree.proofs.NumbersAllowed.{piece_begins, piece_starts, piece_steps}
 use Rattle.eval_tree.proofs.NumbersTyped.{ended_no_table, ended_piece}
 use Rattle.eval_tree.proofs.+step.Goals as goal
-use Rattle.eval_tree.proofs.+step.Goals.{iterating::step_iter-After-keep, steps::start-In-Iter-Repeated}
+use Rattle.eval_tree.proofs.+step.Goals.{iter::step_iter-After-keep, steps::start-In-Iter-Iter}
 
 -- the number of no piece
-number_fits : (t : ℕ) (c : steps::start-In-Iter-Repeated t) → FitsSigned w64 c.in-Iter-Repeated.number
+number_fits : (t : ℕ) (c : steps::start-In-Iter-Iter t) → FitsSigned w64 c.in-Iter-Iter.number
 number_fits t c = search rules
 
-pub steps::start-returns-in_ok-go_on_if_new-in-Iter-Repeated :
-    goal.steps::start-returns-in_ok-go_on_if_new-in-Iter-Repeated
+pub steps::start-returns-in_ok-go_on_if_new-in-Iter-Iter :
+    goal.steps::start-returns-in_ok-go_on_if_new-in-Iter-Iter
 unfolding roll-State out-State denote.Hole.Carrier.roll denote.Hole.Carrier.out
-steps::start-returns-in_ok-go_on_if_new-in-Iter-Repeated t c =
-    let s = c.in-Iter-Repeated in
+steps::start-returns-in_ok-go_on_if_new-in-Iter-Iter t c =
+    let s = c.in-Iter-Iter in
     let first = number_hit _ _ _
-    (number_fits t (goal.at.steps::start-returns-in_ok-go_on_if_new-in-Iter-Repeated t c).In-Iter-Repeated)
+    (number_fits t (goal.at.steps::start-returns-in_ok-go_on_if_new-in-Iter-Iter t c).In-Iter-Iter)
     c.of_number-hit.ensures in
     let put = subst (λ (hit : Hit). IsPut c.is_live.result s.so_far
     (record { inner = c.args.at; outer = hit.start; value = hit.value }) c.go_on_if_new.new.so_far)
-    first (rw s.is-1 at c.in_ok-go_on_if_new-in-Iter-Repeated.ensures.put) in
+    first (rw s.is-1 at c.in_ok-go_on_if_new-in-Iter-Iter.ensures.put) in
     started_as _ _ _ _ _ _ c.args.at _ _ (ap plain_of s.is-0) (ap holding_of s.is-1) refl
     (ap (λ (hit : Hit). Ok (Some hit)) first)
     (iter_starts (plain_of s.inner.value.shape) s.number _ (holding_of s.a.value.state)
-    (holding_of c.start-in-Iter-Repeated.new.node.state) s.so_far c.go_on_if_new.new.so_far c.args.at _
+    (holding_of c.start-in-Iter-Iter.new.node.state) s.so_far c.go_on_if_new.new.so_far c.args.at _
     c.is_live.result
-    (started_from _ _ (holding_of c.deref_mut-in-Iter-Repeated.result.now.state) (holding_of s.a.value.state) _ c.args.at _
-    (same_query _ _ c.deref-in-Iter-Repeated.ensures) (search rules)
-    c.in_ok-start-in-Iter-Repeated.ensures)
-    (live_as _ _ _ _ c.args.at c.is_live.result c.deref-in-Iter-Repeated-2.ensures
-    c.deref-in-Iter-Repeated-3.ensures c.is_live.ensures.read)
+    (started_from _ _ (holding_of c.deref_mut-in-Iter-Iter.result.now.state) (holding_of s.a.value.state) _ c.args.at _
+    (same_query _ _ c.deref-in-Iter-Iter.ensures) (search rules)
+    c.in_ok-start-in-Iter-Iter.ensures)
+    (live_as _ _ _ _ c.args.at c.is_live.result c.deref-in-Iter-Iter-2.ensures
+    c.deref-in-Iter-Iter-3.ensures c.is_live.ensures.read)
     put)
 
-pub steps::start-returns-in_err-start-in-Iter-Repeated : goal.steps::start-returns-in_err-start-in-Iter-Repeated
-steps::start-returns-in_err-start-in-Iter-Repeated t c =
-    let s = c.in-Iter-Repeated in
-    let same : holding_of s.a.value.state ≡ holding_of c.deref_mut-in-Iter-Repeated.result.now.state = search rules
+pub steps::start-returns-in_err-start-in-Iter-Iter : goal.steps::start-returns-in_err-start-in-Iter-Iter
+steps::start-returns-in_err-start-in-Iter-Iter t c =
+    let s = c.in-Iter-Iter in
+    let same : holding_of s.a.value.state ≡ holding_of c.deref_mut-in-Iter-Iter.result.now.state = search rules
     in
     start_fails _ _ _ _ _ c.args.at _ (search rules) (ap plain_of s.is-0) (ap holding_of s.is-1)
-    (λ free. false≢true (c.in_err-start-in-Iter-Repeated.ensures.no_memory
-    (numbers_start_as _ _ _ _ c.args.at (sym (same_query _ _ c.deref-in-Iter-Repeated.ensures)) (sym same)
+    (λ free. false≢true (c.in_err-start-in-Iter-Iter.ensures.no_memory
+    (numbers_start_as _ _ _ _ c.args.at (sym (same_query _ _ c.deref-in-Iter-Iter.ensures)) (sym same)
     (piece_starts seen_of (plain_of s.inner.value.shape) _ _ (holding_of s.a.value.state) s.so_far c.args.at free))))
 
-pub steps::start-returns-in_err-go_on_if_new-in-Iter-Repeated :
-    goal.steps::start-returns-in_err-go_on_if_new-in-Iter-Repeated
-steps::start-returns-in_err-go_on_if_new-in-Iter-Repeated t c =
+pub steps::start-returns-in_err-go_on_if_new-in-Iter-Iter :
+    goal.steps::start-returns-in_err-go_on_if_new-in-Iter-Iter
+steps::start-returns-in_err-go_on_if_new-in-Iter-Iter t c =
     start_fails _ _ _ _ _ c.args.at _ (search rules) refl refl
-    (λ free. false≢true (c.in_err-go_on_if_new-in-Iter-Repeated.ensures.no_memory
+    (λ free. false≢true (c.in_err-go_on_if_new-in-Iter-Iter.ensures.no_memory
     (subst (λ (hit : Hit). IsNoTable hit.value) (sym c.of_number-hit.ensures) tt)))
 
 pub steps::step-step_iter-requires : goal.steps::step-step_iter-requires
 unfolding roll-State out-State denote.Hole.Carrier.roll denote.Hole.Carrier.out
 steps::step-step_iter-requires t c =
-    let s = c.in-Iter-Repeated in
+    let s = c.in-Iter-Iter in
     (search rules, can_step_as _ _ _ _ c.args.now c.args.item.now refl (search rules) c.requires)
 
-pub steps::step-returns-in-Iter-Repeated : goal.steps::step-returns-in-Iter-Repeated
-steps::step-returns-in-Iter-Repeated t c =
+pub steps::step-returns-in-Iter-Iter : goal.steps::step-returns-in-Iter-Iter
+steps::step-returns-in-Iter-Iter t c =
     stepped_as _ _ _ _ _ _ c.args.now c.args.item.now _ _ refl (search rules) refl refl c.step_iter.ensures
 
 -- the values so far that are kept
-chain_kept : (t : ℕ) (c : iterating::step_iter-After-keep t)
+chain_kept : (t : ℕ) (c : iter::step_iter-After-keep t)
     → c.keep.new.self.entries
     ≡ live_entries (elsewhere c.args.now (live_of (plain_of c.in-Iter.inner.value.shape)
     (holding_of c.step.new.node.state))) c.args.so_far.now.entries
@@ -86,8 +86,8 @@ chain_kept t c =
     (live_of (plain_of c.in-Iter.inner.value.shape) (holding_of c.step.new.node.state)))
     (λ start answer is. search rules)
 
-pub iterating::step_iter-ended-requires : goal.iterating::step_iter-ended-requires
-iterating::step_iter-ended-requires t c =
+pub iter::step_iter-ended-requires : goal.iter::step_iter-ended-requires
+iter::step_iter-ended-requires t c =
     let s = c.in-Iter in
     let typed = stepped_iter seen_of (plain_of s.inner.value.shape) _ (values.plain_of s.expression)
     (holding_of c.args.a.now.state) (holding_of c.step.new.node.state) c.args.so_far.now c.args.now
@@ -99,15 +99,15 @@ iterating::step_iter-ended-requires t c =
     c.in_ok-piece-in-Iter.piece)
     (sym c.as_pending.ensures) typed
 
-pub iterating::step_iter-go_on-requires : goal.iterating::step_iter-go_on-requires
-iterating::step_iter-go_on-requires t c =
+pub iter::step_iter-go_on-requires : goal.iter::step_iter-go_on-requires
+iter::step_iter-go_on-requires t c =
     let s = c.in-Iter in
     let live = live_of (plain_of s.inner.value.shape) (holding_of c.step.new.node.state) in
     fresh_elsewhere c.args.now live c.args.so_far.now c.keep.new.self
-    (chain_kept t (goal.at.iterating::step_iter-go_on-requires t c).After-keep)
+    (chain_kept t (goal.at.iter::step_iter-go_on-requires t c).After-keep)
 
-pub iterating::step_iter-returns-in_ok-go_on-in-Some : goal.iterating::step_iter-returns-in_ok-go_on-in-Some
-iterating::step_iter-returns-in_ok-go_on-in-Some t c =
+pub iter::step_iter-returns-in_ok-go_on-in-Some : goal.iter::step_iter-returns-in_ok-go_on-in-Some
+iter::step_iter-returns-in_ok-go_on-in-Some t c =
     let s = c.in-Iter in
     stepped_as _ _ _ _ _ _ c.args.now c.args.item.now _ _ (ap plain_of s.is) refl refl refl
     (iter_steps_some (plain_of s.inner.value.shape) _ (values.plain_of s.expression) (holding_of c.args.a.now.state)
@@ -118,14 +118,14 @@ iterating::step_iter-returns-in_ok-go_on-in-Some t c =
     c.in_ok-piece-in-Iter.ensures)
     (ended_as (values.plain_of s.expression) _ _ c.in_ok-piece-in-Iter.piece _ _ c.as_pending.ensures c.in-Some.is
     c.in_ok-hit-in-Iter.ensures.ended)
-    (chain_kept t (goal.at.iterating::step_iter-returns-in_ok-go_on-in-Some t c).After-keep) c.keep.ensures.room
+    (chain_kept t (goal.at.iter::step_iter-returns-in_ok-go_on-in-Some t c).After-keep) c.keep.ensures.room
     (started_from _ _ _ _ _ c.args.now _ (same_query _ _ c.deref-in-Some.ensures) refl
     c.in_ok-start-in-Some.ensures)
     (live_as _ _ _ _ c.args.now c.is_live.result c.deref-in-Some-2.ensures refl c.is_live.ensures.read)
     c.in_ok-go_on-in-Some.ensures.put)
 
-pub iterating::step_iter-returns-in-None : goal.iterating::step_iter-returns-in-None
-iterating::step_iter-returns-in-None t c =
+pub iter::step_iter-returns-in-None : goal.iter::step_iter-returns-in-None
+iter::step_iter-returns-in-None t c =
     let s = c.in-Iter in
     stepped_as _ _ _ _ _ _ c.args.now c.args.item.now _ _ (ap plain_of s.is) refl refl refl
     (iter_steps_none (plain_of s.inner.value.shape) _ (values.plain_of s.expression) (holding_of c.args.a.now.state)
@@ -135,10 +135,10 @@ iterating::step_iter-returns-in-None t c =
     c.in_ok-piece-in-Iter.ensures)
     (ended_as (values.plain_of s.expression) _ _ c.in_ok-piece-in-Iter.piece _ _ c.as_pending.ensures c.in-None.is
     c.in_ok-hit-in-Iter.ensures.ended)
-    (chain_kept t (goal.at.iterating::step_iter-returns-in-None t c).After-keep) c.keep.ensures.room)
+    (chain_kept t (goal.at.iter::step_iter-returns-in-None t c).After-keep) c.keep.ensures.room)
 
-pub iterating::step_iter-returns-in_err-piece-in-Iter : goal.iterating::step_iter-returns-in_err-piece-in-Iter
-iterating::step_iter-returns-in_err-piece-in-Iter t c =
+pub iter::step_iter-returns-in_err-piece-in-Iter : goal.iter::step_iter-returns-in_err-piece-in-Iter
+iter::step_iter-returns-in_err-piece-in-Iter t c =
     let s = c.in-Iter in
     step_fails _ _ _ _ _ c.args.now c.args.item.now _ (search rules) (ap plain_of s.is) refl
     (λ free. false≢true (c.in_err-piece-in-Iter.ensures.no_memory
@@ -146,8 +146,8 @@ iterating::step_iter-returns-in_err-piece-in-Iter t c =
     (piece_steps seen_of (plain_of s.inner.value.shape) _ (values.plain_of s.expression)
     (holding_of c.args.a.now.state) c.args.so_far.now c.args.now c.args.item.now free))))
 
-pub iterating::step_iter-returns-in_err-hit-in-Iter : goal.iterating::step_iter-returns-in_err-hit-in-Iter
-iterating::step_iter-returns-in_err-hit-in-Iter t c =
+pub iter::step_iter-returns-in_err-hit-in-Iter : goal.iter::step_iter-returns-in_err-hit-in-Iter
+iter::step_iter-returns-in_err-hit-in-Iter t c =
     let s = c.in-Iter in
     step_fails _ _ _ _ _ c.args.now c.args.item.now _ (search rules) (ap plain_of s.is) refl
     (λ free. false≢true (c.in_err-hit-in-Iter.ensures.no_memory
@@ -160,8 +160,8 @@ iterating::step_iter-returns-in_err-hit-in-Iter t c =
     (soundly_stepped_as _ _ _ _ _ _ c.args.now c.args.item.now _ _ (same_query _ _ c.deref.ensures) refl refl refl
     c.in_ok-piece-in-Iter.ensures.sound)))))
 
-pub iterating::step_iter-returns-in_err-start-in-Some : goal.iterating::step_iter-returns-in_err-start-in-Some
-iterating::step_iter-returns-in_err-start-in-Some t c =
+pub iter::step_iter-returns-in_err-start-in-Some : goal.iter::step_iter-returns-in_err-start-in-Some
+iter::step_iter-returns-in_err-start-in-Some t c =
     let s = c.in-Iter in
     step_fails _ _ _ _ _ c.args.now c.args.item.now _ (search rules) (ap plain_of s.is) refl
     (λ free. false≢true (c.in_err-start-in-Some.ensures.no_memory (numbers_start_as _ _ _ _ c.args.now
@@ -172,8 +172,8 @@ iterating::step_iter-returns-in_err-start-in-Some t c =
     (soundly_stepped_as _ _ _ _ _ _ c.args.now c.args.item.now _ _ (same_query _ _ c.deref.ensures) refl refl refl
     c.in_ok-piece-in-Iter.ensures.sound)))))
 
-pub iterating::step_iter-returns-in_err-go_on-in-Some : goal.iterating::step_iter-returns-in_err-go_on-in-Some
-iterating::step_iter-returns-in_err-go_on-in-Some t c =
+pub iter::step_iter-returns-in_err-go_on-in-Some : goal.iter::step_iter-returns-in_err-go_on-in-Some
+iter::step_iter-returns-in_err-go_on-in-Some t c =
     let s = c.in-Iter in
     step_fails _ _ _ _ _ c.args.now c.args.item.now _ (search rules) (ap plain_of s.is) refl
     (λ free. false≢true (c.in_err-go_on-in-Some.ensures.no_memory

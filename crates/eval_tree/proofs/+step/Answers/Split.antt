@@ -14,30 +14,30 @@ use Rattle.eval_tree.proofs.NumbersAllowed.{left_starts, left_steps, right_begin
 use Rattle.eval_tree.proofs.NumbersTyped.{ended_stepped, joined_started, joined_stepped}
 use Rattle.eval_tree.proofs.SplitArms.{split_starts, split_starts_none, split_steps_none, split_steps_some}
 use Rattle.eval_tree.proofs.+step.Goals as goal
-use Rattle.eval_tree.proofs.+step.Goals.{splitting::step_split-After-keep}
+use Rattle.eval_tree.proofs.+step.Goals.{split::step_split-After-keep}
 
 pub steps::start-start_split-requires : goal.steps::start-start_split-requires
 unfolding roll-State out-State denote.Hole.Carrier.roll denote.Hole.Carrier.out
 steps::start-start_split-requires t c =
-    let s = c.in-Split-Sequence in
+    let s = c.in-Split-Split in
     (search rules, can_start_as _ _ _ _ c.args.at refl (search rules) c.requires)
 
-pub steps::start-returns-in-Split-Sequence : goal.steps::start-returns-in-Split-Sequence
-steps::start-returns-in-Split-Sequence t c =
+pub steps::start-returns-in-Split-Split : goal.steps::start-returns-in-Split-Split
+steps::start-returns-in-Split-Split t c =
     started_as _ _ _ _ _ _ c.args.at _ _ refl (search rules) refl refl c.start_split.ensures
 
 pub steps::step-step_split-requires : goal.steps::step-step_split-requires
 unfolding roll-State out-State denote.Hole.Carrier.roll denote.Hole.Carrier.out
 steps::step-step_split-requires t c =
-    let s = c.in-Split-Sequence in
+    let s = c.in-Split-Split in
     (search rules, can_step_as _ _ _ _ c.args.now c.args.item.now refl (search rules) c.requires)
 
-pub steps::step-returns-in-Split-Sequence : goal.steps::step-returns-in-Split-Sequence
-steps::step-returns-in-Split-Sequence t c =
+pub steps::step-returns-in-Split-Split : goal.steps::step-returns-in-Split-Split
+steps::step-returns-in-Split-Split t c =
     stepped_as _ _ _ _ _ _ c.args.now c.args.item.now _ _ refl (search rules) refl refl c.step_split.ensures
 
-pub splitting::start_split-joined-requires : goal.splitting::start_split-joined-requires
-splitting::start_split-joined-requires t c =
+pub split::start_split-joined-requires : goal.split::start_split-joined-requires
+split::start_split-joined-requires t c =
     let s = c.in-Split in
     started_split seen_of (plain_of s.first.value.shape) (plain_of s.second.value.shape) (values.plain_of s.expression)
     (holding_of c.args.a.now.state) (holding_of c.args.b.now.state) (holding_of c.start.new.node.state)
@@ -48,8 +48,8 @@ splitting::start_split-joined-requires t c =
     (soundly_started_as _ _ _ _ _ _ c.args.at _ _ (same_query _ _ c.deref-in-Some.ensures)
     refl refl refl c.in_ok-right-in-Some.ensures.sound)
 
-pub splitting::start_split-returns-in_ok-hit-in-Some : goal.splitting::start_split-returns-in_ok-hit-in-Some
-splitting::start_split-returns-in_ok-hit-in-Some t c =
+pub split::start_split-returns-in_ok-hit-in-Some : goal.split::start_split-returns-in_ok-hit-in-Some
+split::start_split-returns-in_ok-hit-in-Some t c =
     let s = c.in-Split in
     started_as _ _ _ _ _ _ c.args.at _ _ (ap plain_of s.is) refl refl refl
     (split_starts (plain_of s.first.value.shape) (plain_of s.second.value.shape) (values.plain_of s.expression)
@@ -64,8 +64,8 @@ splitting::start_split-returns-in_ok-hit-in-Some t c =
     (live_as _ _ _ _ c.args.at c.is_live.result c.deref-in-Some-2.ensures refl c.is_live.ensures.read)
     c.wait_if_new.ensures)
 
-pub splitting::start_split-returns-in-None : goal.splitting::start_split-returns-in-None
-splitting::start_split-returns-in-None t c =
+pub split::start_split-returns-in-None : goal.split::start_split-returns-in-None
+split::start_split-returns-in-None t c =
     let s = c.in-Split in
     started_as _ _ _ _ _ _ c.args.at _ _ (ap plain_of s.is) refl refl refl
     (split_starts_none (plain_of s.first.value.shape) (plain_of s.second.value.shape) (values.plain_of s.expression)
@@ -74,8 +74,8 @@ splitting::start_split-returns-in-None t c =
     (started_as _ _ _ _ _ _ c.args.at _ _ (same_query _ _ c.deref.ensures) refl refl (ap Ok (sym c.in-None.is))
     c.in_ok-left-in-Split.ensures))
 
-pub splitting::start_split-returns-in_err-left-in-Split : goal.splitting::start_split-returns-in_err-left-in-Split
-splitting::start_split-returns-in_err-left-in-Split t c =
+pub split::start_split-returns-in_err-left-in-Split : goal.split::start_split-returns-in_err-left-in-Split
+split::start_split-returns-in_err-left-in-Split t c =
     let s = c.in-Split in
     start_fails _ _ _ _ _ c.args.at _ (search rules) (ap plain_of s.is) refl
     (λ free. false≢true (c.in_err-left-in-Split.ensures.no_memory (numbers_start_as _ _ _ _ c.args.at
@@ -84,8 +84,8 @@ splitting::start_split-returns-in_err-left-in-Split t c =
     (values.plain_of s.expression) (holding_of c.args.a.now.state) (holding_of c.args.b.now.state) c.args.held.now
     c.args.at free))))
 
-pub splitting::start_split-returns-in_err-right-in-Some : goal.splitting::start_split-returns-in_err-right-in-Some
-splitting::start_split-returns-in_err-right-in-Some t c =
+pub split::start_split-returns-in_err-right-in-Some : goal.split::start_split-returns-in_err-right-in-Some
+split::start_split-returns-in_err-right-in-Some t c =
     let s = c.in-Split in
     start_fails _ _ _ _ _ c.args.at _ (search rules) (ap plain_of s.is) refl
     (λ free. false≢true (c.in_err-right-in-Some.ensures.no_memory (numbers_start_as _ _ _ _ c.args.at
@@ -94,8 +94,8 @@ splitting::start_split-returns-in_err-right-in-Some t c =
     (values.plain_of s.expression) (holding_of c.args.a.now.state) (holding_of c.args.b.now.state) c.args.held.now
     c.args.at free))))
 
-pub splitting::start_split-returns-in_err-hit-in-Some : goal.splitting::start_split-returns-in_err-hit-in-Some
-splitting::start_split-returns-in_err-hit-in-Some t c =
+pub split::start_split-returns-in_err-hit-in-Some : goal.split::start_split-returns-in_err-hit-in-Some
+split::start_split-returns-in_err-hit-in-Some t c =
     let s = c.in-Split in
     start_fails _ _ _ _ _ c.args.at _ (search rules) (ap plain_of s.is) refl
     (λ free. false≢true (c.in_err-hit-in-Some.ensures.no_memory
@@ -109,8 +109,8 @@ splitting::start_split-returns-in_err-hit-in-Some t c =
     (soundly_started_as _ _ _ _ _ _ c.args.at _ _ (same_query _ _ c.deref-in-Some.ensures) refl refl refl
     c.in_ok-right-in-Some.ensures.sound))))
 
-pub splitting::step_split-ended-requires : goal.splitting::step_split-ended-requires
-splitting::step_split-ended-requires t c =
+pub split::step_split-ended-requires : goal.split::step_split-ended-requires
+split::step_split-ended-requires t c =
     let s = c.in-Split in
     stepped_ended seen_of (plain_of s.first.value.shape) (plain_of s.second.value.shape) (values.plain_of s.expression)
     (holding_of c.args.a.now.state) (holding_of c.args.b.now.state)
@@ -120,8 +120,8 @@ splitting::step_split-ended-requires t c =
     (soundly_stepped_as _ _ _ _ _ _ c.args.now c.args.item.now _ _ (same_query _ _ c.deref-in-Split.ensures)
     refl refl refl c.in_ok-right-in-Split.ensures.sound)
 
-pub splitting::step_split-joined-requires : goal.splitting::step_split-joined-requires
-splitting::step_split-joined-requires t c =
+pub split::step_split-joined-requires : goal.split::step_split-joined-requires
+split::step_split-joined-requires t c =
     let s = c.in-Split in
     stepped_joined seen_of (plain_of s.first.value.shape) (plain_of s.second.value.shape) (values.plain_of s.expression)
     (holding_of c.args.a.now.state) (holding_of c.args.b.now.state) (holding_of c.step.new.node.state)
@@ -137,7 +137,7 @@ splitting::step_split-joined-requires t c =
     refl refl refl c.in_ok-right-in-Some.ensures.sound)
 
 -- the left values that are kept
-split_kept : (t : ℕ) (c : splitting::step_split-After-keep t)
+split_kept : (t : ℕ) (c : split::step_split-After-keep t)
     → c.keep.new.self.entries
     ≡ live_entries (elsewhere c.args.now (live_of (plain_of c.in-Split.second.value.shape)
     (holding_of c.step-in-Split.new.node.state))) c.args.held.now.entries
@@ -147,15 +147,15 @@ split_kept t c =
     (live_of (plain_of c.in-Split.second.value.shape) (holding_of c.step-in-Split.new.node.state)))
     (λ start answer is. search rules)
 
-pub splitting::step_split-wait-requires : goal.splitting::step_split-wait-requires
-splitting::step_split-wait-requires t c =
+pub split::step_split-wait-requires : goal.split::step_split-wait-requires
+split::step_split-wait-requires t c =
     let s = c.in-Split in
     let live = live_of (plain_of s.second.value.shape) (holding_of c.step-in-Split.new.node.state) in
     fresh_elsewhere c.args.now live c.args.held.now c.keep.new.self
-    (split_kept t (goal.at.splitting::step_split-wait-requires t c).After-keep)
+    (split_kept t (goal.at.split::step_split-wait-requires t c).After-keep)
 
-pub splitting::step_split-returns-in_ok-begun-in-Some : goal.splitting::step_split-returns-in_ok-begun-in-Some
-splitting::step_split-returns-in_ok-begun-in-Some t c =
+pub split::step_split-returns-in_ok-begun-in-Some : goal.split::step_split-returns-in_ok-begun-in-Some
+split::step_split-returns-in_ok-begun-in-Some t c =
     let s = c.in-Split in
     stepped_as _ _ _ _ _ _ c.args.now c.args.item.now _ _ (ap plain_of s.is) refl refl (ap Ok c.or.ensures)
     (split_steps_some (plain_of s.first.value.shape) (plain_of s.second.value.shape) (values.plain_of s.expression)
@@ -167,14 +167,14 @@ splitting::step_split-returns-in_ok-begun-in-Some t c =
     (ap Ok (sym c.in-Some.is)) c.in_ok-left-in-Split.ensures)
     (stepped_from _ _ _ _ _ c.args.now c.args.item.now _ (same_query _ _ c.deref-in-Split.ensures) refl
     c.in_ok-right-in-Split.ensures) c.in_ok-hit-in-Split.ensures.ended
-    (split_kept t (goal.at.splitting::step_split-returns-in_ok-begun-in-Some t c).After-keep) c.keep.ensures.room
+    (split_kept t (goal.at.split::step_split-returns-in_ok-begun-in-Some t c).After-keep) c.keep.ensures.room
     (started_from _ _ _ _ _ c.args.now _ (same_query _ _ c.deref-in-Some.ensures) refl
     c.in_ok-right-in-Some.ensures) c.in_ok-begun-in-Some.ensures.joined
     (live_as _ _ _ _ c.args.now c.is_live.result c.deref-in-Some-2.ensures refl c.is_live.ensures.read)
     c.wait.ensures)
 
-pub splitting::step_split-returns-in-None : goal.splitting::step_split-returns-in-None
-splitting::step_split-returns-in-None t c =
+pub split::step_split-returns-in-None : goal.split::step_split-returns-in-None
+split::step_split-returns-in-None t c =
     let s = c.in-Split in
     stepped_as _ _ _ _ _ _ c.args.now c.args.item.now _ _ (ap plain_of s.is) refl refl refl
     (split_steps_none (plain_of s.first.value.shape) (plain_of s.second.value.shape) (values.plain_of s.expression)
@@ -185,10 +185,10 @@ splitting::step_split-returns-in-None t c =
     (ap Ok (sym c.in-None.is)) c.in_ok-left-in-Split.ensures)
     (stepped_from _ _ _ _ _ c.args.now c.args.item.now _ (same_query _ _ c.deref-in-Split.ensures) refl
     c.in_ok-right-in-Split.ensures) c.in_ok-hit-in-Split.ensures.ended
-    (split_kept t (goal.at.splitting::step_split-returns-in-None t c).After-keep) c.keep.ensures.room)
+    (split_kept t (goal.at.split::step_split-returns-in-None t c).After-keep) c.keep.ensures.room)
 
-pub splitting::step_split-returns-in_err-left-in-Split : goal.splitting::step_split-returns-in_err-left-in-Split
-splitting::step_split-returns-in_err-left-in-Split t c =
+pub split::step_split-returns-in_err-left-in-Split : goal.split::step_split-returns-in_err-left-in-Split
+split::step_split-returns-in_err-left-in-Split t c =
     let s = c.in-Split in
     step_fails _ _ _ _ _ c.args.now c.args.item.now _ (search rules) (ap plain_of s.is) refl
     (λ free. false≢true (c.in_err-left-in-Split.ensures.no_memory
@@ -197,8 +197,8 @@ splitting::step_split-returns-in_err-left-in-Split t c =
     (values.plain_of s.expression) (holding_of c.args.a.now.state) (holding_of c.args.b.now.state) c.args.held.now
     c.args.now c.args.item.now free))))
 
-pub splitting::step_split-returns-in_err-right-in-Split : goal.splitting::step_split-returns-in_err-right-in-Split
-splitting::step_split-returns-in_err-right-in-Split t c =
+pub split::step_split-returns-in_err-right-in-Split : goal.split::step_split-returns-in_err-right-in-Split
+split::step_split-returns-in_err-right-in-Split t c =
     let s = c.in-Split in
     step_fails _ _ _ _ _ c.args.now c.args.item.now _ (search rules) (ap plain_of s.is) refl
     (λ free. false≢true (c.in_err-right-in-Split.ensures.no_memory
@@ -207,8 +207,8 @@ splitting::step_split-returns-in_err-right-in-Split t c =
     (values.plain_of s.expression) (holding_of c.args.a.now.state) (holding_of c.args.b.now.state) c.args.held.now
     c.args.now c.args.item.now free))))
 
-pub splitting::step_split-returns-in_err-hit-in-Split : goal.splitting::step_split-returns-in_err-hit-in-Split
-splitting::step_split-returns-in_err-hit-in-Split t c =
+pub split::step_split-returns-in_err-hit-in-Split : goal.split::step_split-returns-in_err-hit-in-Split
+split::step_split-returns-in_err-hit-in-Split t c =
     let s = c.in-Split in
     step_fails _ _ _ _ _ c.args.now c.args.item.now _ (search rules) (ap plain_of s.is) refl
     (λ free. false≢true (c.in_err-hit-in-Split.ensures.no_memory
@@ -220,8 +220,8 @@ splitting::step_split-returns-in_err-hit-in-Split t c =
     (soundly_stepped_as _ _ _ _ _ _ c.args.now c.args.item.now _ _ (same_query _ _ c.deref-in-Split.ensures) refl
     refl refl c.in_ok-right-in-Split.ensures.sound))))
 
-pub splitting::step_split-returns-in_err-right-in-Some : goal.splitting::step_split-returns-in_err-right-in-Some
-splitting::step_split-returns-in_err-right-in-Some t c =
+pub split::step_split-returns-in_err-right-in-Some : goal.split::step_split-returns-in_err-right-in-Some
+split::step_split-returns-in_err-right-in-Some t c =
     let s = c.in-Split in
     step_fails _ _ _ _ _ c.args.now c.args.item.now _ (search rules) (ap plain_of s.is) refl
     (λ free. false≢true (c.in_err-right-in-Some.ensures.no_memory (numbers_start_as _ _ _ _ c.args.now
@@ -233,8 +233,8 @@ splitting::step_split-returns-in_err-right-in-Some t c =
     (soundly_stepped_as _ _ _ _ _ _ c.args.now c.args.item.now _ _ (same_query _ _ c.deref-in-Split.ensures) refl
     refl refl c.in_ok-right-in-Split.ensures.sound)))))
 
-pub splitting::step_split-returns-in_err-begun-in-Some : goal.splitting::step_split-returns-in_err-begun-in-Some
-splitting::step_split-returns-in_err-begun-in-Some t c =
+pub split::step_split-returns-in_err-begun-in-Some : goal.split::step_split-returns-in_err-begun-in-Some
+split::step_split-returns-in_err-begun-in-Some t c =
     let s = c.in-Split in
     step_fails _ _ _ _ _ c.args.now c.args.item.now _ (search rules) (ap plain_of s.is) refl
     (λ free. false≢true (c.in_err-begun-in-Some.ensures.no_memory

@@ -14,23 +14,23 @@ steps::start-unreachable-requires t c =
     let sound = c.requires.sound in
     elim c.in_default.branch [
       | steps::start-in_default-via-in-Atom+in_default w ↦ unsound_atom stream position q state _ _
-          (ap plain_of w.in_default.is-0) w.in_default.not-Item-1 sound
+          (ap plain_of w.in_default.is-0) w.in_default.not-Atom-1 sound
       | steps::start-in_default-via-in-Eps+in_default w ↦ unsound_eps stream position q state _
-          (ap plain_of w.in_default.is-0) w.in_default.not-Empty-1 sound
+          (ap plain_of w.in_default.is-0) w.in_default.not-Eps-1 sound
       | steps::start-in_default-via-in-Or+in_default w ↦ unsound_choice stream position q state _ _
-          (ap plain_of w.in_default.is-0) w.in_default.not-Both-1 sound
+          (ap plain_of w.in_default.is-0) w.in_default.not-Or-1 sound
       | steps::start-in_default-via-in-Apply+in_default w ↦ unsound_apply stream position q state _ _
-          (ap plain_of w.in_default.is-0) w.in_default.not-Operand-1 sound
+          (ap plain_of w.in_default.is-0) w.in_default.not-Apply-1 sound
       | steps::start-in_default-via-in-Split+in_default w ↦ unsound_split stream position q state _ _ _
-          (ap plain_of w.in_default.is-0) w.in_default.not-Sequence-1 sound
+          (ap plain_of w.in_default.is-0) w.in_default.not-Split-1 sound
       | steps::start-in_default-via-in-Combine+in_default w ↦ unsound_combine stream position q state _ _ _
-          (ap plain_of w.in_default.is-0) w.in_default.not-Pair-1 sound
+          (ap plain_of w.in_default.is-0) w.in_default.not-Combine-1 sound
       | steps::start-in_default-via-in-Iter+in_default w ↦ unsound_iter stream position q state _ _ _
-          (ap plain_of w.in_default.is-0) w.in_default.not-Repeated-1 sound
+          (ap plain_of w.in_default.is-0) w.in_default.not-Iter-1 sound
       | steps::start-in_default-via-in-Compose+in_default w ↦ unsound_compose stream position q state _ _
-          (ap plain_of w.in_default.is-0) w.in_default.not-Fed-1 sound
+          (ap plain_of w.in_default.is-0) w.in_default.not-Compose-1 sound
       | steps::start-in_default-via-in-Collect+in_default w ↦ unsound_collect stream position q state _ _ _ _
-          (ap plain_of w.in_default.is-0) w.in_default.not-Tracked-1 sound
+          (ap plain_of w.in_default.is-0) w.in_default.not-Collect-1 sound
     ]
 
 pub steps::step-unreachable-requires : goal.steps::step-unreachable-requires
@@ -42,21 +42,21 @@ steps::step-unreachable-requires t c =
     let sound = c.requires.sound in
     elim c.in_default.branch [
       | steps::step-in_default-via-in-Atom+in_default w ↦ unsound_atom stream position q state _ _
-          (ap plain_of w.in_default.is-0) w.in_default.not-Item-1 sound
+          (ap plain_of w.in_default.is-0) w.in_default.not-Atom-1 sound
       | steps::step-in_default-via-in-Eps+in_default w ↦ unsound_eps stream position q state _
-          (ap plain_of w.in_default.is-0) w.in_default.not-Empty-1 sound
+          (ap plain_of w.in_default.is-0) w.in_default.not-Eps-1 sound
       | steps::step-in_default-via-in-Or+in_default w ↦ unsound_choice stream position q state _ _
-          (ap plain_of w.in_default.is-0) w.in_default.not-Both-1 sound
+          (ap plain_of w.in_default.is-0) w.in_default.not-Or-1 sound
       | steps::step-in_default-via-in-Apply+in_default w ↦ unsound_apply stream position q state _ _
-          (ap plain_of w.in_default.is-0) w.in_default.not-Operand-1 sound
+          (ap plain_of w.in_default.is-0) w.in_default.not-Apply-1 sound
       | steps::step-in_default-via-in-Split+in_default w ↦ unsound_split stream position q state _ _ _
-          (ap plain_of w.in_default.is-0) w.in_default.not-Sequence-1 sound
+          (ap plain_of w.in_default.is-0) w.in_default.not-Split-1 sound
       | steps::step-in_default-via-in-Combine+in_default w ↦ unsound_combine stream position q state _ _ _
-          (ap plain_of w.in_default.is-0) w.in_default.not-Pair-1 sound
+          (ap plain_of w.in_default.is-0) w.in_default.not-Combine-1 sound
       | steps::step-in_default-via-in-Iter+in_default w ↦ unsound_iter stream position q state _ _ _
-          (ap plain_of w.in_default.is-0) w.in_default.not-Repeated-1 sound
+          (ap plain_of w.in_default.is-0) w.in_default.not-Iter-1 sound
       | steps::step-in_default-via-in-Compose+in_default w ↦ unsound_compose stream position q state _ _
-          (ap plain_of w.in_default.is-0) w.in_default.not-Fed-1 sound
+          (ap plain_of w.in_default.is-0) w.in_default.not-Compose-1 sound
       | steps::step-in_default-via-in-Collect+in_default w ↦ unsound_collect stream position q state _ _ _ _
-          (ap plain_of w.in_default.is-0) w.in_default.not-Tracked-1 sound
+          (ap plain_of w.in_default.is-0) w.in_default.not-Collect-1 sound
     ]

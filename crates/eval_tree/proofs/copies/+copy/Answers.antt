@@ -8,7 +8,7 @@ use Rattle.compose_eval.specs.Followers.{followers_of, outers_of}
 use Rattle.eval_tree.specs.declared.progress.Progress.{Progress}
 use Rattle.eval_tree.specs.declared.node.State.TheViews.{out-State, roll-State}
 use Rattle.eval_tree.specs.Copies.{AreAlike, AreCopied, IsCopy, IsCopyOf, AreCopiedTracks}
-use Rattle.eval_tree.specs.Holdings.{fed, tracked}
+use Rattle.eval_tree.specs.Holdings.{compose_held, collect_held}
 use Rattle.eval_tree.specs.Plain.{holding_of, seen_of}
 use Rattle.eval_tree.proofs.Arms.{same_node, same_query}
 use Rattle.eval_tree.proofs.ComposeArms.{fed_is}
@@ -84,50 +84,50 @@ copied_runners-idle-preserved t c =
       c.idle-i-end.ensures,
     )
 
-pub copy-returns-in_ok-copied_runners-in-Compose-Fed : goal.copy-returns-in_ok-copied_runners-in-Compose-Fed
+pub copy-returns-in_ok-copied_runners-in-Compose-Compose : goal.copy-returns-in_ok-copied_runners-in-Compose-Compose
 unfolding roll-State out-State denote.Hole.Carrier.roll denote.Hole.Carrier.out
-copy-returns-in_ok-copied_runners-in-Compose-Fed t c =
-    let s = c.in-Compose-Fed in
+copy-returns-in_ok-copied_runners-in-Compose-Compose t c =
+    let s = c.in-Compose-Compose in
     let f = plain_of s.first.value.shape in
     let g = plain_of s.second.value.shape in
-    let a = c.in_ok-a-in-Compose-Fed.a in
-    let held = c.in_ok-copied_runners-in-Compose-Fed.field-0 in
-    copied_as (compose f g) _ (fed (holding_of s.a.value.state) s.runners) _ (fed (holding_of a.value.state) held) _
+    let a = c.in_ok-a-in-Compose-Compose.a in
+    let held = c.in_ok-copied_runners-in-Compose-Compose.field-0 in
+    copied_as (compose f g) _ (compose_held (holding_of s.a.value.state) s.runners) _ (compose_held (holding_of a.value.state) held) _
     (ap plain_of s.is-0) (ap holding_of s.is-1 ∙ fed_is s.a s.runners) (fed_is a held) (
-      copied_as (plain_of c.deref-in-Compose-Fed.result.now.shape) f (holding_of c.deref-in-Compose-Fed-2.result.now.state)
-          (holding_of s.a.value.state) (holding_of a.value.state) _ (same_query _ _ c.deref-in-Compose-Fed.ensures)
-          (same_node _ _ c.deref-in-Compose-Fed-2.ensures) refl c.in_ok-a-in-Compose-Fed.ensures,
+      copied_as (plain_of c.deref-in-Compose-Compose.result.now.shape) f (holding_of c.deref-in-Compose-Compose-2.result.now.state)
+          (holding_of s.a.value.state) (holding_of a.value.state) _ (same_query _ _ c.deref-in-Compose-Compose.ensures)
+          (same_node _ _ c.deref-in-Compose-Compose-2.ensures) refl c.in_ok-a-in-Compose-Compose.ensures,
       subst (λ (q : Qre). AreCopied seen_of (IsCopy seen_of q) s.runners held)
-          (sym (same_query _ _ c.deref-in-Compose-Fed-3.ensures)) c.in_ok-copied_runners-in-Compose-Fed.ensures,
+          (sym (same_query _ _ c.deref-in-Compose-Compose-3.ensures)) c.in_ok-copied_runners-in-Compose-Compose.ensures,
     )
 
 pub copy-returns-in_default : goal.copy-returns-in_default
 copy-returns-in_default t c = elim c.in_default.branch [
   | copy-in_default-via-in-Atom+in_default w ↦
       copied_as _ _ _ _ _ _ (ap plain_of w.in_default.is-0) refl refl
-      (unlike_atom (predicates.plain_of w.in_default.field-0-0) (values.plain_of w.in_default.field-1-0) c.args.node.now.state w.in_default.not-Item-1)
+      (unlike_atom (predicates.plain_of w.in_default.field-0-0) (values.plain_of w.in_default.field-1-0) c.args.node.now.state w.in_default.not-Atom-1)
   | copy-in_default-via-in-Or+in_default w ↦
       copied_as _ _ _ _ _ _ (ap plain_of w.in_default.is-0) refl refl
-      (unlike_choice _ _ c.args.node.now.state w.in_default.not-Both-1)
+      (unlike_choice _ _ c.args.node.now.state w.in_default.not-Or-1)
   | copy-in_default-via-in-Apply+in_default w ↦
       copied_as _ _ _ _ _ _ (ap plain_of w.in_default.is-0) refl refl
-      (unlike_apply _ (values.plain_of w.in_default.field-1-0) c.args.node.now.state w.in_default.not-Operand-1)
+      (unlike_apply _ (values.plain_of w.in_default.field-1-0) c.args.node.now.state w.in_default.not-Apply-1)
   | copy-in_default-via-in-Split+in_default w ↦
       copied_as _ _ _ _ _ _ (ap plain_of w.in_default.is-0) refl refl
-      (unlike_split _ _ (values.plain_of w.in_default.field-2-0) c.args.node.now.state w.in_default.not-Sequence-1)
+      (unlike_split _ _ (values.plain_of w.in_default.field-2-0) c.args.node.now.state w.in_default.not-Split-1)
   | copy-in_default-via-in-Combine+in_default w ↦
       copied_as _ _ _ _ _ _ (ap plain_of w.in_default.is-0) refl refl
-      (unlike_combine _ _ (values.plain_of w.in_default.field-2-0) c.args.node.now.state w.in_default.not-Pair-1)
+      (unlike_combine _ _ (values.plain_of w.in_default.field-2-0) c.args.node.now.state w.in_default.not-Combine-1)
   | copy-in_default-via-in-Iter+in_default w ↦
       copied_as _ _ _ _ _ _ (ap plain_of w.in_default.is-0) refl refl
-      (unlike_iter _ w.in_default.field-1-0 (values.plain_of w.in_default.field-2-0) c.args.node.now.state w.in_default.not-Repeated-1)
+      (unlike_iter _ w.in_default.field-1-0 (values.plain_of w.in_default.field-2-0) c.args.node.now.state w.in_default.not-Iter-1)
   | copy-in_default-via-in-Compose+in_default w ↦
       copied_as _ _ _ _ _ _ (ap plain_of w.in_default.is-0) refl refl
-      (unlike_compose _ _ c.args.node.now.state w.in_default.not-Fed-1)
+      (unlike_compose _ _ c.args.node.now.state w.in_default.not-Compose-1)
   | copy-in_default-via-in-Collect+in_default w ↦
       copied_as _ _ _ _ _ _ (ap plain_of w.in_default.is-0) refl refl
       (unlike_collect w.in_default.field-0-0 (predicates.plain_of w.in_default.field-1-0)
-      (rates.plain_of w.in_default.field-2-0) _ c.args.node.now.state w.in_default.not-Tracked-1)
+      (rates.plain_of w.in_default.field-2-0) _ c.args.node.now.state w.in_default.not-Collect-1)
   | copy-in_default-via-in_default w ↦ other_copied c.args.query.now.shape c.args.node.now.state
       (other_shape c.args.query.now.shape (λ pred value is. search rules) (λ p f a q g b is. search rules)
       (λ p f a q g b value is. search rules) (λ p f a number value is. search rules)
@@ -175,12 +175,12 @@ copied_tracks-starts-preserved t c =
       before.2,
     )
 
-pub copy-returns-in_ok-copied_tracks-in-Collect-Tracked : goal.copy-returns-in_ok-copied_tracks-in-Collect-Tracked
+pub copy-returns-in_ok-copied_tracks-in-Collect-Collect : goal.copy-returns-in_ok-copied_tracks-in-Collect-Collect
 unfolding roll-State out-State denote.Hole.Carrier.roll denote.Hole.Carrier.out
-copy-returns-in_ok-copied_tracks-in-Collect-Tracked t c =
-    let s = c.in-Collect-Tracked in
-    let all = c.in_ok-copied_tracks-in-Collect-Tracked.field-0 in
-    copied_as _ _ (tracked s.tracks) _ (tracked all) _ (ap plain_of s.is-0) (ap holding_of s.is-1 ∙ tracked_is s.tracks)
+copy-returns-in_ok-copied_tracks-in-Collect-Collect t c =
+    let s = c.in-Collect-Collect in
+    let all = c.in_ok-copied_tracks-in-Collect-Collect.field-0 in
+    copied_as _ _ (collect_held s.tracks) _ (collect_held all) _ (ap plain_of s.is-0) (ap holding_of s.is-1 ∙ tracked_is s.tracks)
     (tracked_is all)
     (subst (λ (q : Qre). AreCopiedTracks seen_of (IsCopy seen_of q) s.tracks all)
-    (sym (same_query _ _ c.deref-in-Collect-Tracked.ensures)) c.in_ok-copied_tracks-in-Collect-Tracked.ensures)
+    (sym (same_query _ _ c.deref-in-Collect-Collect.ensures)) c.in_ok-copied_tracks-in-Collect-Collect.ensures)

@@ -6,7 +6,7 @@ ghost use Rattle.eval_tree.specs.Plain.{seen_of};
 ghost use Rattle.eval_tree.specs.Pushes.{AddsStart, ArePushed, BeginsAt, CanMake, CanPassBy, CanPushAll, CanTrack, IsNew, PassesBy};
 
 use crate::keys::keys_push;
-use crate::runner::value_of;
+use crate::progress::value_of;
 use crate::tables::{first_table, tabled};
 use crate::{Hit, Node, Progress, start};
 use item_schema::Item;

@@ -1,7 +1,7 @@
 //! The step of a compose: the values of its left operand go to the runners of the right one.
 ghost use Rattle.query_model.specs.Queries.{plain_of};
 ghost use Rattle.eval_tree.specs.Calls.{HasStepped};
-ghost use Rattle.eval_tree.specs.Holdings.{fed};
+ghost use Rattle.eval_tree.specs.Holdings.{compose_held};
 ghost use Rattle.eval_tree.specs.Plain.{holding_of, seen_of};
 ghost use Rattle.eval_tree.specs.Steps.{CanStep};
 
@@ -23,10 +23,10 @@ pub(crate) fn step_compose(
     item: &Item,
 ) -> Result<Option<Hit>, AllocError>
     requires { CanStep seen_of (plain_of query.now.shape)
-        (fed (holding_of a.old.state) runners.old) now item.now }
+        (compose_held (holding_of a.old.state) runners.old) now item.now }
     ensures { HasStepped seen_of (plain_of query.now.shape)
-        (fed (holding_of a.old.state) runners.old) now item.now
-        (fed (holding_of a.new.state) runners.new) result }
+        (compose_held (holding_of a.old.state) runners.old) now item.now
+        (compose_held (holding_of a.new.state) runners.new) result }
 {
     match &query.shape {
         Shape::Compose(first, second) => {
