@@ -1,6 +1,6 @@
 -- The same calls of the same nodes.
 use Rattle.std.proofs.Common.{◌≡◌, ◌∙◌, ℕ, Bool, List, Option, Result, Ok, Err, ap, sym, subst, arith, of_z, to_z, to_z-of_z, w64}
-use Rattle.std.specs.Prelude.{ℤ, Box, FitsSigned, IfOk, IsErr, IsOk}
+use Rattle.std.specs.Prelude.{ℤ, Box, FitsSigned, IfOk, IsErr, IsOk, OnErr}
 use Rattle.std.proofs.lemmas.Bool.{false≢true}
 use Rattle.std.specs.declared.alloc.Global.{Global}
 use Rattle.value_ops.specs.declared.field.Field.{Field}
@@ -40,6 +40,10 @@ pub where_ok : {T E : Type 0} → (result : Result T E) (P Q : T → Type 0) →
     → IfOk result Q
 where_ok (Ok x) P Q each is = each x is
 where_ok (Err e) P Q each is = tt
+
+pub on_err : {T E : Type 0} → (result : Result T E) (P : Type 0) → P → OnErr result P
+on_err (Ok x) P is = tt
+on_err (Err e) P is = is
 
 -- what a call promises of the same query, of nodes that are the same before it and behind it, and of the same result
 pub started_from : (q q' : Qre) (h h' k : Holding Progress) (at : ℕ) (result : Found) → q' ≡ q → h' ≡ h

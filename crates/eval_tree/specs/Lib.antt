@@ -10,6 +10,7 @@ pub mod Laws
 pub mod Lefts
 pub mod Live
 pub mod Numbers
+pub mod OutOfMemory
 pub mod Plain
 pub mod Pushes
 pub mod Represents

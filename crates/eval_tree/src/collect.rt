@@ -109,10 +109,15 @@ fn new_runner(query: &Query, alloc: Global) -> Result<Progress, AllocError>
     ensures { IfOk result (IsNew seen_of (plain_of query.now.shape)) }
 {
     let mut node = Node::new(alloc, query, None)?;
-    let hit = start(query, &mut node, alloc, 0)?;
-    Ok(Progress {
-        node,
-        position: 0,
-        answer: value_of(hit),
-    })
+    match start(query, &mut node, alloc, 0) {
+        Ok(hit) => Ok(Progress {
+            node,
+            position: 0,
+            answer: value_of(hit),
+        }),
+        Err(error) => {
+            drop(node);
+            Err(error)
+        }
+    }
 }

@@ -1,6 +1,7 @@
 //! Copies of what is kept.
 ghost use Rattle.std.specs.Prelude.{◌≡◌, ◌+◌, ◌≤◌, [], length, IfOk};
 ghost use Rattle.compose_eval.specs.Followers.{followers_of, outers_of};
+ghost use Rattle.map_collect.specs.Keys.{fallback_of, followers_of as keyed_followers, keyed_of, names_of};
 ghost use Rattle.query_model.specs.Queries.{plain_of};
 ghost use Rattle.eval_tree.specs.Copies.{AreAlike, AreCopied, AreCopiedKeys, AreCopiedTracks, IsCopy, IsCopyOf};
 ghost use Rattle.eval_tree.specs.Plain.{holding_of, seen_of};
@@ -80,11 +81,11 @@ pub(crate) fn copy_of_runner(
     ensures { IfOk result (IsCopyOf seen_of (IsCopy seen_of (plain_of query.now.shape))
         runner.now) }
 {
-    let node = copy(query, &runner.node, alloc)?;
     let answer = match &runner.answer {
         Some(value) => Some(value.try_copy(alloc)?),
         None => None,
     };
+    let node = copy(query, &runner.node, alloc)?;
     Ok(Progress {
         node,
         position: runner.position,
@@ -161,11 +162,35 @@ fn copied_keys(
 {
     let fallback = copy_of_runner(query, keys.fallback(), alloc)?;
     let mut copy = Keys::new(alloc, fallback);
+    match copy_followers(query, keys, &mut copy, alloc) {
+        Ok(()) => Ok(copy),
+        Err(error) => {
+            drop(copy);
+            Err(error)
+        }
+    }
+}
+
+// The keys, each with a copy of its runner.
+#[cycle(copy)]
+fn copy_followers(
+    query: &Query,
+    keys: &Keys<Progress>,
+    copy: &mut Keys<Progress>,
+    alloc: Global,
+) -> Result<(), AllocError>
+    requires { keyed_of copy.old ≡ record { names = []; followers = [] } }
+    ensures fallback { fallback_of copy.new ≡ fallback_of copy.old }
+    ensures names { IfOk result (λ done. names_of copy.new ≡ names_of keys.now) }
+    ensures keyed { IfOk result (λ done.
+        AreAlike (IsCopyOf seen_of (IsCopy seen_of (plain_of query.now.shape)))
+        (keyed_followers keys.now) (keyed_followers copy.new)) }
+{
     'keys: for i in 0..keys.len() {
         let follower = copy_of_runner(query, keys.follower(i), alloc)?;
         copy.add(keys.key(i), follower)?;
     }
-    Ok(copy)
+    Ok(())
 }
 
 /// Equal left values, in the same order and in as much room.

@@ -98,8 +98,8 @@ fn tell(
     ensures no_memory { CarriesNumbers seen_of (plain_of query.now.shape) runner.old
         (item_of left.value) → IsOk result }
 {
-    let start = left.start;
-    carry(query, runner, alloc, &Item::from_value(left.value))?;
+    let (start, value) = left.into_parts();
+    carry(query, runner, alloc, &Item::from_value(value))?;
     match &runner.answer {
         Some(value) => {
             let value = value.try_copy(alloc)?;

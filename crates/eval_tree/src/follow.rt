@@ -8,6 +8,7 @@ use crate::{Progress, Runner};
 use item_schema::Item;
 use query_model::Follower;
 use std::alloc::{AllocError, Global};
+use std::mem::replace;
 use value_ops::Value;
 
 impl Follower for Runner<'_> {
@@ -86,7 +87,8 @@ impl Follower for Runner<'_> {
             return Ok(());
         }
         self.failed = true;
-        self.progress = Progress::new(alloc, self.checked)?;
+        let fresh = Progress::new(alloc, self.checked)?;
+        drop(replace(&mut self.progress, fresh));
         self.failed = false;
         Ok(())
     }

@@ -7,13 +7,30 @@ ghost use Rattle.value_ops.specs.declared.value.Value.TheVariants as value;
 use value_ops::{Scalar, Table, Value};
 
 /// The piece from a start to the end of the word has this value.
-#[derive(Drop)]
 pub struct Hit {
     pub start: u64,
     pub value: Value,
 }
 
+// Written out, so that letting go of a hit is one call.
+impl Drop for Hit {
+    fn drop(self) {
+        let Hit {
+            start: _,
+            value: _value,
+        } = self;
+    }
+}
+
 impl Hit {
+    pub(crate) fn into_parts(self) -> (u64, Value)
+        ensures start { result.0 ≡ self.start }
+        ensures value { result.1 ≡ self.value }
+    {
+        let Hit { start, value } = self;
+        (start, value)
+    }
+
     pub(crate) fn of_number(start: u64, number: i64) -> Hit
         ensures { result
             ≡ record { start = start; value = value.Scalar (scalar.Number number) } }

@@ -1,10 +1,11 @@
 //! Runners for keys, where an item goes by.
-ghost use Rattle.std.specs.Prelude.{◌≡◌, IfOk};
+ghost use Rattle.std.specs.Prelude.{◌≡◌, IfOk, OnErr};
 ghost use Rattle.predicate_cells.specs.Plain as predicates;
 ghost use Rattle.query_model.specs.Denotation.{key_of};
 ghost use Rattle.query_model.specs.Queries.{plain_of};
 ghost use Rattle.eval_tree.specs.Collects.{CanPush, IsPushed};
 ghost use Rattle.eval_tree.specs.Plain.{seen_of};
+ghost use Rattle.eval_tree.specs.OutOfMemory.{IsKeyLeft, IsLeft};
 ghost use Rattle.eval_tree.specs.Pushes.{AllCarried, HasKey, IsKeyPushed};
 
 use crate::Progress;
@@ -28,7 +29,9 @@ pub fn keys_push(
     item: &Item,
 ) -> Result<(), AllocError>
     requires { CanPush seen_of (plain_of query.now.shape) keys.old item.now }
-    ensures { IfOk result (λ done. IsPushed seen_of (plain_of query.now.shape) column
+    ensures pushed { IfOk result (λ done. IsPushed seen_of (plain_of query.now.shape) column
+        (predicates.plain_of sync.now) keys.old item.now keys.new) }
+    ensures left { OnErr result (IsLeft seen_of (plain_of query.now.shape) column
         (predicates.plain_of sync.now) keys.old item.now keys.new) }
 {
     if holds(sync, item) {
@@ -65,8 +68,10 @@ fn push_to_key(
     item: &Item,
 ) -> Result<(), AllocError>
     requires { CanPush seen_of (plain_of query.now.shape) keys.old item.now }
-    ensures { IfOk result (λ done. IsKeyPushed seen_of (plain_of query.now.shape) key.now item.now
-        keys.old keys.new) }
+    ensures pushed { IfOk result (λ done. IsKeyPushed seen_of (plain_of query.now.shape) key.now
+        item.now keys.old keys.new) }
+    ensures left { OnErr result (IsKeyLeft seen_of (plain_of query.now.shape) key.now keys.old
+        keys.new) }
 {
     let place = place_or_new(query, keys, alloc, key)?;
     carry(query, keys.follower_mut(place), alloc, item)
@@ -79,8 +84,9 @@ fn place_or_new(
     alloc: Global,
     key: &[u8],
 ) -> Result<usize, AllocError>
-    ensures { IfOk result (λ place. HasKey seen_of (plain_of query.now.shape) key.now keys.old place
-        keys.new) }
+    ensures has { IfOk result (λ place. HasKey seen_of (plain_of query.now.shape) key.now keys.old
+        place keys.new) }
+    ensures unchanged { OnErr result (keys.new ≡ keys.old) }
 {
     match keys.place(key) {
         Some(place) => Ok(place),

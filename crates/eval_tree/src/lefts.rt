@@ -31,7 +31,8 @@ pub(crate) fn wait(held: &mut Pending<Value>, live: bool, at: u64, left: Hit)
         (record { inner = at; outer = left.start; value = left.value }) held.new }
 {
     if live && held.len() < held.room() as usize {
-        held.put(at, left.start, left.value);
+        let (start, value) = left.into_parts();
+        held.put(at, start, value);
     }
 }
 

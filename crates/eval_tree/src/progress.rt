@@ -31,12 +31,17 @@ impl Progress {
         let query = checked.main();
         let cells = stream_cells(alloc, checked)?;
         let mut node = Node::new(alloc, query, cells.as_ref())?;
-        let hit = start(query, &mut node, alloc, 0)?;
-        Ok(Progress {
-            node,
-            position: 0,
-            answer: value_of(hit),
-        })
+        match start(query, &mut node, alloc, 0) {
+            Ok(hit) => Ok(Progress {
+                node,
+                position: 0,
+                answer: value_of(hit),
+            }),
+            Err(error) => {
+                drop(node);
+                Err(error)
+            }
+        }
     }
 }
 
@@ -45,7 +50,7 @@ pub(crate) fn value_of(hit: Option<Hit>) -> Option<Value>
     ensures { result ≡ option_map (λ (found : Hit). found.value) hit }
 {
     match hit {
-        Some(hit) => Some(hit.value),
+        Some(hit) => Some(hit.into_parts().1),
         None => None,
     }
 }

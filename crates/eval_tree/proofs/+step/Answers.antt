@@ -324,8 +324,8 @@ collect::new_runner-new-requires-clause-cells = collect.collect::new_runner-new-
 pub collect::new_runner-start-requires : goal.collect::new_runner-start-requires
 collect::new_runner-start-requires = collect.collect::new_runner-start-requires
 
-pub collect::new_runner-returns : goal.collect::new_runner-returns
-collect::new_runner-returns = collect.collect::new_runner-returns
+pub collect::new_runner-returns-in-Ok : goal.collect::new_runner-returns-in-Ok
+collect::new_runner-returns-in-Ok = collect.collect::new_runner-returns-in-Ok
 
 pub steps::step-pass_by-requires : goal.steps::step-pass_by-requires
 steps::step-pass_by-requires = collect.steps::step-pass_by-requires
@@ -352,11 +352,14 @@ pub collect::pass_by-advance-requires : goal.collect::pass_by-advance-requires
 collect::pass_by-advance-requires = collect.collect::pass_by-advance-requires
 
 -- its runners for keys
-pub keys::keys_push-returns-then-holds : goal.keys::keys_push-returns-then-holds
-keys::keys_push-returns-then-holds = keys.keys::keys_push-returns-then-holds
+pub keys::keys_push-returns-then-holds-clause-pushed : goal.keys::keys_push-returns-then-holds-clause-pushed
+keys::keys_push-returns-then-holds-clause-pushed = keys.keys::keys_push-returns-then-holds-clause-pushed
 
-pub keys::keys_push-returns-else-holds : goal.keys::keys_push-returns-else-holds
-keys::keys_push-returns-else-holds = keys.keys::keys_push-returns-else-holds
+pub keys::keys_push-returns-else-holds-clause-pushed : goal.keys::keys_push-returns-else-holds-clause-pushed
+keys::keys_push-returns-else-holds-clause-pushed = keys.keys::keys_push-returns-else-holds-clause-pushed
+
+pub keys::push_to_key-returns-clause-left : goal.keys::push_to_key-returns-clause-left
+keys::push_to_key-returns-clause-left = keys.keys::push_to_key-returns-clause-left
 
 pub keys::push_to_key-follower_mut-requires : goal.keys::push_to_key-follower_mut-requires
 keys::push_to_key-follower_mut-requires = keys.keys::push_to_key-follower_mut-requires
@@ -364,8 +367,8 @@ keys::push_to_key-follower_mut-requires = keys.keys::push_to_key-follower_mut-re
 pub keys::push_to_key-carry-requires : goal.keys::push_to_key-carry-requires
 keys::push_to_key-carry-requires = keys.keys::push_to_key-carry-requires
 
-pub keys::push_to_key-returns : goal.keys::push_to_key-returns
-keys::push_to_key-returns = keys.keys::push_to_key-returns
+pub keys::push_to_key-returns-clause-pushed : goal.keys::push_to_key-returns-clause-pushed
+keys::push_to_key-returns-clause-pushed = keys.keys::push_to_key-returns-clause-pushed
 
 pub keys::push_to_each-carry-requires : goal.keys::push_to_each-carry-requires
 keys::push_to_each-carry-requires = keys.keys::push_to_each-carry-requires

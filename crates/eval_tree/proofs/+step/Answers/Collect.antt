@@ -89,11 +89,11 @@ collect::new_runner-start-requires t c = (
       (λ columns. c.in_ok-node.ensures.sound columns tt),
 )
 
-pub collect::new_runner-returns : goal.collect::new_runner-returns
-collect::new_runner-returns t c =
-    made_new (plain_of c.args.query.now.shape) (holding_of c.in_ok-node.node.state) _ c.in_ok-hit.hit
+pub collect::new_runner-returns-in-Ok : goal.collect::new_runner-returns-in-Ok
+collect::new_runner-returns-in-Ok t c =
+    made_new (plain_of c.args.query.now.shape) (holding_of c.in_ok-node.node.state) _ c.in-Ok.hit
     (λ columns. c.in_ok-node.ensures.word columns tt) (λ columns. c.in_ok-node.ensures.sound columns tt)
-    c.in_ok-hit.ensures.word c.in_ok-hit.ensures.sound refl c.value_of.ensures
+    c.in-Ok.ensures.word c.in-Ok.ensures.sound refl c.value_of.ensures
 
 pub steps::step-pass_by-requires : goal.steps::step-pass_by-requires
 unfolding roll-State out-State denote.Hole.Carrier.roll denote.Hole.Carrier.out
@@ -164,7 +164,7 @@ collect::push_all-starts-preserved t c =
     let before = c.starts.invariant in (
       pushed_next seen_of (plain_of c.args.query.now.shape) c.args.column (predicates.plain_of c.args.sync.now)
           c.args.item.now c.starts.i c.args.tracks.now.tracks c.starts.tracks.tracks c.keys_mut.result.now
-          c.keys_push.new.keys before.0 c.keys_mut.ensures.value c.in_ok-keys_push.ensures,
+          c.keys_push.new.keys before.0 c.keys_mut.ensures.value c.in_ok-keys_push.ensures.pushed,
       before.1,
       before.2,
       with_length c.starts.tracks.tracks c.starts.i c.keys_push.new.keys ∙ before.3,

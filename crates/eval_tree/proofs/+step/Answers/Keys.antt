@@ -1,9 +1,9 @@
 -- Runners for keys.
-use Rattle.std.proofs.Common.{List, arith, false, refl, rules, subst, sym, true, ℕ, ◌∙◌}
+use Rattle.std.proofs.Common.{List, arith, false, inr, refl, rules, subst, sym, true, ℕ, ◌∙◌}
 use Rattle.std.specs.Prelude.{IfOk}
 use Rattle.query_model.specs.Queries.{plain_of}
 use Rattle.eval_tree.specs.Plain.{seen_of}
-use Rattle.eval_tree.proofs.Arms.{where_ok}
+use Rattle.eval_tree.proofs.Arms.{on_err, where_ok}
 use Rattle.predicate_cells.specs.Plain as predicates
 use Rattle.eval_tree.specs.declared.progress.Progress.{Progress}
 use Rattle.eval_tree.specs.Feeds.{CanCarry}
@@ -16,23 +16,34 @@ use Rattle.eval_tree.proofs.KeysPushed.{pushed_all, pushed_key}
 use Rattle.eval_tree.proofs.+step.Goals as goal
 
 -- an item of all keys, and one of one key
-pub keys::keys_push-returns-then-holds : goal.keys::keys_push-returns-then-holds
-keys::keys_push-returns-then-holds t c =
+pub keys::keys_push-returns-then-holds-clause-pushed : goal.keys::keys_push-returns-then-holds-clause-pushed
+keys::keys_push-returns-then-holds-clause-pushed t c =
     where_ok c.push_to_each.result _ _ (λ done takes. pushed_all seen_of (plain_of c.args.query.now.shape) c.args.column
     (predicates.plain_of c.args.sync.now) c.args.item.now c.args.keys.now c.push_to_each.new.keys
     (sym c.holds.ensures ∙ c.if-holds.true) takes)
     c.push_to_each.ensures
 
-pub keys::keys_push-returns-else-holds : goal.keys::keys_push-returns-else-holds
-keys::keys_push-returns-else-holds t c =
+pub keys::keys_push-returns-else-holds-clause-pushed : goal.keys::keys_push-returns-else-holds-clause-pushed
+keys::keys_push-returns-else-holds-clause-pushed t c =
     where_ok c.push_to_key.result _ _ (λ done pushed. pushed_key seen_of (plain_of c.args.query.now.shape) c.args.column
     (predicates.plain_of c.args.sync.now) c.args.item.now c.args.keys.now pushed.mid c.push_to_key.new.keys pushed.place
     (sym c.holds.ensures ∙ c.if-holds.false) pushed.has pushed.takes) (subst (λ (key : List ℕ). IfOk c.push_to_key.result (λ done. IsKeyPushed seen_of (plain_of c.args.query.now.shape) key
-    c.args.item.now c.args.keys.now c.push_to_key.new.keys)) c.key_of.ensures c.push_to_key.ensures)
+    c.args.item.now c.args.keys.now c.push_to_key.new.keys)) c.key_of.ensures c.push_to_key.ensures.pushed)
+
+pub keys::push_to_key-returns-clause-left : goal.keys::push_to_key-returns-clause-left
+keys::push_to_key-returns-clause-left t c =
+    on_err c.carry.result _ (inr (record {
+      place = c.in_ok-place.place;
+      mid = c.place_or_new.new.keys;
+      runner = c.carry.new.runner;
+      has = c.in_ok-place.ensures.has;
+      fallback = refl;
+      keyed = refl;
+    }))
 
 pub keys::push_to_key-follower_mut-requires : goal.keys::push_to_key-follower_mut-requires
 keys::push_to_key-follower_mut-requires t c =
-    slice_get_within (names_of c.place_or_new.new.keys) c.in_ok-place.place c.args.key.now c.in_ok-place.ensures.there
+    slice_get_within (names_of c.place_or_new.new.keys) c.in_ok-place.place c.args.key.now c.in_ok-place.ensures.has.there
 
 pub keys::push_to_key-carry-requires : goal.keys::push_to_key-carry-requires
 keys::push_to_key-carry-requires t c = (
@@ -40,15 +51,15 @@ keys::push_to_key-carry-requires t c = (
   follower_allowed seen_of (plain_of c.args.query.now.shape) c.args.item.now c.place_or_new.new.keys c.in_ok-place.place
       c.follower_mut.result.now
       (with_allowed seen_of (plain_of c.args.query.now.shape) c.args.item.now c.args.key.now c.args.keys.now
-      c.place_or_new.new.keys c.in_ok-place.place c.in_ok-place.ensures c.requires) c.follower_mut.ensures.value,
+      c.place_or_new.new.keys c.in_ok-place.place c.in_ok-place.ensures.has c.requires) c.follower_mut.ensures.value,
 )
 
-pub keys::push_to_key-returns : goal.keys::push_to_key-returns
-keys::push_to_key-returns t c =
+pub keys::push_to_key-returns-clause-pushed : goal.keys::push_to_key-returns-clause-pushed
+keys::push_to_key-returns-clause-pushed t c =
     where_ok c.carry.result _ _ (λ done takes. record {
       place = c.in_ok-place.place;
       mid = c.place_or_new.new.keys;
-      has = c.in_ok-place.ensures;
+      has = c.in_ok-place.ensures.has;
       takes = record {
         runner = c.follower_mut.result.now;
         carried = c.carry.new.runner;

@@ -63,22 +63,26 @@ feeds::carry-returns-clause-carried t c =
 pub feeds::tell-carry-requires : goal.feeds::tell-carry-requires
 feeds::tell-carry-requires t c = (
   search rules,
-  subst (CanCarry seen_of (plain_of c.args.query.now.shape) c.args.runner.now) (sym c.from_value.ensures) c.requires,
+  subst (CanCarry seen_of (plain_of c.args.query.now.shape) c.args.runner.now)
+      (sym (c.from_value.ensures ∙ ap item_of c.into_parts-start.ensures.value)) c.requires,
 )
 
 pub feeds::tell-returns-in_ok-value-in-Some-clause-told : goal.feeds::tell-returns-in_ok-value-in-Some-clause-told
 feeds::tell-returns-in_ok-value-in-Some-clause-told t c = record {
   carried = subst (λ (item : List Field). IsCarried seen_of (plain_of c.args.query.now.shape) c.args.runner.now item
-      c.carry-2.new.runner) c.from_value.ensures c.in_ok-carry.ensures.carried;
-  answers = ap (λ (v : Value). Some (record { start = c.args.left.start; value = v }))
+      c.carry-2.new.runner) (c.from_value.ensures ∙ ap item_of c.into_parts-start.ensures.value)
+      c.in_ok-carry.ensures.carried;
+  answers = ap (λ (v : Value). Some (record { start = c.into_parts-start.result.0; value = v }))
       c.in_ok-value-in-Some.ensures.equal
-      ∙ ap (hit_at c.args.left.start) (sym c.in-Some.is);
+      ∙ ap (hit_at c.into_parts-start.result.0) (sym c.in-Some.is)
+      ∙ ap (λ (start : ℕ). hit_at start c.carry-2.new.runner.answer) c.into_parts-start.ensures.start;
 }
 
 pub feeds::tell-returns-in-None-clause-told : goal.feeds::tell-returns-in-None-clause-told
 feeds::tell-returns-in-None-clause-told t c = record {
   carried = subst (λ (item : List Field). IsCarried seen_of (plain_of c.args.query.now.shape) c.args.runner.now item
-      c.carry-2.new.runner) c.from_value.ensures c.in_ok-carry.ensures.carried;
+      c.carry-2.new.runner) (c.from_value.ensures ∙ ap item_of c.into_parts-start.ensures.value)
+      c.in_ok-carry.ensures.carried;
   answers = ap (hit_at c.args.left.start) (sym c.in-None.is);
 }
 
@@ -191,8 +195,8 @@ pub feeds::tell-returns-in_err-carry-clause-no_memory :
     goal.feeds::tell-returns-in_err-carry-clause-no_memory
 feeds::tell-returns-in_err-carry-clause-no_memory t c = λ free.
     absurd (false≢true (c.in_err-carry.ensures.no_memory
-    (subst (CarriesNumbers seen_of (plain_of c.args.query.now.shape) c.args.runner.now) (sym c.from_value.ensures)
-    free)))
+    (subst (CarriesNumbers seen_of (plain_of c.args.query.now.shape) c.args.runner.now)
+    (sym (c.from_value.ensures ∙ ap item_of c.into_parts-start.ensures.value)) free)))
 
 pub feeds::tell-returns-in_err-value-in-Some-clause-no_memory :
     goal.feeds::tell-returns-in_err-value-in-Some-clause-no_memory
@@ -202,7 +206,7 @@ feeds::tell-returns-in_err-value-in-Some-clause-no_memory t c = λ free.
     (item_of c.args.left.value) _ free
     (subst (λ (item : List Field). IsCarried seen_of (plain_of c.args.query.now.shape) c.args.runner.now item
     c.carry-2.new.runner)
-    c.from_value.ensures c.in_ok-carry.ensures.carried) c.in-Some.is)))
+    (c.from_value.ensures ∙ ap item_of c.into_parts-start.ensures.value) c.in_ok-carry.ensures.carried) c.in-Some.is)))
 
 pub feeds::begin-returns-in_err-renew-clause-no_memory :
     goal.feeds::begin-returns-in_err-renew-clause-no_memory

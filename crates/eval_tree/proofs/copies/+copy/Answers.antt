@@ -135,17 +135,17 @@ copy-returns-in_default t c = elim c.in_default.branch [
       (λ key sync rate p f a is. search rules))
 ]
 
-pub copied_keys-add-requires : goal.copied_keys-add-requires
-copied_keys-add-requires t c = record {
+pub copy_followers-add-requires : goal.copy_followers-add-requires
+copy_followers-add-requires t c = record {
   fresh = key_fresh (names_of c.args.keys.now) (names_of c.keys.copy) c.keys.i c.key.result.now
       c.len-i-end.ensures.distinct c.keys.invariant.1 c.key.ensures;
 }
 
-pub copied_keys-keys-preserved : goal.copied_keys-keys-preserved
-copied_keys-keys-preserved t c =
+pub copy_followers-keys-preserved : goal.copy_followers-keys-preserved
+copy_followers-keys-preserved t c =
     let is_copy = IsCopy seen_of (plain_of c.args.query.now.shape) in
     let before = c.keys.invariant in (
-      subst (IsCopyOf seen_of is_copy (fallback_of c.args.keys.now)) (sym c.add.ensures.fallback) before.0,
+      c.add.ensures.fallback ∙ before.0,
       name_put seen_of is_copy (names_of c.args.keys.now) (keyed_of c.keys.copy) (keyed_of c.add.new.self) c.keys.i
           c.key.result.now c.in_ok-follower.follower c.key.ensures before.1 c.in_ok-add.ensures.ok,
       runner_put seen_of is_copy (keyed_followers c.args.keys.now) (keyed_of c.keys.copy) (keyed_of c.add.new.self) c.keys.i

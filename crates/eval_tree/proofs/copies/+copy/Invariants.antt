@@ -21,9 +21,9 @@ invariant-copied_runners-idle l =
     × AreAlike (IsCopyOf seen_of (IsCopy seen_of (plain_of l.query.shape))) (take l.i l.runners.idle) l.copy.idle
     × (length l.copy.live + length l.runners.idle ≤ l.copy.room) × (l.i-end ≡ length l.runners.idle)
 
-abbrev pub invariant-copied_keys-keys : goal.invariant-copied_keys-keys
-invariant-copied_keys-keys l =
-    IsCopyOf seen_of (IsCopy seen_of (plain_of l.query.shape)) (fallback_of l.keys) (fallback_of l.copy)
+abbrev pub invariant-copy_followers-keys : goal.invariant-copy_followers-keys
+invariant-copy_followers-keys l =
+    (fallback_of l.copy ≡ fallback_of l.fn.copy)
     × (names_of l.copy ≡ take l.i (names_of l.keys))
     × AreAlike (IsCopyOf seen_of (IsCopy seen_of (plain_of l.query.shape))) (take l.i (keyed_followers l.keys))
     (keyed_followers l.copy)

@@ -8,11 +8,11 @@ use Rattle.eval_tree.specs.Plain.{seen_of}
 use Rattle.eval_tree.proofs.KeysPushed.{last_read}
 use Rattle.eval_tree.proofs.keys.place_or_new.Goals as goal
 
-pub returns-in-Some : goal.returns-in-Some
-returns-in-Some c = record { there = c.in-Some.ensures.there; made = inl refl }
+pub returns-in-Some-clause-has : goal.returns-in-Some-clause-has
+returns-in-Some-clause-has c = record { there = c.in-Some.ensures.there; made = inl refl }
 
-pub returns-in_ok-add-in-None : goal.returns-in_ok-add-in-None
-returns-in_ok-add-in-None c = record {
+pub returns-in_ok-add-in-None-clause-has : goal.returns-in_ok-add-in-None-clause-has
+returns-in_ok-add-in-None-clause-has c = record {
   there = subst (λ (keyed : Followers Progress). slice_get keyed.names c.len-place.result ≡ Some c.args.key.now)
       (sym c.in_ok-add-in-None.ensures.ok)
       (last_read (names_of c.args.keys.now) c.args.key.now c.len-place.result c.len-place.ensures.count);

@@ -32,19 +32,19 @@ start-requires c =
       room = omega (arith, few, nodes);
     }
 
-pub returns : goal.returns
-returns c =
+pub returns-in-Ok : goal.returns-in-Ok
+returns-in-Ok c =
     let on = c.args.checked.now in
     let columns = seen_cells rc_value (λ cells. AreColumnsOf cells on.layout.columns) (option_copied c.as_ref.result)
     c.in_ok-cells.cells c.as_ref.ensures.value c.in_ok-cells.ensures.columns in
     subst (λ (q : Query). IsAt on.layout.columns (plain_of q.shape) []
     (record { node = c.start.new.node; position = 0; answer = c.value_of.result })) c.main-query.ensures.main
     (begun free on.layout.columns (plain_of c.main-query.result.now.shape) (holding_of c.in_ok-node.node.state)
-    (record { node = c.start.new.node; position = 0; answer = c.value_of.result }) c.in_ok-hit.hit
+    (record { node = c.start.new.node; position = 0; answer = c.value_of.result }) c.in-Ok.hit
     (subst (λ (q : Query). IsClear free on.layout.columns (plain_of q.shape)) (sym c.main-query.ensures.main)
     c.main-query.ensures.checked.clear)
     (c.in_ok-node.ensures.word on.layout.columns columns) (c.in_ok-node.ensures.sound on.layout.columns columns)
-    c.in_ok-hit.ensures.word c.in_ok-hit.ensures.sound refl c.value_of.ensures)
+    c.in-Ok.ensures.word c.in-Ok.ensures.sound refl c.value_of.ensures)
 
 pub new-requires-clause-cells : goal.new-requires-clause-cells
 new-requires-clause-cells c =

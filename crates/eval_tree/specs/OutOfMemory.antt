@@ -1,0 +1,32 @@
+-- Statement. What is left of runners for keys where an item finds no memory.
+use Rattle.std.specs.Prelude.{◌≡◌, ◌⊎◌, ℕ, List, false}
+use Rattle.value_ops.specs.declared.field.Field.{Field}
+use Rattle.predicate_cells.specs.Predicates.{Predicate}
+use Rattle.predicate_cells.specs.Truth.{holds}
+use Rattle.query_model.specs.Denotation.{key_of}
+use Rattle.query_model.specs.Queries.{Qre}
+use Rattle.map_collect.specs.Keys.{fallback_of, keyed_of}
+use Rattle.map_collect.specs.Lending.{with_follower}
+use Rattle.map_collect.specs.declared.keys.Keys.{Keys}
+use Rattle.eval_tree.specs.Holdings.{Seen}
+use Rattle.eval_tree.specs.Pushes.{HasKey}
+
+module _ {R : Type 0} (seen : R → Seen R) where
+  -- the key is there, as it was or with a copy of the runner for later keys, and its runner alone
+  -- has changed
+  pub record IsRunnerLeft (query : Qre) (key : List ℕ) (old new : Keys R) : Type 0 where
+    pub place : ℕ
+    pub mid : Keys R
+    pub runner : R
+    pub has : HasKey seen query key old place mid
+    pub fallback : fallback_of new ≡ fallback_of mid
+    pub keyed : keyed_of new ≡ with_follower (keyed_of mid) place runner
+
+  -- all is as before, so that a new key that finds no memory leaves no trace; or the key is there
+  abbrev pub IsKeyLeft : Qre → List ℕ → Keys R → Keys R → Type 0
+  IsKeyLeft query key old new = (new ≡ old) ⊎ IsRunnerLeft query key old new
+
+  -- so an item of one key leaves them; one of all keys may have gone by at some
+  abbrev pub IsLeft : Qre → ℕ → Predicate → Keys R → List Field → Keys R → Type 0
+  IsLeft query column sync old item new =
+      (holds sync item ≡ false) → IsKeyLeft query (key_of column item) old new
