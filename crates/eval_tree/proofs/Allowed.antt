@@ -15,9 +15,9 @@ use Rattle.query_model.proofs.ItemFields.{atom_types}
 use Rattle.split_eval.specs.Entries.{Contents}
 use Rattle.eval_tree.specs.declared.hit.Hit.{Hit}
 use Rattle.eval_tree.specs.Holdings.{Holding, atom_held, choice_held, apply_held, split_held, Seen}
-use Rattle.eval_tree.specs.Lefts.{AreTypedWith, IsTypedOnHit, IsTypedWith}
+use Rattle.eval_tree.specs.Lefts.{AreTypedWith, IsTypedWith}
 use Rattle.eval_tree.specs.Steps.{CanStart, CanStep, StartsSoundly, StepsSoundly}
-use Rattle.eval_tree.proofs.Typed.{all_typed_with, hit_of, typed_on_hit, typed_with}
+use Rattle.eval_tree.proofs.Typed.{all_typed_with, hit_of, typed_with}
 
 module _ {R : Type 0} (seen : R → Seen R) where
   -- starts

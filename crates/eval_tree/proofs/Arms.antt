@@ -1,8 +1,7 @@
 -- The same calls of the same nodes.
 use Rattle.std.proofs.Common.{◌≡◌, ◌∙◌, ℕ, Bool, List, Option, Result, Ok, Err, ap, sym, subst, arith, of_z, to_z, to_z-of_z, w64}
-use Rattle.std.specs.Prelude.{ℤ, Box, FitsSigned, IfOk, IsErr, IsOk, OnErr}
+use Rattle.std.specs.Prelude.{ℤ, FitsSigned, IfOk, IsErr, IsOk, OnErr}
 use Rattle.std.proofs.lemmas.Bool.{false≢true}
-use Rattle.std.specs.declared.alloc.Global.{Global}
 use Rattle.value_ops.specs.declared.field.Field.{Field}
 use Rattle.value_ops.specs.declared.scalar.Scalar.TheVariants.{Number}
 use Rattle.value_ops.specs.declared.value.Value.{Value}

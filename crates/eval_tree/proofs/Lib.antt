@@ -51,6 +51,7 @@ pub mod Living
 pub mod Made
 pub mod MadeFed
 pub mod Members
+pub mod NewParts
 pub mod NumberQueries
 pub mod NumberRunners
 pub mod NumbersAllowed

@@ -1,5 +1,5 @@
 -- New nodes.
-use Rattle.std.proofs.Common.{◌≡◌, ◌≤◌, ℕ, ◌+◌, ◌-◌, ◌*◌, ◌^◌, min, List, [], sym, subst, arith}
+use Rattle.std.proofs.Common.{◌≡◌, ◌≤◌, ℕ, ◌+◌, ◌-◌, ◌^◌, min, List, [], sym, subst, arith}
 use Rattle.std.specs.Prelude.{ℤ}
 use Rattle.std.proofs.lemmas.Option.{none-some}
 use Rattle.value_ops.specs.declared.value.Value.{Value}
@@ -9,14 +9,15 @@ use Rattle.rate_expr.specs.Language.{In}
 use Rattle.rate_expr.specs.Rates as rate
 use Rattle.rate_expr.specs.Readings.{HasExtension}
 use Rattle.rate_expr.specs.Words.{Word}
-use Rattle.query_model.specs.Bounds.{inner_of, nodes_of, places_of}
+use Rattle.query_model.specs.Bounds.{inner_of, nodes_of, places_of, slots_of}
 use Rattle.query_model.specs.Denotation.{Den}
 use Rattle.query_model.specs.Following.{composes_of}
 use Rattle.query_model.specs.Rates.{rate_of}
 use Rattle.query_model.specs.Sizes.{max_slots}
 use Rattle.query_model.specs.Queries.{Qre, atom, eps, choice, split, iter, combine, apply, compose, collect}
-use Rattle.eval_tree.specs.Holdings.{Holding, Seen}
+use Rattle.eval_tree.specs.Holdings.{Holding, Seen, iter_held, split_held}
 use Rattle.eval_tree.specs.Represents.{AreReached, AreWaiting, Represents}
+use Rattle.eval_tree.specs.Sound.{IsSound}
 use Rattle.eval_tree.proofs.Members.{no_member}
 
 -- a node keeps more than it has places
@@ -43,20 +44,13 @@ composes_few (apply f e) = let a = composes_few f in omega (arith, a)
 composes_few (compose f g) = let a = composes_few f in let b = composes_few g in omega (arith, a, b)
 composes_few (collect column sync rate f) = let a = composes_few f in omega (arith, a)
 
--- the room for left values is as large as it is to be
-pub room_fits : (f g : Qre) (room : ℕ) → inner_of f + inner_of g + 3 * places_of g + 2 ≤ max_slots
-    → room ≡ min (places_of g) (2 ^ 32 - 1) → room ≡ places_of g
-room_fits f g room small is =
-    let few = places_few g in
-    let slots : inner_of f + inner_of g + 3 * places_of g + 2 ≤ 2 ^ 20 = small in
+-- a query that keeps little has few places, so that the room for what waits is as large as it is to be
+pub all_places : (q : Qre) (room : ℕ) → slots_of q ≤ max_slots → room ≡ min (places_of q) (2 ^ 32 - 1)
+    → room ≡ places_of q
+all_places q room small is =
+    let few = places_few q in
+    let slots : inner_of q + 2 ≤ 2 ^ 20 = small in
     omega (arith, few, slots, is)
-
--- the room for values so far is too
-pub room_suits : (f : Qre) (room : ℕ) → inner_of f + 3 * places_of f + 2 ≤ max_slots
-    → room ≡ min (places_of f) (2 ^ 32 - 1) → room ≡ places_of f
-room_suits f room small is =
-    let slots : inner_of f + 3 * places_of f + 2 ≤ 2 ^ 20 = small in
-    omega (arith, slots, is)
 
 -- nothing is reached and nothing waits without a start
 pub none_reached : (A : Word → Type 0) → AreReached A [] [] []
@@ -104,6 +98,24 @@ module _ {R : Type 0} (seen : R → Seen R) where
     ([], none_reached (In (rate.star (rate_of f))), first),
     none_waits (Den (iter f number e)) (HasExtension columns (rate_of f)),
     places,
+  )
+
+  -- with no entries they are sound
+  pub new_split_sound : (columns : List Column) (f g : Qre) (e : Expression) (a b : Holding R) (room : ℕ)
+      → IsSound seen columns f 0 a → IsSound seen columns g 0 b → room ≡ places_of g
+      → IsSound seen columns (split f g e) 0 (split_held a b (record { entries = []; room = room }))
+  new_split_sound columns f g e a b room first second places = (
+    first,
+    second,
+    record { room = places; few = omega arith; distinct = tt; typed = tt },
+  )
+
+  pub new_chain_sound : (columns : List Column) (f : Qre) (number : ℤ) (e : Expression) (a : Holding R) (room : ℕ)
+      → IsSound seen columns f 0 a → room ≡ places_of f
+      → IsSound seen columns (iter f number e) 0 (iter_held a (record { entries = []; room = room }))
+  new_chain_sound columns f number e a room first places = (
+    first,
+    record { room = places; few = omega arith; distinct = tt; typed = tt },
   )
 
   -- the same node of the same query

@@ -1,7 +1,6 @@
 -- A new node of a compose: all its runners are idle.
 use Rattle.std.proofs.Common.{◌≡◌, ◌≤◌, ℕ, ◌+◌, ◌-◌, ◌*◌, ◌^◌, min, List, [], None, length, sym, ap, subst, arith}
 use Rattle.std.specs.List.{AllByRecursion, Contains}
-use Rattle.std.proofs.Math.Nat.{add-mul}
 use Rattle.item_schema.specs.declared.column.Column.{Column}
 use Rattle.query_model.specs.Bounds.{inner_of, places_of, slots_of}
 use Rattle.query_model.specs.Queries.{Qre, compose}
@@ -24,12 +23,12 @@ use Rattle.eval_tree.proofs.Members.{no_member}
 use Rattle.eval_tree.proofs.StoredNone.{silent_few}
 
 -- there are as many runners as there are to be
-pub runners_fit : (f g : Qre) (places count : ℕ) → slots_of (compose f g) ≤ max_slots
-    → places ≡ min (places_of f) (2 ^ 32 - 1) → count ≡ min (places + 1) (2 ^ 32 - 1) → count ≡ places_of f + 1
-runners_fit f g places count small is all =
+pub runners_fit : (f : Qre) (places count : ℕ) → slots_of f ≤ max_slots → places ≡ min (places_of f) (2 ^ 32 - 1)
+    → count ≡ min (places + 1) (2 ^ 32 - 1) → count ≡ places_of f + 1
+runners_fit f places count small is all =
     let few = places_few f in
-    let whole : inner_of f + (places_of f + 1) * (1 + (inner_of g + 2)) + 2 ≤ 2 ^ 20 = small in
-    omega (arith, few, whole, is, all)
+    let slots : inner_of f + 2 ≤ 2 ^ 20 = small in
+    omega (arith, few, slots, is, all)
 
 module _ {R : Type 0} (seen : R → Seen R) where
   pub new_compose : (columns : List Column) (f g : Qre) (a : Holding R) (held : Contents R)

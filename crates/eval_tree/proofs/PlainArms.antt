@@ -3,9 +3,7 @@ use Rattle.std.proofs.Common.{◌≡◌, ℕ, true, false, List, Option, Some, N
 use Rattle.std.specs.Option.{option_or}
 use Rattle.std.specs.Prelude.{ℤ}
 use Rattle.value_ops.specs.declared.field.Field.{Field}
-use Rattle.value_ops.specs.declared.scalar.Scalar.TheVariants.{Number}
 use Rattle.value_ops.specs.declared.value.Value.{Value}
-use Rattle.value_ops.specs.declared.value.Value.TheVariants as value
 use Rattle.value_ops.specs.Evaluation.{given, value_of}
 use Rattle.value_ops.specs.Expressions.{Expression}
 use Rattle.predicate_cells.specs.Predicates.{Predicate}

@@ -9,6 +9,7 @@ pub mod Keyed
 pub mod Laws
 pub mod Lefts
 pub mod Live
+pub mod NewNodes
 pub mod Numbers
 pub mod OutOfMemory
 pub mod Plain

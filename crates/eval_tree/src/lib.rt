@@ -18,6 +18,7 @@ mod laws;
 mod lefts;
 mod live;
 mod make;
+mod new_nodes;
 mod node;
 mod progress;
 mod runner;

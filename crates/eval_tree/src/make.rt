@@ -9,19 +9,19 @@ ghost use Rattle.query_model.specs.Queries.{plain_of};
 ghost use Rattle.query_model.specs.Sizes.{max_slots};
 ghost use Rattle.eval_tree.specs.Counts.{stored_in};
 ghost use Rattle.eval_tree.specs.Feeds.{IsSoundOf};
+ghost use Rattle.eval_tree.specs.NewNodes.{CanBeNew, IsNewNode};
 ghost use Rattle.eval_tree.specs.Plain.{holding_of, seen_of};
 ghost use Rattle.eval_tree.specs.Represents.{KeepsFew, Represents};
 ghost use Rattle.eval_tree.specs.Sound.{IsSound};
 ghost use Rattle.eval_tree.specs.Streams.{AreColumnsOf, CanBeMade};
 
-use crate::automaton::no_tracks;
+use crate::new_nodes::{
+    new_apply, new_choice, new_collect, new_combine, new_compose, new_iter, new_split,
+};
 use crate::{Node, Progress, State};
 use compose_eval::Instances;
-use iter_eval::Chain;
-use memory_bound::places;
 use predicate_cells::Cells;
 use query_model::{Query, Shape};
-use split_eval::Pending;
 use std::alloc::{AllocError, Global};
 use std::rc::Rc;
 
@@ -39,56 +39,31 @@ impl Node {
             → AreColumnsOf (option_map rc_value (option_copied cells.entry)) columns
             → IsSound seen_of columns (plain_of query.now.shape) 0 (holding_of node.state)) }
     {
-        let state = match &query.shape {
-            Shape::Atom(..) => State::Atom(None),
-            Shape::Eps(_) => State::Eps,
-            Shape::Or(first, second) => {
-                let first = Node::boxed(alloc, first, cells)?;
-                State::Or(first, Node::boxed(alloc, second, cells)?)
-            }
-            Shape::Apply(inner, _) => State::Apply(Node::boxed(alloc, inner, cells)?),
-            Shape::Split(first, second, _) => {
-                let held = Pending::new(alloc, places(second))?;
-                let first = Node::boxed(alloc, first, cells)?;
-                State::Split(first, Node::boxed(alloc, second, cells)?, held)
-            }
-            Shape::Combine(first, second, _) => {
-                let first = Node::boxed(alloc, first, cells)?;
-                State::Combine(first, Node::boxed(alloc, second, cells)?)
-            }
-            Shape::Iter(inner, ..) => {
-                let so_far = Chain::new(alloc, places(inner))?;
-                State::Iter(Node::boxed(alloc, inner, cells)?, so_far)
-            }
-            Shape::Compose(first, second) => {
-                let runners = idle_runners(alloc, second, places(first).saturating_add(1))?;
-                let state = State::Compose(Node::boxed(alloc, first, cells)?, runners);
-                return Ok(Node { state });
-            }
-            Shape::Collect(_, _, rate, _) => {
-                let state = State::Collect(no_tracks(alloc, rate, cells)?);
-                return Ok(Node { state });
-            }
-        };
-        Ok(Node { state })
+        match &query.shape {
+            Shape::Atom(..) => Ok(Node {
+                state: State::Atom(None),
+            }),
+            Shape::Eps(_) => Ok(Node { state: State::Eps }),
+            Shape::Or(first, second) => new_choice(alloc, first, second, cells),
+            Shape::Apply(inner, _) => new_apply(alloc, inner, cells),
+            Shape::Split(first, second, _) => new_split(alloc, first, second, cells),
+            Shape::Combine(first, second, _) => new_combine(alloc, first, second, cells),
+            Shape::Iter(inner, ..) => new_iter(alloc, inner, cells),
+            Shape::Compose(first, second) => new_compose(alloc, first, second, cells),
+            Shape::Collect(_, _, rate, _) => new_collect(alloc, rate, cells),
+        }
     }
 
     #[cycle(make)]
-    fn boxed(
+    pub(crate) fn boxed(
         alloc: Global,
         query: &Query,
         cells: Option<&Rc<Cells>>,
     ) -> Result<Box<Node>, AllocError>
-        requires cells { CanBeMade (option_map rc_value (option_copied cells))
+        requires { CanBeNew (option_map rc_value (option_copied cells))
             (plain_of query.now.shape) }
-        requires small { slots_of (plain_of query.now.shape) ≤ max_slots }
-        ensures word { IfOk result (λ node. (columns : List Column)
-            → AreColumnsOf (option_map rc_value (option_copied cells.entry)) columns
-            → Represents seen_of columns (plain_of query.now.shape)
-            (holding_of node.value.state) [] []) }
-        ensures sound { IfOk result (λ node. (columns : List Column)
-            → AreColumnsOf (option_map rc_value (option_copied cells.entry)) columns
-            → IsSound seen_of columns (plain_of query.now.shape) 0
+        ensures { IfOk result (λ node. IsNewNode seen_of
+            (option_map rc_value (option_copied cells.entry)) (plain_of query.now.shape)
             (holding_of node.value.state)) }
     {
         Ok(Box::new(alloc, Node::new(alloc, query, cells)?)?)
@@ -97,7 +72,11 @@ impl Node {
 
 /// So many runners that are fed from nowhere.
 #[cycle(make)]
-fn idle_runners(alloc: Global, query: &Query, count: u32) -> Result<Instances<Progress>, AllocError>
+pub(crate) fn idle_runners(
+    alloc: Global,
+    query: &Query,
+    count: u32,
+) -> Result<Instances<Progress>, AllocError>
     requires cells { CanBeMade None (plain_of query.now.shape) }
     requires small { slots_of (plain_of query.now.shape) ≤ max_slots }
     ensures live { IfOk result (λ runners. runners.live ≡ []) }

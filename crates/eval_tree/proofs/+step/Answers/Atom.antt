@@ -1,5 +1,5 @@
 -- An atom and the empty word.
-use Rattle.std.proofs.Common.{List, None, Option, Some, ap, false, refl, rules, subst, sym, true, ℕ, ◌∙◌, ◌≡◌}
+use Rattle.std.proofs.Common.{List, None, Option, Some, ap, refl, rules, subst, sym, ℕ, ◌∙◌, ◌≡◌}
 use Rattle.std.proofs.lemmas.Bool.{false≢true}
 use Rattle.value_ops.specs.declared.field.Field.{Field}
 use Rattle.value_ops.specs.declared.value.ValueType.{ValueType}

@@ -1,5 +1,5 @@
 -- A collect.
-use Rattle.std.proofs.Common.{ap, arith, false, inl, refl, rules, subst, sym, true, ◌∙◌, inr}
+use Rattle.std.proofs.Common.{ap, arith, inl, refl, rules, subst, sym, ◌∙◌, inr}
 use Rattle.query_model.specs.declared.query.Shape.TheViews.{the_lemmas}
 use Rattle.query_model.specs.Queries.{Qre, plain_of}
 use Rattle.eval_tree.specs.Plain.{holding_of, seen_of, tracks_of}

@@ -1,5 +1,5 @@
 -- Runners for keys.
-use Rattle.std.proofs.Common.{List, arith, false, inr, refl, rules, subst, sym, true, ℕ, ◌∙◌}
+use Rattle.std.proofs.Common.{List, arith, inr, refl, rules, subst, sym, ℕ, ◌∙◌}
 use Rattle.std.specs.Prelude.{IfOk}
 use Rattle.query_model.specs.Queries.{plain_of}
 use Rattle.eval_tree.specs.Plain.{seen_of}

@@ -8,9 +8,7 @@ use Rattle.eval_tree.specs.declared.hit.Hit.{Hit}
 use Rattle.eval_tree.specs.Plain.{holding_of, seen_of}
 use Rattle.eval_tree.proofs.Arms.{where_ok}
 use Rattle.value_ops.specs.declared.field.Field.{Field}
-use Rattle.value_ops.specs.Evaluation.{value_of}
 use Rattle.eval_tree.specs.declared.progress.Progress.{Progress}
-use Rattle.split_eval.specs.Entries.{Contents}
 use Rattle.value_ops.specs.declared.value.Value.{Value}
 use Rattle.compose_eval.specs.Followers as followers
 use Rattle.compose_eval.specs.Followers.{instance_at, with_follower, IsAt}

@@ -17,7 +17,7 @@ use Rattle.eval_tree.proofs.RunnerCopies.{copied_as}
 use Rattle.eval_tree.proofs.Runners.{alike_more, as_many_taken, copied_fresh, copied_many, follower_put, start_put}
 use Rattle.rate_expr.specs.Behind.{IsStateOf}
 use Rattle.symbolic_nfa.specs.Automata.{Automaton}
-use Rattle.map_collect.specs.Keys.{fallback_of, followers_of as keyed_followers, keyed_of, names_of}
+use Rattle.map_collect.specs.Keys.{followers_of as keyed_followers, keyed_of, names_of}
 use Rattle.eval_tree.proofs.CollectArms.{tracked_is}
 use Rattle.eval_tree.proofs.CollectCopying.{key_fresh, name_put, runner_put, start_fresh, state_at, track_put}
 use Rattle.eval_tree.proofs.Unlike.{unlike_apply, unlike_atom, unlike_choice, unlike_collect, unlike_combine, unlike_compose, unlike_iter, unlike_split}
