@@ -26,6 +26,7 @@ pub mod ComposeSoundness
 pub mod ComposeStarts
 pub mod ComposeSteps
 pub mod Copied
+pub mod CopyParts
 pub mod Copying
 pub mod Elsewhere
 pub mod Ends

@@ -1,29 +1,12 @@
--- The empty word: what is kept for it, cleared and copied; and what is copied where it is not what the query asks for.
+-- What stays as it is where a node is cleared.
 use Rattle.std.proofs.Common.{◌≡◌, refl}
 use Rattle.query_model.specs.declared.query.Shape.{Shape}
 use Rattle.query_model.specs.declared.query.Shape.TheVariants.{Atom, Eps, Or', Split', Iter', Combine', Apply', Compose', Collect'}
 use Rattle.query_model.specs.Queries.{plain_of}
 use Rattle.eval_tree.specs.declared.node.State.{State}
 use Rattle.eval_tree.specs.declared.node.State.TheVariants as variant
-use Rattle.eval_tree.specs.Copies.{IsCopy}
-use Rattle.eval_tree.specs.Counts.{stored_in}
 use Rattle.eval_tree.specs.Feeds.{IsCleared}
-use Rattle.eval_tree.specs.Holdings.{eps_held}
 use Rattle.eval_tree.specs.Plain.{holding_of, seen_of}
-use Rattle.eval_tree.proofs.Lived.{IsOther}
-
-pub other_stored : (shape : Shape) (state : State) → IsOther shape
-    → stored_in seen_of (plain_of shape) (holding_of state) ≡ 0
-other_stored (Atom pred value) state other = absurd other
-other_stored (Eps number) (variant.Atom found) other = refl
-other_stored (Eps number) state other = refl
-other_stored (Or' p f a q g b) state other = absurd other
-other_stored (Split' p f a q g b value) state other = absurd other
-other_stored (Iter' p f a number value) state other = absurd other
-other_stored (Combine' p f a q g b value) state other = absurd other
-other_stored (Apply' p f a value) state other = absurd other
-other_stored (Compose' p f a q g b) state other = absurd other
-other_stored (Collect' key sync rate p f a) state other = absurd other
 
 -- a shape whose nodes stay as they are where they are cleared: nothing is kept for the empty word, and no collect is cleared
 abbrev pub IsLeft : Shape → Type 0
@@ -49,37 +32,6 @@ left_cleared (Combine' p f a q g b value) state left = absurd left
 left_cleared (Apply' p f a value) state left = absurd left
 left_cleared (Compose' p f a q g b) state left = absurd left
 left_cleared (Collect' key sync rate p f a) state left = λ no_collect columns position sound. absurd no_collect
-
-pub other_copied : (shape : Shape) (state : State) → IsOther shape
-    → IsCopy seen_of (plain_of shape) (holding_of state) eps_held
-other_copied (Atom pred value) state other = absurd other
-other_copied (Eps number) variant.Eps other = refl
-other_copied (Eps number) state other = refl
-other_copied (Or' p f a q g b) state other = absurd other
-other_copied (Split' p f a q g b value) state other = absurd other
-other_copied (Iter' p f a number value) state other = absurd other
-other_copied (Combine' p f a q g b value) state other = absurd other
-other_copied (Apply' p f a value) state other = absurd other
-other_copied (Compose' p f a q g b) state other = absurd other
-other_copied (Collect' key sync rate p f a) state other = absurd other
-
--- it is none of the shapes that have arms of their own
-pub other_shape : (shape : Shape) → ((pred value : _) → shape ≡ Atom pred value → ⊥)
-    → ((p f a q g b : _) → shape ≡ Or' p f a q g b → ⊥) → ((p f a q g b value : _) → shape ≡ Split' p f a q g b value → ⊥)
-    → ((p f a number value : _) → shape ≡ Iter' p f a number value → ⊥)
-    → ((p f a q g b value : _) → shape ≡ Combine' p f a q g b value → ⊥)
-    → ((p f a value : _) → shape ≡ Apply' p f a value → ⊥) → ((p f a q g b : _) → shape ≡ Compose' p f a q g b → ⊥)
-    → ((key sync rate p f a : _) → shape ≡ Collect' key sync rate p f a → ⊥) → IsOther shape
-other_shape (Atom pred value) no_atom no_or no_split no_iter no_combine no_apply no_compose no_collect = no_atom pred value refl
-other_shape (Eps number) no_atom no_or no_split no_iter no_combine no_apply no_compose no_collect = tt
-other_shape (Or' p f a q g b) no_atom no_or no_split no_iter no_combine no_apply no_compose no_collect = no_or p f a q g b refl
-other_shape (Split' p f a q g b value) no_atom no_or no_split no_iter no_combine no_apply no_compose no_collect = no_split p f a q g b value refl
-other_shape (Iter' p f a number value) no_atom no_or no_split no_iter no_combine no_apply no_compose no_collect = no_iter p f a number value refl
-other_shape (Combine' p f a q g b value) no_atom no_or no_split no_iter no_combine no_apply no_compose no_collect = no_combine p f a q g b value refl
-other_shape (Apply' p f a value) no_atom no_or no_split no_iter no_combine no_apply no_compose no_collect = no_apply p f a value refl
-other_shape (Compose' p f a q g b) no_atom no_or no_split no_iter no_combine no_apply no_compose no_collect = no_compose p f a q g b refl
-other_shape (Collect' key sync rate p f a) no_atom no_or no_split no_iter no_combine no_apply no_compose no_collect =
-    no_collect key sync rate p f a refl
 
 -- it is none of the shapes that are cleared
 pub left_shape : (shape : Shape) → ((pred value : _) → shape ≡ Atom pred value → ⊥)

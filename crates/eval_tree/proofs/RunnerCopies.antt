@@ -1,5 +1,4 @@
--- A node in memory and its copy; and of a runner, that it follows what the runner follows, is sound where this is, and takes
--- as much.
+-- A copy of a runner follows what the runner follows, is sound where this is, and takes as much.
 use Rattle.std.proofs.Common.{◌≡◌, ◌∙◌, ℕ, List, [], ◌∷◌, sym, subst}
 use Rattle.item_schema.specs.declared.column.Column.{Column}
 use Rattle.rate_expr.specs.Words.{Word}
@@ -11,18 +10,9 @@ use Rattle.eval_tree.specs.Copies.{IsCopy, IsCopyOf}
 use Rattle.eval_tree.specs.Counts.{size_of_runner, stored_in}
 use Rattle.eval_tree.specs.Feeds.{IsSoundOf}
 use Rattle.eval_tree.specs.Following.{IsAt}
-use Rattle.eval_tree.specs.Holdings.{Holding}
 use Rattle.eval_tree.specs.Plain.{holding_of, seen_of}
 use Rattle.eval_tree.specs.Sound.{IsSound, IsTyped}
 use Rattle.eval_tree.proofs.Copied.{copy_represents, copy_sound, copy_stored, size_same}
-
--- a fact on a query, a node and its copy
-pub copied_as : (q q' : Qre) (h h' k k' : Holding Progress) → q' ≡ q → h' ≡ h → k' ≡ k
-    → IsCopy seen_of q h k → IsCopy seen_of q' h' k'
-copied_as q q' h h' k k' query original copy is =
-    subst (λ (x : Qre). IsCopy seen_of x h' k') (sym query)
-    (subst (λ (x : Holding Progress). IsCopy seen_of q x k') (sym original)
-    (subst (λ (x : Holding Progress). IsCopy seen_of q h x) (sym copy) is))
 
 pub copied_soundly : (columns : List Column) (q : Qre) (old new : Progress) → IsCopyOf seen_of (IsCopy seen_of q) old new
     → IsSoundOf seen_of columns q old → IsSoundOf seen_of columns q new

@@ -6,9 +6,12 @@ ghost use Rattle.query_model.specs.Queries.{plain_of};
 ghost use Rattle.eval_tree.specs.Copies.{AreAlike, AreCopied, AreCopiedKeys, AreCopiedTracks, IsCopy, IsCopyOf};
 ghost use Rattle.eval_tree.specs.Plain.{holding_of, seen_of};
 
+use crate::node_copies::{
+    copy_of_apply, copy_of_atom, copy_of_choice, copy_of_collect, copy_of_combine, copy_of_compose,
+    copy_of_iter, copy_of_split,
+};
 use crate::{Node, Progress, State};
 use compose_eval::Instances;
-use iter_eval::Chain;
 use map_collect::{Keys, Tracks};
 use query_model::{Query, Shape};
 use split_eval::Pending;
@@ -21,50 +24,21 @@ pub fn copy(query: &Query, node: &Node, alloc: Global) -> Result<Node, AllocErro
     ensures { IfOk result (λ copy. IsCopy seen_of (plain_of query.now.shape)
         (holding_of node.now.state) (holding_of copy.state)) }
 {
-    match (&query.shape, &node.state) {
-        (Shape::Atom(..), State::Atom(found)) => Ok(Node {
-            state: State::Atom(*found),
-        }),
-        (Shape::Or(first, second), State::Or(a, b)) => {
-            let a = boxed_copy(first, a, alloc)?;
-            let state = State::Or(a, boxed_copy(second, b, alloc)?);
-            Ok(Node { state })
-        }
-        (Shape::Apply(inner, _), State::Apply(a)) => {
-            let state = State::Apply(boxed_copy(inner, a, alloc)?);
-            Ok(Node { state })
-        }
-        (Shape::Split(first, second, _), State::Split(a, b, held)) => {
-            let held = copied(alloc, held)?;
-            let a = boxed_copy(first, a, alloc)?;
-            let state = State::Split(a, boxed_copy(second, b, alloc)?, held);
-            Ok(Node { state })
-        }
-        (Shape::Combine(first, second, _), State::Combine(a, b)) => {
-            let a = boxed_copy(first, a, alloc)?;
-            let state = State::Combine(a, boxed_copy(second, b, alloc)?);
-            Ok(Node { state })
-        }
-        (Shape::Iter(inner, ..), State::Iter(a, so_far)) => {
-            let so_far = Chain::from_pending(copied(alloc, so_far.as_pending())?);
-            let state = State::Iter(boxed_copy(inner, a, alloc)?, so_far);
-            Ok(Node { state })
-        }
-        (Shape::Compose(first, second), State::Compose(a, runners)) => {
-            let a = boxed_copy(first, a, alloc)?;
-            let state = State::Compose(a, copied_runners(second, runners, alloc)?);
-            Ok(Node { state })
-        }
-        (Shape::Collect(_, _, _, inner), State::Collect(tracks)) => {
-            let state = State::Collect(copied_tracks(inner, tracks, alloc)?);
-            Ok(Node { state })
-        }
-        _ => Ok(Node { state: State::Eps }),
+    match &query.shape {
+        Shape::Atom(..) => Ok(copy_of_atom(node)),
+        Shape::Eps(_) => Ok(Node { state: State::Eps }),
+        Shape::Or(first, second) => copy_of_choice(first, second, node, alloc),
+        Shape::Apply(inner, _) => copy_of_apply(inner, node, alloc),
+        Shape::Split(first, second, _) => copy_of_split(first, second, node, alloc),
+        Shape::Combine(first, second, _) => copy_of_combine(first, second, node, alloc),
+        Shape::Iter(inner, ..) => copy_of_iter(inner, node, alloc),
+        Shape::Compose(first, second) => copy_of_compose(first, second, node, alloc),
+        Shape::Collect(_, _, _, inner) => copy_of_collect(inner, node, alloc),
     }
 }
 
 #[cycle(copy)]
-fn boxed_copy(query: &Query, node: &Node, alloc: Global) -> Result<Box<Node>, AllocError>
+pub(crate) fn boxed_copy(query: &Query, node: &Node, alloc: Global) -> Result<Box<Node>, AllocError>
     ensures { IfOk result (λ copy. IsCopy seen_of (plain_of query.now.shape)
         (holding_of node.now.state) (holding_of copy.value.state)) }
 {
@@ -94,7 +68,7 @@ pub(crate) fn copy_of_runner(
 }
 
 #[cycle(copy)]
-fn copied_runners(
+pub(crate) fn copied_runners(
     query: &Query,
     runners: &Instances<Progress>,
     alloc: Global,
@@ -194,7 +168,7 @@ fn copy_followers(
 }
 
 /// Equal left values, in the same order and in as much room.
-fn copied(alloc: Global, held: &Pending<Value>) -> Result<Pending<Value>, AllocError>
+pub(crate) fn copied(alloc: Global, held: &Pending<Value>) -> Result<Pending<Value>, AllocError>
     ensures { IfOk result (λ copy. copy ≡ held.now) }
 {
     let mut copy = Pending::new(alloc, held.room())?;

@@ -20,6 +20,7 @@ mod live;
 mod make;
 mod new_nodes;
 mod node;
+mod node_copies;
 mod progress;
 mod runner;
 mod split;
