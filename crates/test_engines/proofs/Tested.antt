@@ -21,6 +21,7 @@ use Rattle.query_model.specs.Checked.{IsChecked, OnStream}
 use Rattle.query_model.specs.Queries.{Qre, atom, plain_of, split}
 use Rattle.query_model.specs.Rules.{CanBeMet, IsClear, Standing, bound, free}
 use Rattle.query_model.specs.Sizes.{IsSmall}
+use Rattle.test_engines.specs.TestedQueries.{difference, numbers}
 use Rattle.eval_tree.specs.Holdings.{Holding}
 use Rattle.eval_tree.specs.Plain.{seen_of}
 use Rattle.eval_tree.specs.Streams.{CanBeMade}
@@ -28,13 +29,6 @@ use Rattle.eval_tree.specs.Sound.{IsSound}
 use Rattle.eval_tree.specs.Steps.{CanStart, CanStep, StartsSoundly, StepsSoundly}
 use Rattle.eval_tree.specs.declared.hit.Hit.{Hit}
 use Rattle.eval_tree.specs.declared.progress.Progress.{Progress}
-
-abbrev pub numbers : List Column
-numbers = record { name = codes "a"; kind = kind.Int } ∷ []
-
-abbrev pub difference : Qre
-difference = split (atom any (read (var.Field 0))) (atom any (read (var.Field 0)))
-    (binary op.Sub (read var.Left) (read var.Right))
 
 five : FitsSigned w64 (pos 5)
 five = search rules
@@ -98,25 +92,22 @@ module _ (q : Qre) (is : q ≡ difference) where
       → StartsSoundly seen_of q h 0 k hit → IsSound seen_of numbers q 0 k
   started h k hit sound starts = let x = starts bound numbers clear_as sound in x.node
 
-  module _ (item : List Field) (number : ℤ) (item_is : item ≡ field.Int number ∷ [])
-      (fits : FitsSigned w64 number) where
-    is_item : IsItemOf numbers item
-    is_item = subst (IsItemOf numbers) (sym item_is) (fits, tt)
-
-    pub can_step : (h : Holding Progress) (position : ℕ) → position < 100 → IsSound seen_of numbers q position h
-        → CanStep seen_of q h (position + 1) item
-    can_step h position few sound = record {
+  module _ (item : List Field) (is_item : IsItemOf numbers item) where
+    pub can_step : (h : Holding Progress) (now position : ℕ) → now ≡ position + 1 → now < 100
+        → IsSound seen_of numbers q position h → CanStep seen_of q h now item
+    can_step h now position behind few sound = record {
       standing = bound;
       columns = numbers;
       position = position;
-      behind = refl;
+      behind = behind;
       clear = clear_as;
       sound = sound;
       is_item = is_item;
-      room = subst (λ (x : Qre). position + 1 + composes_of x < 2 ^ 64) (sym is) (omega (arith, few));
+      room = subst (λ (x : Qre). now + composes_of x < 2 ^ 64) (sym is) (omega (arith, few));
     }
 
-    pub stepped : (h k : Holding Progress) (hit : Option Hit) (position : ℕ) → IsSound seen_of numbers q position h
-        → StepsSoundly seen_of q h (position + 1) item k hit → IsSound seen_of numbers q (position + 1) k
-    stepped h k hit position sound steps =
-        let x = steps bound numbers position refl clear_as is_item sound in x.node
+    pub stepped : (h k : Holding Progress) (hit : Option Hit) (now position : ℕ) → now ≡ position + 1
+        → IsSound seen_of numbers q position h → StepsSoundly seen_of q h now item k hit
+        → IsSound seen_of numbers q now k
+    stepped h k hit now position behind sound steps =
+        let x = steps bound numbers position behind clear_as is_item sound in x.node

@@ -16,16 +16,8 @@ use Rattle.query_model.specs.Checked.{IsChecked, OnStream}
 use Rattle.query_model.specs.Queries.{Qre, collect, plain_of}
 use Rattle.query_model.specs.Rules.{CanBeMet, IsClear, free}
 use Rattle.query_model.specs.Sizes.{IsSmall}
-use Rattle.test_engines.proofs.TestedFolds.{one_factoring, total, zero_fits}
-
-abbrev pub keyed : List Column
-keyed = record { name = codes "k"; kind = kind.Text } ∷ record { name = codes "a"; kind = kind.Int } ∷ []
-
-abbrev tick : Predicate
-tick = eq_text 0 (codes "tick")
-
-abbrev pub by_key : Qre
-by_key = collect 0 tick (sequence (star (one any)) (one tick)) (total (read (var.Field 1)))
+use Rattle.test_engines.specs.TestedQueries.{keyed, tick, totals_by_key}
+use Rattle.test_engines.proofs.TestedFolds.{one_factoring, zero_fits}
 
 text : IsText (codes "tick")
 text = search rules
@@ -39,7 +31,7 @@ met = record { fit = refl; item = ticks; is_item = (text, (zero_fits, tt)); meet
 met_by_tick : CanBeMet keyed tick
 met_by_tick = record { fit = refl; item = ticks; is_item = (text, (zero_fits, tt)); meets = refl }
 
-clear : IsClear free keyed by_key
+clear : IsClear free keyed totals_by_key
 clear = (
   ((met, refl), zero_fits, (refl, refl), one_factoring keyed),
   refl,
@@ -49,7 +41,7 @@ clear = (
   (met, (met_by_tick, tt)),
 )
 
-small : IsSmall keyed by_key
+small : IsSmall keyed totals_by_key
 small = record {
   nodes = omega arith;
   positions = (tt, omega arith);
@@ -58,7 +50,7 @@ small = record {
   derived = tt;
 }
 
-pub by_key_checked : (on : OnStream) → on.layout.columns ≡ keyed → plain_of on.main.shape ≡ by_key → IsChecked on
+pub by_key_checked : (on : OnStream) → on.layout.columns ≡ keyed → plain_of on.main.shape ≡ totals_by_key → IsChecked on
 by_key_checked on columns query = record {
   read = subst (λ (cs : List Column). IsTrue (list_all (λ (c : Column). is_read c.kind) cs)) (sym columns)
       (search rules);

@@ -14,11 +14,9 @@ use Rattle.query_model.specs.Queries.{Qre, compose, plain_of}
 use Rattle.query_model.specs.QueryTypes.{derived_columns}
 use Rattle.query_model.specs.Rules.{CanBeMet, IsClear, free}
 use Rattle.query_model.specs.Sizes.{IsSmall}
-use Rattle.test_engines.proofs.Tested.{checked_as, met, numbers}
-use Rattle.test_engines.proofs.TestedFolds.{one_factoring, total, zero_fits}
-
-abbrev pub totals : Qre
-totals = compose (total (read (var.Field 0))) (total (read (var.Field 0)))
+use Rattle.test_engines.specs.TestedQueries.{numbers, total_of_totals}
+use Rattle.test_engines.proofs.Tested.{checked_as, met}
+use Rattle.test_engines.proofs.TestedFolds.{one_factoring, zero_fits}
 
 five : FitsSigned w64 (pos 5)
 five = search rules
@@ -31,7 +29,7 @@ met_by_value = record {
   meets = refl;
 }
 
-clear : IsClear free numbers totals
+clear : IsClear free numbers total_of_totals
 clear = (
   ((met, refl), zero_fits, (refl, refl), one_factoring numbers),
   ((met_by_value, refl), zero_fits, (refl, refl), one_factoring (derived_columns type.Number)),
@@ -39,7 +37,7 @@ clear = (
   tt,
 )
 
-small : IsSmall numbers totals
+small : IsSmall numbers total_of_totals
 small = record {
   nodes = omega arith;
   positions = (tt, tt);
@@ -48,5 +46,5 @@ small = record {
   derived = (tt, omega arith, tt);
 }
 
-pub totals_checked : (on : OnStream) → on.layout.columns ≡ numbers → plain_of on.main.shape ≡ totals → IsChecked on
-totals_checked on columns query = checked_as totals clear small on columns query
+pub totals_checked : (on : OnStream) → on.layout.columns ≡ numbers → plain_of on.main.shape ≡ total_of_totals → IsChecked on
+totals_checked on columns query = checked_as total_of_totals clear small on columns query

@@ -17,14 +17,8 @@ use Rattle.query_model.specs.Checked.{IsChecked, OnStream}
 use Rattle.query_model.specs.Queries.{Qre, atom, combine, iter, plain_of}
 use Rattle.query_model.specs.Rules.{IsClear, Standing, free}
 use Rattle.query_model.specs.Sizes.{IsSmall}
-use Rattle.test_engines.proofs.Tested.{checked_as, met, numbers}
-
-abbrev pub total : Expression → Qre
-total value = iter (atom any value) (pos 0) (binary op.Add (read var.Left) (read var.Right))
-
-abbrev pub excess : Qre
-excess = combine (total (read (var.Field 0))) (total (literal (pos 1)))
-    (binary op.Sub (read var.Left) (read var.Right))
+use Rattle.test_engines.specs.TestedQueries.{excess, numbers, total}
+use Rattle.test_engines.proofs.Tested.{checked_as, met}
 
 pub zero_fits : FitsSigned w64 (pos 0)
 zero_fits = search rules

@@ -1,46 +1,48 @@
 // What the runner of a collect answers item by item, with ample memory.
-ghost use Rattle.std.specs.Prelude.{◌≡◌, [], ◌∷◌, codes, pos, IfOk};
-ghost use Rattle.item_schema.specs.declared.column.Kind.TheVariants as kind;
-ghost use Rattle.value_ops.specs.Expressions.{binary, read};
+ghost use Rattle.std.specs.Prelude.{◌≡◌, [], ◌∷◌, ◌+◌, ◌<◌, IfOk, OnOk};
+ghost use Rattle.value_ops.specs.Texts.{IsText};
 ghost use Rattle.predicate_cells.specs.Plain as predicates;
-ghost use Rattle.predicate_cells.specs.Predicates.{any, eq_text};
+ghost use Rattle.predicate_cells.specs.Predicates.{any};
 ghost use Rattle.rate_expr.specs.Plain as rates;
 ghost use Rattle.rate_expr.specs.Rates.{one, sequence, star};
-ghost use Rattle.query_model.specs.Queries.{atom, collect, iter, plain_of};
+ghost use Rattle.query_model.specs.Queries.{plain_of};
+ghost use Rattle.eval_tree.specs.Following.{position_of};
+ghost use Rattle.test_engines.specs.Feeding.{TakesItems};
+ghost use Rattle.test_engines.specs.TestedQueries as tested;
 
-use crate::runner::{query, total};
+use crate::assertions::same;
+use crate::given::{query, total};
 use eval_tree::Runner;
 use item_schema::{Column, Item, Kind, Schema};
 use predicate_cells::Pred;
 use query_model::{Checked, Follower, Query, Shape};
 use rate_expr::Rate;
 use std::alloc::{AllocError, Global};
+use std::process::Abort;
 use std::test::Fail;
-use value_ops::{BinaryOp, Bytes, Expr, Field, Scalar, Value, Var};
+use value_ops::{Bytes, Expr, Field, Scalar, Value, Var};
+
+// A column of this name.
+fn column(alloc: Global, name: &[u8], kind: Kind) -> Result<Column, AllocError>
+    ensures { IfOk result (λ column. column ≡ record { name = name.now; kind = kind }) }
+{
+    let name = Bytes::from_slice(alloc, name)?;
+    Ok(Column { name, kind })
+}
 
 // A text and a number.
 fn schema(alloc: Global) -> Result<Schema, AllocError>
-    ensures { IfOk result (λ schema. schema.columns
-        ≡ record { name = codes "k"; kind = kind.Text }
-        ∷ record { name = codes "a"; kind = kind.Int } ∷ []) }
+    ensures { IfOk result (λ schema. schema.columns ≡ tested.keyed) }
 {
     let mut columns = Vec::new(alloc);
-    let key = Bytes::from_slice(alloc, b"k")?;
-    columns.push(Column {
-        name: key,
-        kind: Kind::Text,
-    })?;
-    let number = Bytes::from_slice(alloc, b"a")?;
-    columns.push(Column {
-        name: number,
-        kind: Kind::Int,
-    })?;
+    columns.push(column(alloc, b"k", Kind::Text)?)?;
+    columns.push(column(alloc, b"a", Kind::Int)?)?;
     Ok(Schema::new(false, columns))
 }
 
 // eq(k, "tick")
 fn tick(alloc: Global) -> Result<Pred, AllocError>
-    ensures { IfOk result (λ pred. predicates.plain_of pred ≡ eq_text 0 (codes "tick")) }
+    ensures { IfOk result (λ pred. predicates.plain_of pred ≡ tested.tick) }
 {
     Ok(Pred::EqText(0, Bytes::from_slice(alloc, b"tick")?))
 }
@@ -48,7 +50,7 @@ fn tick(alloc: Global) -> Result<Pred, AllocError>
 // seq(star(item(any)), item(eq(k, "tick")))
 fn ticked(alloc: Global) -> Result<Rate, AllocError>
     ensures { IfOk result (λ rate. rates.plain_of rate
-        ≡ sequence (star (one any)) (one (eq_text 0 (codes "tick")))) }
+        ≡ sequence (star (one any)) (one tested.tick)) }
 {
     let each = Box::new(alloc, Rate::One(Pred::Any))?;
     let all = Box::new(alloc, Rate::Star(each))?;
@@ -57,15 +59,22 @@ fn ticked(alloc: Global) -> Result<Rate, AllocError>
 }
 
 // collect(k, eq(k, "tick"), seq(star(item(any)), item(eq(k, "tick"))), iter(atom(any, a), 0, add(x, y)))
-fn totals_by_key(alloc: Global) -> Result<Query, AllocError>
-    ensures { IfOk result (λ query. plain_of query.shape ≡ collect 0 (eq_text 0 (codes "tick"))
-        (sequence (star (one any)) (one (eq_text 0 (codes "tick"))))
-        (iter (atom any (read (Var.Field 1))) (pos 0)
-        (binary BinaryOp.Add (read Var.Left) (read Var.Right)))) }
+fn totals_by_key(alloc: Global) -> Result<Box<Query>, AllocError>
+    ensures { IfOk result (λ query. plain_of query.value.shape ≡ tested.totals_by_key) }
 {
-    let inner = Box::new(alloc, total(alloc, Expr::Read(Var::Field(1)))?)?;
+    let inner = total(alloc, Expr::Read(Var::Field(1)))?;
+    let sync = tick(alloc)?;
     let rate = ticked(alloc)?;
-    Ok(query(Shape::Collect(0, tick(alloc)?, rate, inner)))
+    query(alloc, Shape::Collect(0, sync, rate, inner))
+}
+
+fn checked(alloc: Global) -> Result<Checked, AllocError>
+    ensures stream { IfOk result (λ checked. checked.layout.columns ≡ tested.keyed) }
+    ensures query { IfOk result (λ checked. plain_of checked.main.shape ≡ tested.totals_by_key) }
+{
+    let columns = schema(alloc)?;
+    let main = totals_by_key(alloc)?;
+    Ok(Checked::new(columns, main))
 }
 
 fn item(alloc: Global, key: &[u8], number: i64) -> Result<Item, AllocError>
@@ -78,51 +87,127 @@ fn item(alloc: Global, key: &[u8], number: i64) -> Result<Item, AllocError>
     Ok(Item::from_fields(fields))
 }
 
-// What stands under the two keys.
-fn sums(answer: Option<&Value>) -> Option<(usize, Option<Scalar>, Option<Scalar>)> {
-    match answer {
+// How many keys there are, and what stands under the two.
+fn sums(runner: &Runner<'_>) -> Option<(usize, Option<Scalar>, Option<Scalar>)> {
+    match runner.answer() {
         Some(Value::Table(table)) => Some((table.len(), table.get(b"A"), table.get(b"B"))),
         _ => None,
     }
 }
 
+// What stands there with these numbers under the two.
+fn two(of_a: i64, of_b: i64) -> Option<(usize, Option<Scalar>, Option<Scalar>)> {
+    Some((2, Some(Scalar::Number(of_a)), Some(Scalar::Number(of_b))))
+}
+
+// Takes one more item.
+fn feed(alloc: Global, runner: &mut Runner<'_>, key: &[u8], number: i64) -> Result<(), AllocError>
+    requires fed { TakesItems tested.keyed runner.old }
+    requires few { position_of runner.old < 100 }
+    requires text { IsText key.now }
+    ensures fed { OnOk result (TakesItems tested.keyed runner.new) }
+    ensures position { OnOk result (position_of runner.new ≡ position_of runner.old + 1) }
+{
+    let item = item(alloc, key, number)?;
+    runner.step(alloc, &item)
+}
+
+fn begun(alloc: Global, checked: &Checked) -> Result<Runner<'_>, AllocError>
+    requires stream { checked.now.layout.columns ≡ tested.keyed }
+    requires query { plain_of checked.now.main.shape ≡ tested.totals_by_key }
+    ensures fed { IfOk result (TakesItems tested.keyed) }
+    ensures position { IfOk result (λ runner. position_of runner ≡ 0) }
+{
+    Runner::new(alloc, checked)
+}
+
+fn copy_of<'q>(alloc: Global, runner: &Runner<'q>) -> Result<Runner<'q>, AllocError>
+    requires { TakesItems tested.keyed runner.now }
+    ensures fed { IfOk result (TakesItems tested.keyed) }
+    ensures position { IfOk result (λ copy. position_of copy ≡ position_of runner.now) }
+{
+    runner.try_copy(alloc)
+}
+
+// Takes a 1 under A, a 2 under B and a tick.
+fn feed_to_tick(alloc: Global, runner: &mut Runner<'_>) -> Result<(), AllocError>
+    requires fed { TakesItems tested.keyed runner.old }
+    requires few { position_of runner.old < 90 }
+    ensures fed { OnOk result (TakesItems tested.keyed runner.new) }
+    ensures position { OnOk result (position_of runner.new ≡ position_of runner.old + 3) }
+{
+    feed(alloc, runner, b"A", 1)?;
+    feed(alloc, runner, b"B", 2)?;
+    feed(alloc, runner, b"tick", 0)
+}
+
+fn has_no_table(rt: &impl Abort, alloc: Global, runner: &mut Runner<'_>) -> Result<(), Fail>
+    requires fed { TakesItems tested.keyed runner.old }
+    requires first { position_of runner.old ≡ 0 }
+{
+    assert!(rt; sums(runner).is_none());
+    feed(alloc, runner, b"A", 1)?;
+    assert!(rt; sums(runner).is_none());
+    Ok(())
+}
+
+#[test]
+fn there_is_no_table_before_a_tick(rt: HostRuntime) -> Result<(), Fail> {
+    let checked = checked(rt.alloc())?;
+    let mut runner = begun(rt.alloc(), &checked)?;
+    has_no_table(&rt, rt.alloc(), &mut runner)
+}
+
+fn has_sums(rt: &impl Abort, alloc: Global, runner: &mut Runner<'_>) -> Result<(), Fail>
+    requires fed { TakesItems tested.keyed runner.old }
+    requires first { position_of runner.old ≡ 0 }
+{
+    feed_to_tick(alloc, runner)?;
+    same(rt, sums(runner), two(1, 2));
+    feed(alloc, runner, b"A", 5)?;
+    assert!(rt; sums(runner).is_none());
+    feed(alloc, runner, b"tick", 7)?;
+    same(rt, sums(runner), two(13, 9));
+    Ok(())
+}
+
 #[test]
 fn a_runner_sums_by_key_at_each_tick(rt: HostRuntime) -> Result<(), Fail> {
-    let alloc = rt.alloc();
-    let columns = schema(alloc)?;
-    let main = Box::new(alloc, totals_by_key(alloc)?)?;
-    let checked = Checked::new(columns, main);
-    let mut runner = Runner::new(alloc, &checked)?;
-    assert_eq!(rt; sums(runner.answer()), None);
-    let first = item(alloc, b"A", 1)?;
-    runner.step(alloc, &first)?;
-    assert_eq!(rt; sums(runner.answer()), None);
-    let second = item(alloc, b"B", 2)?;
-    runner.step(alloc, &second)?;
-    let third = item(alloc, b"tick", 0)?;
-    runner.step(alloc, &third)?;
-    assert_eq!(rt;
-        sums(runner.answer()),
-        Some((2, Some(Scalar::Number(1)), Some(Scalar::Number(2))))
-    );
-    let mut copy = runner.try_copy(alloc)?;
-    assert_eq!(rt; (runner.stored(), copy.stored()), (27, 27));
-    let fourth = item(alloc, b"A", 5)?;
-    runner.step(alloc, &fourth)?;
-    assert_eq!(rt; sums(runner.answer()), None);
-    let fifth = item(alloc, b"tick", 7)?;
-    runner.step(alloc, &fifth)?;
-    assert_eq!(rt;
-        sums(runner.answer()),
-        Some((2, Some(Scalar::Number(13)), Some(Scalar::Number(9))))
-    );
-    copy.step(alloc, &fifth)?;
-    assert_eq!(rt;
-        (sums(copy.answer()), copy.failed()),
-        (
-            Some((2, Some(Scalar::Number(8)), Some(Scalar::Number(9)))),
-            false
-        )
-    );
+    let checked = checked(rt.alloc())?;
+    let mut runner = begun(rt.alloc(), &checked)?;
+    has_sums(&rt, rt.alloc(), &mut runner)
+}
+
+fn go_apart(
+    rt: &impl Abort,
+    alloc: Global,
+    runner: &mut Runner<'_>,
+    copy: &mut Runner<'_>,
+) -> Result<(), Fail>
+    requires fed { TakesItems tested.keyed runner.old }
+    requires few { position_of runner.old < 90 }
+    requires copy_fed { TakesItems tested.keyed copy.old }
+    requires copy_few { position_of copy.old < 90 }
+{
+    same(rt, (runner.stored(), copy.stored()), (27, 27));
+    feed(alloc, runner, b"A", 5)?;
+    feed(alloc, copy, b"tick", 7)?;
+    same(rt, (sums(copy), copy.failed()), (two(8, 9), false));
     Ok(())
+}
+
+fn has_copy(rt: &impl Abort, alloc: Global, runner: &mut Runner<'_>) -> Result<(), Fail>
+    requires fed { TakesItems tested.keyed runner.old }
+    requires first { position_of runner.old ≡ 0 }
+{
+    feed_to_tick(alloc, runner)?;
+    let mut copy = copy_of(alloc, runner)?;
+    go_apart(rt, alloc, runner, &mut copy)
+}
+
+#[test]
+fn a_copy_sums_items_of_its_own(rt: HostRuntime) -> Result<(), Fail> {
+    let checked = checked(rt.alloc())?;
+    let mut runner = begun(rt.alloc(), &checked)?;
+    has_copy(&rt, rt.alloc(), &mut runner)
 }

@@ -12,9 +12,15 @@ mod chain;
 #[cfg(test)]
 mod collects;
 #[cfg(test)]
+mod copies;
+#[cfg(test)]
+mod given;
+#[cfg(test)]
 mod instances;
 #[cfg(test)]
 mod keys;
+#[cfg(test)]
+mod nodes;
 #[cfg(test)]
 mod pending;
 #[cfg(test)]

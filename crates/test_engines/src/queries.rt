@@ -62,39 +62,80 @@ fn left_value() -> Expr {
     Expr::Read(Var::Left)
 }
 
+fn has_rate_of_item(alloc: Global, shape: Shape, column: u32) -> Result<bool, AllocError> {
+    let rate = rate_of_shape(alloc, shape)?;
+    Ok(is_item(&rate, column))
+}
+
+fn has_empty_rate(alloc: Global, shape: Shape) -> Result<bool, AllocError> {
+    let rate = rate_of_shape(alloc, shape)?;
+    Ok(matches!(&*rate, Rate::Empty))
+}
+
+// The items of two columns.
+fn two_items(
+    alloc: Global,
+    first: u32,
+    second: u32,
+) -> Result<(Box<Query>, Box<Query>), AllocError> {
+    let first = item(alloc, first)?;
+    Ok((first, item(alloc, second)?))
+}
+
 #[test]
-fn each_shape_of_no_or_one_operand_has_its_rate(rt: HostRuntime) -> Result<(), Fail> {
-    let alloc = rt.alloc();
-    let rate = rate_of_shape(alloc, atom(3))?;
-    assert!(rt; is_item(&rate, 3));
-    let rate = rate_of_shape(alloc, Shape::Eps(-1))?;
-    assert!(rt; matches!(&*rate, Rate::Empty));
-    let sum = sum(alloc, 5)?;
-    let rate = rate_of(alloc, &sum)?;
-    assert!(rt; matches!(&*rate, Rate::Star(a) if is_item(a, 5)));
-    let rate = rate_of_shape(alloc, Shape::Apply(item(alloc, 4)?, left_value()))?;
-    assert!(rt; is_item(&rate, 4));
-    let inner = item(alloc, 2)?;
-    let rate = rate_of_shape(alloc, Shape::Collect(0, Pred::Any, Rate::Empty, inner))?;
-    assert!(rt; matches!(&*rate, Rate::Empty));
+fn each_shape_of_no_operand_has_its_rate(rt: HostRuntime) -> Result<(), Fail> {
+    assert!(rt; has_rate_of_item(rt.alloc(), atom(3), 3)?);
+    assert!(rt; has_empty_rate(rt.alloc(), Shape::Eps(-1))?);
     Ok(())
 }
 
 #[test]
-fn each_shape_of_two_operands_has_its_rate(rt: HostRuntime) -> Result<(), Fail> {
-    let alloc = rt.alloc();
-    let (first, second) = (item(alloc, 1)?, item(alloc, 2)?);
-    let rate = rate_of_shape(alloc, Shape::Or(first, second))?;
+fn an_iteration_has_the_star_of_the_rate(rt: HostRuntime) -> Result<(), Fail> {
+    let sum = sum(rt.alloc(), 5)?;
+    let rate = rate_of(rt.alloc(), &sum)?;
+    assert!(rt; matches!(&*rate, Rate::Star(a) if is_item(a, 5)));
+    Ok(())
+}
+
+#[test]
+fn an_expression_on_a_value_keeps_the_rate(rt: HostRuntime) -> Result<(), Fail> {
+    let shape = Shape::Apply(item(rt.alloc(), 4)?, left_value());
+    assert!(rt; has_rate_of_item(rt.alloc(), shape, 4)?);
+    Ok(())
+}
+
+#[test]
+fn a_collect_has_the_rate_that_it_names(rt: HostRuntime) -> Result<(), Fail> {
+    let inner = item(rt.alloc(), 2)?;
+    let shape = Shape::Collect(0, Pred::Any, Rate::Empty, inner);
+    assert!(rt; has_empty_rate(rt.alloc(), shape)?);
+    Ok(())
+}
+
+#[test]
+fn a_choice_has_the_rate_of_either(rt: HostRuntime) -> Result<(), Fail> {
+    let (first, second) = two_items(rt.alloc(), 1, 2)?;
+    let rate = rate_of_shape(rt.alloc(), Shape::Or(first, second))?;
     assert!(rt; matches!(&*rate, Rate::Alt(a, b) if is_item(a, 1) && is_item(b, 2)));
-    let (first, second) = (item(alloc, 1)?, item(alloc, 2)?);
-    let rate = rate_of_shape(alloc, Shape::Split(first, second, left_value()))?;
+    Ok(())
+}
+
+#[test]
+fn a_split_has_one_rate_behind_the_other(rt: HostRuntime) -> Result<(), Fail> {
+    let (first, second) = two_items(rt.alloc(), 1, 2)?;
+    let rate = rate_of_shape(rt.alloc(), Shape::Split(first, second, left_value()))?;
     assert!(rt; matches!(&*rate, Rate::Seq(a, b) if is_item(a, 1) && is_item(b, 2)));
-    let (first, second) = (item(alloc, 1)?, item(alloc, 2)?);
-    let rate = rate_of_shape(alloc, Shape::Combine(first, second, left_value()))?;
-    assert!(rt; is_item(&rate, 1));
-    let (first, second) = (item(alloc, 6)?, item(alloc, 2)?);
-    let rate = rate_of_shape(alloc, Shape::Compose(first, second))?;
-    assert!(rt; is_item(&rate, 6));
+    Ok(())
+}
+
+#[test]
+fn two_that_follow_one_word_have_the_first_rate(rt: HostRuntime) -> Result<(), Fail> {
+    let (first, second) = two_items(rt.alloc(), 1, 2)?;
+    let shape = Shape::Combine(first, second, left_value());
+    assert!(rt; has_rate_of_item(rt.alloc(), shape, 1)?);
+    let (first, second) = two_items(rt.alloc(), 6, 2)?;
+    let shape = Shape::Compose(first, second);
+    assert!(rt; has_rate_of_item(rt.alloc(), shape, 6)?);
     Ok(())
 }
 

@@ -4,6 +4,7 @@ use Rattle.std.specs.Int.{w64}
 use Rattle.value_ops.specs.Expressions.{binary, read}
 use Rattle.value_ops.specs.declared.expr.Var.TheVariants as var
 use Rattle.language_base.specs.declared.binary.BinaryOp.TheVariants as op
+use Rattle.query_model.specs.declared.query.Query.{Query}
 use Rattle.query_model.specs.Queries.{Qre, eps, plain_of, split}
 use Rattle.query_model.specs.Rules.{bound}
 use Rattle.slow_eval.specs.Answers.{CanBeRead}
@@ -25,7 +26,11 @@ can = record {
 }
 
 pub answers_on_fronts-requires : goal.answers_on_fronts-requires
-answers_on_fronts-requires g c = subst (λ query. CanBeRead query []) (sym c.in_ok-query.ensures) can
+answers_on_fronts-requires g c =
+    subst (λ (query : Query). CanBeRead (plain_of query.shape) []) (sym c.deref.ensures)
+    (subst (λ query. CanBeRead query []) (sym c.in_ok-query.ensures) can)
 
 pub answer_on-requires : goal.answer_on-requires
-answer_on-requires g c = subst (λ query. CanBeRead query []) (sym c.in_ok-query.ensures) can
+answer_on-requires g c =
+    subst (λ (query : Query). CanBeRead (plain_of query.shape) []) (sym c.deref-2.ensures)
+    (subst (λ query. CanBeRead query []) (sym c.in_ok-query.ensures) can)

@@ -8,7 +8,8 @@ use Rattle.item_schema.specs.declared.column.Column.{Column}
 use Rattle.item_schema.specs.declared.column.Kind.TheVariants as kind
 use Rattle.predicate_cells.specs.Predicates.{any, eq_text}
 use Rattle.rate_expr.specs.Rates.{one, star}
-use Rattle.query_model.specs.Queries.{atom, collect}
+use Rattle.query_model.specs.declared.query.Query.{Query}
+use Rattle.query_model.specs.Queries.{atom, collect, plain_of}
 use Rattle.query_model.specs.Rules.{CanBeMet, bound}
 use Rattle.slow_eval.specs.Answers.{CanBeRead}
 use Rattle.test_engines.proofs.slow.keys_stand_in_the_order_in_which_they_appear.Goals as goal
@@ -42,4 +43,7 @@ answer_on-requires g c =
     subst (λ item. CanBeRead query (item_of (codes "b") ∷ item ∷ [])) (sym c.in_ok-second.ensures) can in
     let first : CanBeRead query (c.in_ok-first.first ∷ c.in_ok-second.second ∷ []) =
     subst (λ item. CanBeRead query (item ∷ c.in_ok-second.second ∷ [])) (sym c.in_ok-first.ensures) second in
-    subst (λ q. CanBeRead q (c.in_ok-first.first ∷ c.in_ok-second.second ∷ [])) (sym c.in_ok-query.ensures) first
+    let plain : CanBeRead (plain_of c.in_ok-query.query.value.shape) (c.in_ok-first.first ∷ c.in_ok-second.second ∷ []) =
+    subst (λ q. CanBeRead q (c.in_ok-first.first ∷ c.in_ok-second.second ∷ [])) (sym c.in_ok-query.ensures) first in
+    subst (λ (q : Query). CanBeRead (plain_of q.shape) (c.in_ok-first.first ∷ c.in_ok-second.second ∷ []))
+    (sym c.deref.ensures) plain

@@ -8,6 +8,7 @@ use Rattle.value_ops.specs.declared.scalar.Scalar.TheVariants.{Overflow}
 use Rattle.value_ops.specs.declared.value.Value.TheVariants as value
 use Rattle.value_ops.specs.declared.value.ValueType.TheVariants as type
 use Rattle.predicate_cells.specs.Predicates.{any}
+use Rattle.query_model.specs.declared.query.Query.{Query}
 use Rattle.query_model.specs.Queries.{atom, compose, eps, plain_of}
 use Rattle.query_model.specs.QueryTypes.{derived_columns}
 use Rattle.query_model.specs.Rules.{CanBeMet, free}
@@ -35,4 +36,6 @@ can = record {
 }
 
 pub answer_on-requires : goal.answer_on-requires
-answer_on-requires g c = subst (λ query. CanBeRead query []) (sym c.in_ok-query.ensures) can
+answer_on-requires g c =
+    subst (λ (query : Query). CanBeRead (plain_of query.shape) []) (sym c.deref.ensures)
+    (subst (λ query. CanBeRead query []) (sym c.in_ok-query.ensures) can)
