@@ -1,8 +1,8 @@
 // What an iteration does with its values so far, with ample memory.
-use crate::assertions::same;
+use crate::assertions::{same, same_at};
 use iter_eval::Chain;
 use split_eval::Pending;
-use std::alloc::{AllocError, Global};
+use std::process::Abort;
 use std::test::Fail;
 
 // Puts the value where there is a spare place and none has its inner start, as an evaluator does.
@@ -20,12 +20,11 @@ fn go_on(chain: &mut Chain<u64>, inner: u64, now: u64, value: u64) {
     }
 }
 
-fn inner_starts(alloc: Global, chain: &Chain<u64>) -> Result<Vec<u64>, AllocError> {
-    let mut starts = Vec::new(alloc);
+fn same_starts(rt: &impl Abort, chain: &Chain<u64>, wanted: &[u64]) {
+    same(rt, chain.len(), wanted.len());
     for i in 0..chain.len() {
-        starts.push(chain.entry(i).inner)?;
+        same_at(rt, i, Some(chain.entry(i).inner), wanted.get(i).copied());
     }
-    Ok(starts)
 }
 
 #[test]
@@ -53,8 +52,7 @@ fn pieces_of_two_lengths_go_on_side_by_side(rt: HostRuntime) -> Result<(), Fail>
     same(&rt, short, Some((0, 10)));
     let long = chain.find(2).map(|entry| (entry.outer, entry.value));
     same(&rt, long, Some((0, 30)));
-    let starts = inner_starts(rt.alloc(), &chain)?;
-    same(&rt, starts.as_slice(), [0, 1, 2].as_slice());
+    same_starts(&rt, &chain, &[0, 1, 2]);
     Ok(())
 }
 
@@ -68,11 +66,9 @@ fn the_others_keep_their_order(rt: HostRuntime) -> Result<(), Fail> {
     assert!(rt; chain.take(2).is_none());
     let taken = chain.take(20).map(|entry| (entry.outer, entry.value));
     same(&rt, taken, Some((2, 200)));
-    let starts = inner_starts(rt.alloc(), &chain)?;
-    same(&rt, starts.as_slice(), [40, 30, 10].as_slice());
+    same_starts(&rt, &chain, &[40, 30, 10]);
     chain.keep(|start| start != 30);
-    let starts = inner_starts(rt.alloc(), &chain)?;
-    same(&rt, starts.as_slice(), [40, 10].as_slice());
+    same_starts(&rt, &chain, &[40, 10]);
     Ok(())
 }
 
@@ -86,8 +82,7 @@ fn a_cleared_chain_has_its_whole_room_again(rt: HostRuntime) -> Result<(), Fail>
     same(&rt, chain.len(), 0);
     same(&rt, chain.room(), 1);
     put_new(&mut chain, 20, 2, 200);
-    let starts = inner_starts(rt.alloc(), &chain)?;
-    same(&rt, starts.as_slice(), [20].as_slice());
+    same_starts(&rt, &chain, &[20]);
     Ok(())
 }
 

@@ -1,8 +1,9 @@
 // The lists of followers after each call, at their edges, with ample memory. A follower is a number
 // here.
-use crate::assertions::same;
+use crate::assertions::{same, same_at};
 use compose_eval::Instances;
 use std::alloc::{AllocError, Global};
+use std::process::Abort;
 use std::test::Fail;
 
 // Lets one more come to rest where there is room.
@@ -40,23 +41,30 @@ fn fed(alloc: Global) -> Result<Instances<u64>, AllocError> {
     Ok(instances)
 }
 
-fn outers(alloc: Global, instances: &Instances<u64>) -> Result<Vec<u64>, AllocError> {
-    let mut starts = Vec::new(alloc);
+fn same_outers(rt: &impl Abort, instances: &Instances<u64>, wanted: &[u64]) {
+    same(rt, instances.len(), wanted.len());
     for i in 0..instances.len() {
-        starts.push(instances.outer(i))?;
+        same_at(rt, i, Some(instances.outer(i)), wanted.get(i).copied());
     }
-    Ok(starts)
 }
 
-fn followers(alloc: Global, instances: &Instances<u64>) -> Result<Vec<u64>, AllocError> {
-    let mut all = Vec::new(alloc);
-    for i in 0..instances.len() {
-        all.push(*instances.follower(i))?;
-    }
+fn same_idle(rt: &impl Abort, instances: &Instances<u64>, wanted: &[u64]) {
+    same(rt, instances.idle(), wanted.len());
     for i in 0..instances.idle() {
-        all.push(*instances.resting(i))?;
+        same_at(rt, i, Some(*instances.resting(i)), wanted.get(i).copied());
     }
-    Ok(all)
+}
+
+fn same_live(rt: &impl Abort, instances: &Instances<u64>, wanted: &[u64]) {
+    same(rt, instances.len(), wanted.len());
+    for i in 0..instances.len() {
+        same_at(rt, i, Some(*instances.follower(i)), wanted.get(i).copied());
+    }
+}
+
+fn same_followers(rt: &impl Abort, instances: &Instances<u64>, live: &[u64], idle: &[u64]) {
+    same_live(rt, instances, live);
+    same_idle(rt, instances, idle);
 }
 
 #[test]
@@ -74,26 +82,22 @@ fn the_room_is_for_both_lists_together(rt: HostRuntime) -> Result<(), Fail> {
 #[test]
 fn the_last_idle_one_is_woken(rt: HostRuntime) -> Result<(), Fail> {
     let instances = fed(rt.alloc())?;
-    let starts = outers(rt.alloc(), &instances)?;
-    same(&rt, starts.as_slice(), [30, 20, 10].as_slice());
-    let all = followers(rt.alloc(), &instances)?;
-    same(&rt, all.as_slice(), [3, 2, 1].as_slice());
+    same_outers(&rt, &instances, &[30, 20, 10]);
+    same_followers(&rt, &instances, &[3, 2, 1], &[]);
     Ok(())
 }
 
 #[test]
 fn a_follower_is_found_by_its_start_and_written_to(rt: HostRuntime) -> Result<(), Fail> {
     let mut instances = fed(rt.alloc())?;
-    assert!(rt; instances.place(2).is_none());
+    same(&rt, instances.place(2), None);
     let place = instances.place(20);
     same(&rt, place, Some(1));
     if let Some(place) = place {
         *instances.follower_mut(place) = 200;
     }
-    let starts = outers(rt.alloc(), &instances)?;
-    same(&rt, starts.as_slice(), [30, 20, 10].as_slice());
-    let all = followers(rt.alloc(), &instances)?;
-    same(&rt, all.as_slice(), [3, 200, 1].as_slice());
+    same_outers(&rt, &instances, &[30, 20, 10]);
+    same_followers(&rt, &instances, &[3, 200, 1], &[]);
     Ok(())
 }
 
@@ -103,8 +107,7 @@ fn an_idle_one_is_written_to(rt: HostRuntime) -> Result<(), Fail> {
     if instances.idle() > 1 {
         *instances.resting_mut(1) = 20;
     }
-    let all = followers(rt.alloc(), &instances)?;
-    same(&rt, all.as_slice(), [1, 20, 3].as_slice());
+    same_followers(&rt, &instances, &[], &[1, 20, 3]);
     Ok(())
 }
 
@@ -112,10 +115,8 @@ fn an_idle_one_is_written_to(rt: HostRuntime) -> Result<(), Fail> {
 fn the_others_keep_their_order_where_one_is_not_live(rt: HostRuntime) -> Result<(), Fail> {
     let mut instances = fed(rt.alloc())?;
     instances.keep(|start| start != 20);
-    let starts = outers(rt.alloc(), &instances)?;
-    same(&rt, starts.as_slice(), [30, 10].as_slice());
-    let all = followers(rt.alloc(), &instances)?;
-    same(&rt, all.as_slice(), [3, 1, 2].as_slice());
+    same_outers(&rt, &instances, &[30, 10]);
+    same_followers(&rt, &instances, &[3, 1], &[2]);
     Ok(())
 }
 
@@ -123,17 +124,13 @@ fn the_others_keep_their_order_where_one_is_not_live(rt: HostRuntime) -> Result<
 fn followers_come_to_rest_in_their_order(rt: HostRuntime) -> Result<(), Fail> {
     let mut instances = fed(rt.alloc())?;
     instances.keep(|start| start == 20);
-    let all = followers(rt.alloc(), &instances)?;
-    same(&rt, all.as_slice(), [2, 3, 1].as_slice());
+    same_followers(&rt, &instances, &[2], &[3, 1]);
     instances.keep(|_| false);
     same(&rt, instances.len(), 0);
-    let all = followers(rt.alloc(), &instances)?;
-    same(&rt, all.as_slice(), [3, 1, 2].as_slice());
+    same_followers(&rt, &instances, &[], &[3, 1, 2]);
     wake(&mut instances, 50);
-    let starts = outers(rt.alloc(), &instances)?;
-    same(&rt, starts.as_slice(), [50].as_slice());
-    let all = followers(rt.alloc(), &instances)?;
-    same(&rt, all.as_slice(), [2, 3, 1].as_slice());
+    same_outers(&rt, &instances, &[50]);
+    same_followers(&rt, &instances, &[2], &[3, 1]);
     Ok(())
 }
 
@@ -143,10 +140,8 @@ fn one_may_begin_without_having_been_idle(rt: HostRuntime) -> Result<(), Fail> {
     instances.put(7, 70);
     wake(&mut instances, 8);
     rest(&mut instances, 80);
-    let starts = outers(rt.alloc(), &instances)?;
-    same(&rt, starts.as_slice(), [7].as_slice());
-    let all = followers(rt.alloc(), &instances)?;
-    same(&rt, all.as_slice(), [70].as_slice());
+    same_outers(&rt, &instances, &[7]);
+    same_followers(&rt, &instances, &[70], &[]);
     Ok(())
 }
 

@@ -18,13 +18,17 @@ fn push(keys: &mut Keys<u64>, key: &[u8]) -> Result<(), AllocError> {
     Ok(())
 }
 
+fn push_each(keys: &mut Keys<u64>) -> Result<(), AllocError> {
+    push(keys, b"b")?;
+    push(keys, b"a")?;
+    push(keys, b"")?;
+    push(keys, b"a")
+}
+
 // The keys b, a and the empty one, of which a came twice.
 fn three(alloc: Global) -> Result<Keys<u64>, AllocError> {
     let mut keys = Keys::new(alloc, 1);
-    push(&mut keys, b"b")?;
-    push(&mut keys, b"a")?;
-    push(&mut keys, b"")?;
-    push(&mut keys, b"a")?;
+    push_each(&mut keys)?;
     Ok(keys)
 }
 
@@ -33,7 +37,7 @@ fn there_are_no_keys_at_first(rt: HostRuntime) -> Result<(), Fail> {
     let keys: Keys<u64> = Keys::new(rt.alloc(), 7);
     same(&rt, keys.len(), 0);
     same(&rt, *keys.fallback(), 7);
-    assert!(rt; keys.place(b"").is_none());
+    same(&rt, keys.place(b""), None);
     Ok(())
 }
 
@@ -41,9 +45,9 @@ fn there_are_no_keys_at_first(rt: HostRuntime) -> Result<(), Fail> {
 fn keys_stand_in_the_order_in_which_they_came_first(rt: HostRuntime) -> Result<(), Fail> {
     let keys = three(rt.alloc())?;
     assert!(rt; keys.len() == 3);
-    assert!(rt; keys.key(0) == b"b".as_slice());
-    assert!(rt; keys.key(1) == b"a".as_slice());
-    assert!(rt; keys.key(2) == b"".as_slice());
+    same(&rt, keys.key(0), b"b".as_slice());
+    same(&rt, keys.key(1), b"a".as_slice());
+    same(&rt, keys.key(2), b"".as_slice());
     same(&rt, *keys.follower(0), 11);
     same(&rt, *keys.follower(1), 21);
     same(&rt, *keys.follower(2), 11);
@@ -55,8 +59,8 @@ fn a_key_is_found_by_all_its_bytes(rt: HostRuntime) -> Result<(), Fail> {
     let keys = three(rt.alloc())?;
     same(&rt, keys.place(b"a"), Some(1));
     same(&rt, keys.place(b""), Some(2));
-    assert!(rt; keys.place(b"ab").is_none());
-    assert!(rt; keys.place(b"A").is_none());
+    same(&rt, keys.place(b"ab"), None);
+    same(&rt, keys.place(b"A"), None);
     Ok(())
 }
 
@@ -82,7 +86,7 @@ fn many_keys_are_found(rt: HostRuntime) -> Result<(), Fail> {
     same(&rt, keys.len(), 200);
     same(&rt, keys.place([49u8, 3].as_slice()), Some(199));
     same(&rt, keys.place([7u8, 1].as_slice()), Some(29));
-    assert!(rt; keys.place([50u8, 0].as_slice()).is_none());
+    same(&rt, keys.place([50u8, 0].as_slice()), None);
     Ok(())
 }
 

@@ -2,6 +2,7 @@
 use crate::assertions::{same, same_at};
 use split_eval::Pending;
 use std::alloc::{AllocError, Global};
+use std::process::Abort;
 use std::test::Fail;
 
 // Puts the entry where there is a spare place and none has its inner start, as an evaluator does.
@@ -20,12 +21,11 @@ fn full(alloc: Global) -> Result<Pending<u64>, AllocError> {
     Ok(pending)
 }
 
-fn inner_starts(alloc: Global, pending: &Pending<u64>) -> Result<Vec<u64>, AllocError> {
-    let mut starts = Vec::new(alloc);
+fn same_starts(rt: &impl Abort, pending: &Pending<u64>, wanted: &[u64]) {
+    same(rt, pending.len(), wanted.len());
     for i in 0..pending.len() {
-        starts.push(pending.entry(i).inner)?;
+        same_at(rt, i, Some(pending.entry(i).inner), wanted.get(i).copied());
     }
-    Ok(starts)
 }
 
 #[test]
@@ -44,8 +44,7 @@ fn a_full_room_keeps_the_order(rt: HostRuntime) -> Result<(), Fail> {
     same(&rt, pending.room(), 3);
     same(&rt, pending.len(), 3);
     put_new(&mut pending, 40, 4, 400);
-    let starts = inner_starts(rt.alloc(), &pending)?;
-    same(&rt, starts.as_slice(), [10, 20, 30].as_slice());
+    same_starts(&rt, &pending, &[10, 20, 30]);
     Ok(())
 }
 
@@ -69,8 +68,7 @@ fn the_others_keep_their_order_where_one_is_taken(rt: HostRuntime) -> Result<(),
         let mut pending = full(rt.alloc())?;
         let taken = pending.take(start).map(|entry| (entry.outer, entry.value));
         same_at(&rt, start, taken, wanted);
-        let starts = inner_starts(rt.alloc(), &pending)?;
-        same_at(&rt, start, starts.as_slice(), others);
+        same_starts(&rt, &pending, others);
     }
     Ok(())
 }
@@ -79,11 +77,9 @@ fn the_others_keep_their_order_where_one_is_taken(rt: HostRuntime) -> Result<(),
 fn the_live_ones_are_kept_in_their_order(rt: HostRuntime) -> Result<(), Fail> {
     let mut pending = full(rt.alloc())?;
     pending.keep(|_| true);
-    let starts = inner_starts(rt.alloc(), &pending)?;
-    same(&rt, starts.as_slice(), [10, 20, 30].as_slice());
+    same_starts(&rt, &pending, &[10, 20, 30]);
     pending.keep(|start| start != 20);
-    let starts = inner_starts(rt.alloc(), &pending)?;
-    same(&rt, starts.as_slice(), [10, 30].as_slice());
+    same_starts(&rt, &pending, &[10, 30]);
     pending.keep(|_| false);
     same(&rt, pending.len(), 0);
     Ok(())
@@ -97,8 +93,7 @@ fn a_cleared_list_has_its_whole_room_again(rt: HostRuntime) -> Result<(), Fail> 
     put_new(&mut pending, 10, 7, 700);
     put_new(&mut pending, 50, 5, 500);
     put_new(&mut pending, 40, 4, 400);
-    let starts = inner_starts(rt.alloc(), &pending)?;
-    same(&rt, starts.as_slice(), [10, 50, 40].as_slice());
+    same_starts(&rt, &pending, &[10, 50, 40]);
     Ok(())
 }
 

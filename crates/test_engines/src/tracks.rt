@@ -1,6 +1,6 @@
 // The starts after each call. Words of the rate have two items, of which the first is 1 and the
 // second 2: positions 0 and 1.
-use crate::assertions::same;
+use crate::assertions::{same, same_at};
 use item_schema::{Column, Item, Kind, Schema};
 use map_collect::{Keys, Tracks};
 use predicate_cells::{CellStop, Cells, Pred, Preds};
@@ -41,10 +41,14 @@ fn cells(rt: &impl Abort, alloc: Global) -> Result<Rc<Cells>, CellStop> {
     Ok(shared(alloc, Cells::new(alloc, &schema, &preds)?)?)
 }
 
-fn positions(rt: &impl Abort, alloc: Global) -> Result<Positions, AllocError> {
+fn pair(alloc: Global) -> Result<Box<Rate>, AllocError> {
     let first = Box::new(alloc, Rate::One(Pred::Eq(0, 1)))?;
     let second = Box::new(alloc, Rate::One(Pred::Eq(0, 2)))?;
-    let rate = Rate::Seq(first, second);
+    Ok(Box::new(alloc, Rate::Seq(first, second))?)
+}
+
+fn positions(rt: &impl Abort, alloc: Global) -> Result<Positions, AllocError> {
+    let rate = pair(alloc)?;
     assert!(rt; rate.positions() <= MAX_POSITIONS);
     Positions::of(alloc, &rate)
 }
@@ -96,36 +100,33 @@ fn advance(alloc: Global, tracks: &mut Tracks<u64>, number: i64) -> Result<(), A
     Ok(())
 }
 
-fn starts(alloc: Global, tracks: &Tracks<u64>) -> Result<Vec<u64>, AllocError> {
-    let mut all = Vec::new(alloc);
+fn same_starts(rt: &impl Abort, tracks: &Tracks<u64>, wanted: &[u64]) {
+    same(rt, tracks.len(), wanted.len());
     for i in 0..tracks.len() {
-        all.push(tracks.start(i))?;
+        same_at(rt, i, Some(tracks.start(i)), wanted.get(i).copied());
     }
-    Ok(all)
 }
 
-fn states(alloc: Global, tracks: &Tracks<u64>) -> Result<Vec<State>, AllocError> {
-    let mut all = Vec::new(alloc);
+fn same_states(rt: &impl Abort, tracks: &Tracks<u64>, wanted: &[State]) {
+    same(rt, tracks.len(), wanted.len());
     for i in 0..tracks.len() {
-        all.push(tracks.state(i))?;
+        same_at(rt, i, Some(tracks.state(i)), wanted.get(i).copied());
     }
-    Ok(all)
 }
 
 #[test]
 fn there_are_no_starts_at_first(rt: HostRuntime) -> Result<(), Fail> {
     let tracks = none(&rt, rt.alloc())?;
     same(&rt, (tracks.len(), tracks.nfa().count()), (0, 2));
-    assert!(rt; tracks.accepted().is_none());
-    assert!(rt; tracks.place(0).is_none() && !tracks.is_live(0));
+    same(&rt, tracks.accepted(), None);
+    same(&rt, (tracks.place(0), tracks.is_live(0)), (None, false));
     Ok(())
 }
 
 #[test]
 fn starts_stand_in_the_order_in_which_they_were_put(rt: HostRuntime) -> Result<(), Fail> {
     let tracks = four(&rt, rt.alloc())?;
-    let starts = starts(rt.alloc(), &tracks)?;
-    same(&rt, starts.as_slice(), [30, 20, 10, 40].as_slice());
+    same_starts(&rt, &tracks, &[30, 20, 10, 40]);
     same(&rt, (tracks.place(10), tracks.place(50)), (Some(2), None));
     assert!(rt; tracks.len() == 4 && *tracks.keys(3).fallback() == 40);
     Ok(())
@@ -135,14 +136,8 @@ fn starts_stand_in_the_order_in_which_they_were_put(rt: HostRuntime) -> Result<(
 fn each_state_becomes_the_one_after_the_item(rt: HostRuntime) -> Result<(), Fail> {
     let mut tracks = four(&rt, rt.alloc())?;
     advance(rt.alloc(), &mut tracks, 2)?;
-    let states = states(rt.alloc(), &tracks)?;
-    same(
-        &rt,
-        states.as_slice(),
-        [BEHIND_BOTH, NOWHERE, NOWHERE, NOWHERE].as_slice(),
-    );
-    let starts = starts(rt.alloc(), &tracks)?;
-    same(&rt, starts.as_slice(), [30, 20, 10, 40].as_slice());
+    same_states(&rt, &tracks, &[BEHIND_BOTH, NOWHERE, NOWHERE, NOWHERE]);
+    same_starts(&rt, &tracks, &[30, 20, 10, 40]);
     Ok(())
 }
 
@@ -151,7 +146,7 @@ fn the_first_accepted_start_is_told(rt: HostRuntime) -> Result<(), Fail> {
     let mut tracks = four(&rt, rt.alloc())?;
     same(&rt, tracks.accepted(), Some(1));
     advance(rt.alloc(), &mut tracks, 1)?;
-    assert!(rt; tracks.accepted().is_none());
+    same(&rt, tracks.accepted(), None);
     advance(rt.alloc(), &mut tracks, 2)?;
     same(&rt, tracks.accepted(), Some(2));
     Ok(())
@@ -160,16 +155,11 @@ fn the_first_accepted_start_is_told(rt: HostRuntime) -> Result<(), Fail> {
 #[test]
 fn starts_that_can_go_on_are_kept_in_their_order(rt: HostRuntime) -> Result<(), Fail> {
     let mut tracks = four(&rt, rt.alloc())?;
-    assert!(rt; tracks.is_live(30) && !tracks.is_live(20) && !tracks.is_live(50));
+    let live = (tracks.is_live(30), tracks.is_live(20), tracks.is_live(50));
+    same(&rt, live, (true, false, false));
     tracks.keep();
-    let starts = starts(rt.alloc(), &tracks)?;
-    same(&rt, starts.as_slice(), [30, 10].as_slice());
-    let states = states(rt.alloc(), &tracks)?;
-    same(
-        &rt,
-        states.as_slice(),
-        [BEHIND_ONE, State::Initial].as_slice(),
-    );
+    same_starts(&rt, &tracks, &[30, 10]);
+    same_states(&rt, &tracks, &[BEHIND_ONE, State::Initial]);
     Ok(())
 }
 
