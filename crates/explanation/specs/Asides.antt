@@ -1,6 +1,6 @@
 -- Statement. A second place that helps to understand a refusal: the use of a let by which its query stands inside of
 -- another, or what on the right side of a composition leaves lists of values without a value.
-use Rattle.std.specs.Prelude.{ℕ, List, codes, Option, None, Some, option_map, if◌then◌else◌}
+use Rattle.std.specs.Prelude.{ℕ, List, Option, None, Some, option_map, if◌then◌else◌}
 use Rattle.language_base.specs.declared.refusal.Refusal.{Refusal}
 use Rattle.language_base.specs.declared.rule.Rule.{Rule}
 use Rattle.language_base.specs.declared.rule.Rule.TheVariants as rule
@@ -17,14 +17,15 @@ use Rattle.explanation.specs.Uses.{first_use}
 use Rattle.explanation.specs.declared.aside.Aside.{Aside}
 use Rattle.explanation.specs.declared.aside.Aside.TheVariants.{Use, Test, Single}
 use Rattle.explanation.specs.declared.culprit.Culprit.{Culprit}
+use Rattle.explanation.specs.declared.parts.TheConstants as words
 use Rattle.explanation.specs.declared.uses.Inside.{Inside}
 use Rattle.explanation.specs.declared.uses.Inside.TheVariants.{Compositions, Collections}
 
 -- what is said of the place
 unfoldable pub said_of_place : Aside → List ℕ
-said_of_place (Use span) = codes "the let is used here, inside of another query\n"
-said_of_place (Test span) = codes "the right side has no value once a value does not meet this\n"
-said_of_place (Single span) = codes "the right side has a value on one value alone\n"
+said_of_place (Use span) = words.USED_HERE.now
+said_of_place (Test span) = words.UNMET.now
+said_of_place (Single span) = words.SINGLE_VALUE.now
 
 -- the place
 abbrev pub place_aside : Aside → Span

@@ -1,7 +1,7 @@
 -- Statement. The name that a refusal is about, in the node that is refused: of the rule `name` the first that is not known
 -- there, and of the rule `type` the first column whose kind does not fit. A node of a let may be asked over items
--- or over values: where nothing is wrong with it over items, it was over values.
-use Rattle.std.specs.Prelude.{ℕ, Bool, List, Option, None, Some, find, if◌then◌else◌}
+-- or over values: where it is used over values alone, or nothing is wrong with it over items, it was over values.
+use Rattle.std.specs.Prelude.{Option, None, Some, find, if◌then◌else◌}
 use Rattle.std.specs.List.{list_any}
 use Rattle.language_base.specs.declared.refusal.Refusal.{Refusal}
 use Rattle.language_base.specs.declared.rule.Rule.{Rule}
@@ -13,11 +13,13 @@ use Rattle.query_syntax.specs.Programs.{Let, Program}
 use Rattle.query_syntax.specs.Queries as q
 use Rattle.query_syntax.specs.Queries.{Query}
 use Rattle.query_syntax.specs.Rates.{Rate}
+use Rattle.query_syntax.specs.Spans.{query_span}
 use Rattle.query_syntax.specs.declared.leaf.Name.{Name}
 use Rattle.explanation.specs.Misfits.{misfit_item, misfit_read, misfit_test, unless_key}
 use Rattle.explanation.specs.Scopes.{Scope, of_item, of_mistyped, of_one, of_two, of_value, unless_known}
 use Rattle.explanation.specs.Spots.{has_in, is_at}
 use Rattle.explanation.specs.Unknown.{first_of, unknown_column, unknown_item, unknown_name}
+use Rattle.explanation.specs.Uses.{is_on_values}
 use Rattle.explanation.specs.declared.culprit.Culprit.{Culprit}
 use Rattle.explanation.specs.declared.culprit.Culprit.TheVariants.{NoLet, TwiceColumn, TwiceLet}
 
@@ -60,35 +62,50 @@ in_keys rule.Name scope key sync rate =
 in_keys rule.Type_ scope key sync rate = kinds_in_keys scope key sync rate
 in_keys _ scope key sync rate = None
 
--- of the node that is refused, and of no other
-abbrev pub if_at : Span → Refusal → Option Culprit → Option Culprit
-if_at span refusal culprit = if is_at span refusal.span then culprit else None
+-- in a node without its operands
+abbrev pub node_culprit : Rule → Scope → Query → Option Culprit
+node_culprit rule scope (q.name name) = in_name rule name.span
+node_culprit rule scope (q.atom predicate value span) = in_atom rule scope predicate value
+node_culprit rule scope (q.eps number span) = None
+node_culprit rule scope (q.or left right span) = None
+node_culprit rule scope (q.split left right value span) = in_fold rule of_two value
+node_culprit rule scope (q.iter operand first step span) = in_fold rule of_two step
+node_culprit rule scope (q.combine left right value span) = in_fold rule of_two value
+node_culprit rule scope (q.apply operand value span) = in_fold rule of_one value
+node_culprit rule scope (q.compose left right span) = None
+node_culprit rule scope (q.collect key sync rate operand span) = in_keys rule scope key sync rate
 
--- in a query over these columns
+-- the same, where the node is the one that is refused
+abbrev pub own_culprit : Refusal → Scope → Query → Option Culprit
+own_culprit refusal scope query =
+    if is_at (query_span query) refusal.span then node_culprit refusal.rule scope query else None
+
+-- in a query over these columns: of the node that is refused, and of no other
 abbrev pub culprit_in : Refusal → Scope → Query → Option Culprit
-culprit_in refusal scope (q.name name) = if_at name.span refusal (in_name refusal.rule name.span)
+culprit_in refusal scope (q.name name) = own_culprit refusal scope (q.name name)
 culprit_in refusal scope (q.atom predicate value span) =
-    if_at span refusal (in_atom refusal.rule scope predicate value)
-culprit_in refusal scope (q.eps number span) = None
+    own_culprit refusal scope (q.atom predicate value span)
+culprit_in refusal scope (q.eps number span) = own_culprit refusal scope (q.eps number span)
 culprit_in refusal scope (q.or left right span) =
-    first_of (culprit_in refusal scope left) (culprit_in refusal scope right)
+    first_of (first_of (culprit_in refusal scope left) (culprit_in refusal scope right))
+    (own_culprit refusal scope (q.or left right span))
 culprit_in refusal scope (q.split left right value span) =
     first_of (first_of (culprit_in refusal scope left) (culprit_in refusal scope right))
-    (if_at span refusal (in_fold refusal.rule of_two value))
+    (own_culprit refusal scope (q.split left right value span))
 culprit_in refusal scope (q.iter operand first step span) =
     first_of (culprit_in refusal scope operand)
-    (if_at span refusal (in_fold refusal.rule of_two step))
+    (own_culprit refusal scope (q.iter operand first step span))
 culprit_in refusal scope (q.combine left right value span) =
     first_of (first_of (culprit_in refusal scope left) (culprit_in refusal scope right))
-    (if_at span refusal (in_fold refusal.rule of_two value))
+    (own_culprit refusal scope (q.combine left right value span))
 culprit_in refusal scope (q.apply operand value span) =
     first_of (culprit_in refusal scope operand)
-    (if_at span refusal (in_fold refusal.rule of_one value))
+    (own_culprit refusal scope (q.apply operand value span))
 culprit_in refusal scope (q.compose left right span) =
     first_of (culprit_in refusal scope left) (culprit_in refusal of_value right)
 culprit_in refusal scope (q.collect key sync rate operand span) =
     first_of (culprit_in refusal scope operand)
-    (if_at span refusal (in_keys refusal.rule scope key sync rate))
+    (own_culprit refusal scope (q.collect key sync rate operand span))
 
 -- the query of a let, or of what is no let
 abbrev pub query_or : Option Let → Query → Query
@@ -107,10 +124,11 @@ declared_at program place =
     else (if list_any (λ one. is_at one.name.span place) program.lets then Some (TwiceLet place)
     else None)
 
--- over the columns of the stream
+-- over the columns of the stream: in no let that is used over values alone
 abbrev pub culprit_on_items : Program → Refusal → Option Culprit
 culprit_on_items program refusal =
-    culprit_in refusal (of_item program.stream.columns) (query_at program refusal.span)
+    if is_on_values refusal.span program then None
+    else culprit_in refusal (of_item program.stream.columns) (query_at program refusal.span)
 
 -- over values
 abbrev pub culprit_on_values : Program → Refusal → Option Culprit

@@ -1,24 +1,16 @@
 -- Statement. The explanation of a refusal, from its parts.
 use Rattle.std.specs.Prelude.{ℕ, List, [], ◌++◌, codes, decimal, Option, Some, None}
 use Rattle.language_base.specs.declared.refusal.Refusal.{Refusal}
-use Rattle.language_base.specs.declared.rule.Rule.{Rule}
 use Rattle.place_in_text.specs.Places.{column_of, line_of}
 use Rattle.place_in_text.specs.Windows.{marked_line}
 use Rattle.report_writer.specs.Texts.{refusal_text}
 use Rattle.query_syntax.specs.Programs.{Program}
+use Rattle.explanation.specs.Advice.{advice}
 use Rattle.explanation.specs.Asides.{aside_of, place_aside, said_of_place}
 use Rattle.explanation.specs.CulpritLines.{culprit_line}
 use Rattle.explanation.specs.Culprits.{culprit_of}
-use Rattle.explanation.specs.HintSentences.{hint_sentence}
-use Rattle.explanation.specs.Hints.{hint_of}
-use Rattle.explanation.specs.Sentences.{broken_where, mended_by}
 use Rattle.explanation.specs.declared.aside.Aside.{Aside}
 use Rattle.explanation.specs.declared.culprit.Culprit.{Culprit}
-use Rattle.explanation.specs.declared.hint.Hint.{Hint}
-
--- a sentence on a line of its own
-abbrev pub line : List ℕ → List ℕ
-line sentence = sentence ++ codes "\n"
 
 -- the query's name, the line and the column
 abbrev pub place_text : List ℕ → ℕ → ℕ → List ℕ
@@ -31,15 +23,6 @@ column_unit = codes " (the column in bytes): "
 -- where the query is refused, and the refusal as a run tells it
 unfoldable pub heading : List ℕ → ℕ → ℕ → Refusal → List ℕ
 heading name line column refusal = place_text name line column ++ column_unit ++ refusal_text refusal
-
--- the rule, and how a query that breaks it is mended
-unfoldable pub advice : Rule → List ℕ
-advice rule = line (broken_where rule) ++ line (mended_by rule)
-
--- a hint, where there is one
-abbrev pub hint_line : Option Hint → List ℕ
-hint_line (Some hint) = line (hint_sentence hint)
-hint_line None = []
 
 -- a second place, where there is one
 unfoldable pub aside_lines : List ℕ → List ℕ → Option Aside → List ℕ
@@ -55,7 +38,7 @@ unfoldable pub explanation : List ℕ → List ℕ → Refusal → Option Culpri
 explanation name text refusal culprit aside =
     heading name (line_of text refusal.span.from) (column_of text refusal.span.from) refusal
     ++ marked_line text refusal.span.from refusal.span.to
-    ++ advice refusal.rule ++ hint_line (hint_of text refusal) ++ culprit_line text culprit
+    ++ advice text refusal ++ culprit_line text culprit
     ++ aside_lines name text aside
 
 -- that of a text that writes no program

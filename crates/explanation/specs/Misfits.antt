@@ -16,6 +16,7 @@ use Rattle.query_syntax.specs.declared.leaf.Name.{Name}
 use Rattle.query_syntax.specs.declared.stream.Column.{Column}
 use Rattle.query_syntax.specs.declared.stream.Kind.{Kind}
 use Rattle.query_syntax.specs.declared.stream.Kind.TheVariants as kind
+use Rattle.explanation.specs.Scopes.{has_name}
 use Rattle.explanation.specs.Unknown.{first_of}
 use Rattle.explanation.specs.declared.culprit.Culprit.{Culprit}
 use Rattle.explanation.specs.declared.culprit.Culprit.TheVariants.{Texts, Numbers, Key, NoTable}
@@ -45,6 +46,10 @@ unless_text columns name = if has_numbers columns name.bytes then Some (Numbers 
 -- it is the name, where a key is taken and the column has numbers
 abbrev pub unless_key : List Column → Name → Option Culprit
 unless_key columns name = if has_numbers columns name.bytes then Some (Key name.span) else None
+
+-- it is the name, where a table is taken and a column has this name: none has tables
+abbrev pub unless_table : List Column → Name → Option Culprit
+unless_table columns name = if has_name columns name.bytes then Some (NoTable name.span) else None
 
 -- it is the name, where the column is compared with this
 abbrev pub misfit_with : List Column → Name → Literal → Option Culprit
@@ -80,6 +85,6 @@ misfit_read columns (e.binary operator left right span) =
 misfit_read columns (e.choice operator left right at holds fails span) =
     first_of (first_of (misfit_read columns left) (misfit_read columns right))
     (first_of (misfit_read columns holds) (misfit_read columns fails))
-misfit_read columns (e.summary operator table span) = Some (NoTable table.span)
-misfit_read columns (e.extremum operator table first span) = Some (NoTable table.span)
-misfit_read columns (e.get table key absent span) = Some (NoTable table.span)
+misfit_read columns (e.summary operator table span) = unless_table columns table
+misfit_read columns (e.extremum operator table first span) = unless_table columns table
+misfit_read columns (e.get table key absent span) = unless_table columns table

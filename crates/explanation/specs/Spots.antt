@@ -1,5 +1,5 @@
 -- Statement. How a place lies to a part of the text.
-use Rattle.std.specs.Prelude.{ℕ, Bool, ◌==◌, ◌&&◌, nat_le}
+use Rattle.std.specs.Prelude.{Bool, ◌==◌, ◌&&◌, nat_le}
 use Rattle.language_base.specs.declared.span.Span.{Span}
 
 -- the part is the place

@@ -1,6 +1,6 @@
 -- Statement. The first use, as the main query comes to it, by which the query of a let stands inside of another: on the
--- right side of a composition, or there or in a collection.
-use Rattle.std.specs.Prelude.{ℕ, false, ◌||◌, is_some, List, [], ◌∷◌, Option, None, Some, if◌then◌else◌, unwrap_or}
+-- right side of a composition, or there or in a collection; and whether it is used elsewhere.
+use Rattle.std.specs.Prelude.{ℕ, Bool, false, not, ◌||◌, ◌&&◌, is_some, List, [], ◌∷◌, Option, None, Some, if◌then◌else◌, unwrap_or}
 use Rattle.std.specs.Str.{bytes_eq}
 use Rattle.language_base.specs.declared.span.Span.{Span}
 use Rattle.query_syntax.specs.Programs.{Let, Program}
@@ -24,7 +24,7 @@ lead_named (first ∷ known) name =
 
 -- a name of no let leads nowhere
 abbrev pub no_lead : Lead
-no_lead = record { leads = false; used = None }
+no_lead = record { leads = false; outside = false; used = None }
 
 -- whether a name leads to the place
 abbrev pub lead_of : List Known → List ℕ → Lead
@@ -48,7 +48,20 @@ first_lead known (q.apply f value span) = first_lead known f
 first_lead known (q.compose f g span) = earlier_of (first_lead known f) (first_lead known g)
 first_lead known (q.collect key sync rate f span) = first_lead known f
 
--- the same of those names alone that stand inside
+-- some name outside of the right sides of compositions leads to the place
+abbrev pub leads_outside : List Known → Query → Bool
+leads_outside known (q.name name) = (lead_of known name.bytes).outside
+leads_outside known (q.atom predicate value span) = false
+leads_outside known (q.eps number span) = false
+leads_outside known (q.or f g span) = leads_outside known f || leads_outside known g
+leads_outside known (q.split f g value span) = leads_outside known f || leads_outside known g
+leads_outside known (q.iter f first step span) = leads_outside known f
+leads_outside known (q.combine f g value span) = leads_outside known f || leads_outside known g
+leads_outside known (q.apply f value span) = leads_outside known f
+leads_outside known (q.compose f g span) = leads_outside known f
+leads_outside known (q.collect key sync rate f span) = leads_outside known f
+
+-- the first name that leads to the place and stands inside
 abbrev pub first_inside : Inside → List Known → Query → Option Span
 first_inside inside known (q.name name) = (lead_of known name.bytes).used
 first_inside inside known (q.atom predicate value span) = None
@@ -70,6 +83,7 @@ first_inside Collections known (q.collect key sync rate f span) = first_lead kno
 abbrev pub lead_to : Inside → Span → List Known → Let → Lead
 lead_to inside place known one = record {
   leads = has_in one.span place || is_some (first_lead known one.query);
+  outside = has_in one.span place || leads_outside known one.query;
   used = first_inside inside known one.query;
 }
 
@@ -83,3 +97,10 @@ known_behind inside place known (one ∷ lets) = known_behind inside place
 abbrev pub first_use : Inside → Span → Program → Option Span
 first_use inside place program =
     first_inside inside (known_behind inside place [] program.lets) program.main.query
+
+-- the place is in a let that is used on the right sides of compositions alone
+abbrev pub is_on_values : Span → Program → Bool
+is_on_values place program =
+    let known = known_behind Compositions place [] program.lets in
+    is_some (first_inside Compositions known program.main.query)
+    && not (leads_outside known program.main.query)

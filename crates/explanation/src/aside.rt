@@ -32,7 +32,7 @@ pub(crate) fn aside_of(
 {
     match refusal.rule {
         Rule::Name | Rule::Type_ => {
-            let on_items = culprit_on_items(program, refusal);
+            let on_items = culprit_on_items(alloc, program, refusal)?;
             let inside = values_for(on_items, culprit_on_values(program, refusal));
             use_inside(alloc, inside, program, refusal.span)
         }

@@ -7,6 +7,44 @@ use crate::recognizers::term_at;
 use language_base::Span;
 use std::alloc::AllocError;
 
+const QUERY_NAMES: &str =
+    "A word is a query as the name of an earlier let; columns are read in an atom.\n";
+
+const COLUMN_NAMES: &str =
+    "These names are columns of the stream: one is not declared as it is spelled here.\n";
+
+const VALUE_NAME: &str =
+    "The right side of a compose reads values of the left, in one column called value.\n";
+
+const VALUE_KINDS: &str =
+    "No value is a text; a value that is a table has no tests, and tsum(value) reads it.\n";
+
+const ONE_NAME: &str =
+    "Here only x is known, the value of the operand; columns are read in an atom.\n";
+
+const TWO_NAMES: &str =
+    "Here only x and y are known, the two values; columns are read in an atom.\n";
+
+const TWICE_COLUMN: &str = "An earlier col has this name, and each column has its own: ";
+
+const TWICE_LET: &str = "An earlier let has this name, and each let has its own: ";
+
+const NO_LET: &str = "No earlier let has this name: ";
+
+const UNKNOWN: &str = "Not known here: ";
+
+const OTHER_KIND: &str = "Of another kind than is taken here: ";
+
+const TEXTS: &str =
+    "A column of texts, where a number is taken; declare it int where it has numbers: ";
+
+const NUMBERS: &str =
+    "A column of numbers, where a text is taken; drop the quotes, or declare it text: ";
+
+const KEY: &str = "A column of numbers, where a key is taken; declare it text: ";
+
+const NO_TABLE: &str = "A column of items, where a table is taken: ";
+
 pub(crate) fn push_culprit(
     text: &[u8],
     culprit: Option<Culprit>,
@@ -23,7 +61,7 @@ pub(crate) fn push_culprit(
     }
 }
 
-fn push_named(what: &str, name: &[u8], shown: &mut Vec<u8>) -> Result<(), AllocError>
+pub(crate) fn push_named(what: &str, name: &[u8], shown: &mut Vec<u8>) -> Result<(), AllocError>
     ensures { OnOk result (shown.new.items ≡ shown.old.items ++ named_line what.now name.now) }
 {
     shown.extend_from_slice(what.as_bytes())?;
@@ -37,24 +75,12 @@ fn known_there(culprit: Culprit) -> &'static str
     ensures { result.now ≡ known_there culprit }
 {
     match culprit {
-        Culprit::NoLet(_) => {
-            "A word is a query as the name of an earlier let; columns are read in an atom.\n"
-        }
-        Culprit::NoColumn(_) => {
-            "These names are columns of the stream: one is not declared as it is spelled here.\n"
-        }
-        Culprit::NoValue(_) => {
-            "The right side of a compose reads values of the left, in one column called value.\n"
-        }
-        Culprit::OfValue(_) => {
-            "No value is a text; a value that is a table has no tests, and tsum(value) reads it.\n"
-        }
-        Culprit::NotOne(_) => {
-            "Here only x is known, the value of the operand; columns are read in an atom.\n"
-        }
-        Culprit::NotTwo(_) => {
-            "Here only x and y are known, the two values; columns are read in an atom.\n"
-        }
+        Culprit::NoLet(_) => QUERY_NAMES,
+        Culprit::NoColumn(_) => COLUMN_NAMES,
+        Culprit::NoValue(_) => VALUE_NAME,
+        Culprit::OfValue(_) => VALUE_KINDS,
+        Culprit::NotOne(_) => ONE_NAME,
+        Culprit::NotTwo(_) => TWO_NAMES,
         Culprit::TwiceColumn(_)
         | Culprit::TwiceLet(_)
         | Culprit::Texts(_)
@@ -69,16 +95,17 @@ fn said_of(culprit: Culprit) -> &'static str
     ensures { result.now ≡ said_of culprit }
 {
     match culprit {
-        Culprit::TwiceColumn(_) => "An earlier col has this name, and each column has its own: ",
-        Culprit::TwiceLet(_) => "An earlier let has this name, and each let has its own: ",
-        Culprit::NoLet(_) => "No earlier let has this name: ",
-        Culprit::Texts(_) => "A column of texts, where a number is taken: ",
-        Culprit::Numbers(_) => "A column of numbers, where a text is taken: ",
-        Culprit::Key(_) => "A column of numbers, where a key is taken; declare it text: ",
-        Culprit::NoTable(_) => "A column of items, where a table is taken: ",
-        Culprit::OfValue(_) => "Of another kind than is taken here: ",
-        Culprit::NoColumn(_) | Culprit::NoValue(_) | Culprit::NotOne(_) | Culprit::NotTwo(_) =>
-            "Not known here: ",
+        Culprit::TwiceColumn(_) => TWICE_COLUMN,
+        Culprit::TwiceLet(_) => TWICE_LET,
+        Culprit::NoLet(_) => NO_LET,
+        Culprit::NoColumn(_) | Culprit::NoValue(_) | Culprit::NotOne(_) | Culprit::NotTwo(_) => {
+            UNKNOWN
+        }
+        Culprit::OfValue(_) => OTHER_KIND,
+        Culprit::Texts(_) => TEXTS,
+        Culprit::Numbers(_) => NUMBERS,
+        Culprit::Key(_) => KEY,
+        Culprit::NoTable(_) => NO_TABLE,
     }
 }
 

@@ -1,32 +1,47 @@
 //! The name that a refusal is about.
-ghost use Rattle.std.specs.Prelude.{◌≡◌, find, option_copied};
+ghost use Rattle.std.specs.Prelude.{◌≡◌, find, option_copied, IfOk};
 ghost use Rattle.std.specs.List.{list_any};
 ghost use Rattle.query_syntax.specs.Plain.{plain_program, plain_query};
-ghost use Rattle.explanation.specs.Culprits.{culprit_in, culprit_of, culprit_on_items, culprit_on_values, declared_at, if_at, query_at};
+ghost use Rattle.explanation.specs.Culprits.{culprit_in, culprit_of, culprit_on_items, culprit_on_values, declared_at, own_culprit, query_at};
 ghost use Rattle.explanation.specs.Scopes.{plain_scope};
 ghost use Rattle.explanation.specs.Spots.{has_in, is_at};
 
 use crate::culprit::Culprit;
-use crate::node::{in_atom, in_fold, in_keys, in_name};
+use crate::node::node_culprit;
 use crate::scope::Scope;
 use crate::spots::{has_in, is_at};
+use crate::uses::is_on_values;
 use language_base::{Refusal, Span};
 use query_syntax::{Column, Let, Program, Query};
+use std::alloc::{AllocError, Global};
 
 /// The name that the refusal of this program is about, if it is about one.
-pub(crate) fn culprit_of(program: &Program, refusal: Refusal) -> Option<Culprit>
-    ensures { result ≡ culprit_of (plain_program program.now) refusal }
+pub(crate) fn culprit_of(
+    alloc: Global,
+    program: &Program,
+    refusal: Refusal,
+) -> Result<Option<Culprit>, AllocError>
+    ensures { IfOk result (λ culprit. culprit ≡ culprit_of (plain_program program.now) refusal) }
 {
-    let of_node = culprit_on_items(program, refusal).or(culprit_on_values(program, refusal));
-    declared_at(program, refusal.span).or(of_node)
+    let on_items = culprit_on_items(alloc, program, refusal)?;
+    let of_node = on_items.or(culprit_on_values(program, refusal));
+    Ok(declared_at(program, refusal.span).or(of_node))
 }
 
 /// The same of a node that is asked over items.
-pub(crate) fn culprit_on_items(program: &Program, refusal: Refusal) -> Option<Culprit>
-    ensures { result ≡ culprit_on_items (plain_program program.now) refusal }
+pub(crate) fn culprit_on_items(
+    alloc: Global,
+    program: &Program,
+    refusal: Refusal,
+) -> Result<Option<Culprit>, AllocError>
+    ensures { IfOk result (λ culprit.
+        culprit ≡ culprit_on_items (plain_program program.now) refusal) }
 {
+    if is_on_values(alloc, refusal.span, program)? {
+        return Ok(None);
+    }
     let scope = Scope::Item(&program.stream.columns);
-    culprit_in(refusal, scope, query_at(program, refusal.span))
+    Ok(culprit_in(refusal, scope, query_at(program, refusal.span)))
 }
 
 /// The same of a node that is asked over values.
@@ -79,78 +94,30 @@ fn let_at(lets: &[Let], place: Span) -> Option<&Let>
 fn culprit_in(refusal: Refusal, scope: Scope<'_>, query: &Query) -> Option<Culprit>
     ensures { result ≡ culprit_in refusal (plain_scope scope.entry) (plain_query query.now) }
 {
+    let own = own_culprit(refusal, scope, query);
     match query {
-        Query::Name(name) => if_at(name.span, refusal, in_name(refusal.rule, name.span)),
-        Query::Atom {
-            predicate,
-            value,
-            span,
-        } => if_at(
-            *span,
-            refusal,
-            in_atom(refusal.rule, scope, predicate, value),
-        ),
-        Query::Eps { .. } => None,
-        Query::Or { left, right, .. } => {
-            culprit_in(refusal, scope, left).or(culprit_in(refusal, scope, right))
-        }
-        Query::Split {
-            left,
-            right,
-            value,
-            span,
-        }
-        | Query::Combine {
-            left,
-            right,
-            value,
-            span,
-        } => {
+        Query::Name(_) | Query::Atom { .. } | Query::Eps { .. } => own,
+        Query::Or { left, right, .. }
+        | Query::Split { left, right, .. }
+        | Query::Combine { left, right, .. } => {
             let operands = culprit_in(refusal, scope, left).or(culprit_in(refusal, scope, right));
-            operands.or(if_at(*span, refusal, in_fold(refusal.rule, Scope::Two, value)))
-        }
-        Query::Iter {
-            operand,
-            step,
-            span,
-            ..
-        } => {
-            let own = if_at(*span, refusal, in_fold(refusal.rule, Scope::Two, step));
-            culprit_in(refusal, scope, operand).or(own)
-        }
-        Query::Apply {
-            operand,
-            value,
-            span,
-        } => {
-            let own = if_at(*span, refusal, in_fold(refusal.rule, Scope::One, value));
-            culprit_in(refusal, scope, operand).or(own)
+            operands.or(own)
         }
         Query::Compose { left, right, .. } => {
             culprit_in(refusal, scope, left).or(culprit_in(refusal, Scope::Value, right))
         }
-        Query::Collect {
-            key,
-            sync,
-            rate,
-            body,
-            span,
-        } => {
-            let own = if_at(
-                *span,
-                refusal,
-                in_keys(refusal.rule, scope, key, sync, rate),
-            );
-            culprit_in(refusal, scope, body).or(own)
-        }
+        Query::Iter { operand, .. }
+        | Query::Apply { operand, .. }
+        | Query::Collect { body: operand, .. } => culprit_in(refusal, scope, operand).or(own),
     }
 }
 
-fn if_at(span: Span, refusal: Refusal, culprit: Option<Culprit>) -> Option<Culprit>
-    ensures { result ≡ if_at span refusal culprit }
+// In a node without its operands, where it is refused.
+fn own_culprit(refusal: Refusal, scope: Scope<'_>, query: &Query) -> Option<Culprit>
+    ensures { result ≡ own_culprit refusal (plain_scope scope.entry) (plain_query query.now) }
 {
-    if is_at(span, refusal.span) {
-        culprit
+    if is_at(query.span(), refusal.span) {
+        node_culprit(refusal.rule, scope, query)
     } else {
         None
     }

@@ -4,65 +4,75 @@ ghost use Rattle.explanation.specs.HintSentences.{hint_sentence};
 
 use crate::hint::Hint;
 
+const POINT: &str =
+    "A number has no point: in the smallest unit of a fixed(1) column, 37.5 is 375.";
+
+const SINGLE_QUOTE: &str = "A string stands between double quotes.";
+
+const SMART_QUOTE: &str = "A string stands between straight double quotes.";
+
+const BAD_STRING: &str =
+    "A string ends in a quote on its line; in it \\x and two digits write any other byte.";
+
+const COMMENT: &str = "A comment begins with #, and ends with its line.";
+
+const COMPARISON: &str =
+    "A comparison is a call: gt(a, 5) for a > 5, le(a, 5) for a <= 5, eq(a, 5) for a = 5.";
+
+const ARITHMETIC: &str =
+    "Arithmetic is written as calls: add(x, y) for x + y, and sub, mul, div and rem.";
+
+const CONNECTIVE: &str = "Predicates are joined by calls: and(P, Q), or(P, Q), not(P).";
+
+const MARK: &str = "The notation has round brackets and commas, and no other marks.";
+
+const BYTE_ORDER_MARK: &str =
+    "A byte order mark stands here, which few editors show: save the text without it.";
+
+const NOT_ASCII: &str =
+    "Names have ASCII letters, digits and _; others stand in strings and comments alone.";
+
+const MISSING_COMMA: &str = "A comma or a closing bracket is missing before this.";
+
+const MISSING_TERM: &str = "An argument is missing before this, or no bracket is open here.";
+
+const NO_HEAD: &str = "A bracket opens after a word, and there is none before this one.";
+
+const EMPTY_WORD: &str = "The query of the empty word has its value: eps(0).";
+
+const TWO_KINDS: &str = "One of the two queries gives a table, and the other one a number.";
+
+const TABLE_OR_NUMBER: &str =
+    "tsum, tcount, tmax, tmin and tget take a table, and all operators take numbers.";
+
+const VALUE_CELLS: &str =
+    "The tests on its right side tell too many values of its left side apart.";
+
+const RATE_ITEM: &str = "A predicate stands in each item(P) of its rate; some item is to meet it.";
+
 #[tactic(auto, unfolding(crate::specs::HintSentences::hint_sentence))]
 pub(crate) fn hint_sentence(hint: Hint) -> &'static str
     ensures { result.now ≡ hint_sentence hint }
 {
     match hint {
-        Hint::Point => {
-            "A number has no point: in the smallest unit of a fixed(1) column, 37.5 is 375."
-        }
-        Hint::SingleQuote => "A string stands between double quotes.",
-        Hint::BadString => {
-            "A string ends in a quote on its line; in it \\x and two digits write any other byte."
-        }
-        Hint::Comparison => {
-            "A comparison is a call: gt(a, 5) for a > 5, le(a, 5) for a <= 5, eq(a, 5) for a = 5."
-        }
-        Hint::Arithmetic => {
-            "Arithmetic is written as calls: add(x, y) for x + y, and sub, mul, div and rem."
-        }
-        Hint::Connective => "Predicates are joined by calls: and(P, Q), or(P, Q), not(P).",
-        Hint::Mark => "The notation has round brackets and commas, and no other marks.",
-        Hint::NotAscii => {
-            "Names have ASCII letters, digits and _; others stand in strings and comments alone."
-        }
-        Hint::OpenBracket => "The text ends here, and a bracket is still open.",
-        Hint::MissingComma => "A comma or a closing bracket is missing before this.",
-        Hint::MissingTerm => "An argument is missing before this, or no bracket is open here.",
-        Hint::NoHead => "A bracket opens behind a word, and there is none before this one.",
-        Hint::MissingTop => {
-            "The text ends here, and a term is missing: a file is one stream, and then one main."
-        }
-        Hint::TwoOperands => {
-            "It takes two queries or predicates: of three, or(F, or(G, H)); an if has no and or or."
-        }
-        Hint::WhichComparison => {
-            "A predicate has gt(NAME, NUM), an if gt(EXPR, EXPR); a rate has item(PRED)."
-        }
-        Hint::LoneWord => {
-            "This word can not stand here; a predicate compares a column with a number or a string."
-        }
-        Hint::AnyItem => "In a rate one item that meets P is item(P), as in star(item(any)).",
-        Hint::LetForm => "A let is let(NAME, QUERY), and stands between the stream and the main.",
-        Hint::ComposeForm => {
-            "compose(F, G) takes two queries: G reads the values of F, in one column called value."
-        }
-        Hint::CollectForm => {
-            "collect(NAME, PRED, RATE, F) is a query: as in apply(T, tsum(x)) its table is read."
-        }
-        Hint::TableForm => {
-            "Expressions have tsum(x), tcount(x), tmax(x, 0), tmin(x, 0) and tget(x, \"KEY\", 0)."
-        }
-        Hint::TwoKinds => "One of the two queries gives a table, and the other one a number.",
-        Hint::TableOrNumber => {
-            "tsum, tcount, tmax, tmin and tget take a table, and all operators take numbers."
-        }
-        Hint::ValueCells => {
-            "The tests on its right side tell too many values of its left side apart."
-        }
-        Hint::RateItem => {
-            "A predicate stands in each item(P) of its rate; some item is to meet it."
-        }
+        Hint::Point => POINT,
+        Hint::SingleQuote => SINGLE_QUOTE,
+        Hint::SmartQuote => SMART_QUOTE,
+        Hint::BadString => BAD_STRING,
+        Hint::Comment => COMMENT,
+        Hint::Comparison => COMPARISON,
+        Hint::Arithmetic => ARITHMETIC,
+        Hint::Connective => CONNECTIVE,
+        Hint::Mark => MARK,
+        Hint::ByteOrderMark => BYTE_ORDER_MARK,
+        Hint::NotAscii => NOT_ASCII,
+        Hint::MissingComma => MISSING_COMMA,
+        Hint::MissingTerm => MISSING_TERM,
+        Hint::NoHead => NO_HEAD,
+        Hint::EmptyWord => EMPTY_WORD,
+        Hint::TwoKinds => TWO_KINDS,
+        Hint::TableOrNumber => TABLE_OR_NUMBER,
+        Hint::ValueCells => VALUE_CELLS,
+        Hint::RateItem => RATE_ITEM,
     }
 }

@@ -1,21 +1,26 @@
 //! Why a query is refused, as a person reads it: the place, the rule, how it is mended, what is often meant.
 #![tactic(auto)]
 
+mod advice;
 mod aside;
+mod calls;
 mod culprit;
 mod culprit_line;
 mod finding;
-mod form_hint;
+mod form_sentence;
 mod hint;
 mod hint_sentence;
 mod mending;
 mod misfit;
+mod nearest;
+mod nearest_words;
 mod node;
 mod parts;
 mod recognizers;
 mod rule_sentence;
 mod scope;
 mod spots;
+mod standing;
 mod unknown;
 mod uses;
 

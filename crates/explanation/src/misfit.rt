@@ -1,9 +1,10 @@
 //! The first column of an atom or a collection whose kind does not fit where its name stands.
 ghost use Rattle.std.specs.Prelude.{◌≡◌};
 ghost use Rattle.query_syntax.specs.Plain.{plain_expression, plain_predicate, plain_rate};
-ghost use Rattle.explanation.specs.Misfits.{has_numbers, has_texts, is_text, misfit_item, misfit_read, misfit_test, misfit_with, unless_key, unless_number, unless_text};
+ghost use Rattle.explanation.specs.Misfits.{has_numbers, has_texts, is_text, misfit_item, misfit_read, misfit_test, misfit_with, unless_key, unless_number, unless_table, unless_text};
 
 use crate::culprit::Culprit;
+use crate::scope::has_name;
 use query_syntax::{Column, Expression, Kind, Literal, Name, Predicate, Rate};
 
 /// The first column in a predicate that is tested as one of the other kind.
@@ -63,7 +64,7 @@ pub(crate) fn misfit_read(columns: &[Column], expression: &Expression) -> Option
         }
         Expression::Summary { table, .. }
         | Expression::Extremum { table, .. }
-        | Expression::Get { table, .. } => Some(Culprit::NoTable(table.span)),
+        | Expression::Get { table, .. } => unless_table(columns, table),
     }
 }
 
@@ -86,6 +87,13 @@ fn unless_text(columns: &[Column], name: &Name) -> Option<Culprit>
     ensures { result ≡ unless_text columns.now name.now }
 {
     has_numbers(columns, name.bytes.as_slice()).then_some(Culprit::Numbers(name.span))
+}
+
+// No column has tables.
+fn unless_table(columns: &[Column], name: &Name) -> Option<Culprit>
+    ensures { result ≡ unless_table columns.now name.now }
+{
+    has_name(columns, name.bytes.as_slice()).then_some(Culprit::NoTable(name.span))
 }
 
 /// The name of a key column, where it has numbers.

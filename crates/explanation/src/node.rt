@@ -1,7 +1,7 @@
 //! The name in a node for which it breaks the rule `name` or the rule `type`.
 ghost use Rattle.std.specs.Prelude.{◌≡◌};
-ghost use Rattle.query_syntax.specs.Plain.{plain_expression, plain_predicate, plain_rate};
-ghost use Rattle.explanation.specs.Culprits.{in_atom, in_fold, in_keys, in_name, kinds_in_atom, kinds_in_keys};
+ghost use Rattle.query_syntax.specs.Plain.{plain_expression, plain_predicate, plain_query, plain_rate};
+ghost use Rattle.explanation.specs.Culprits.{in_atom, in_fold, in_keys, in_name, kinds_in_atom, kinds_in_keys, node_culprit};
 ghost use Rattle.explanation.specs.Scopes.{plain_scope};
 
 use crate::culprit::Culprit;
@@ -9,10 +9,36 @@ use crate::misfit::{misfit_item, misfit_read, misfit_test, unless_key};
 use crate::scope::{Scope, unless_known};
 use crate::unknown::{unknown_column, unknown_item, unknown_name};
 use language_base::{Rule, Span};
-use query_syntax::{Expression, Name, Predicate, Rate};
+use query_syntax::{Expression, Name, Predicate, Query, Rate};
 
-/// In the name of a query.
-pub(crate) fn in_name(rule: Rule, span: Span) -> Option<Culprit>
+/// In a node without its operands.
+pub(crate) fn node_culprit(rule: Rule, scope: Scope<'_>, query: &Query) -> Option<Culprit>
+    ensures { result ≡ node_culprit rule (plain_scope scope.entry) (plain_query query.now) }
+{
+    match query {
+        Query::Name(name) => in_name(rule, name.span),
+        Query::Atom {
+            predicate,
+            value,
+            ..
+        } => in_atom(rule, scope, predicate, value),
+        Query::Split { value, .. } | Query::Combine { value, .. } => {
+            in_fold(rule, Scope::Two, value)
+        }
+        Query::Iter { step, .. } => in_fold(rule, Scope::Two, step),
+        Query::Apply { value, .. } => in_fold(rule, Scope::One, value),
+        Query::Collect {
+            key,
+            sync,
+            rate,
+            ..
+        } => in_keys(rule, scope, key, sync, rate),
+        Query::Eps { .. } | Query::Or { .. } | Query::Compose { .. } => None,
+    }
+}
+
+// In the name of a query.
+fn in_name(rule: Rule, span: Span) -> Option<Culprit>
     ensures { result ≡ in_name rule span }
 {
     match rule {
@@ -21,8 +47,8 @@ pub(crate) fn in_name(rule: Rule, span: Span) -> Option<Culprit>
     }
 }
 
-/// In an atom.
-pub(crate) fn in_atom(
+// In an atom.
+fn in_atom(
     rule: Rule,
     scope: Scope<'_>,
     predicate: &Predicate,
@@ -48,8 +74,8 @@ fn kinds_in_atom(scope: Scope<'_>, predicate: &Predicate, value: &Expression) ->
     }
 }
 
-/// In an expression over values of operands.
-pub(crate) fn in_fold(rule: Rule, scope: Scope<'_>, value: &Expression) -> Option<Culprit>
+// In an expression over values of operands.
+fn in_fold(rule: Rule, scope: Scope<'_>, value: &Expression) -> Option<Culprit>
     ensures { result ≡ in_fold rule (plain_scope scope.entry) (plain_expression value.now) }
 {
     match rule {
@@ -58,8 +84,8 @@ pub(crate) fn in_fold(rule: Rule, scope: Scope<'_>, value: &Expression) -> Optio
     }
 }
 
-/// In the key, the items for every key and the rate of a collection.
-pub(crate) fn in_keys(
+// In the key, the items for every key and the rate of a collection.
+fn in_keys(
     rule: Rule,
     scope: Scope<'_>,
     key: &Name,

@@ -2,18 +2,14 @@
 ghost use Rattle.std.specs.Prelude.{◌≡◌, ◌++◌, IfOk, OnOk};
 ghost use Rattle.query_syntax.specs.Plain.{plain_program};
 ghost use Rattle.explanation.specs.Asides.{place_aside, said_of_place};
-ghost use Rattle.explanation.specs.Explanations.{advice, aside_lines, column_unit, explanation, heading, hint_line, line, place_text, program_explanation, text_explanation};
+ghost use Rattle.explanation.specs.Explanations.{aside_lines, column_unit, explanation, heading, place_text, program_explanation, text_explanation};
 
+use crate::advice::push_advice;
 use crate::aside::{Aside, aside_of};
 use crate::culprit::Culprit;
 use crate::culprit_line::push_culprit;
 use crate::finding::culprit_of;
-use crate::hint::Hint;
-use crate::hint_sentence::hint_sentence;
-use crate::mending::mended_by;
-use crate::recognizers::hint_of;
-use crate::rule_sentence::broken_where;
-use language_base::{Bytes, Refusal, Rule, Span};
+use language_base::{Bytes, Refusal, Span};
 use place_in_text::{Position, locate, push_marked_line};
 use query_syntax::Program;
 use report_writer::refusal_text;
@@ -44,15 +40,9 @@ pub fn program_explanation(
     ensures { IfOk result (λ shown.
         shown ≡ program_explanation name.now text.now (plain_program program.now) refusal) }
 {
+    let culprit = culprit_of(alloc, program, refusal)?;
     let aside = aside_of(alloc, program, refusal)?;
-    explanation(
-        alloc,
-        name,
-        text,
-        refusal,
-        culprit_of(program, refusal),
-        aside,
-    )
+    explanation(alloc, name, text, refusal, culprit, aside)
 }
 
 #[tactic(auto, unfolding(crate::specs::Explanations::explanation))]
@@ -70,8 +60,7 @@ fn explanation(
     let Span { from, to } = refusal.span;
     let mut shown = heading(alloc, name, locate(text, from as usize), refusal)?;
     push_marked_line(alloc, text, from as usize, to as usize, &mut shown)?;
-    push_advice(refusal.rule, &mut shown)?;
-    push_hint(hint_of(text, refusal), &mut shown)?;
+    push_advice(text, refusal, &mut shown)?;
     push_culprit(text, culprit, &mut shown)?;
     push_aside(alloc, name, text, aside, &mut shown)?;
     Ok(Bytes::from_vec(shown))
@@ -110,30 +99,6 @@ fn column_unit() -> &'static str
     " (the column in bytes): "
 }
 
-#[tactic(auto, unfolding(crate::specs::Explanations::advice))]
-fn push_advice(rule: Rule, shown: &mut Vec<u8>) -> Result<(), AllocError>
-    ensures { OnOk result (shown.new.items ≡ shown.old.items ++ advice rule) }
-{
-    push_line(broken_where(rule), shown)?;
-    push_line(mended_by(rule), shown)
-}
-
-fn push_line(sentence: &str, shown: &mut Vec<u8>) -> Result<(), AllocError>
-    ensures { OnOk result (shown.new.items ≡ shown.old.items ++ line sentence.now) }
-{
-    shown.extend_from_slice(sentence.as_bytes())?;
-    shown.extend_from_slice(b"\n")
-}
-
-fn push_hint(hint: Option<Hint>, shown: &mut Vec<u8>) -> Result<(), AllocError>
-    ensures { OnOk result (shown.new.items ≡ shown.old.items ++ hint_line hint) }
-{
-    match hint {
-        Some(hint) => push_line(hint_sentence(hint), shown),
-        None => Ok(()),
-    }
-}
-
 #[tactic(auto, unfolding(crate::specs::Explanations::aside_lines))]
 fn push_aside(
     alloc: Global,
@@ -156,14 +121,20 @@ fn push_aside(
     push_marked_line(alloc, text, from as usize, to as usize, shown)
 }
 
+const USED_HERE: &str = "the let is used here, inside of another query\n";
+
+const UNMET: &str = "the right side has no value once a value does not meet this\n";
+
+const SINGLE_VALUE: &str = "the right side has a value on one value alone\n";
+
 #[tactic(auto, unfolding(crate::specs::Asides::said_of_place))]
 fn said_of_place(aside: Aside) -> &'static str
     ensures { result.now ≡ said_of_place aside }
 {
     match aside {
-        Aside::Use(_) => "the let is used here, inside of another query\n",
-        Aside::Test(_) => "the right side has no value once a value does not meet this\n",
-        Aside::Single(_) => "the right side has a value on one value alone\n",
+        Aside::Use(_) => USED_HERE,
+        Aside::Test(_) => UNMET,
+        Aside::Single(_) => SINGLE_VALUE,
     }
 }
 

@@ -43,7 +43,7 @@ fn is_known(scope: Scope<'_>, name: &[u8]) -> bool
     }
 }
 
-fn has_name(columns: &[Column], name: &[u8]) -> bool
+pub(crate) fn has_name(columns: &[Column], name: &[u8]) -> bool
     ensures { result ≡ has_name columns.now name.now }
 {
     columns

@@ -2,7 +2,7 @@
 ghost use Rattle.std.specs.Prelude.{◌≡◌, [], IfOk, List, map};
 ghost use Rattle.query_syntax.specs.Plain.{plain_let, plain_program, plain_query};
 ghost use Rattle.explanation.specs.Leads.{AreLeads};
-ghost use Rattle.explanation.specs.Uses.{Known, first_inside, first_lead, first_use, known_behind, lead_of, lead_to};
+ghost use Rattle.explanation.specs.Uses.{Known, first_inside, first_lead, first_use, is_on_values, known_behind, lead_of, lead_to, leads_outside};
 
 use crate::spots::has_in;
 use language_base::Span;
@@ -19,10 +19,12 @@ pub(crate) enum Inside {
     Collections,
 }
 
-/// Whether a name leads to a place, and the first use inside of its query that does.
+/// Whether a name leads to a place, also outside of the right sides of compositions, and the first
+/// use inside of its query that does.
 #[derive(Clone, Copy)]
 pub(crate) struct Lead {
     pub(crate) leads: bool,
+    pub(crate) outside: bool,
     pub(crate) used: Option<Span>,
 }
 
@@ -38,6 +40,21 @@ pub(crate) fn first_use(
 {
     let leads = leads_of(alloc, inside, place, &program.lets)?;
     Ok(first_inside(inside, &leads, &program.main.query))
+}
+
+/// Whether the place is in a let that is used on the right sides of compositions alone.
+pub(crate) fn is_on_values(
+    alloc: Global,
+    place: Span,
+    program: &Program,
+) -> Result<bool, AllocError>
+    ensures { IfOk result (λ on_values.
+        on_values ≡ is_on_values place (plain_program program.now)) }
+{
+    let leads = leads_of(alloc, Inside::Compositions, place, &program.lets)?;
+    let main = &program.main.query;
+    let inside = first_inside(Inside::Compositions, &leads, main).is_some();
+    Ok(inside && !leads_outside(&leads, main))
 }
 
 // What is known of lets by their names.
@@ -64,6 +81,7 @@ fn lead_to(inside: Inside, place: Span, leads: &HashMap<&[u8], Lead>, one: &Let)
 {
     Lead {
         leads: has_in(one.span, place) || first_lead(leads, &one.query).is_some(),
+        outside: has_in(one.span, place) || leads_outside(leads, &one.query),
         used: first_inside(inside, leads, &one.query),
     }
 }
@@ -76,6 +94,7 @@ fn lead_of(leads: &HashMap<&[u8], Lead>, name: &Name) -> Lead
         Some(lead) => *lead,
         None => Lead {
             leads: false,
+            outside: false,
             used: None,
         },
     }
@@ -101,7 +120,27 @@ fn first_lead(leads: &HashMap<&[u8], Lead>, query: &Query) -> Option<Span>
     }
 }
 
-// The same of those names alone that stand inside.
+// Whether a name outside of the right sides of compositions leads to the place.
+fn leads_outside(leads: &HashMap<&[u8], Lead>, query: &Query) -> bool
+    ensures { (known : List Known) → AreLeads leads.now known
+        → result ≡ leads_outside known (plain_query query.now) }
+{
+    match query {
+        Query::Name(name) => lead_of(leads, name).outside,
+        Query::Atom { .. } | Query::Eps { .. } => false,
+        Query::Or { left, right, .. }
+        | Query::Split { left, right, .. }
+        | Query::Combine { left, right, .. } => {
+            leads_outside(leads, left) || leads_outside(leads, right)
+        }
+        Query::Iter { operand, .. }
+        | Query::Apply { operand, .. }
+        | Query::Compose { left: operand, .. }
+        | Query::Collect { body: operand, .. } => leads_outside(leads, operand),
+    }
+}
+
+// The first name that leads to the place and stands inside.
 fn first_inside(inside: Inside, leads: &HashMap<&[u8], Lead>, query: &Query) -> Option<Span>
     ensures { (known : List Known) → AreLeads leads.now known
         → result ≡ first_inside inside known (plain_query query.now) }

@@ -1,0 +1,61 @@
+-- Statement. What is told of the rule that is broken: a sentence for it, how a query that breaks it is mended, and what is
+-- often meant. For the rule `form` these are the forms of what is to stand at the place.
+use Rattle.std.specs.Prelude.{ℕ, List, [], length, nat_lt, ◌++◌, codes, Option, Some, None, if◌then◌else◌}
+use Rattle.language_base.specs.declared.refusal.Refusal.{Refusal}
+use Rattle.language_base.specs.declared.rule.Rule.{Rule}
+use Rattle.language_base.specs.declared.rule.Rule.TheVariants as rule
+use Rattle.language_base.specs.declared.span.Span.{Span}
+use Rattle.explanation.specs.Calls.{call_at, level_of}
+use Rattle.explanation.specs.CulpritLines.{named_line}
+use Rattle.explanation.specs.FormSentences.{forms_of}
+use Rattle.explanation.specs.HintSentences.{hint_sentence}
+use Rattle.explanation.specs.Hints.{hint_of, word_at}
+use Rattle.explanation.specs.Nearest.{nearest_to}
+use Rattle.explanation.specs.Sentences.{broken_in, mended_by}
+use Rattle.explanation.specs.Standing.{standing_at, word_in}
+use Rattle.explanation.specs.declared.advice.TheConstants.{OPEN_AFTER}
+use Rattle.explanation.specs.declared.hint.Hint.{Hint}
+
+-- a sentence on a line of its own
+abbrev pub line : List ℕ → List ℕ
+line sentence = sentence ++ codes "\n"
+
+-- a hint, where there is one
+abbrev pub hint_line : Option Hint → List ℕ
+hint_line (Some hint) = line (hint_sentence hint)
+hint_line None = []
+
+-- what is often meant, where that is known
+abbrev pub nearest_line : Option (List ℕ) → List ℕ
+nearest_line (Some sentence) = line sentence
+nearest_line None = []
+
+-- what is often meant by what stands at the place, and the forms of what is to stand there
+abbrev pub form_lines : List ℕ → Span → List ℕ
+form_lines text place = let standing = standing_at text place.from in
+    nearest_line (nearest_to standing (word_at text place)) ++ line (forms_of standing)
+
+-- at the end of the text, the word of the call that is open there and opened last
+abbrev pub open_call_line : List ℕ → Span → List ℕ
+open_call_line text place =
+    if nat_lt place.from (length text) then []
+    else named_line OPEN_AFTER.now (word_in text (call_at text (level_of text)).head)
+
+-- the same of the rule that terms are complete
+abbrev pub open_line : Rule → List ℕ → Span → List ℕ
+open_line rule.Term text place = open_call_line text place
+open_line other text place = []
+
+-- how a query that breaks another rule than `form` is mended, and what is often meant
+abbrev pub repair : List ℕ → Refusal → List ℕ
+repair text refusal = line (mended_by refusal.rule) ++ hint_line (hint_of text refusal)
+    ++ open_line refusal.rule text refusal.span
+
+-- how a query that breaks the rule is mended
+abbrev pub mending : Rule → List ℕ → Refusal → List ℕ
+mending rule.Form text refusal = form_lines text refusal.span
+mending other text refusal = repair text refusal
+
+-- the rule, and how a query that breaks it is mended
+unfoldable pub advice : List ℕ → Refusal → List ℕ
+advice text refusal = line (broken_in text refusal) ++ mending refusal.rule text refusal

@@ -1,0 +1,78 @@
+//! The forms of a place in a sentence each.
+ghost use Rattle.std.specs.Prelude.{◌≡◌};
+ghost use Rattle.explanation.specs.FormSentences.{forms_of, forms_of_place};
+
+use crate::standing::Standing;
+use query_forms::Place;
+
+const TOP: &str = "\
+    A file is stream(MODE, COL, ..) with 1 to 32 COL, then any let(NAME, QUERY), then \
+    main(QUERY).";
+
+const MODE: &str = "A mode is plain or header: with header the first line is no item.";
+
+const COLUMN: &str =
+    "A column is col(NAME, int), col(NAME, text) or col(NAME, fixed(1)) to fixed(9).";
+
+const KIND: &str = "A kind is int, text or fixed(1) to fixed(9), as in col(NAME, fixed(2)).";
+
+const QUERY: &str = "\
+    A query is atom(PRED, EXPR), eps(NUM), or(QUERY, QUERY), split(QUERY, QUERY, EXPR), \
+    iter(QUERY, NUM, EXPR), combine(QUERY, QUERY, EXPR), apply(QUERY, EXPR), compose(QUERY, \
+    QUERY), collect(NAME, PRED, RATE, QUERY) or the NAME of a let.";
+
+const RATE: &str = "A rate is eps, item(PRED), seq(RATE, RATE), alt(RATE, RATE) or star(RATE).";
+
+const PREDICATE: &str = "\
+    A predicate is any, eq or ne of (NAME, NUM) or (NAME, STR), lt, le, gt or ge of (NAME, \
+    NUM), between(NAME, NUM, NUM), isnum(NAME), and(PRED, PRED), or(PRED, PRED) or not(PRED).";
+
+const LITERAL: &str =
+    "A number or a string stands here, as 500 or \"lab\"; an if compares two columns.";
+
+const EXPRESSION: &str = "\
+    An expression is NUM, NAME, neg or abs of (EXPR), add, sub, mul, div, rem, min or max of \
+    (EXPR, EXPR), if(CMP, EXPR, EXPR), tsum or tcount of (NAME), tmax or tmin of (NAME, EXPR) \
+    or tget(NAME, STR, EXPR).";
+
+const COMPARISON: &str = "A comparison is lt, le, gt, ge, eq or ne of (EXPR, EXPR).";
+
+const NAME: &str = "A name stands here: a letter or _, and then letters, digits and _.";
+
+const NUMBER: &str =
+    "A number stands here, as 0 or -5; an if compares two columns, and eq and ne take strings.";
+
+const TEXT: &str = "A key stands here: a string, as \"lab\".";
+
+const DIGITS: &str = "A number from 1 to 9 stands here: how many digits may stand after the point.";
+
+/// The forms of what is to stand at a place.
+pub(crate) fn forms_of(standing: Standing) -> &'static str
+    ensures { result.now ≡ forms_of standing }
+{
+    match standing {
+        Standing::Top | Standing::Nothing => TOP,
+        Standing::In(place) => forms_of_place(place),
+    }
+}
+
+#[tactic(auto, unfolding(crate::specs::FormSentences::forms_of_place))]
+fn forms_of_place(place: Place) -> &'static str
+    ensures { result.now ≡ forms_of_place place }
+{
+    match place {
+        Place::Mode => MODE,
+        Place::Column => COLUMN,
+        Place::Kind => KIND,
+        Place::Query => QUERY,
+        Place::Rate => RATE,
+        Place::Pred => PREDICATE,
+        Place::Literal => LITERAL,
+        Place::Expr => EXPRESSION,
+        Place::Compare => COMPARISON,
+        Place::Name => NAME,
+        Place::Number => NUMBER,
+        Place::Text => TEXT,
+        Place::Digits => DIGITS,
+    }
+}

@@ -1,0 +1,98 @@
+//! What is to stand at a place of a text.
+ghost use Rattle.std.specs.Prelude.{◌≡◌};
+ghost use Rattle.query_forms.specs.Forms.{places_of};
+ghost use Rattle.explanation.specs.Standing.{argument_in, argument_of, place_or, standing_at, standing_in, standing_of, top_argument};
+
+use crate::calls::{call_at, level_of};
+use place_in_text::bytes_between;
+use query_forms::{Place, places_of};
+
+/// What is to stand at a place.
+#[derive(Clone, Copy, Debug, PartialEq, Eq)]
+pub(crate) enum Standing {
+    /// A stream, a let or a main.
+    Top,
+    /// What its place in a call says.
+    In(Place),
+    /// Nothing: no call around it has a form.
+    Nothing,
+}
+
+/// What is to stand at a place of the text.
+pub(crate) fn standing_at(text: &[u8], place: usize) -> Standing
+    ensures { result ≡ standing_at text.now place }
+{
+    let before = bytes_between(text, 0, place);
+    standing_in(before, level_of(before))
+}
+
+// What is to stand after the text in the calls of the first levels.
+fn standing_in(text: &[u8], levels: usize) -> Standing
+    ensures { result ≡ standing_in text.now levels }
+{
+    let mut standing = Standing::Top;
+    'levels: for level in 0..levels {
+        let call = call_at(text, level + 1);
+        let head = bytes_between(text, call.head.from, call.head.to);
+        standing = argument_of(standing, head, call.argument);
+    }
+    standing
+}
+
+// What is to stand as this argument of a call with this head, of what is to stand there.
+fn argument_of(standing: Standing, head: &[u8], argument: usize) -> Standing
+    ensures { result ≡ argument_of standing head.now argument }
+{
+    match standing {
+        Standing::Top => top_argument(head, argument),
+        Standing::In(place) => {
+            let one = argument_in(place, head, 1, argument);
+            let two = argument_in(place, head, 2, argument);
+            let three = argument_in(place, head, 3, argument);
+            let four = argument_in(place, head, 4, argument);
+            standing_of(place_or(place_or(one, two), place_or(three, four)))
+        }
+        Standing::Nothing => Standing::Nothing,
+    }
+}
+
+fn top_argument(head: &[u8], argument: usize) -> Standing
+    ensures { result ≡ top_argument head.now argument }
+{
+    if head == b"stream".as_slice() {
+        Standing::In(if argument == 0 {
+            Place::Mode
+        } else {
+            Place::Column
+        })
+    } else if head == b"let".as_slice() && argument == 0 {
+        Standing::In(Place::Name)
+    } else {
+        Standing::In(Place::Query)
+    }
+}
+
+// Of the form with so many arguments, if there is one.
+fn argument_in(place: Place, head: &[u8], count: usize, argument: usize) -> Option<Place>
+    ensures { result ≡ argument_in (places_of place head.now count) argument }
+{
+    match places_of(place, head, count) {
+        Some(places) => places.get(argument).copied(),
+        None => None,
+    }
+}
+
+fn place_or(place: Option<Place>, other: Option<Place>) -> Option<Place>
+    ensures { result ≡ place_or place other }
+{
+    place.or(other)
+}
+
+fn standing_of(place: Option<Place>) -> Standing
+    ensures { result ≡ standing_of place }
+{
+    match place {
+        Some(place) => Standing::In(place),
+        None => Standing::Nothing,
+    }
+}
