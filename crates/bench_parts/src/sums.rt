@@ -1,6 +1,6 @@
 //! Adds up the last column of items and writes the sum behind each: what lines, items and answers cost without a query.
 
-use io_edge::{LazyFile, Line, Lines, Sink, Source, StdoutSink, write_all};
+use io_edge::{LazyFile, Line, Lines, Sink, Source, WriterSink, write_all};
 use item_schema::{Column, Item, ItemStop, Kind, Schema, are_columns, read_item};
 use language_base::Bytes;
 use report_writer::{push_answer, push_skip};
@@ -20,7 +20,7 @@ pub(crate) fn sum_items(rt: HostRuntime, words: &[String]) -> io::Result<()> {
     }
     let schema = Schema::new(false, columns);
     let mut source = LazyFile::new(rt, alloc, file.as_str())?;
-    let mut out = StdoutSink::new(rt, alloc)?;
+    let mut out = WriterSink::new(io::writer(&rt), alloc)?;
     let ended = sum_lines(alloc, &schema, &mut source, &mut out);
     // What was written goes out, whichever way it ended.
     let _at_end = out.flush();

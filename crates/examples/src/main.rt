@@ -1,7 +1,7 @@
 //! Runs the examples, one after the other: each is a folder with a query and its readings.
 #![tactic(auto)]
 
-use io_edge::{LazyFile, StdoutSink};
+use io_edge::{LazyFile, WriterSink};
 use sqre_run::{Status, sqre};
 use std::{fs, io};
 
@@ -33,7 +33,7 @@ fn run(rt: HostRuntime, name: &str) -> io::Result<Status> {
     let items_path = format!(in alloc; "{name}/readings.csv")?;
     let mut query = LazyFile::new(rt, alloc, query_path.as_str())?;
     let mut items = LazyFile::new(rt, alloc, items_path.as_str())?;
-    let mut out = StdoutSink::new(rt, alloc)?;
+    let mut out = WriterSink::new(io::writer(&rt), alloc)?;
     let words = vec![in alloc; String::from_str(alloc, "run")?, query_path, items_path]?;
     Ok(sqre(alloc, &words, &mut query, &mut items, &mut out))
 }

@@ -2,7 +2,7 @@
 #![tactic(auto)]
 
 use explain_run::{Status, explain};
-use io_edge::{LazyFile, Sink, StdoutSink};
+use io_edge::{LazyFile, Sink, WriterSink};
 use std::env;
 use std::io::{self, ErrorKind};
 use std::process::ExitCode;
@@ -28,7 +28,7 @@ fn run(rt: HostRuntime) -> io::Result<u8> {
     if names.is_empty() {
         return Ok(USAGE);
     }
-    let mut out = StdoutSink::new(rt, rt.alloc())?;
+    let mut out = WriterSink::new(io::writer(&rt), rt.alloc())?;
     let mut status = Status::Accepted;
     for name in names.iter() {
         match explain_file(rt, name.as_str(), &mut out)? {

@@ -1,5 +1,6 @@
 mod Copies
 mod Fillings
+mod Handings
 mod Pieces
 pub mod LineLaws
 pub mod LinesEnds

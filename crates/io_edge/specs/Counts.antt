@@ -9,23 +9,23 @@ next_count count = min (count + 1) (2 ^ 64 - 1)
 abbrev pub Rose : ℕ → ℕ → Type 0
 Rose before now = next_count before ≤ now
 
--- a call fails only where the count rose, and every other answer leaves the count as it was
+-- a call that fails makes the count one more, and every other answer leaves the count as it was
 abbrev pub FailsByFault : {T E : Type 0} → ℕ → ℕ → Result T E → Type 0
 FailsByFault before now result =
-    (before ≤ now) × MatchResult result (λ _. now ≡ before) (λ _. Rose before now)
+    (before ≤ now) × MatchResult result (λ _. now ≡ before) (λ _. now ≡ next_count before)
 
--- the same of a call with several answers: this one comes only where the count rose, and each other
--- answer leaves the count as it was
+-- the same of a call with several answers: this one makes the count one more, and each other answer
+-- leaves the count as it was
 pub record FailsBy (before now : ℕ) (failed : Type 0) : Type 0 where
   pub later : before ≤ now
-  pub rose : failed → Rose before now
+  pub by_one : failed → now ≡ next_count before
   pub else_same : (failed → ⊥) → now ≡ before
 
--- the count of ends rises where a read into some room gives nothing, and every other read leaves it as
--- it was
+-- the count of ends is one more where a read into some room gives nothing, and every other read
+-- leaves it as it was
 abbrev pub EndsByEnd : {E : Type 0} → ℕ → ℕ → Result ℕ E → ℕ → Type 0
 EndsByEnd before now result room = (before ≤ now) × MatchResult result
-    (λ n. (n ≡ 0 → 0 < room → Rose before now) × (0 < n → now ≡ before))
+    (λ n. (n ≡ 0 → 0 < room → now ≡ next_count before) × (0 < n → now ≡ before))
     (λ _. now ≡ before)
 
 -- a count of faults that says exactly when it rises: it is one more where the call failed

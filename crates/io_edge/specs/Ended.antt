@@ -1,11 +1,11 @@
 -- Statement. What a call tells of the end of the input.
 use Rattle.std.specs.Prelude.{◌≡◌, ◌≤◌, ℕ, List, Option}
 use Rattle.std.specs.Io.KnownBytes.{IsAtEnd}
-use Rattle.io_edge.specs.Counts.{Rose}
+use Rattle.io_edge.specs.Counts.{next_count}
 
--- where the end was met the count of ends rose, and of known bytes none is left; else the count is as
--- it was
+-- where the end was met the count of ends is one more, and of known bytes none is left; else the
+-- count is as it was
 pub record MeetsEnd (before now : ℕ) (left : Option (List ℕ)) (met : Type 0) : Type 0 where
   pub later : before ≤ now
-  pub at_end : met → Rose before now × IsAtEnd left
+  pub at_end : met → (now ≡ next_count before) × IsAtEnd left
   pub else_same : (met → ⊥) → now ≡ before

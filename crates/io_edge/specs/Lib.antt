@@ -8,6 +8,7 @@ pub mod Lines
 pub mod LinesEnd
 pub mod Memory
 pub mod Reading
+pub mod Readers
 pub mod RealFile
 pub mod Started
 pub mod Steady

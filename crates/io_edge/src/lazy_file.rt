@@ -1,65 +1,59 @@
 //! A source over a real file, or over standard input.
-ghost use Rattle.std.specs.Prelude.{◌≡◌, ◌<◌, None, Ok, length, IfOk};
+ghost use Rattle.std.specs.Prelude.{◌≡◌, ◌<◌, None, Ok, false, length, IfOk};
 ghost use Rattle.std.specs.Io.{ReadsAtMost};
 ghost use Rattle.std.specs.Io.KnownBytes.{ReadConsumes};
-ghost use Rattle.io_edge.specs.Counts.{CountsRead, FailsByFault, EndsByEnd};
+ghost use Rattle.io_edge.specs.Counts.{EndsByEnd, FailsByFault};
 ghost use Rattle.io_edge.specs.RealFile.{ReadsFile};
 
-use crate::system::{fault, read_once};
+use crate::opened::{Opened, open};
+use crate::system::fault;
 use crate::{Failed, Source};
 use std::alloc::{AllocError, Global};
-use std::fs::File;
-use std::io;
 use std::marker::Model;
 use std::rt::Files;
 
-/// Opened at its first read into some room, and closed at its end. Where it can not be opened, the next
-/// read tries again.
+/// Opened at its first read into some room, and closed at its end. Where it can not be opened, the
+/// next read tries again.
 #[derive(Drop)]
 pub struct LazyFile<R: Files + Input + Drop> {
     rt: R,
     path: String,
-    opened: Option<Opened<R>>,
+    opened: Option<Opened<R::Reader, R::File>>,
     faults: u64,
-    ends: u64,
 }
 
 impl<R: Files + Input + Drop> Model for LazyFile<R> {
     ghost use Rattle.std.specs.String.{string_bytes};
-    ghost use Rattle.io_edge.specs.RealFile.{FileSource};
+    ghost use Rattle.io_edge.specs.RealFile.{FileSource, source_of};
 
     ghost Value = { FileSource };
 
-    ghost view = { λ f. record {
-      path = string_bytes f.path;
-      faults = f.faults;
-      ends = f.ends;
-    } };
-}
-
-#[derive(Drop)]
-enum Opened<R: Files + Input + Drop> {
-    Input(R::Reader),
-    File(R::File),
+    ghost view = { λ f. source_of R.Reader.remaining R.File.remaining (string_bytes f.path)
+        f.faults f.opened };
 }
 
 impl<R: Files + Input + Drop> LazyFile<R> {
     /// The path `-` is standard input.
     pub fn new(rt: R, alloc: Global, path: &str) -> Result<Self, AllocError>
-        ensures { IfOk result (λ f. f ≡ record { path = path.now; faults = 0; ends = 0 }) }
+        ensures { IfOk result (λ f. f ≡ record {
+          path = path.now;
+          left = None;
+          faults = 0;
+          ends = 0;
+          is_open = false;
+        }) }
     {
         Ok(LazyFile {
             rt,
             path: String::from_str(alloc, path)?,
             opened: None,
             faults: 0,
-            ends: 0,
         })
     }
 }
 
 impl<R: Files + Input + Drop> Source for LazyFile<R> {
-    ghost left = { λ _. None };
+    ghost left = { λ f. f.left };
 
     ghost faults = { λ f. f.faults };
 
@@ -67,7 +61,7 @@ impl<R: Files + Input + Drop> Source for LazyFile<R> {
 
     fn read(&mut self, buf: &mut [u8]) -> Result<usize, Failed>
         ensures bound { ReadsAtMost result buf.new }
-        ensures bytes { ReadConsumes None None result buf.new }
+        ensures bytes { ReadConsumes self.old.left self.new.left result buf.new }
         ensures cause { FailsByFault self.old.faults self.new.faults result }
         ensures end { EndsByEnd self.old.ends self.new.ends result (length buf.new) }
         ensures no_room { length buf.new ≡ 0 → (result ≡ Ok 0) × (self.new ≡ self.old) }
@@ -76,47 +70,16 @@ impl<R: Files + Input + Drop> Source for LazyFile<R> {
         if buf.is_empty() {
             return Ok(0);
         }
-        if self.ends > 0 {
-            self.ends = self.ends.saturating_add(1);
-            return Ok(0);
+        if let Some(source) = &mut self.opened {
+            return source.read(buf);
         }
-        let answer = self.read_opened(buf);
-        if self.ends > 0 {
-            self.opened = None;
-        }
-        answer
-    }
-}
-
-impl<R: Files + Input + Drop> LazyFile<R> {
-    /// Opens it where it is not open, and reads once.
-    fn read_opened(&mut self, buf: &mut [u8]) -> Result<usize, Failed>
-        ensures bound { ReadsAtMost result buf.new }
-        ensures counts { CountsRead self.old.faults self.new.faults self.old.ends self.new.ends
-            result (length buf.new) }
-        ensures path { self.new.path ≡ self.old.path }
-    {
-        if self.opened.is_none() {
-            match Opened::open(&self.rt, self.path.as_str()) {
-                Ok(opened) => self.opened = Some(opened),
-                Err(_) => return Err(fault(&mut self.faults)),
+        match open(&self.rt, self.path.as_str(), self.faults) {
+            Ok(mut source) => {
+                let answer = source.read(buf);
+                self.opened = Some(source);
+                answer
             }
-        }
-        match &mut self.opened {
-            Some(Opened::Input(input)) => {
-                read_once(input, buf, &mut self.faults, &mut self.ends)
-            }
-            Some(Opened::File(file)) => read_once(file, buf, &mut self.faults, &mut self.ends),
-            None => unreachable!(),
-        }
-    }
-}
-
-impl<R: Files + Input + Drop> Opened<R> {
-    fn open(rt: &R, path: &str) -> io::Result<Self> {
-        match path {
-            "-" => Ok(Opened::Input(rt.reader())),
-            _ => Ok(Opened::File(File::open(rt, path)?)),
+            Err(_) => Err(fault(&mut self.faults)),
         }
     }
 }

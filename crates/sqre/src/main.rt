@@ -1,7 +1,7 @@
 //! The program: its words, two sources and standard output, handed to the top call.
 #![tactic(auto)]
 
-use io_edge::{LazyFile, StdoutSink};
+use io_edge::{LazyFile, WriterSink};
 use sqre_run::{Status, sqre};
 use std::env;
 use std::io::{self, ErrorKind};
@@ -25,7 +25,7 @@ fn run(rt: HostRuntime) -> io::Result<Status> {
     let words: Vec<String> = env::args(&rt)?.skip(1).collect(alloc)?;
     let mut query = LazyFile::new(rt, alloc, path(&words, 1))?;
     let mut items = LazyFile::new(rt, alloc, path(&words, 2))?;
-    let mut out = StdoutSink::new(rt, alloc)?;
+    let mut out = WriterSink::new(io::writer(&rt), alloc)?;
     Ok(sqre(alloc, &words, &mut query, &mut items, &mut out))
 }
 

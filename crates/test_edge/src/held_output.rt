@@ -1,6 +1,6 @@
 // What no clause says of an output that tells no bytes: that all come to it, once and in their order.
 use crate::assertions::{same, same_at};
-use io_edge::{Sink, StdoutSink};
+use io_edge::{Sink, WriterSink};
 use std::alloc::Global;
 use std::cell::{Cell, RefCell};
 use std::fmt::Display;
@@ -57,7 +57,7 @@ impl Print for ShortOutput {
 fn bytes_are_handed_on_once_and_in_order(rt: HostRuntime) -> Result<(), Fail> {
     for most in 1..9 {
         let output = short_output(rt.alloc(), most);
-        let mut sink = StdoutSink::new(&output, rt.alloc())?;
+        let mut sink = WriterSink::new(io::writer(&output), rt.alloc())?;
         same(&rt, sink.write(b"12\n34"), Ok(5));
         same(&rt, output.writes.get(), 0);
         let is_whole = sink.flush().is_ok();
@@ -78,7 +78,7 @@ fn bytes_are_handed_on_once_and_in_order(rt: HostRuntime) -> Result<(), Fail> {
 #[test]
 fn what_does_not_fit_waits_for_what_was_held_before(rt: HostRuntime) -> Result<(), Fail> {
     let output = short_output(rt.alloc(), usize::MAX);
-    let mut sink = StdoutSink::new(&output, rt.alloc())?;
+    let mut sink = WriterSink::new(io::writer(&output), rt.alloc())?;
     let text = vec![in rt.alloc(); b'x'; MAX_HELD]?;
     same(&rt, sink.write(b"a"), Ok(1));
     same(&rt, sink.write(&text[1..]), Ok(MAX_HELD - 1));
@@ -93,7 +93,7 @@ fn what_does_not_fit_waits_for_what_was_held_before(rt: HostRuntime) -> Result<(
 #[test]
 fn a_text_larger_than_the_buffer_is_taken_in_parts(rt: HostRuntime) -> Result<(), Fail> {
     let output = short_output(rt.alloc(), usize::MAX);
-    let mut sink = StdoutSink::new(&output, rt.alloc())?;
+    let mut sink = WriterSink::new(io::writer(&output), rt.alloc())?;
     let text = vec![in rt.alloc(); b'x'; MAX_HELD + 3]?;
     same(&rt, sink.write(&text), Ok(MAX_HELD));
     same(&rt, sink.write(b"yyz"), Ok(3));

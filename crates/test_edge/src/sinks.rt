@@ -1,6 +1,7 @@
 // What sinks take of the bytes that are written to them.
 use crate::assertions::{same, same_at};
-use io_edge::{Failed, MemorySink, Sink, StdoutSink, SteadySink, write_all};
+use io_edge::{Failed, MemorySink, Sink, SteadySink, WriterSink, write_all};
+use std::io;
 use std::test::Fail;
 
 #[test]
@@ -54,7 +55,7 @@ fn a_steady_sink_counts_bytes(rt: HostRuntime) {
 
 #[test]
 fn standard_output_takes_bytes(rt: HostRuntime) -> Result<(), Fail> {
-    let mut out = StdoutSink::new(rt, rt.alloc())?;
+    let mut out = WriterSink::new(io::writer(&rt), rt.alloc())?;
     same(&rt, out.write(b""), Ok(0));
     same(&rt, write_all(&mut out, b"some bytes\n"), Ok(()));
     same(&rt, out.flush(), Ok(()));

@@ -1,4 +1,4 @@
-use Rattle.std.proofs.Common.{◌<◌, ◌≤◌, ◌+◌, ◌-◌, length, take, drop, subst, sym, arith}
+use Rattle.std.proofs.Common.{◌<◌, ◌+◌, ◌-◌, length, take, drop, subst, sym, arith}
 use Rattle.io_edge.specs.Chunked.{Chunked}
 use Rattle.io_edge.proofs.Parts.{Chunked-same, part-cut, part-skip}
 use Rattle.io_edge.proofs.chunk.Chunk.cut.Goals as goal
