@@ -18,7 +18,7 @@ use Rattle.sqre_run.specs.Carried.{Carried, LineCarried}
 use Rattle.sqre_run.specs.Compiled.{Compiles}
 use Rattle.sqre_run.specs.Drilled.{drilled}
 use Rattle.sqre_run.specs.Handed.{Told}
-use Rattle.sqre_run.specs.Meanings.{IsMeaning, Meaning}
+use Rattle.sqre_run.specs.Meanings.{IsMeaning, KeepsRules, Meaning}
 use Rattle.sqre_run.specs.OneLine.{CompletesLine, HoldsOfLine, WritesLine}
 use Rattle.sqre_run.specs.Outside.{Outside}
 use Rattle.sqre_run.specs.Stops.{IsStopOf}
@@ -26,7 +26,7 @@ use Rattle.sqre_run.specs.declared.command.Command.{Command}
 use Rattle.sqre_run.specs.declared.command.Command.TheVariants.{Run, Check, Bound, Drill}
 use Rattle.sqre_run.specs.declared.query.QueryStop.TheVariants.{Refused as Refusing}
 use Rattle.sqre_run.specs.declared.status.Status.{Status}
-use Rattle.sqre_run.specs.declared.status.Status.TheVariants.{Done, Refused, ItemFault, SinkFault, Memory, Limit}
+use Rattle.sqre_run.specs.declared.status.Status.TheVariants.{Done, Refused, ItemFault, SinkFault, Memory}
 use Rattle.sqre_run.proofs.Compilations.{one_query}
 use Rattle.sqre_run.proofs.Outcomes.{Completes-ended, Completes-refused, Outcome-ended, Outcome-refused}
 
@@ -90,18 +90,18 @@ told_drill count seed monitor reply is =
     given (Err error) is line same P holds meaning means = absurd (cc)
 
 -- what was carried is what a command of one line writes
-line_writes : (command : Command) (text : List ℕ) (monitor : Monitor) → Compiles text (accepted monitor)
+line_writes : (command : Command) (text : List ℕ) (monitor : Monitor) → Compiles text (accepted monitor) → KeepsRules monitor
     → (status : Status) (old new : Option (List ℕ)) → LineCarried command monitor status old new
     → WritesLine command text status old new
-line_writes command text monitor compiles Done old new carried = (monitor, compiles, carried)
-line_writes command text monitor compiles SinkFault old new carried = (accepted monitor, compiles, carried)
-line_writes command text monitor compiles Memory old new carried = carried
-line_writes command text monitor compiles status old new carried = absurd carried
+line_writes command text monitor compiles keeps Done old new carried = (monitor, compiles, keeps, carried)
+line_writes command text monitor compiles keeps SinkFault old new carried = (accepted monitor, compiles, keeps, carried)
+line_writes command text monitor compiles keeps Memory old new carried = carried
+line_writes command text monitor compiles keeps status old new carried = absurd carried
 
 line_refused : (command : Command) (text : List ℕ) (refusal : Refusal) → Compiles text (refused refusal)
     → (status : Status) (old new : Option (List ℕ)) → Refuses refusal status old new → WritesLine command text status old new
 line_refused command text refusal compiles Refused old new refuses = (refusal, compiles, refuses)
-line_refused command text refusal compiles SinkFault old new refuses = (refused refusal, compiles, refuses)
+line_refused command text refusal compiles SinkFault old new refuses = (refused refusal, compiles, tt, refuses)
 line_refused command text refusal compiles Memory old new refuses = refuses
 line_refused command text refusal compiles status old new refuses = absurd refuses
 
@@ -121,16 +121,16 @@ refusal_completes refusal Memory old new refuses no_sink = tt
 refusal_completes refusal status old new refuses no_sink = absurd refuses
 
 -- the outcome of the text, by the command
-outcome_carried : (command : Command) (text : List ℕ) (monitor : Monitor) → Compiles text (accepted monitor)
+outcome_carried : (command : Command) (text : List ℕ) (monitor : Monitor) → Compiles text (accepted monitor) → KeepsRules monitor
     → (status : Status) (old new : Outside) → Carried command monitor status old new → OutcomeOf (Some command) text status old new
-outcome_carried (Run engine) text monitor compiles status old new carried =
-    Outcome-ended text monitor compiles status old new carried
-outcome_carried Check text monitor compiles status old new carried =
-    line_writes Check text monitor compiles status old.taken new.taken carried
-outcome_carried Bound text monitor compiles status old new carried =
-    line_writes Bound text monitor compiles status old.taken new.taken carried
-outcome_carried (Drill count seed) text monitor compiles status old new carried =
-    line_writes (Drill count seed) text monitor compiles status old.taken new.taken carried
+outcome_carried (Run engine) text monitor compiles keeps status old new carried =
+    Outcome-ended text monitor compiles keeps status old new carried
+outcome_carried Check text monitor compiles keeps status old new carried =
+    line_writes Check text monitor compiles keeps status old.taken new.taken carried
+outcome_carried Bound text monitor compiles keeps status old new carried =
+    line_writes Bound text monitor compiles keeps status old.taken new.taken carried
+outcome_carried (Drill count seed) text monitor compiles keeps status old new carried =
+    line_writes (Drill count seed) text monitor compiles keeps status old.taken new.taken carried
 
 outcome_refused : (command : Command) (text : List ℕ) (refusal : Refusal) → Compiles text (refused refusal)
     → (status : Status) (old : Outside) (taken : Option (List ℕ)) → Refuses refusal status old.taken taken
@@ -182,11 +182,11 @@ module _ (command : Command) (asked : Option Command) (is : Some command ≡ ask
   completes_asked query status completes = subst (λ (a : Option Command). CompletesOf a query status) is completes
 
   pub told_outcome : (monitor : Monitor) (status : Status) (old new : Outside) → Carried command monitor status old new
-      → (query : Option (List ℕ)) → IfSome query (λ text. Compiles text (accepted monitor))
+      → KeepsRules monitor → (query : Option (List ℕ)) → IfSome query (λ text. Compiles text (accepted monitor))
       → IfSome query (λ text. OutcomeOf asked text status old new)
-  told_outcome monitor status old new carried None compiles = tt
-  told_outcome monitor status old new carried (Some text) compiles =
-      outcome_asked text status old new (outcome_carried command text monitor compiles status old new carried)
+  told_outcome monitor status old new carried keeps None compiles = tt
+  told_outcome monitor status old new carried keeps (Some text) compiles =
+      outcome_asked text status old new (outcome_carried command text monitor compiles keeps status old new carried)
 
   pub told_complete : (monitor : Monitor) (status : Status) (old new : Outside) → Carried command monitor status old new
       → (query : Option (List ℕ)) → IfSome query (λ text. Compiles text (accepted monitor))

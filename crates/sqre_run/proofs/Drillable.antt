@@ -1,5 +1,5 @@
 -- The stream of a query text can be drilled: the names of its columns are words, so none has an LF.
-use Rattle.std.proofs.Common.{◌≡◌, ◌≢◌, ◌&&◌, ℕ, true, false, IsTrue, List, [], ◌∷◌, length, map, Result, Ok, Err, IfOk, refl, sym, subst, arith}
+use Rattle.std.proofs.Common.{◌≡◌, ◌≢◌, ◌&&◌, ℕ, true, false, IsTrue, List, [], ◌∷◌, map, Result, Ok, Err, IfOk, refl, sym, subst, arith}
 use Rattle.std.specs.List.{AllByRecursion}
 use Rattle.std.proofs.lemmas.Bool.{and_from}
 use Rattle.std.proofs.lemmas.Bool.Decides.{nat_tests}

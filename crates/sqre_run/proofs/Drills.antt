@@ -1,8 +1,7 @@
 -- The values after the lines of a drill, from one line to the next.
-use Rattle.std.proofs.Common.{if◌then◌else◌, ◌≡◌, ℕ, zero, suc, ◌+◌, ◌<◌, ◌≤◌, Bool, true, false, cond, IsTrue, List, [], ◌∷◌, ◌++◌, length, count_by, is_some, map, Option, Some, None, Result, Ok, Err, refl, sym, ap, subst, ◌∙◌, append_assoc, append-nil, length-append, arith}
+use Rattle.std.proofs.Common.{if◌then◌else◌, ◌≡◌, ℕ, zero, suc, ◌+◌, ◌<◌, Bool, true, false, cond, IsTrue, List, [], ◌∷◌, ◌++◌, length, count_by, is_some, map, Option, Some, Result, Ok, refl, sym, ap, subst, ◌∙◌, append_assoc, append-nil, length-append, arith}
 use Rattle.std.proofs.lemmas.List.{map-append}
 use Rattle.std.proofs.lemmas.Grind.{common_steps}
-use Rattle.std.proofs.lemmas.Bool.Decides.{nat_tests}
 use Rattle.io_edge.specs.Lines.{Shown, ended_by_lf, lines, text}
 use Rattle.value_ops.specs.declared.field.Field.{Field}
 use Rattle.value_ops.specs.declared.value.Value.{Value}
@@ -13,7 +12,7 @@ use Rattle.item_schema.specs.declared.stop.Skip.{Skip}
 use Rattle.item_drill.specs.Lines.{are_read, drill_bytes, header_of, item_from, line_from, lines_from, names_of, row_of}
 use Rattle.item_drill.proofs.DrilledBytes.{bytes_have_lines}
 use Rattle.item_drill.proofs.Readings.{line_has_item, not_empty}
-use Rattle.report_writer.specs.Texts.{drill_text, last_text}
+use Rattle.report_writer.specs.Texts.{drill_text}
 use Rattle.sqre_run.specs.Drilled.{drilled, last_of, summary, value_at, value_for, values_after, values_of}
 use Rattle.sqre_run.specs.Drilling.{IsDrillable, drilled_lines}
 use Rattle.sqre_run.specs.Meanings.{Meaning}

@@ -4,6 +4,8 @@ pub mod Commands
 pub mod Compilations
 pub mod Drills
 pub mod Drillable
+pub mod EndedPart
+pub mod FirstEnds
 pub mod Nodes
 pub mod OneAnswer
 pub mod OneOutput

@@ -1,41 +1,54 @@
 -- From a run or a refusal to the outcome of a run.
-use Rattle.std.proofs.Common.{◌≡◌, ℕ, List, [], Option, Some, None, IfSome, inl, inr, refl, sym, ap, subst}
+use Rattle.std.proofs.Common.{◌≡◌, ℕ, List, [], Option, inl, inr, refl, sym, ap, subst, arith}
 use Rattle.std.proofs.KnownBytes.{Consumes-nil}
 use Rattle.io_edge.specs.Written.{AppendsSome}
 use Rattle.language_base.specs.declared.refusal.Refusal.{Refusal}
 use Rattle.report_writer.specs.Texts.{refusal_text}
 use Rattle.sqre_run.specs.Compiled.{Compiles}
 use Rattle.query_model.specs.Monitors.{Monitor}
-use Rattle.type_checker.specs.Judged.{Verdict, accepted, refused}
-use Rattle.sqre_run.specs.Output.{Spoken, Tells, answering, output, refusing}
-use Rattle.sqre_run.specs.Outside.{Outside, Ended}
-use Rattle.sqre_run.specs.Call.{Outcome, Refuses, Completes}
+use Rattle.type_checker.specs.Judged.{accepted, refused}
+use Rattle.sqre_run.specs.Meanings.{KeepsRules}
+use Rattle.sqre_run.specs.Output.{Spoken, Tells, answering, output, refusing, whole_output}
+use Rattle.sqre_run.specs.Outside.{Ended, Outside, WrotePart}
+use Rattle.sqre_run.specs.Call.{Completes, Outcome, Refuses}
 use Rattle.sqre_run.specs.declared.status.Status.{Status}
 use Rattle.sqre_run.specs.declared.status.Status.TheVariants.{Done, Refused, ItemFault, SinkFault, Memory, Limit}
 
 -- how the run of a query ended is the outcome of its text
-pub Outcome-ended : (text : List ℕ) (monitor : Monitor) → Compiles text (accepted monitor) → (status : Status) (old new : Outside) → Ended monitor status old new → Outcome text status old new
-Outcome-ended text monitor compiles Done old new ended = (monitor, compiles, ended)
-Outcome-ended text monitor compiles ItemFault old new ended = (monitor, compiles, ended)
-Outcome-ended text monitor compiles SinkFault old new (got, read, some) = (accepted monitor, got, compiles, read, told_some)
+pub Outcome-ended : (text : List ℕ) (monitor : Monitor) → Compiles text (accepted monitor) → KeepsRules monitor
+    → (status : Status) (old new : Outside) → Ended monitor status old new → Outcome text status old new
+Outcome-ended text monitor compiles keeps Done old new (ends, ended) =
+    (monitor, compiles, keeps, (omega (arith, ends), ended))
+Outcome-ended text monitor compiles keeps ItemFault old new (ends, got, wrote) =
+    (monitor, compiles, keeps, (got, wrote))
+Outcome-ended text monitor compiles keeps SinkFault old new (ends, got, read, some) =
+    (accepted monitor, got, compiles, keeps, read, told_some)
   where
-    told_some : (spoken : Spoken) → Tells (accepted monitor) spoken → AppendsSome old.taken new.taken (output spoken got)
+    told_some : (spoken : Spoken) → Tells (accepted monitor) spoken
+        → WrotePart old new (output spoken got) (whole_output spoken got)
     told_some (answering meaning) means = some meaning means
     told_some (refusing refusal) means = absurd means
-Outcome-ended text monitor compiles Memory old new ended = inr (monitor, compiles, ended)
-Outcome-ended text monitor compiles Limit old new ended = (monitor, compiles, ended)
-Outcome-ended text monitor compiles status old new ended = absurd ended
+Outcome-ended text monitor compiles keeps Memory old new (ends, got, wrote) =
+    inr (monitor, compiles, keeps, (got, wrote))
+Outcome-ended text monitor compiles keeps Limit old new (ends, got, most, wrote) =
+    (monitor, compiles, keeps, (got, most, wrote))
+Outcome-ended text monitor compiles keeps status old new ended = absurd ended
 
 -- a refusal that was written is the outcome, where no item was read
 pub Outcome-refused : (text : List ℕ) (refusal : Refusal) → Compiles text (refused refusal)
     → (status : Status) (old : Outside) (taken : Option (List ℕ)) → Refuses refusal status old.taken taken
     → Outcome text status old (record old { taken = taken })
 Outcome-refused text refusal compiles Refused old taken refuses = (refusal, compiles, refl, refuses)
-Outcome-refused text refusal compiles SinkFault old taken refuses = (refused refusal, [], compiles, Consumes-nil old.left, told_some)
+Outcome-refused text refusal compiles SinkFault old taken refuses =
+    (refused refusal, [], compiles, tt, Consumes-nil old.left, told_some)
   where
-    told_some : (spoken : Spoken) → Tells (refused refusal) spoken → AppendsSome old.taken taken (output spoken [])
+    told_some : (spoken : Spoken) → Tells (refused refusal) spoken
+        → WrotePart old (record old { taken = taken }) (output spoken []) (whole_output spoken [])
     told_some (answering meaning) means = absurd means
-    told_some (refusing other) same = subst (λ (r : Refusal). AppendsSome old.taken taken (refusal_text r)) (sym same) refuses
+    told_some (refusing other) same =
+        let part : AppendsSome old.taken taken (refusal_text other) =
+        subst (λ (r : Refusal). AppendsSome old.taken taken (refusal_text r)) (sym same) refuses in
+        record { part = part; no_end = λ none. part }
 Outcome-refused text refusal compiles Memory old taken refuses =
     inl (ap (λ (t : Option (List ℕ)). record old { taken = t }) refuses)
 Outcome-refused text refusal compiles status old taken refuses = absurd refuses

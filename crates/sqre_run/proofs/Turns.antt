@@ -1,10 +1,11 @@
 -- One turn of the run: how it goes on, and how it ends.
-use Rattle.std.proofs.Common.{◌≡◌, ◌⊎◌, inl, inr, ◌≤◌, ℕ, true, false, List, [], ◌∷◌, ◌++◌, length, Option, Some, None, Result, Ok, Err, IfOk, IfNone, IfSome, Bor, refl, sym, ap, subst, ◌∙◌, append_assoc, append-nil, arith}
+use Rattle.std.proofs.Common.{◌≡◌, ◌⊎◌, inl, inr, ℕ, true, false, List, [], ◌∷◌, ◌++◌, length, Option, Some, None, Result, Ok, Err, IfOk, IfNone, IfSome, Bor, refl, sym, ap, subst, ◌∙◌, append_assoc, append-nil, arith}
 use Rattle.std.proofs.KnownBytes.{Appends-trans, Consumes-trans, Consumes-whole, Appends-nil, Consumes-nil}
 use Rattle.std.proofs.lemmas.List.{nil_from_length}
 use Rattle.std.specs.declared.alloc.AllocError.{AllocError}
 use Rattle.std.specs.Io.KnownBytes.{Appends, Consumes}
-use Rattle.io_edge.specs.Counts.{Rose}
+use Rattle.io_edge.specs.Counts.{next_count}
+use Rattle.io_edge.specs.Ended.{MeetsEnd}
 use Rattle.io_edge.specs.Lines.{Shown, lines}
 use Rattle.io_edge.specs.Reading.{Reading, Ends, Waits, count_of}
 use Rattle.io_edge.specs.Told.{Gives, Told}
@@ -13,70 +14,34 @@ use Rattle.io_edge.specs.declared.lines.Line.{Line}
 use Rattle.io_edge.specs.declared.lines.Line.TheVariants.{End}
 use Rattle.io_edge.specs.declared.lines.LineStop.{LineStop}
 use Rattle.io_edge.specs.declared.lines.LineStop.TheVariants.{Failed, Limit}
-use Rattle.sqre_run.specs.Output.{answer, answers, answers_after}
+use Rattle.sqre_run.specs.Output.{answers}
 use Rattle.rate_expr.specs.Words.{Word}
 use Rattle.query_model.specs.Checked.{OnStream}
 use Rattle.query_model.specs.Monitors.{monitor_of}
 use Rattle.sqre_run.specs.Meanings.{IsMeaning, Meaning}
 use Rattle.sqre_run.specs.Sessions.{IsBehind, RepliesTo}
 use Rattle.sqre_run.specs.declared.session.Session.{Session}
-use Rattle.sqre_run.specs.Outside.{Outside, Wrote, Ended}
+use Rattle.sqre_run.specs.Outside.{Ended, Outside, Wrote}
 use Rattle.sqre_run.specs.Running.{Showed, Running}
 use Rattle.sqre_run.specs.Handed.{HandedOver}
 use Rattle.sqre_run.specs.declared.status.Status.{Status}
 use Rattle.sqre_run.specs.declared.status.Status.TheVariants.{Done, ItemFault, SinkFault, Memory, Limit as AtLimit}
-use Rattle.sqre_run.proofs.Answering.{answers_after-append, answers-push}
+use Rattle.sqre_run.proofs.EndedPart.{all_part, cut_short, ended_part, one_at_most, one_more, replied, showed_begin}
 use Rattle.sqre_run.proofs.Showing.{Showed-ends, Showed-shows, Showed-split, Answers-lines, Answers-whole, Waits-lines, true_or_false}
 use Rattle.sqre_run.proofs.Takes.{TakesLine, Told-gives, Told-going}
-
--- the same bytes, cut elsewhere
-split_again : (a b c d : List ℕ) → (a ++ (b ++ c)) ++ d ≡ (a ++ b) ++ (c ++ d)
-split_again a b c d = simp append_assoc
-
--- the answers so far and then a text that replies to the next line
-replied : (meaning : Meaning) (shown : List Shown) (line : Shown) (reply : List ℕ) → reply ≡ answer meaning shown line
-    → answers meaning shown ++ reply ≡ answers meaning (shown ++ line ∷ [])
-replied meaning shown line reply replies =
-    ap (λ (l : List ℕ). answers meaning shown ++ l) replies ∙ sym (answers-push meaning shown line)
-
--- the answers so far and a part of the next are a part of the answers to these and whatever lines follow
-cut_short : (meaning : Meaning) (shown all others : List Shown) (line : Shown) (reply front rest : List ℕ)
-    → answers meaning shown ++ reply ≡ answers meaning (shown ++ line ∷ []) → reply ≡ front ++ rest
-    → all ≡ (shown ++ line ∷ []) ++ others
-    → answers meaning all ≡ (answers meaning shown ++ front) ++ (rest ++ answers_after meaning (shown ++ line ∷ []) others)
-cut_short meaning shown all others line reply front rest replies parts are =
-    let behind = answers_after meaning (shown ++ line ∷ []) others in
-    ap (answers meaning) are ∙ answers_after-append meaning [] (shown ++ line ∷ []) others
-    ∙ ap (λ (l : List ℕ). l ++ behind)
-    (sym replies ∙ ap (λ (l : List ℕ). answers meaning shown ++ l) parts)
-    ∙ split_again (answers meaning shown) front rest behind
-
--- the answers to some lines were written, and the sink does not hand them on
-ended_part : (on : OnStream) (old new : Outside) (got : List ℕ) (shown others : List Shown)
-    → Consumes old.left new.left got
-    → lines got true ≡ shown ++ others
-    → ((meaning : Meaning) → IsMeaning (monitor_of on) meaning → Appends old.taken new.taken (answers meaning shown))
-    → Ended (monitor_of on) SinkFault old new
-ended_part on old new got shown others read are wrote = (
-  got,
-  read,
-  λ meaning means. (
-    answers meaning shown,
-    answers_after meaning shown others,
-    ap (answers meaning) are ∙ answers_after-append meaning [] shown others,
-    wrote meaning means,
-  ),
-)
 
 -- a run ends by that fault where the sink does not hand on what it holds
 pub Ended-held : {F : Type 0} (follows : F → Word → Type 0) (on : OnStream) (old now : Outside) (reading : Reading)
     (kept : Session F) (taken : Option (List ℕ)) → taken ≡ now.taken → Running follows on old now reading kept
     → Ended (monitor_of on) SinkFault old (record now { taken = taken })
 Ended-held follows on old now reading kept taken same run =
-    let split = Showed-split run.got run.shown reading run.showed in
-    ended_part on old (record now { taken = taken }) run.got run.shown split.0 run.wrote.read split.1 (λ meaning means.
-    subst (λ (t : Option (List ℕ)). Appends old.taken t (answers meaning run.shown)) (sym same)
-    (run.wrote.wrote meaning means))
+    let new : Outside = record now { taken = taken } in
+    let met : reading.met ≡ true → now.ends ≡ next_count old.ends = λ met. (run.at_end met).0 in
+    ended_part on old new run.got run.shown (one_at_most old.ends now.ends reading met run.no_end) run.wrote.read
+    (showed_begin old new run.got run.shown reading run.showed met)
+    (λ meaning means. all_part old.taken taken (answers meaning run.shown)
+    (subst (λ (t : Option (List ℕ)). Appends old.taken t (answers meaning run.shown)) (sym same)
+    (run.wrote.wrote meaning means)))
 
 -- how it ends where the sink hands on what it holds, or does not
 pub Ended-or_held : (on : OnStream) (old new : Outside) (status status' : Status)
@@ -88,6 +53,18 @@ Ended-or_held on old new status status' (inr is) ended held =
     subst (λ (s : Status). Ended (monitor_of on) s old new) (sym is) held
 
 module _ {F : Type 0} (follows : F → Word → Type 0) (on : OnStream) (old now new : Outside) (reading next : Reading) (kept : Session F) where
+  -- what a call that came before any end tells of the end
+  module _
+      (end : MeetsEnd now.ends new.ends new.left ((reading.met ≡ false) × (next.met ≡ true)))
+      (going : reading.met ≡ false)
+      (run : Running follows on old now reading kept)
+    where
+      ends_met : next.met ≡ true → new.ends ≡ next_count old.ends
+      ends_met met = (end.at_end (going, met)).0 ∙ ap next_count (run.no_end going)
+
+      ends_kept : next.met ≡ false → new.ends ≡ old.ends
+      ends_kept not = end.else_same (λ both. cc (both.1, not)) ∙ run.no_end going
+
   -- the line was answered, and the run goes on
   pub Running-line : (kept' : Session F) (line : Shown) (reply : List ℕ)
       → TakesLine now.left new.left now.ends new.ends reading next line
@@ -106,12 +83,8 @@ module _ {F : Type 0} (follows : F → Word → Type 0) (on : OnStream) (old now
               (Appends-trans _ _ _ _ _ (run.wrote.wrote meaning means) appends);
         };
         behind = said.1;
-        later = omega (arith, run.later, takes.end.later);
-        at_end = λ met.
-            let end = takes.end.at_end (takes.going, met) in
-            let rose : Rose now.ends new.ends = end.0 in
-            let before : old.ends ≤ now.ends = run.later in
-            (omega arith, end.1);
+        no_end = ends_kept takes.end takes.going run;
+        at_end = λ met. (ends_met takes.end takes.going run met, (takes.end.at_end (takes.going, met)).1);
       }
 
   -- a part of its answer was written
@@ -124,18 +97,19 @@ module _ {F : Type 0} (follows : F → Word → Type 0) (on : OnStream) (old now
       let shown = run.shown ++ line ∷ [] in
       let showed : Showed got shown next =
       Answers-lines run.got takes.got run.shown line reading next run.showed takes.going takes.answers in
-      let lines_are = Showed-split got shown next showed in
-      let said = replies on run.shown run.behind in (
-        got,
-        Consumes-trans _ _ _ _ _ run.wrote.read takes.consumed,
-        λ meaning means. (
-          answers meaning run.shown ++ front,
-          rest ++ answers_after meaning shown lines_are.0,
-          cut_short meaning run.shown (lines got true) lines_are.0 line reply front rest
-              (replied meaning run.shown line reply (said.0 meaning means)) parts lines_are.1,
-          Appends-trans _ _ _ _ _ (run.wrote.wrote meaning means) appends,
-        ),
-      )
+      let met = ends_met takes.end takes.going run in
+      let said = replies on run.shown run.behind in
+      ended_part on old new got shown
+      (one_at_most old.ends new.ends next met (ends_kept takes.end takes.going run))
+      (Consumes-trans _ _ _ _ _ run.wrote.read takes.consumed)
+      (showed_begin old new got shown next showed met)
+      (λ meaning means. (
+        answers meaning run.shown ++ front,
+        rest,
+        cut_short meaning run.shown line reply front rest
+            (replied meaning run.shown line reply (said.0 meaning means)) parts,
+        Appends-trans _ _ _ _ _ (run.wrote.wrote meaning means) appends,
+      ))
 
   -- what was written so far, where the sink took nothing since
   wrote_before : new.taken ≡ now.taken → (run : Running follows on old now reading kept)
@@ -145,11 +119,17 @@ module _ {F : Type 0} (follows : F → Word → Type 0) (on : OnStream) (old now
       subst (λ (t : Option (List ℕ)). Appends old.taken t (answers meaning run.shown)) (sym same)
       (run.wrote.wrote meaning means)
 
+  wrote_some : new.taken ≡ now.taken → (run : Running follows on old now reading kept)
+      → (meaning : Meaning) → IsMeaning (monitor_of on) meaning
+      → AppendsSome old.taken new.taken (answers meaning run.shown)
+  wrote_some same run meaning means = all_part _ _ _ (wrote_before same run meaning means)
+
   -- its answer could not be made
   pub Ended-no_memory : (line : Shown) → TakesLine now.left new.left now.ends new.ends reading next line
       → new.taken ≡ now.taken → Running follows on old now reading kept → Ended (monitor_of on) Memory old new
   Ended-no_memory line takes same run =
       let others = Answers-whole run.got takes.got run.shown line reading next run.showed takes.going takes.answers in (
+        one_at_most old.ends new.ends next (ends_met takes.end takes.going run) (ends_kept takes.end takes.going run),
         run.got ++ takes.got,
         record {
           some = run.shown;
@@ -170,9 +150,14 @@ module _ {F : Type 0} (follows : F → Word → Type 0) (on : OnStream) (old now
       let showed : Showed got (run.shown ++ line ∷ []) next =
       Answers-lines run.got takes.got run.shown line reading next run.showed takes.going takes.answers in
       let split = Showed-split got (run.shown ++ line ∷ []) next showed in
-      ended_part on old new got run.shown (line ∷ split.0)
+      ended_part on old new got run.shown
+      (one_at_most old.ends new.ends next (ends_met takes.end takes.going run) (ends_kept takes.end takes.going run))
       (Consumes-trans _ _ _ _ _ run.wrote.read takes.consumed)
-      (split.1 ∙ append_assoc run.shown (line ∷ []) split.0) (wrote_before same run)
+      (record {
+        all = (line ∷ split.0, split.1 ∙ append_assoc run.shown (line ∷ []) split.0);
+        whole = λ none. Answers-whole run.got takes.got run.shown line reading next run.showed takes.going takes.answers;
+      })
+      (wrote_some same run)
 
   -- a call that told no line: the answers to all whole lines were written
   Wrote-waiting : (got : List ℕ) → Consumes now.left new.left got → Waits reading got next
@@ -199,8 +184,11 @@ module _ {F : Type 0} (follows : F → Word → Type 0) (on : OnStream) (old now
       pub Ended-failed : result ≡ Err Failed → Ended (monitor_of on) ItemFault old new
       Ended-failed is =
           let taken = Told-gives told (Err Failed) is in
-          let going = Told-going told (λ e. cc (is, e)) in
-          (run.got ++ taken.0, (Wrote-waiting taken.0 taken.1 taken.2 going same run).1)
+          let going = Told-going told (λ e. cc (is, e)) in (
+            ends_kept told.end going run taken.2.shows.not_met,
+            run.got ++ taken.0,
+            (Wrote-waiting taken.0 taken.1 taken.2 going same run).1,
+          )
 
       -- the greatest number of bytes was taken
       pub Ended-at_limit : result ≡ Err Limit → Ended (monitor_of on) AtLimit old new
@@ -208,7 +196,7 @@ module _ {F : Type 0} (follows : F → Word → Type 0) (on : OnStream) (old now
           let taken = Told-gives told (Err Limit) is in
           let going = Told-going told (λ e. cc (is, e)) in
           let wrote = Wrote-waiting taken.0 taken.1 taken.2.0 going same run in
-          (run.got ++ taken.0, sym wrote.0 ∙ taken.2.1, wrote.1)
+          (ends_kept told.end going run taken.2.0.shows.not_met, run.got ++ taken.0, sym wrote.0 ∙ taken.2.1, wrote.1)
 
       -- or there the sink does not hand on the answers
       pub Ended-at_limit_held : result ≡ Err Limit → Ended (monitor_of on) SinkFault old new
@@ -216,10 +204,13 @@ module _ {F : Type 0} (follows : F → Word → Type 0) (on : OnStream) (old now
           let taken = Told-gives told (Err Limit) is in
           let got = run.got ++ taken.0 in
           let going = Told-going told (λ e. cc (is, e)) in
-          let showed = Showed-shows run.got taken.0 run.shown [] reading next run.showed going taken.2.0.shows in
-          let split = Showed-split got (run.shown ++ []) next showed in
-          ended_part on old new got run.shown split.0 (Consumes-trans _ _ _ _ _ run.wrote.read taken.1)
-          (split.1 ∙ ap (λ (l : List Shown). l ++ split.0) (append-nil run.shown)) (wrote_before same run)
+          let showed : Showed got run.shown next =
+          subst (λ (l : List Shown). Showed got l next) (append-nil run.shown)
+          (Showed-shows run.got taken.0 run.shown [] reading next run.showed going taken.2.0.shows)
+          in
+          ended_part on old new got run.shown (inl (ends_kept told.end going run taken.2.0.shows.not_met))
+          (Consumes-trans _ _ _ _ _ run.wrote.read taken.1)
+          (showed_begin old new got run.shown next showed (ends_met told.end going run)) (wrote_some same run)
 
       -- all lines were shown where the end was told
       lines_at_end : (got : List ℕ) → Ends reading got [] next → lines (run.got ++ got) true ≡ run.shown
@@ -236,25 +227,23 @@ module _ {F : Type 0} (follows : F → Word → Type 0) (on : OnStream) (old now
               let showed = Showed-ends run.got got run.shown [] reading next run.showed going ends in
               showed.at_end ends.done.met ∙ append-nil run.shown
 
+      -- the end was met once
+      end_met : (got : List ℕ) → Ends reading got [] next → new.ends ≡ next_count old.ends
+      end_met got ends = at (true_or_false reading.met)
+        where
+          at : (reading.met ≡ true) ⊎ (reading.met ≡ false) → new.ends ≡ next_count old.ends
+          at (inl met) = told.end.else_same (λ both. cc (both.0, met)) ∙ (run.at_end met).0
+          at (inr going) = ends_met told.end going run ends.done.met
+
       -- all items were answered
       pub Ended-done : result ≡ Ok End → Ended (monitor_of on) Done old new
       Ended-done is = (
-        rose (true_or_false reading.met),
+        end_met taken.0 taken.2.0,
         λ meaning means. wrote meaning means (true_or_false reading.met),
       )
         where
           taken : (got : List ℕ) × Consumes now.left new.left got × Gives reading got (Ok End) next
           taken = Told-gives told (Ok End) is
-
-          rose : (reading.met ≡ true) ⊎ (reading.met ≡ false) → Rose old.ends new.ends
-          rose (inl met) =
-              let before : Rose old.ends now.ends = (run.at_end met).0 in
-              let later : now.ends ≤ new.ends = told.end.later in
-              omega arith
-          rose (inr going) =
-              let before : old.ends ≤ now.ends = run.later in
-              let later : Rose now.ends new.ends = (told.end.at_end (going, taken.2.0.done.met)).0 in
-              omega arith
 
           all : (meaning : Meaning) → IsMeaning (monitor_of on) meaning
               → Appends old.taken new.taken (answers meaning (lines (run.got ++ taken.0) true))
@@ -284,8 +273,13 @@ module _ {F : Type 0} (follows : F → Word → Type 0) (on : OnStream) (old now
       pub Ended-done_held : result ≡ Ok End → Ended (monitor_of on) SinkFault old new
       Ended-done_held is =
           let taken = Told-gives told (Ok End) is in
-          ended_part on old new (run.got ++ taken.0) run.shown [] (Consumes-trans _ _ _ _ _ run.wrote.read taken.1)
-          (lines_at_end taken.0 taken.2.0 ∙ sym (append-nil run.shown)) (wrote_before same run)
+          let met : new.ends ≡ next_count old.ends = end_met taken.0 taken.2.0 in
+          ended_part on old new (run.got ++ taken.0) run.shown (inr met) (Consumes-trans _ _ _ _ _ run.wrote.read taken.1)
+          (record {
+            all = ([], lines_at_end taken.0 taken.2.0 ∙ sym (append-nil run.shown));
+            whole = λ none. absurd (none (one_more old.ends new.ends met));
+          })
+          (wrote_some same run)
 
 module _ {F : Type 0} (follows : F → Word → Type 0) (now new : Outside) (reading next : Reading) (kept kept' : Session F) (line : Shown) where
   -- where the text was written, whatever run there is goes on
@@ -327,6 +321,6 @@ Running-begins follows on here reading session fresh behind =
       showed = record { goes_on = λ _ more ended. refl; at_end = λ met. absurd (cc); count = refl };
       wrote = record { read = Consumes-nil _; wrote = λ meaning means. Appends-nil _ };
       behind = behind;
-      later = omega arith;
+      no_end = λ going. refl;
       at_end = λ met. absurd (cc);
     })

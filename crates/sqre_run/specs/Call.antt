@@ -1,25 +1,25 @@
 -- Statement. What a call of `sqre` did, by its status.
 use Rattle.std.specs.Prelude.{◌≡◌, ◌⊎◌, ℕ, List, [], length, Option, Some, None, IfSome}
 use Rattle.std.specs.Io.KnownBytes.{Appends, Consumes}
-use Rattle.io_edge.specs.Counts.{FailsBy, Rose}
+use Rattle.io_edge.specs.Counts.{FailsBy, Rose, next_count}
 use Rattle.io_edge.specs.Limits.{max_count}
 use Rattle.io_edge.specs.Written.{AppendsSome}
 use Rattle.language_base.specs.declared.refusal.Refusal.{Refusal}
 use Rattle.report_writer.specs.Texts.{refusal_text}
-use Rattle.sqre_run.specs.Compiled.{Compiles}
+use Rattle.sqre_run.specs.Compiled.{Compiles, KeepsRulesIfAccepted}
 use Rattle.type_checker.specs.Judged.{Verdict, accepted, refused}
 use Rattle.query_model.specs.Monitors.{Monitor}
-use Rattle.sqre_run.specs.Meanings.{IsMeaning, Meaning}
+use Rattle.sqre_run.specs.Meanings.{IsMeaning, KeepsRules, Meaning}
 use Rattle.sqre_run.specs.Output.{Spoken, Tells, answering, output, refusing, whole_output}
 use Rattle.sqre_run.specs.OneLine.{CompletesLine, WritesLine}
-use Rattle.sqre_run.specs.Outside.{Outside, Wrote, WroteLines}
+use Rattle.sqre_run.specs.Outside.{MeetsOneAtMost, Outside, Wrote, WroteLines, WrotePart}
 use Rattle.sqre_run.specs.declared.command.Command.{Command}
-use Rattle.sqre_run.specs.declared.command.Command.TheVariants.{Run, Check, Bound, Drill}
+use Rattle.sqre_run.specs.declared.command.Command.TheVariants.{Run}
 use Rattle.sqre_run.specs.declared.status.Status.{Status}
 use Rattle.sqre_run.specs.declared.status.Status.TheVariants.{Done, Refused, Usage, QueryFault, ItemFault, SinkFault, Memory, Limit}
 
--- Each fault comes only where its object's count rose, and leaves the two other counts as they
--- were. Every other status leaves all three.
+-- Each fault comes only where its object's count is one more, and leaves the two other counts as
+-- they were. Every other status leaves all three.
 pub record FirstFault (status : Status) (queries queries' items items' sinks sinks' : ℕ)
     : Type 0 where
   pub of_query : FailsBy queries queries' (status ≡ QueryFault)
@@ -42,9 +42,10 @@ Refuses refusal SinkFault old new = AppendsSome old new (refusal_text refusal)
 Refuses refusal Memory old new = new ≡ old
 Refuses refusal _ old new = ⊥
 
--- the text is a query, of this monitor, and it went on so
+-- the text is a query, of this monitor, that keeps the rules, and so has a meaning; it went on so
 abbrev pub Runs : List ℕ → (Monitor → Type 0) → Type 0
-Runs text goes_on = (monitor : Monitor) × Compiles text (accepted monitor) × goes_on monitor
+Runs text goes_on = (monitor : Monitor) × Compiles text (accepted monitor) × KeepsRules monitor
+    × goes_on monitor
 
 -- What `run` or `slow` read of the items and wrote for a query text, by the status.
 abbrev pub Outcome : List ℕ → Status → Outside → Outside → Type 0
@@ -58,8 +59,9 @@ Outcome text QueryFault old new = new ≡ old
 Outcome text ItemFault old new = Runs text (λ monitor.
     (got : List ℕ) × Wrote monitor old new got (λ meaning. whole_output (answering meaning) got))
 Outcome text SinkFault old new = (query : Verdict) × (got : List ℕ) × Compiles text query
-    × Consumes old.left new.left got × ((spoken : Spoken) → Tells query spoken
-    → AppendsSome old.taken new.taken (output spoken got))
+    × KeepsRulesIfAccepted query × Consumes old.left new.left got
+    × ((spoken : Spoken) → Tells query spoken
+    → WrotePart old new (output spoken got) (whole_output spoken got))
 Outcome text Memory old new = (new ≡ old)
     ⊎ Runs text (λ monitor. (got : List ℕ) × WroteLines monitor old new got)
 Outcome text Limit old new = Runs text (λ monitor. (got : List ℕ) × (length got ≡ max_count)
@@ -85,6 +87,14 @@ LeavesItems command items items' = items' ≡ items
 abbrev pub EndsItems : Option Command → ℕ → ℕ → Type 0
 EndsItems (Some (Run engine)) ends ends' = Rose ends ends'
 EndsItems command ends ends' = Unit {0}
+
+-- and do not read after their first end: they meet one where they are done, and none where the
+-- items fail or have no end
+abbrev pub ReadsToFirstEnd : Option Command → Status → ℕ → ℕ → Type 0
+ReadsToFirstEnd (Some (Run engine)) Done ends ends' = ends' ≡ next_count ends
+ReadsToFirstEnd (Some (Run engine)) SinkFault ends ends' = MeetsOneAtMost ends ends'
+ReadsToFirstEnd (Some (Run engine)) Memory ends ends' = MeetsOneAtMost ends ends'
+ReadsToFirstEnd command status ends ends' = ends' ≡ ends
 
 -- What was read of the items and written for a query text, by what the words ask for.
 abbrev pub OutcomeOf : Option Command → List ℕ → Status → Outside → Outside → Type 0

@@ -6,7 +6,7 @@ use Rattle.query_model.specs.Monitors.{Monitor}
 use Rattle.sqre_run.specs.OneLine.{HoldsOfLine}
 use Rattle.sqre_run.specs.Outside.{Ended, Outside}
 use Rattle.sqre_run.specs.declared.command.Command.{Command}
-use Rattle.sqre_run.specs.declared.command.Command.TheVariants.{Run, Check, Bound, Drill}
+use Rattle.sqre_run.specs.declared.command.Command.TheVariants.{Run}
 use Rattle.sqre_run.specs.declared.status.Status.{Status}
 use Rattle.sqre_run.specs.declared.status.Status.TheVariants.{Done, SinkFault, Memory}
 

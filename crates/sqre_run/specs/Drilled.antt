@@ -1,5 +1,5 @@
 -- Statement. What a drill tells of a query: the answers to items that a seed draws, summed up.
-use Rattle.std.specs.Prelude.{ℕ, Bool, true, List, [], ◌∷◌, ◌++◌, length, count_by, is_some, if◌then◌else◌, Option, Some, None, Result, Ok, Err}
+use Rattle.std.specs.Prelude.{ℕ, true, List, [], ◌∷◌, ◌++◌, length, count_by, is_some, if◌then◌else◌, Option, Some, None, Result, Ok}
 use Rattle.io_edge.specs.Lines.{Shown, lines}
 use Rattle.value_ops.specs.declared.field.Field.{Field}
 use Rattle.value_ops.specs.declared.value.Value.{Value}

@@ -7,9 +7,9 @@ use Rattle.query_model.specs.Bounds.{places_of, slots_of}
 use Rattle.query_model.specs.Monitors.{Monitor}
 use Rattle.report_writer.specs.Texts.{bound_text, check_text, refusal_text}
 use Rattle.type_checker.specs.Judged.{Verdict, accepted, refused}
-use Rattle.sqre_run.specs.Compiled.{Compiles}
+use Rattle.sqre_run.specs.Compiled.{Compiles, KeepsRulesIfAccepted}
 use Rattle.sqre_run.specs.Drilled.{drilled}
-use Rattle.sqre_run.specs.Meanings.{IsMeaning, Meaning}
+use Rattle.sqre_run.specs.Meanings.{IsMeaning, KeepsRules, Meaning}
 use Rattle.sqre_run.specs.declared.command.Command.{Command}
 use Rattle.sqre_run.specs.declared.command.Command.TheVariants.{Run, Check, Bound, Drill}
 use Rattle.sqre_run.specs.declared.status.Status.{Status}
@@ -32,11 +32,11 @@ HoldsOfReply command (refused why) P = P (refusal_text why)
 -- What was written for a query text, by the status.
 abbrev pub WritesLine : Command → List ℕ → Status → Option (List ℕ) → Option (List ℕ) → Type 0
 WritesLine command text Done old new = (monitor : Monitor) × Compiles text (accepted monitor)
-    × HoldsOfLine command monitor (λ line. Appends old new line)
+    × KeepsRules monitor × HoldsOfLine command monitor (λ line. Appends old new line)
 WritesLine command text Refused old new = (why : Refusal) × Compiles text (refused why)
     × Appends old new (refusal_text why)
 WritesLine command text SinkFault old new = (query : Verdict) × Compiles text query
-    × HoldsOfReply command query (λ line. AppendsSome old new line)
+    × KeepsRulesIfAccepted query × HoldsOfReply command query (λ line. AppendsSome old new line)
 WritesLine command text Usage old new = new ≡ old
 WritesLine command text QueryFault old new = new ≡ old
 WritesLine command text Memory old new = new ≡ old

@@ -1,7 +1,7 @@
 -- Statement. What item source and sink tell at a moment, and how a run ended between two moments.
-use Rattle.std.specs.Prelude.{◌≡◌, ℕ, true, false, List, ◌++◌, length, Option, IfSome}
+use Rattle.std.specs.Prelude.{◌≡◌, ◌⊎◌, ℕ, true, false, List, ◌++◌, length, Option, IfSome}
 use Rattle.std.specs.Io.KnownBytes.{Appends, Consumes}
-use Rattle.io_edge.specs.Counts.{Rose}
+use Rattle.io_edge.specs.Counts.{Rose, next_count}
 use Rattle.io_edge.specs.Limits.{max_count}
 use Rattle.io_edge.specs.Lines.{Shown, lines}
 use Rattle.io_edge.specs.Written.{AppendsSome}
@@ -39,19 +39,30 @@ pub record WroteLines (monitor : Monitor) (old new : Outside) (got : List ℕ) :
   pub whole : lines got false ≡ some ++ others
   pub wrote : Wrote monitor old new got (λ meaning. answers meaning some)
 
--- How a run of a query ended, by its status. A run knows no query text, and a call's `Outcome` says the
--- same by that text. Usage, a fault of the query and a refusal come before any run.
+-- a part of `all` was written, from its front, and of `whole` where no end of the items was met
+pub record WrotePart (old new : Outside) (all whole : List ℕ) : Type 0 where
+  pub part : AppendsSome old.taken new.taken all
+  pub no_end : (Rose old.ends new.ends → ⊥) → AppendsSome old.taken new.taken whole
+
+-- no end was met, or one
+abbrev pub MeetsOneAtMost : ℕ → ℕ → Type 0
+MeetsOneAtMost ends ends' = (ends' ≡ ends) ⊎ (ends' ≡ next_count ends)
+
+-- How a run of a query ended, by its status. A run knows no query text, and a call's `Outcome` says
+-- the same by that text. Usage, a fault of the query and a refusal come before any run. After the
+-- first end of the items nothing is read.
 abbrev pub Ended : Monitor → Status → Outside → Outside → Type 0
-Ended monitor Done old new = Rose old.ends new.ends
+Ended monitor Done old new = (new.ends ≡ next_count old.ends)
     × ((meaning : Meaning) → IsMeaning monitor meaning → IfSome old.left (λ bytes.
     Appends old.taken new.taken (answers meaning (lines bytes true))))
-Ended monitor ItemFault old new = (got : List ℕ)
+Ended monitor ItemFault old new = (new.ends ≡ old.ends) × (got : List ℕ)
     × Wrote monitor old new got (λ meaning. answers meaning (lines got false))
-Ended monitor SinkFault old new = (got : List ℕ) × Consumes old.left new.left got
-    × ((meaning : Meaning) → IsMeaning monitor meaning
-    → AppendsSome old.taken new.taken (answers meaning (lines got true)))
-Ended monitor Memory old new = (got : List ℕ) × WroteLines monitor old new got
-Ended monitor Limit old new = (got : List ℕ) × (length got ≡ max_count)
+Ended monitor SinkFault old new = MeetsOneAtMost old.ends new.ends × (got : List ℕ)
+    × Consumes old.left new.left got × ((meaning : Meaning) → IsMeaning monitor meaning
+    → WrotePart old new (answers meaning (lines got true)) (answers meaning (lines got false)))
+Ended monitor Memory old new = MeetsOneAtMost old.ends new.ends × (got : List ℕ)
+    × WroteLines monitor old new got
+Ended monitor Limit old new = (new.ends ≡ old.ends) × (got : List ℕ) × (length got ≡ max_count)
     × Wrote monitor old new got (λ meaning. answers meaning (lines got false))
 Ended monitor Usage old new = ⊥
 Ended monitor QueryFault old new = ⊥

@@ -1,7 +1,7 @@
 -- For the prover. The run so far, as the loop keeps it.
-use Rattle.std.specs.Prelude.{◌≡◌, ◌≤◌, ℕ, Bool, true, false, List, ◌++◌, length}
+use Rattle.std.specs.Prelude.{◌≡◌, ℕ, Bool, true, false, List, ◌++◌, length}
 use Rattle.std.specs.Io.KnownBytes.{IsAtEnd}
-use Rattle.io_edge.specs.Counts.{Rose}
+use Rattle.io_edge.specs.Counts.{next_count}
 use Rattle.io_edge.specs.Lines.{Shown, lines}
 use Rattle.io_edge.specs.Reading.{Reading, lines_after, count_of}
 use Rattle.rate_expr.specs.Words.{Word}
@@ -28,5 +28,5 @@ pub record Running {F : Type 0} (follows : F → Word → Type 0) (on : OnStream
   pub showed : Showed got shown reading
   pub wrote : Wrote (monitor_of on) old now got (λ meaning. answers meaning shown)
   pub behind : IsBehind follows on shown session
-  pub later : old.ends ≤ now.ends
-  pub at_end : reading.met ≡ true → Rose old.ends now.ends × IsAtEnd now.left
+  pub no_end : reading.met ≡ false → now.ends ≡ old.ends
+  pub at_end : reading.met ≡ true → (now.ends ≡ next_count old.ends) × IsAtEnd now.left

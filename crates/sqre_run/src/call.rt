@@ -7,7 +7,7 @@ ghost use Rattle.sqre_run.specs.Commands.{command_of};
 ghost use Rattle.sqre_run.specs.Outside.{outside};
 ghost use Rattle.sqre_run.specs.QueryRead.{ReadsQuery};
 ghost use Rattle.sqre_run.specs.Call.{CompletesOf, EndsItems, FirstFault, LeavesItems};
-ghost use Rattle.sqre_run.specs.Call.{OutcomeOf, Refuses, Untouched};
+ghost use Rattle.sqre_run.specs.Call.{OutcomeOf, ReadsToFirstEnd, Refuses, Untouched};
 
 use crate::Status;
 use crate::command::command_of;
@@ -39,6 +39,8 @@ pub fn sqre<Q: Source, S: Source, W: Sink>(
         (S.faults items.old) (S.faults items.new) (W.faults out.old) (W.faults out.new) }
     ensures ends { result ≡ Status.Done → Rose (Q.ends query.old) (Q.ends query.new)
         × EndsItems (command_of (map string_bytes words.now)) (S.ends items.old) (S.ends items.new) }
+    ensures first_end { ReadsToFirstEnd (command_of (map string_bytes words.now)) result
+        (S.ends items.old) (S.ends items.new) }
     ensures handed_on { W.held out.old ≡ 0 → (result ≡ Status.SinkFault → ⊥)
         → W.held out.new ≡ 0 }
     ensures outcome { IfSome (Q.left query.old) (λ text. let at = outside S.left S.ends W.taken in

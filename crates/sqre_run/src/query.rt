@@ -3,6 +3,7 @@ ghost use Rattle.std.specs.Prelude.{◌≡◌, Err, IfOk, IfErr, IfSome, OnOk};
 ghost use Rattle.io_edge.specs.Counts.{FailsBy, Rose};
 ghost use Rattle.sqre_run.specs.Compiled.{Compiles};
 ghost use Rattle.sqre_run.specs.Drilling.{IsDrillable};
+ghost use Rattle.sqre_run.specs.Meanings.{KeepsRules};
 ghost use Rattle.sqre_run.specs.QueryRead.{ReadsFor};
 ghost use Rattle.sqre_run.specs.Stops.{IsStopAt, IsStopOf};
 ghost use Rattle.query_model.specs.Monitors.{monitor_of};
@@ -31,6 +32,7 @@ pub enum QueryStop {
 pub fn compile<Q: Source>(alloc: Global, query: &mut Q) -> Result<Checked, QueryStop>
     ensures accepted { IfOk result (λ compiled.
         IfSome (Q.left query.old) (λ text. Compiles text (accepted (monitor_of compiled)))) }
+    ensures kept { IfOk result (λ compiled. KeepsRules (monitor_of compiled)) }
     ensures drillable { IfOk result (λ compiled. IsDrillable compiled.layout) }
     ensures refused { IfErr result (IsStopOf (Q.left query.old)) }
     ensures end { OnOk result (Rose (Q.ends query.old) (Q.ends query.new)) }
@@ -45,7 +47,11 @@ pub fn compile<Q: Source>(alloc: Global, query: &mut Q) -> Result<Checked, Query
         Err(TakeStop::Memory) => return Err(QueryStop::Memory),
     };
     match compile_text(alloc, text.as_slice()) {
-        Ok(checked) => Ok(checked),
+        Ok(checked) => {
+            // Its accessors say that it keeps the rules.
+            let _schema = checked.schema();
+            Ok(checked)
+        }
         Err(CheckStop::Refused(refusal)) => Err(QueryStop::Refused(refusal)),
         Err(CheckStop::Memory) => Err(QueryStop::Memory),
     }

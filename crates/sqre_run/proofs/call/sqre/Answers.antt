@@ -2,6 +2,8 @@ use Rattle.std.proofs.Common.{sym, ◌∙◌}
 use Rattle.query_model.specs.Monitors.{monitor_of}
 use Rattle.sqre_run.specs.Outside.{outside}
 use Rattle.sqre_run.proofs.Commands.{told_complete, told_outcome, told_refused, told_refused_complete}
+use Rattle.sqre_run.proofs.EndedPart.{one_more}
+use Rattle.sqre_run.proofs.FirstEnds.{reads_asked}
 use Rattle.sqre_run.proofs.QueryReads.{reads_carried, reads_refusal}
 use Rattle.sqre_run.proofs.call.sqre.Goals as goal
 
@@ -17,8 +19,8 @@ returns-in-Err-Refused-clause-read g c =
 
 pub returns-in-Ok-clause-outcome : goal.returns-in-Ok-clause-outcome
 returns-in-Ok-clause-outcome g c =
-    told_outcome c.in-Some.command _ (sym c.in-Some.is ∙ c.command_of.ensures) _ _ _ _ c.carry_out.ensures.carried _
-    c.in-Ok.ensures.accepted
+    told_outcome c.in-Some.command _ (sym c.in-Some.is ∙ c.command_of.ensures) _ _ _ _ c.carry_out.ensures.carried
+    c.in-Ok.ensures.kept _ c.in-Ok.ensures.accepted
 
 pub returns-in-Err-Refused-clause-outcome : goal.returns-in-Err-Refused-clause-outcome
 returns-in-Err-Refused-clause-outcome g c =
@@ -28,11 +30,16 @@ returns-in-Err-Refused-clause-outcome g c =
 pub returns-in-Ok-clause-complete : goal.returns-in-Ok-clause-complete
 returns-in-Ok-clause-complete g c no_query no_items no_sink =
     told_complete c.in-Some.command _ (sym c.in-Some.is ∙ c.command_of.ensures) _ _ _ _ c.carry_out.ensures.carried _
-    c.in-Ok.ensures.accepted (λ e. no_items (c.carry_out.ensures.item_faults.rose e))
-    (λ e. no_sink (c.carry_out.ensures.sink_faults.rose e))
+    c.in-Ok.ensures.accepted (λ e. no_items (one_more _ _ (c.carry_out.ensures.item_faults.by_one e)))
+    (λ e. no_sink (one_more _ _ (c.carry_out.ensures.sink_faults.by_one e)))
 
 pub returns-in-Err-Refused-clause-complete : goal.returns-in-Err-Refused-clause-complete
 returns-in-Err-Refused-clause-complete g c no_query no_items no_sink =
     told_refused_complete c.in-Some.command _ (sym c.in-Some.is ∙ c.command_of.ensures) _ _ _ _ _
     (rw c.in-Err-Refused.field-0-is at c.in-Err-Refused.ensures.refused) (rw c.in-Err-Refused.refusal-is at c.refuse.ensures.refuses)
-    (λ e. no_sink (c.refuse.ensures.cause.rose e))
+    (λ e. no_sink (one_more _ _ (c.refuse.ensures.cause.by_one e)))
+
+pub returns-in-Ok-clause-first_end : goal.returns-in-Ok-clause-first_end
+returns-in-Ok-clause-first_end g c =
+    reads_asked g.S.Source.left g.S.Source.ends g.W.Sink.taken _ _ _ _ c.in-Some.command _
+    (sym c.in-Some.is ∙ c.command_of.ensures) _ _ c.carry_out.ensures.carried c.carry_out.ensures.items

@@ -1,6 +1,6 @@
-use Rattle.std.proofs.Common.{◌≡◌, Global, sym, ◌∙◌, ap, arith}
+use Rattle.std.proofs.Common.{◌∙◌, ap, arith}
 use Rattle.sqre_run.specs.Commands.{question_of, run_of}
-use Rattle.sqre_run.proofs.Words.{four_words, other_words, three_words, two_words}
+use Rattle.sqre_run.proofs.Words.{three_words, two_words}
 use Rattle.sqre_run.proofs.command.command_of.Goals as goal
 
 pub returns-in-len2 : goal.returns-in-len2

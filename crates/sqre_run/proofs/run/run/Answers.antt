@@ -1,4 +1,4 @@
-use Rattle.std.proofs.Common.{[], refl, ap, sym, subst, arith}
+use Rattle.std.proofs.Common.{[], inl, refl, ap, sym, subst, arith}
 use Rattle.std.proofs.KnownBytes.{Consumes-nil, Appends-nil}
 use Rattle.sqre_run.proofs.Sessions.{behind_none, ready_begins}
 use Rattle.sqre_run.proofs.Turns.{Ended-held, Running-begins}
@@ -8,6 +8,7 @@ use Rattle.sqre_run.proofs.run.run.Goals as goal
 -- nothing was read and nothing was written
 pub returns-in-Err-clause-ended : goal.returns-in-Err-clause-ended
 returns-in-Err-clause-ended g c = (
+  inl refl,
   [],
   record {
     some = [];
