@@ -1,9 +1,9 @@
-// Runs over many items, which end in the sum of a plain loop, and what is kept on the way.
+// Runs over many items, whose answers are those of a plain loop, and what is kept on the way.
 ghost use Rattle.std.specs.Prelude.{◌≡◌, IfOk};
 
 use crate::assertions::same;
 use crate::compiled::compiled;
-use crate::given::{Given, SUM, outcome, sum_over};
+use crate::given::{Given, SUM, outcome, run_of, sum_over};
 use eval_tree::Runner;
 use item_drill::Drill;
 use item_schema::{Column, Kind, Schema, read_item};
@@ -13,6 +13,27 @@ use sqre_run::{Reply, Session, Status};
 use std::alloc::{AllocError, Global};
 use std::test::Fail;
 use value_ops::Field;
+
+// The number of lines by which each of the three shapes below is tried.
+const LINES: u64 = 20_000;
+
+// The sum of the items before the first one below zero, less that of the others.
+const DIFFERENCE: &[u8] = b"stream(plain, col(a, int))
+main(split(
+    iter(atom(ge(a, 0), a), 0, add(x, y)),
+    iter(atom(lt(a, 0), a), 0, add(x, y)),
+    sub(x, y)))
+";
+
+// The largest sum so far.
+const LARGEST_SUM: &[u8] = b"stream(plain, col(a, int))
+main(compose(iter(atom(any, a), 0, add(x, y)), iter(atom(any, value), 0, max(x, y))))
+";
+
+// The sum over all keys of the sum for each.
+const SUM_OF_KEYS: &[u8] = b"stream(plain, col(k, text), col(a, int))
+main(apply(collect(k, not(any), star(item(any)), iter(atom(any, a), 0, add(x, y))), tsum(x)))
+";
 
 // The column of the sum's items.
 fn column(alloc: Global) -> Result<Column, AllocError>
@@ -75,6 +96,51 @@ fn a_million_items_are_summed(rt: HostRuntime) -> Result<(), Fail> {
     let line = format!(in alloc; "items 1000000 defined 1000000 last {sum}\n")?;
     same(&rt, status, Status::Done);
     same(&rt, bytes.as_slice(), line.as_bytes());
+    Ok(())
+}
+
+// The numbers from 1 to this one, each on a line of its own.
+fn numbers_to(alloc: Global, last: u64) -> Result<Vec<u8>, AllocError> {
+    let mut lines = Vec::new(alloc);
+    for number in 1..=last {
+        let line = format!(in alloc; "{number}\n")?;
+        lines.extend_from_slice(line.as_bytes())?;
+    }
+    Ok(lines)
+}
+
+// Whether a run answers each of the lines by its number. The engine that keeps the whole word would
+// take many minutes, since after each item it looks through all pieces of the word.
+fn is_counted(alloc: Global, query: &[u8], items: &str) -> Result<bool, AllocError> {
+    let given = Given {
+        room: 262_144,
+        ..run_of(query, items.as_bytes())
+    };
+    let (status, bytes) = outcome(alloc, given)?;
+    let wanted = numbers_to(alloc, LINES)?;
+    Ok(status == Status::Done && bytes.as_slice() == wanted.as_slice())
+}
+
+#[test]
+fn a_split_of_many_items_is_answered_in_time(rt: HostRuntime) -> Result<(), Fail> {
+    let mut items = "1\n".repeat(rt.alloc(), 10_000)?;
+    let below_zero = "-1\n".repeat(rt.alloc(), 10_000)?;
+    items.push_str(below_zero.as_str())?;
+    assert!(rt; is_counted(rt.alloc(), DIFFERENCE, items.as_str())?);
+    Ok(())
+}
+
+#[test]
+fn a_compose_of_many_items_is_answered_in_time(rt: HostRuntime) -> Result<(), Fail> {
+    let items = "1\n".repeat(rt.alloc(), 20_000)?;
+    assert!(rt; is_counted(rt.alloc(), LARGEST_SUM, items.as_str())?);
+    Ok(())
+}
+
+#[test]
+fn a_collect_of_many_items_is_answered_in_time(rt: HostRuntime) -> Result<(), Fail> {
+    let items = "a,1\nb,1\n".repeat(rt.alloc(), 10_000)?;
+    assert!(rt; is_counted(rt.alloc(), SUM_OF_KEYS, items.as_str())?);
     Ok(())
 }
 
