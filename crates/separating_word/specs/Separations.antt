@@ -1,6 +1,8 @@
 -- Statement. Lines of items on whose word one of two queries has a value, and the other has none.
-use Rattle.std.specs.Prelude.{◌≡◌, ℕ, not, ◌&&◌, ◌==◌, nat_lt, IsTrue, Bool, List, map, length, Ok}
-use Rattle.std.specs.List.{list_all}
+use Rattle.std.specs.Prelude.{◌≡◌, ℕ, not, ◌&&◌, nat_lt, IsTrue, Bool, List, map, length, Ok}
+use Rattle.std.specs.Char.{is_control}
+use Rattle.std.specs.List.{list_all, list_any}
+use Rattle.std.specs.Str.{chars, is_utf8}
 use Rattle.value_ops.specs.declared.value.Value.{Value}
 use Rattle.item_schema.specs.Reading.{item_of}
 use Rattle.item_schema.specs.declared.column.Column.{Column}
@@ -30,13 +32,13 @@ abbrev pub HasAlone : Side → Monitor → Monitor → List (List ℕ) → Type 
 HasAlone Left left right lines = HasValueOn left lines × HasNoneOn right lines
 HasAlone Right left right lines = HasValueOn right lines × HasNoneOn left lines
 
--- a byte that is shown as it is: no control, and so no end of a line
-abbrev pub is_plain : ℕ → Bool
-is_plain byte = not (nat_lt byte 32) && not (byte == 127)
+-- UTF-8 without control characters, and so without an end of a line
+abbrev pub is_plain : List ℕ → Bool
+is_plain line = is_utf8 line && not (list_any is_control (chars line))
 
 -- a line that is shown as it is, and is not long
 abbrev pub is_shown : List ℕ → Bool
-is_shown line = not (nat_lt 96 (length line)) && list_all is_plain line
+is_shown line = not (nat_lt 96 (length line)) && is_plain line
 
 -- the lines are shown as they are, and only the query on the side has a value on their items
 pub record Separates (left right : Monitor) (found : Separation) : Type 0 where

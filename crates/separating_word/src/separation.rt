@@ -1,6 +1,8 @@
 //! Lines of items that tell two queries apart.
 ghost use Rattle.std.specs.Prelude.{◌≡◌, IfOk, IfSome, IsTrue};
-ghost use Rattle.std.specs.List.{list_all};
+ghost use Rattle.std.specs.Char.{is_control};
+ghost use Rattle.std.specs.List.{list_all, list_any};
+ghost use Rattle.std.specs.Str.{chars};
 ghost use Rattle.query_model.specs.Monitors.{Monitor, monitor_of};
 ghost use Rattle.separating_word.specs.Findings.{TellsSide};
 ghost use Rattle.separating_word.specs.Separations.{Separates, is_plain, is_shown};
@@ -51,23 +53,26 @@ fn are_shown(lines: &[Bytes]) -> bool
     lines.iter().all(|line| is_shown(line.as_slice()))
 }
 
-// Whether the line is short, and each of its bytes is shown as it is.
+// Whether the line is short, and a text that is shown as it is.
 fn is_shown(line: &[u8]) -> bool
     ensures { result ≡ is_shown line.now }
 {
-    line.len() <= 96 && are_plain(line)
+    line.len() <= 96 && is_plain(line)
 }
 
-fn are_plain(line: &[u8]) -> bool
-    ensures { result ≡ list_all is_plain line.now }
+fn is_plain(line: &[u8]) -> bool
+    ensures { result ≡ is_plain line.now }
 {
-    line.iter().all(|byte| is_plain(*byte))
+    match str::from_utf8(line) {
+        Ok(text) => !has_control(text),
+        Err(_) => false,
+    }
 }
 
-fn is_plain(byte: u8) -> bool
-    ensures { result ≡ is_plain byte }
+fn has_control(text: &str) -> bool
+    ensures { result ≡ list_any is_control (chars text.now) }
 {
-    byte >= b' ' && byte != 127
+    text.chars().any(|character| character.is_control())
 }
 
 // What these lines tell: the queries are asked for their values on them.
