@@ -1,16 +1,19 @@
 //! What expressions give.
-ghost use Rattle.std.specs.Prelude.{◌≡◌, ℕ, List, Some, IsOk, IfOk, fold};
+ghost use Rattle.std.specs.Prelude.{◌≡◌, Some, IsOk, IfOk, fold, length, pos};
 ghost use Rattle.std.specs.Option.{option_copied};
 ghost use Rattle.value_ops.specs.declared.value.ValueType.{ValueType};
+ghost use Rattle.value_ops.specs.declared.value.ValueType.TheVariants as type;
 ghost use Rattle.value_ops.specs.Entries.{values_of};
-ghost use Rattle.value_ops.specs.Evaluation.{given, least_of, most_of, scalar_of, sum_of, value_of};
-ghost use Rattle.value_ops.specs.Expressions.{plain_of};
+ghost use Rattle.value_ops.specs.Evaluation.{given, of_both, scalar_at, scalar_of, table_in};
+ghost use Rattle.value_ops.specs.Evaluation.{value_named, value_of};
+ghost use Rattle.value_ops.specs.Expressions.{binary, choice, plain_of};
 ghost use Rattle.value_ops.specs.Operators.{binary_of};
+ghost use Rattle.value_ops.specs.Scalar.{in_range};
 ghost use Rattle.value_ops.specs.Shown.{inputs_of};
-ghost use Rattle.value_ops.specs.Typing.{HasType, IsNumber, types_of};
+ghost use Rattle.value_ops.specs.Typing.{HasType, IsNumber, type_named, types_of};
 
 use crate::inputs::Inputs;
-use crate::{BinaryOp, Expr, Field, Scalar, Table, Value};
+use crate::{BinaryOp, Bytes, Compare, Expr, Field, Scalar, Table, Value, Var};
 use std::alloc::{AllocError, Global};
 
 impl Expr {
@@ -69,59 +72,103 @@ impl Expr {
 }
 
 // The scalar that the expression gives.
-#[inline(always)]
+#[cycle(scalar)]
 fn scalar(expr: &Expr, inputs: &Inputs) -> Scalar
     requires { IsNumber (types_of (inputs_of inputs.now)) (plain_of expr.now) }
     ensures { scalar_of (inputs_of inputs.now) (plain_of expr.now) ≡ Some result }
 {
     match expr {
         Expr::Literal(number) => Scalar::Number(*number),
-        Expr::Read(name) => match inputs.scalar(*name) {
-            Some(found) => found,
-            None => unreachable!(),
-        },
+        Expr::Read(name) => inputs.known_scalar(*name),
         Expr::Unary(op, inner) => scalar(inner, inputs).unary(*op),
-        Expr::Binary(op, first, second) => {
-            let first = scalar(first, inputs);
-            first.binary(*op, scalar(second, inputs))
-        }
+        Expr::Binary(op, first, second) => joined(*op, first, second, inputs),
         Expr::If(test, first, second, met, other) => {
-            match (scalar(first, inputs), scalar(second, inputs)) {
-                (Scalar::Number(first), Scalar::Number(second)) => {
-                    if test.holds(first, second) {
-                        scalar(met, inputs)
-                    } else {
-                        scalar(other, inputs)
-                    }
-                }
-                (Scalar::Number(_), failed) => failed,
-                (failed, _) => failed,
+            chosen(*test, first, second, met, other, inputs)
+        }
+        Expr::Sum(name) => folded(BinaryOp::Add, Scalar::Number(0), inputs.known_table(*name)),
+        Expr::Count(name) => count(inputs.known_table(*name)),
+        Expr::Most(name, first) => extremum(BinaryOp::Max, *name, first, inputs),
+        Expr::Least(name, first) => extremum(BinaryOp::Min, *name, first, inputs),
+        Expr::Get(name, key, other) => scalar_under(inputs.known_table(*name), key, other, inputs),
+    }
+}
+
+// What the operator gives on two scalars.
+#[cycle(scalar)]
+#[inline(always)]
+fn joined(op: BinaryOp, first: &Expr, second: &Expr, inputs: &Inputs) -> Scalar
+    requires { IsNumber (types_of (inputs_of inputs.now))
+        (binary op (plain_of first.now) (plain_of second.now)) }
+    ensures { scalar_of (inputs_of inputs.now)
+        (binary op (plain_of first.now) (plain_of second.now)) ≡ Some result }
+{
+    let first = scalar(first, inputs);
+    first.binary(op, scalar(second, inputs))
+}
+
+// The scalar of what the comparison chooses. The other branch is not looked at.
+#[cycle(scalar)]
+#[inline(always)]
+fn chosen(
+    test: Compare,
+    first: &Expr,
+    second: &Expr,
+    met: &Expr,
+    other: &Expr,
+    inputs: &Inputs,
+) -> Scalar
+    requires { IsNumber (types_of (inputs_of inputs.now)) (choice test
+        (plain_of first.now) (plain_of second.now) (plain_of met.now) (plain_of other.now)) }
+    ensures { scalar_of (inputs_of inputs.now) (choice test (plain_of first.now)
+        (plain_of second.now) (plain_of met.now) (plain_of other.now)) ≡ Some result }
+{
+    match (scalar(first, inputs), scalar(second, inputs)) {
+        (Scalar::Number(first), Scalar::Number(second)) => {
+            if test.holds(first, second) {
+                scalar(met, inputs)
+            } else {
+                scalar(other, inputs)
             }
         }
-        Expr::Sum(name) => match inputs.table(*name) {
-            Some(table) => folded(BinaryOp::Add, Scalar::Number(0), table),
-            None => unreachable!(),
-        },
-        Expr::Count(name) => match inputs.table(*name) {
-            Some(table) => i64::try_from(table.len()).map_or(Scalar::Overflow, Scalar::Number),
-            None => unreachable!(),
-        },
-        Expr::Most(name, first) => match inputs.table(*name) {
-            Some(table) => folded(BinaryOp::Max, scalar(first, inputs), table),
-            None => unreachable!(),
-        },
-        Expr::Least(name, first) => match inputs.table(*name) {
-            Some(table) => folded(BinaryOp::Min, scalar(first, inputs), table),
-            None => unreachable!(),
-        },
-        Expr::Get(name, key, other) => match inputs.table(*name) {
-            Some(table) => match table.get(key.as_slice()) {
-                Some(found) => found,
-                None => scalar(other, inputs),
-            },
-            None => unreachable!(),
-        },
+        (Scalar::Number(_), failed) => failed,
+        (failed, _) => failed,
     }
+}
+
+// A first scalar, and then each of those of a table by an operator.
+#[cycle(scalar)]
+#[inline(always)]
+fn extremum(op: BinaryOp, name: Var, first: &Expr, inputs: &Inputs) -> Scalar
+    requires table { type_named (types_of (inputs_of inputs.now)) name ≡ Some type.Table }
+    requires first { IsNumber (types_of (inputs_of inputs.now)) (plain_of first.now) }
+    ensures { of_both (λ so_far entries. fold (binary_of op) so_far (values_of entries))
+        (scalar_of (inputs_of inputs.now) (plain_of first.now))
+        (table_in (value_named (inputs_of inputs.now) name)) ≡ Some result }
+{
+    let first = scalar(first, inputs);
+    folded(op, first, inputs.known_table(name))
+}
+
+// The scalar under the key of the table, or else that of the other expression.
+#[cycle(scalar)]
+#[inline(always)]
+fn scalar_under(table: &Table, key: &Bytes, other: &Expr, inputs: &Inputs) -> Scalar
+    requires { IsNumber (types_of (inputs_of inputs.now)) (plain_of other.now) }
+    ensures { scalar_at key.now (scalar_of (inputs_of inputs.now) (plain_of other.now))
+        (Some table.now) ≡ Some result }
+{
+    match table.get(key.as_slice()) {
+        Some(found) => found,
+        None => scalar(other, inputs),
+    }
+}
+
+// How many entries the table has.
+#[inline(always)]
+fn count(table: &Table) -> Scalar
+    ensures { result ≡ in_range (pos (length table.now)) }
+{
+    i64::try_from(table.len()).map_or(Scalar::Overflow, Scalar::Number)
 }
 
 // A first scalar, and then each of the table's by an operator.

@@ -1,8 +1,10 @@
 //! What the names of an expression stand for.
-ghost use Rattle.std.specs.Prelude.{◌≡◌};
+ghost use Rattle.std.specs.Prelude.{◌≡◌, Some};
 ghost use Rattle.std.specs.Option.{option_copied};
 ghost use Rattle.value_ops.specs.Evaluation.{scalar_in, table_in, value_named};
 ghost use Rattle.value_ops.specs.Shown.{inputs_of};
+ghost use Rattle.value_ops.specs.Typing.{type_named, types_of};
+ghost use Rattle.value_ops.specs.declared.value.ValueType.TheVariants as type;
 
 use crate::{Field, Scalar, Table, Value, Var};
 
@@ -23,6 +25,30 @@ impl<'a> Inputs<'a> {
             Var::Field(column) => self.fields.get(column as usize)?.scalar(),
             Var::Left => scalar_of(self.left),
             Var::Right => scalar_of(self.right),
+        }
+    }
+
+    /// The scalar that the name of a number stands for.
+    #[inline(always)]
+    pub(crate) fn known_scalar(&self, name: Var) -> Scalar
+        requires { type_named (types_of (inputs_of self.now)) name ≡ Some type.Number }
+        ensures { scalar_in (value_named (inputs_of self.now) name) ≡ Some result }
+    {
+        match self.scalar(name) {
+            Some(found) => found,
+            None => unreachable!(),
+        }
+    }
+
+    /// The table that the name of a table stands for.
+    #[inline(always)]
+    pub(crate) fn known_table(&self, name: Var) -> &'a Table
+        requires { type_named (types_of (inputs_of self.now)) name ≡ Some type.Table }
+        ensures { table_in (value_named (inputs_of self.now) name) ≡ Some result.now }
+    {
+        match self.table(name) {
+            Some(found) => found,
+            None => unreachable!(),
         }
     }
 

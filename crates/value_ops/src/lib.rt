@@ -1,6 +1,7 @@
 //! The values that a query computes with.
 #![tactic(auto)]
 
+mod copies;
 mod entries;
 mod eval;
 mod expr;

@@ -1,0 +1,29 @@
+use Rattle.std.proofs.Common.{◌+◌, ◌*◌, max}
+use Rattle.value_ops.specs.declared.expr.Expr.{size-Expr}
+use Rattle.value_ops.proofs.+copy.Given as goal
+
+-- how deep the expression is; at one expression those that call others stand above them
+abbrev pub decreases-expr::Expr::try_copy : goal.decreases-expr::Expr::try_copy
+decreases-expr::Expr::try_copy l = 3 * size-Expr l.self.now
+
+abbrev pub decreases-expr::Expr::boxed_copy : goal.decreases-expr::Expr::boxed_copy
+decreases-expr::Expr::boxed_copy l = 3 * size-Expr l.self.now + 1
+
+abbrev pub decreases-copies::copy_of_unary : goal.decreases-copies::copy_of_unary
+decreases-copies::copy_of_unary l = 3 * size-Expr l.inner.now + 2
+
+abbrev pub decreases-copies::copy_of_binary : goal.decreases-copies::copy_of_binary
+decreases-copies::copy_of_binary l = 3 * max (size-Expr l.first.now) (size-Expr l.second.now) + 2
+
+abbrev pub decreases-copies::copy_of_choice : goal.decreases-copies::copy_of_choice
+decreases-copies::copy_of_choice l =
+    3 * max (max (size-Expr l.first.now) (size-Expr l.second.now)) (max (size-Expr l.met.now) (size-Expr l.other.now)) + 2
+
+abbrev pub decreases-copies::copy_of_most : goal.decreases-copies::copy_of_most
+decreases-copies::copy_of_most l = 3 * size-Expr l.first.now + 2
+
+abbrev pub decreases-copies::copy_of_least : goal.decreases-copies::copy_of_least
+decreases-copies::copy_of_least l = 3 * size-Expr l.first.now + 2
+
+abbrev pub decreases-copies::copy_of_entry : goal.decreases-copies::copy_of_entry
+decreases-copies::copy_of_entry l = 3 * size-Expr l.other.now + 2

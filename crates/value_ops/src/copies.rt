@@ -1,0 +1,97 @@
+//! Copies of expressions.
+ghost use Rattle.std.specs.Prelude.{◌≡◌, IfOk};
+ghost use Rattle.value_ops.specs.Expressions.{binary, choice, entry, least, most, plain_of, unary};
+
+use crate::{BinaryOp, Bytes, Compare, Expr, UnaryOp, Var};
+use std::alloc::{AllocError, Global};
+
+impl Expr {
+    /// An equal expression.
+    #[cycle(copy)]
+    pub fn try_copy(&self, alloc: Global) -> Result<Expr, AllocError>
+        ensures { IfOk result (λ copy. plain_of copy ≡ plain_of self.now) }
+    {
+        match self {
+            Expr::Literal(number) => Ok(Expr::Literal(*number)),
+            Expr::Read(name) => Ok(Expr::Read(*name)),
+            Expr::Unary(op, inner) => copy_of_unary(alloc, *op, inner),
+            Expr::Binary(op, first, second) => copy_of_binary(alloc, *op, first, second),
+            Expr::If(test, first, second, met, other) => {
+                copy_of_choice(alloc, *test, first, second, met, other)
+            }
+            Expr::Sum(name) => Ok(Expr::Sum(*name)),
+            Expr::Count(name) => Ok(Expr::Count(*name)),
+            Expr::Most(name, first) => copy_of_most(alloc, *name, first),
+            Expr::Least(name, first) => copy_of_least(alloc, *name, first),
+            Expr::Get(name, key, other) => copy_of_entry(alloc, *name, key, other),
+        }
+    }
+
+    #[cycle(copy)]
+    fn boxed_copy(&self, alloc: Global) -> Result<Box<Expr>, AllocError>
+        ensures { IfOk result (λ copy. plain_of copy.value ≡ plain_of self.now) }
+    {
+        Ok(Box::new(alloc, self.try_copy(alloc)?)?)
+    }
+}
+
+#[cycle(copy)]
+fn copy_of_unary(alloc: Global, op: UnaryOp, inner: &Expr) -> Result<Expr, AllocError>
+    ensures { IfOk result (λ copy. plain_of copy ≡ unary op (plain_of inner.now)) }
+{
+    Ok(Expr::Unary(op, inner.boxed_copy(alloc)?))
+}
+
+#[cycle(copy)]
+fn copy_of_binary(
+    alloc: Global,
+    op: BinaryOp,
+    first: &Expr,
+    second: &Expr,
+) -> Result<Expr, AllocError>
+    ensures { IfOk result (λ copy.
+        plain_of copy ≡ binary op (plain_of first.now) (plain_of second.now)) }
+{
+    let first = first.boxed_copy(alloc)?;
+    Ok(Expr::Binary(op, first, second.boxed_copy(alloc)?))
+}
+
+#[cycle(copy)]
+fn copy_of_choice(
+    alloc: Global,
+    test: Compare,
+    first: &Expr,
+    second: &Expr,
+    met: &Expr,
+    other: &Expr,
+) -> Result<Expr, AllocError>
+    ensures { IfOk result (λ copy. plain_of copy ≡ choice test
+        (plain_of first.now) (plain_of second.now) (plain_of met.now) (plain_of other.now)) }
+{
+    let first = first.boxed_copy(alloc)?;
+    let second = second.boxed_copy(alloc)?;
+    let met = met.boxed_copy(alloc)?;
+    Ok(Expr::If(test, first, second, met, other.boxed_copy(alloc)?))
+}
+
+#[cycle(copy)]
+fn copy_of_most(alloc: Global, name: Var, first: &Expr) -> Result<Expr, AllocError>
+    ensures { IfOk result (λ copy. plain_of copy ≡ most name (plain_of first.now)) }
+{
+    Ok(Expr::Most(name, first.boxed_copy(alloc)?))
+}
+
+#[cycle(copy)]
+fn copy_of_least(alloc: Global, name: Var, first: &Expr) -> Result<Expr, AllocError>
+    ensures { IfOk result (λ copy. plain_of copy ≡ least name (plain_of first.now)) }
+{
+    Ok(Expr::Least(name, first.boxed_copy(alloc)?))
+}
+
+#[cycle(copy)]
+fn copy_of_entry(alloc: Global, name: Var, key: &Bytes, other: &Expr) -> Result<Expr, AllocError>
+    ensures { IfOk result (λ copy. plain_of copy ≡ entry name key.now (plain_of other.now)) }
+{
+    let key = key.try_copy(alloc)?;
+    Ok(Expr::Get(name, key, other.boxed_copy(alloc)?))
+}
