@@ -1,5 +1,5 @@
 //! The row that `csv` reads of a line.
-ghost use Rattle.std.specs.Prelude.{◌≡◌, ◌+◌, ◌<◌, ◌∷◌, Ok, IfErr, IfOk, drop, length, option_map};
+ghost use Rattle.std.specs.Prelude.{◌≡◌, ◌+◌, ◌<◌, ◌∷◌, None, Ok, Some, IfErr, IfOk, drop, false, length, option_map, true};
 ghost use Rattle.csv.specs.Records as csv;
 ghost use Rattle.item_schema.specs.Reading.{IsStopOf, fields_of, record_of};
 
@@ -19,16 +19,22 @@ pub(crate) fn read_row(alloc: Global, line: &[u8]) -> Result<Option<ByteRecord>,
 fn first_row(alloc: Global, line: &[u8]) -> Result<Option<ByteRecord>, Error>
     ensures { IfOk result (λ row. option_map csv.fields_of row ≡ record_of line.now) }
 {
+    let mut row = ByteRecord::new(alloc);
+    let found = read_first(alloc, line, &mut row)?;
+    Ok(found.then_some(row))
+}
+
+// The first row of the line into `row`, and whether it has one.
+fn read_first(alloc: Global, line: &[u8], row: &mut ByteRecord) -> Result<bool, Error>
+    ensures row { IfOk result (λ found.
+        found ≡ true → record_of line.now ≡ Some (csv.fields_of row.new)) }
+    ensures none { IfOk result (λ found. found ≡ false → record_of line.now ≡ None) }
+{
     let mut reader = ReaderBuilder::new()
         .has_headers(false)
         .flexible(true)
         .from_reader(alloc, line);
-    let mut row = ByteRecord::new(alloc);
-    if reader.read_byte_record(&mut row)? {
-        Ok(Some(row))
-    } else {
-        Ok(None)
-    }
+    reader.read_byte_record(row)
 }
 
 /// The fields of the columns, from left to right.
