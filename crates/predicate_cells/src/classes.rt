@@ -7,7 +7,7 @@ ghost use Rattle.predicate_cells.specs.Truth.{number_of, text_of};
 
 use crate::Pred;
 use crate::starts::starts_of;
-use crate::texts::texts_of;
+use crate::texts::{copied, texts_of};
 use item_schema::Kind;
 use std::alloc::{AllocError, Global};
 use std::marker::Model;
@@ -80,15 +80,13 @@ impl Classes {
     pub(crate) fn try_copy(&self, alloc: Global) -> Result<Classes, AllocError>
         ensures { IfOk result (λ copy. copy ≡ self.now) }
     {
-        let mut texts = Vec::with_capacity(alloc, self.texts.len())?;
-        for text in &self.texts {
-            texts.push(text.try_copy(alloc)?)?;
-        }
+        let starts = Vec::from_slice(alloc, &self.starts)?;
+        let other = self.other.try_copy(alloc)?;
         Ok(Classes {
             kind: self.kind,
-            starts: Vec::from_slice(alloc, &self.starts)?,
-            texts,
-            other: self.other.try_copy(alloc)?,
+            starts,
+            texts: copied(alloc, &self.texts)?,
+            other,
         })
     }
 

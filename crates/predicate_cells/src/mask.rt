@@ -3,6 +3,7 @@ ghost use Rattle.std.specs.Prelude.{◌≡◌, ◌≤◌, Some, map, slice_get, 
 ghost use Rattle.std.specs.List.{range_with_len};
 ghost use Rattle.language_base.specs.Limits.{max_cells};
 ghost use Rattle.predicate_cells.specs.Plain.{plain_of};
+ghost use Rattle.predicate_cells.specs.Predicates.{conjunction, disjunction};
 ghost use Rattle.predicate_cells.specs.Ranks.{field_in, count_in, cells_in};
 ghost use Rattle.predicate_cells.specs.Samples.{samples, row_of};
 ghost use Rattle.predicate_cells.specs.Truth.{holds};
@@ -17,6 +18,7 @@ use crate::truths::{block_of, both, constant, either, negated, repeated};
 use std::alloc::{AllocError, Global};
 
 /// For each cell, whether its sample meets the predicate.
+#[cycle(truths)]
 pub(crate) fn truths_of(
     alloc: Global,
     columns: &[Classes],
@@ -38,21 +40,45 @@ pub(crate) fn truths_of(
         | Pred::EqText(column, _)
         | Pred::NeText(column, _)
         | Pred::IsNum(column) => column_truths(alloc, columns, pred, *column),
-        Pred::And(first, second) => {
-            let truths = truths_of(alloc, columns, first)?;
-            let others = truths_of(alloc, columns, second)?;
-            Ok(both(truths, &others))
-        }
-        Pred::Or(first, second) => {
-            let truths = truths_of(alloc, columns, first)?;
-            let others = truths_of(alloc, columns, second)?;
-            Ok(either(truths, &others))
-        }
+        Pred::And(first, second) => truths_of_both(alloc, columns, first, second),
+        Pred::Or(first, second) => truths_of_either(alloc, columns, first, second),
         Pred::Not(inner) => {
             let truths = truths_of(alloc, columns, inner)?;
             Ok(negated(truths))
         }
     }
+}
+
+#[cycle(truths)]
+fn truths_of_both(
+    alloc: Global,
+    columns: &[Classes],
+    first: &Pred,
+    second: &Pred,
+) -> Result<Vec<bool>, AllocError>
+    requires { cells_in columns.now ≤ max_cells }
+    ensures { IfOk result (λ truths. truths.items
+        ≡ map (holds (conjunction (plain_of first.now) (plain_of second.now))) (samples columns.now)) }
+{
+    let truths = truths_of(alloc, columns, first)?;
+    let others = truths_of(alloc, columns, second)?;
+    Ok(both(truths, &others))
+}
+
+#[cycle(truths)]
+fn truths_of_either(
+    alloc: Global,
+    columns: &[Classes],
+    first: &Pred,
+    second: &Pred,
+) -> Result<Vec<bool>, AllocError>
+    requires { cells_in columns.now ≤ max_cells }
+    ensures { IfOk result (λ truths. truths.items
+        ≡ map (holds (disjunction (plain_of first.now) (plain_of second.now))) (samples columns.now)) }
+{
+    let truths = truths_of(alloc, columns, first)?;
+    let others = truths_of(alloc, columns, second)?;
+    Ok(either(truths, &others))
 }
 
 /// The same for a predicate that sees one column of the samples.

@@ -23,28 +23,49 @@ pub(crate) fn starts_of(alloc: Global, preds: &[Pred], column: u32) -> Result<Ve
     Ok(starts)
 }
 
+#[cycle(push)]
 fn push_starts(pred: &Pred, column: u32, starts: &mut Vec<i64>) -> Result<(), AllocError>
     ensures { OnOk result (starts.new.items
         ≡ starts.old.items ++ filter begins_class (beginnings column (plain_of pred.now))) }
 {
     match pred {
         Pred::Eq(tested, n) | Pred::Ne(tested, n) if *tested == column => {
-            push_start(*n, starts)?;
-            push_next(*n, starts)
+            push_interval(*n, *n, starts)
         }
         Pred::Lt(tested, n) | Pred::Ge(tested, n) if *tested == column => push_start(*n, starts),
         Pred::Le(tested, n) | Pred::Gt(tested, n) if *tested == column => push_next(*n, starts),
         Pred::Between(tested, low, high) if *tested == column => {
-            push_start(*low, starts)?;
-            push_next(*high, starts)
+            push_interval(*low, *high, starts)
         }
         Pred::And(first, second) | Pred::Or(first, second) => {
-            push_starts(first, column, starts)?;
-            push_starts(second, column, starts)
+            push_starts_of_both(first, second, column, starts)
         }
         Pred::Not(inner) => push_starts(inner, column, starts),
         _ => Ok(()),
     }
+}
+
+#[cycle(push)]
+fn push_starts_of_both(
+    first: &Pred,
+    second: &Pred,
+    column: u32,
+    starts: &mut Vec<i64>,
+) -> Result<(), AllocError>
+    ensures { OnOk result (starts.new.items ≡ starts.old.items ++ filter begins_class
+        (beginnings column (plain_of first.now) ++ beginnings column (plain_of second.now))) }
+{
+    push_starts(first, column, starts)?;
+    push_starts(second, column, starts)
+}
+
+// A class begins at the first number, and one after the last.
+fn push_interval(first: i64, last: i64, starts: &mut Vec<i64>) -> Result<(), AllocError>
+    ensures { OnOk result (starts.new.items
+        ≡ starts.old.items ++ filter begins_class (first ∷ next last ∷ [])) }
+{
+    push_start(first, starts)?;
+    push_next(last, starts)
 }
 
 // A class begins at each number but the least.

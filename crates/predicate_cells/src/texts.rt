@@ -62,3 +62,14 @@ fn copies_of(alloc: Global, texts: &[&[u8]]) -> Result<Vec<Bytes>, AllocError>
     }
     Ok(copies)
 }
+
+/// Equal texts.
+pub(crate) fn copied(alloc: Global, texts: &[Bytes]) -> Result<Vec<Bytes>, AllocError>
+    ensures { IfOk result (λ copies. copies.items ≡ texts.now) }
+{
+    let mut copies = Vec::with_capacity(alloc, texts.len())?;
+    for text in texts {
+        copies.push(text.try_copy(alloc)?)?;
+    }
+    Ok(copies)
+}

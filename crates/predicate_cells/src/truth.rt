@@ -1,11 +1,15 @@
 //! What a predicate says of an item.
-ghost use Rattle.std.specs.Prelude.{◌≡◌};
+ghost use Rattle.std.specs.Prelude.{◌≡◌, ◌&&◌, int_le};
+ghost use Rattle.std.specs.Str.{bytes_eq};
+ghost use Rattle.language_base.specs.Comparisons.{compares};
 ghost use Rattle.predicate_cells.specs.Plain.{plain_of};
-ghost use Rattle.predicate_cells.specs.Truth.{holds};
+ghost use Rattle.predicate_cells.specs.Predicates.{conjunction, disjunction};
+ghost use Rattle.predicate_cells.specs.Truth.{holds, number_in, passes, text_in};
 
 use crate::Pred;
 use crate::row::{Fields, Row};
 use item_schema::Item;
+use value_ops::{Bytes, Compare};
 
 /// Whether the item meets the predicate.
 pub fn holds(pred: &Pred, item: &Item) -> bool
@@ -15,25 +19,65 @@ pub fn holds(pred: &Pred, item: &Item) -> bool
 }
 
 /// Whether the fields of the row do.
+#[cycle(holds)]
 pub(crate) fn holds_in<R: Row>(pred: &Pred, row: &R) -> bool
     ensures { result ≡ holds (plain_of pred.now) (R.fields row.now) }
 {
     match pred {
         Pred::Any => true,
-        Pred::Eq(column, n) => row.number(*column).is_some_and(|x| x == *n),
-        Pred::Ne(column, n) => !row.number(*column).is_some_and(|x| x == *n),
-        Pred::Lt(column, n) => row.number(*column).is_some_and(|x| x < *n),
-        Pred::Le(column, n) => row.number(*column).is_some_and(|x| x <= *n),
-        Pred::Gt(column, n) => row.number(*column).is_some_and(|x| x > *n),
-        Pred::Ge(column, n) => row.number(*column).is_some_and(|x| x >= *n),
-        Pred::Between(column, low, high) => {
-            row.number(*column).is_some_and(|x| *low <= x && x <= *high)
-        }
-        Pred::EqText(column, text) => row.text(*column).is_some_and(|x| x == text.as_slice()),
-        Pred::NeText(column, text) => !row.text(*column).is_some_and(|x| x == text.as_slice()),
+        Pred::Eq(column, n) => has_number(row, *column, Compare::Eq, *n),
+        Pred::Ne(column, n) => !has_number(row, *column, Compare::Eq, *n),
+        Pred::Lt(column, n) => has_number(row, *column, Compare::Lt, *n),
+        Pred::Le(column, n) => has_number(row, *column, Compare::Le, *n),
+        Pred::Gt(column, n) => has_number(row, *column, Compare::Gt, *n),
+        Pred::Ge(column, n) => has_number(row, *column, Compare::Ge, *n),
+        Pred::Between(column, low, high) => has_number_between(row, *column, *low, *high),
+        Pred::EqText(column, text) => has_text(row, *column, text),
+        Pred::NeText(column, text) => !has_text(row, *column, text),
         Pred::IsNum(column) => row.number(*column).is_some(),
-        Pred::And(first, second) => holds_in(first, row) && holds_in(second, row),
-        Pred::Or(first, second) => holds_in(first, row) || holds_in(second, row),
+        Pred::And(first, second) => both_hold(first, second, row),
+        Pred::Or(first, second) => either_holds(first, second, row),
         Pred::Not(inner) => !holds_in(inner, row),
     }
+}
+
+#[cycle(holds)]
+#[inline(always)]
+fn both_hold<R: Row>(first: &Pred, second: &Pred, row: &R) -> bool
+    ensures { result
+        ≡ holds (conjunction (plain_of first.now) (plain_of second.now)) (R.fields row.now) }
+{
+    holds_in(first, row) && holds_in(second, row)
+}
+
+#[cycle(holds)]
+#[inline(always)]
+fn either_holds<R: Row>(first: &Pred, second: &Pred, row: &R) -> bool
+    ensures { result
+        ≡ holds (disjunction (plain_of first.now) (plain_of second.now)) (R.fields row.now) }
+{
+    holds_in(first, row) || holds_in(second, row)
+}
+
+// Whether a number stands in the column that compares so with this one.
+#[inline(always)]
+fn has_number<R: Row>(row: &R, column: u32, compare: Compare, n: i64) -> bool
+    ensures { result ≡ passes (λ x. compares compare x n) (number_in (R.fields row.now) column) }
+{
+    row.number(column).is_some_and(|x| compare.holds(x, n))
+}
+
+#[inline(always)]
+fn has_number_between<R: Row>(row: &R, column: u32, low: i64, high: i64) -> bool
+    ensures { result
+        ≡ passes (λ x. int_le low x && int_le x high) (number_in (R.fields row.now) column) }
+{
+    row.number(column).is_some_and(|x| low <= x && x <= high)
+}
+
+#[inline(always)]
+fn has_text<R: Row>(row: &R, column: u32, text: &Bytes) -> bool
+    ensures { result ≡ passes (λ x. bytes_eq x text.now) (text_in (R.fields row.now) column) }
+{
+    row.text(column).is_some_and(|x| x == text.as_slice())
 }
