@@ -1,18 +1,21 @@
 //! The sets of a rate, from those of its parts.
-ghost use Rattle.std.specs.Prelude.{◌≡◌, ◌+◌, ◌≤◌, ◌++◌, length, IfOk, OnOk};
+ghost use Rattle.std.specs.Prelude.{◌≡◌, ◌+◌, ◌<◌, ◌≤◌, [], ◌∷◌, ◌++◌, length, IfOk, OnOk};
 ghost use Rattle.language_base.specs.Limits.{max_positions};
-ghost use Rattle.rate_expr.specs.Parts.{part_of, follow_of};
+ghost use Rattle.predicate_cells.specs.Plain as predicates;
+ghost use Rattle.rate_expr.specs.Parts.{part_of, follow_of, of_one};
 ghost use Rattle.rate_expr.specs.Plain.{plain_of};
-ghost use Rattle.rate_expr.specs.Rates.{preds_of, size_of};
+ghost use Rattle.rate_expr.specs.Rates.{preds_of, sequence, size_of};
 ghost use Rattle.rate_expr.specs.Shared.{listed, AreShared};
 
 use crate::links::link;
 use crate::part::Part;
 use crate::rate::Rate;
 use crate::shared_preds::SharedPreds;
+use predicate_cells::Pred;
 use std::alloc::AllocError;
 
 /// Puts the positions of a rate behind others, and says where its words begin and end.
+#[cycle(add)]
 pub(crate) fn add(
     rate: &Rate,
     follow: &mut Vec<u128>,
@@ -32,18 +35,8 @@ pub(crate) fn add(
 {
     match rate {
         Rate::Empty => Ok(Part::empty()),
-        Rate::One(pred) => {
-            let position = follow.len();
-            follow.push(0)?;
-            preds.add(pred)?;
-            Ok(Part::one(position as u32))
-        }
-        Rate::Seq(first, second) => {
-            let before = add(first, follow, preds)?;
-            let behind = add(second, follow, preds)?;
-            link(follow, before.last, behind.first);
-            Ok(before.then(behind))
-        }
+        Rate::One(pred) => add_item(pred, follow, preds),
+        Rate::Seq(first, second) => add_sequence(first, second, follow, preds),
         Rate::Alt(first, second) => {
             let one = add(first, follow, preds)?;
             let other = add(second, follow, preds)?;
@@ -55,4 +48,52 @@ pub(crate) fn add(
             Ok(part.star())
         }
     }
+}
+
+// Puts one more position after the others.
+fn add_item(
+    pred: &Pred,
+    follow: &mut Vec<u128>,
+    preds: &mut SharedPreds,
+) -> Result<Part, AllocError>
+    requires shared { AreShared preds.old }
+    requires few { length follow.old.items < max_positions }
+    ensures part { IfOk result (λ part. part ≡ of_one (length follow.old.items)) }
+    ensures follow { OnOk result (follow.new.items ≡ follow.old.items ++ 0 ∷ []) }
+    ensures shared { OnOk result (AreShared preds.new) }
+    ensures preds { OnOk result
+        (listed preds.new ≡ listed preds.old ++ predicates.plain_of pred.now ∷ []) }
+{
+    let position = follow.len();
+    follow.push(0)?;
+    preds.add(pred)?;
+    Ok(Part::one(position as u32))
+}
+
+// Puts the positions of two rates after the others, and links the ends of the first with the
+// beginnings of the second.
+#[cycle(add)]
+fn add_sequence(
+    first: &Rate,
+    second: &Rate,
+    follow: &mut Vec<u128>,
+    preds: &mut SharedPreds,
+) -> Result<Part, AllocError>
+    requires shared { AreShared preds.old }
+    requires few { length follow.old.items
+        + size_of (sequence (plain_of first.now) (plain_of second.now)) ≤ max_positions }
+    ensures part { IfOk result (λ part. part
+        ≡ part_of (sequence (plain_of first.now) (plain_of second.now)) (length follow.old.items)) }
+    ensures follow { OnOk result (follow.new.items
+        ≡ follow_of (sequence (plain_of first.now) (plain_of second.now)) follow.old.items) }
+    ensures count { OnOk result (length follow.new.items ≡ length follow.old.items
+        + size_of (sequence (plain_of first.now) (plain_of second.now))) }
+    ensures shared { OnOk result (AreShared preds.new) }
+    ensures preds { OnOk result (listed preds.new ≡ listed preds.old
+        ++ preds_of (sequence (plain_of first.now) (plain_of second.now))) }
+{
+    let before = add(first, follow, preds)?;
+    let behind = add(second, follow, preds)?;
+    link(follow, before.last, behind.first);
+    Ok(before.then(behind))
 }

@@ -23,8 +23,16 @@ pub enum Rate {
 }
 
 impl Rate {
+    ghost use Rattle.predicate_cells.specs.Plain as predicates;
     ghost use Rattle.rate_expr.specs.Plain.{plain_of};
-    ghost use Rattle.rate_expr.specs.Rates.{size_of};
+    ghost use Rattle.rate_expr.specs.Rates.{one, size_of};
+
+    /// The words of one item, which meets an equal predicate.
+    pub fn of_item(pred: &Pred, alloc: Global) -> Result<Rate, AllocError>
+        ensures { IfOk result (λ rate. plain_of rate ≡ one (predicates.plain_of pred.now)) }
+    {
+        Ok(Rate::One(pred.try_copy(alloc)?))
+    }
 
     /// How many one-item parts there are, and 2^32 - 1 where there are more.
     pub fn positions(&self) -> u32
@@ -40,23 +48,29 @@ impl Rate {
     }
 
     /// An equal rate.
+    #[cycle(copy)]
     pub fn try_copy(&self, alloc: Global) -> Result<Rate, AllocError>
         ensures { IfOk result (λ copy. plain_of copy ≡ plain_of self.now) }
     {
         match self {
             Rate::Empty => Ok(Rate::Empty),
-            Rate::One(pred) => Ok(Rate::One(pred.try_copy(alloc)?)),
+            Rate::One(pred) => Rate::of_item(pred, alloc),
             Rate::Seq(first, second) => {
-                let first = Box::new(alloc, first.try_copy(alloc)?)?;
-                let second = Box::new(alloc, second.try_copy(alloc)?)?;
-                Ok(Rate::Seq(first, second))
+                let first = first.boxed_copy(alloc)?;
+                Ok(Rate::Seq(first, second.boxed_copy(alloc)?))
             }
             Rate::Alt(first, second) => {
-                let first = Box::new(alloc, first.try_copy(alloc)?)?;
-                let second = Box::new(alloc, second.try_copy(alloc)?)?;
-                Ok(Rate::Alt(first, second))
+                let first = first.boxed_copy(alloc)?;
+                Ok(Rate::Alt(first, second.boxed_copy(alloc)?))
             }
-            Rate::Star(inner) => Ok(Rate::Star(Box::new(alloc, inner.try_copy(alloc)?)?)),
+            Rate::Star(inner) => Ok(Rate::Star(inner.boxed_copy(alloc)?)),
         }
+    }
+
+    #[cycle(copy)]
+    fn boxed_copy(&self, alloc: Global) -> Result<Box<Rate>, AllocError>
+        ensures { IfOk result (λ copy. plain_of copy.value ≡ plain_of self.now) }
+    {
+        Ok(Box::new(alloc, self.try_copy(alloc)?)?)
     }
 }
