@@ -97,9 +97,9 @@ impl Nfa {
         ensures { IfOk result (λ copy. copy ≡ self.now) }
     {
         let parts = Parts {
-            positions: self.parts.positions.try_copy(alloc)?,
-            cells: self.parts.cells.clone()?,
             met: Vec::from_slice(alloc, &self.parts.met)?,
+            cells: self.parts.cells.clone()?,
+            positions: self.parts.positions.try_copy(alloc)?,
             growing: self.parts.growing,
             begins: self.parts.begins,
         };
