@@ -12,6 +12,7 @@ use Rattle.query_parser.specs.declared.term.Terms.{Terms as Arguments}
 use Rattle.query_parser.specs.Plain.{term_before, terms_of, row_terms}
 use Rattle.query_parser.proofs.OptionCases.{Some-no_none, chosen-none, chosen-both, first_of_two-none, first_of_two-both}
 use Rattle.query_parser.proofs.Rows.{call_before}
+use Rattle.query_syntax.specs.Calls.{IsCall}
 use Rattle.query_syntax.specs.Fits.{Fits, AllFit, HasForm}
 
 -- each of two tests that both hold
@@ -140,6 +141,11 @@ pub call_written : (term : Term) (word : List ℕ) (arguments : Arguments) (span
     → word ≡ written → terms_of arguments.terms.items ≡ inner → (rest : Terms) → term_before term rest ≡ call written inner span rest
 call_written term word arguments span written inner is is-word is-inner rest =
     call_terms term word arguments span rest is ∙ (λ i. call (is-word i) (is-inner i) span rest)
+
+-- a call of a known word with known arguments
+pub is_call : (word : List ℕ) (arguments : List Term) (span : Span) (inner : Terms) → terms_of arguments ≡ inner
+    → IsCall word arguments span (call word inner span)
+is_call word arguments span inner is = λ rest. ap (λ (ts : Terms). call word ts span rest) is
 
 -- what is read of a call is read of the term that it is
 pub term_read : {E X : Type 0} (read : Result E X) (before : E → Terms → Terms) (term : Term) (word : List ℕ) (arguments : Arguments) (span : Span)

@@ -1,6 +1,7 @@
 -- What the rows of a table say of the calls that they find.
-use Rattle.std.proofs.Common.{◌≡◌, ℕ, ◌==◌, ◌&&◌, Bool, true, false, cond, List, [], ◌∷◌, length, map, Option, Some, None, refl, sym, ap, ◌∙◌, subst}
+use Rattle.std.proofs.Common.{◌≡◌, ℕ, ◌==◌, ◌&&◌, Bool, true, false, cond, List, [], ◌∷◌, ◌++◌, length, map, Option, Some, None, refl, sym, ap, ◌∙◌, subst}
 use Rattle.std.specs.List.{AllByRecursion}
+use Rattle.std.specs.Option.{option_or}
 use Rattle.std.specs.Str.{bytes_eq}
 use Rattle.std.proofs.lemmas.Slice.Eq.{bytes_eq-Decides}
 use Rattle.query_forms.specs.declared.place.Place.{Place}
@@ -76,6 +77,20 @@ module _ (H : Type 0) (word_of : H → List ℕ) (places_of : H → List Place) 
         let at : places_in (map form_of rows) word (length arguments) ≡ Some has.places =
         ap (λ forms. places_in forms word (length arguments)) table ∙ some in
         absurd (cc)
+
+-- what is found by a test, or else
+found_or : {H : Type 0} (test : Bool) (is : H) (rest others more : Option H) → more ≡ option_or rest others
+    → cond test (Some is) more ≡ option_or (cond test (Some is) rest) others
+found_or true is rest others more same = refl
+found_or false is rest others more same = same
+
+-- what is found in one list of rows, or else in another
+pub head_in_two : {H : Type 0} (rows others : List (Row H)) (word : List ℕ) (count : ℕ)
+    → head_in (rows ++ others) word count ≡ option_or (head_in rows word count) (head_in others word count)
+head_in_two [] others word count = refl
+head_in_two (first ∷ rows) others word count =
+    found_or (bytes_eq first.word word && (length first.places == count)) first.is (head_in rows word count)
+    (head_in others word count) (head_in (rows ++ others) word count) (head_in_two rows others word count)
 
 -- where a place has one form of a call, a call with a form has that one
 pub one_form : (place : Place) (written : List ℕ) (places : List Place) (word : List ℕ) (arguments : List Term)

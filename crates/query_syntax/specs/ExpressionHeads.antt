@@ -59,6 +59,22 @@ expressions =
     ∷ expression head.Get
     ∷ []
 
+-- the calls of an operator on two numbers
+abbrev pub binaries : List (Row ExpressionHead)
+binaries =
+    expression (head.Binary Add)
+    ∷ expression (head.Binary Sub)
+    ∷ expression (head.Binary Mul)
+    ∷ expression (head.Binary Div)
+    ∷ expression (head.Binary Rem)
+    ∷ expression (head.Binary Min)
+    ∷ expression (head.Binary Max)
+    ∷ []
+
+-- the calls of a table and one value more
+abbrev pub extrema : List (Row ExpressionHead)
+extrema = expression (head.Extremum extremum.Max) ∷ expression (head.Extremum extremum.Min) ∷ []
+
 -- one of the calls that are comparisons
 abbrev comparison : Compare → Row Compare
 comparison compare = row compare (compare_word compare) (compare_places compare)

@@ -1,3 +1,4 @@
+pub mod Calls
 pub mod ExpressionHeads
 pub mod Expressions
 pub mod Files

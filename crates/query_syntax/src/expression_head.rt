@@ -1,7 +1,7 @@
 //! The calls that are expressions and comparisons, by their head words.
 ghost use Rattle.std.specs.Prelude.{◌≡◌};
 ghost use Rattle.query_forms.specs.declared.place.Place.TheVariants as place;
-ghost use Rattle.query_syntax.specs.ExpressionHeads.{comparisons, compare_places, expression_places, expression_word, expressions};
+ghost use Rattle.query_syntax.specs.ExpressionHeads.{binaries, comparisons, compare_places, expression_places, expression_word, expressions, extrema};
 ghost use Rattle.query_syntax.specs.Fits.{AllFit, HasForm};
 ghost use Rattle.query_syntax.specs.Rows.{head_in};
 ghost use Rattle.query_syntax.specs.Words.{compare_word};
@@ -47,6 +47,16 @@ fn named_with_one(word: &[u8]) -> Option<ExpressionHead>
 fn named_with_two(word: &[u8]) -> Option<ExpressionHead>
     ensures { result ≡ head_in expressions word.now 2 }
 {
+    match binary_named(word) {
+        Some(head) => Some(head),
+        None => extremum_named(word),
+    }
+}
+
+// The expression that a call of an operator on two numbers is.
+fn binary_named(word: &[u8]) -> Option<ExpressionHead>
+    ensures { result ≡ head_in binaries word.now 2 }
+{
     match word {
         b"add" => Some(ExpressionHead::Binary(BinaryOp::Add)),
         b"sub" => Some(ExpressionHead::Binary(BinaryOp::Sub)),
@@ -55,6 +65,15 @@ fn named_with_two(word: &[u8]) -> Option<ExpressionHead>
         b"rem" => Some(ExpressionHead::Binary(BinaryOp::Rem)),
         b"min" => Some(ExpressionHead::Binary(BinaryOp::Min)),
         b"max" => Some(ExpressionHead::Binary(BinaryOp::Max)),
+        _ => None,
+    }
+}
+
+// The expression that a call of a table and one value more is.
+fn extremum_named(word: &[u8]) -> Option<ExpressionHead>
+    ensures { result ≡ head_in extrema word.now 2 }
+{
+    match word {
         b"tmax" => Some(ExpressionHead::Extremum(Extremum::Max)),
         b"tmin" => Some(ExpressionHead::Extremum(Extremum::Min)),
         _ => None,

@@ -2,6 +2,7 @@
 #![tactic(auto)]
 
 mod expression;
+mod expression_calls;
 mod expression_head;
 mod expression_reading;
 mod laws;
@@ -14,6 +15,7 @@ mod predicate_reading;
 mod program;
 mod program_reading;
 mod query;
+mod query_calls;
 mod query_head;
 mod query_reading;
 mod rate;

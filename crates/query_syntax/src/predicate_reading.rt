@@ -1,15 +1,17 @@
 //! Predicates from the terms that write them.
-ghost use Rattle.std.specs.Prelude.{◌≡◌, [], ◌∷◌, IfOk};
+ghost use Rattle.std.specs.Prelude.{◌≡◌, [], ◌∷◌, IfOk, codes};
 ghost use Rattle.query_forms.specs.declared.place.Place.TheVariants as place;
-ghost use Rattle.query_forms.specs.Terms.{Terms, call, none};
-ghost use Rattle.query_parser.specs.Plain.{term_before, terms_of};
+ghost use Rattle.query_forms.specs.Terms.{Terms};
+ghost use Rattle.query_parser.specs.Plain.{term_before};
+ghost use Rattle.query_syntax.specs.Calls.{IsCall};
 ghost use Rattle.query_syntax.specs.Fits.{AllFit, Fits, HasForm};
 ghost use Rattle.query_syntax.specs.Plain.{plain_predicate};
-ghost use Rattle.query_syntax.specs.Written.{literal_before, name_before, number_before, predicate_before};
+ghost use Rattle.query_syntax.specs.Words.{connective_word, equality_word, order_word};
+ghost use Rattle.query_syntax.specs.Written.{predicate_before};
 
 use crate::leaf_reading::{literal_of, name_of, number_of};
 use crate::predicate_head::{PredicateHead, predicate_head};
-use crate::{Literal, Name, Number, Predicate};
+use crate::{Connective, Equality, Order, Predicate};
 use language_base::Span;
 use query_parser::Term;
 use std::alloc::{AllocError, Global};
@@ -37,105 +39,132 @@ fn predicate_call(
     span: Span,
 ) -> Result<Predicate, AllocError>
     requires { HasForm place.Pred word.now arguments.now }
-    ensures { IfOk result (λ predicate. (rest : Terms)
-        → call word.now (terms_of arguments.now) span rest
-        ≡ predicate_before (plain_predicate predicate) rest) }
+    ensures { IfOk result (λ predicate.
+        IsCall word.now arguments.now span (predicate_before (plain_predicate predicate))) }
 {
     match predicate_head(word, arguments) {
-        PredicateHead::Equality(equality) => {
-            let (column, literal) = column_and_literal(alloc, arguments)?;
-            Ok(Predicate::Equality {
-                equality,
-                column,
-                literal,
-                span,
-            })
-        }
-        PredicateHead::Order(order) => {
-            let (column, bound) = column_and_bound(alloc, arguments)?;
-            Ok(Predicate::Order {
-                order,
-                column,
-                bound,
-                span,
-            })
-        }
-        PredicateHead::Between => {
-            let (column, low, high) = column_and_bounds(alloc, arguments)?;
-            Ok(Predicate::Between {
-                column,
-                low,
-                high,
-                span,
-            })
-        }
-        PredicateHead::IsNum => {
-            let column = column_of(alloc, arguments)?;
-            Ok(Predicate::IsNum { column, span })
-        }
-        PredicateHead::Joined(connective) => {
-            let (left, right) = operands_of(alloc, arguments)?;
-            Ok(Predicate::Joined {
-                connective,
-                left,
-                right,
-                span,
-            })
-        }
-        PredicateHead::Not => {
-            let operand = operand_of(alloc, arguments)?;
-            Ok(Predicate::Not { operand, span })
-        }
+        PredicateHead::Equality(equality) => equality_of(alloc, equality, arguments, span),
+        PredicateHead::Order(order) => order_of(alloc, order, arguments, span),
+        PredicateHead::Between => between_of(alloc, arguments, span),
+        PredicateHead::IsNum => is_num_of(alloc, arguments, span),
+        PredicateHead::Joined(connective) => joined_of(alloc, connective, arguments, span),
+        PredicateHead::Not => not_of(alloc, arguments, span),
     }
 }
 
-fn column_and_literal(alloc: Global, arguments: &[Term]) -> Result<(Name, Literal), AllocError>
+fn equality_of(
+    alloc: Global,
+    equality: Equality,
+    arguments: &[Term],
+    span: Span,
+) -> Result<Predicate, AllocError>
     requires { AllFit (place.Name ∷ place.Literal ∷ []) arguments.now }
-    ensures { IfOk result (λ parts. terms_of arguments.now
-        ≡ name_before parts.0 (literal_before parts.1 none)) }
+    ensures { IfOk result (λ predicate.
+        IsCall (equality_word equality) arguments.now span
+        (predicate_before (plain_predicate predicate))) }
 {
     let [column, literal] = arguments else {
         unreachable!();
     };
-    Ok((name_of(alloc, column)?, literal_of(alloc, literal)?))
+    let column = name_of(alloc, column)?;
+    Ok(Predicate::Equality {
+        equality,
+        column,
+        literal: literal_of(alloc, literal)?,
+        span,
+    })
 }
 
-fn column_and_bound(alloc: Global, arguments: &[Term]) -> Result<(Name, Number), AllocError>
+fn order_of(
+    alloc: Global,
+    order: Order,
+    arguments: &[Term],
+    span: Span,
+) -> Result<Predicate, AllocError>
     requires { AllFit (place.Name ∷ place.Number ∷ []) arguments.now }
-    ensures { IfOk result (λ parts. terms_of arguments.now
-        ≡ name_before parts.0 (number_before parts.1 none)) }
+    ensures { IfOk result (λ predicate.
+        IsCall (order_word order) arguments.now span
+        (predicate_before (plain_predicate predicate))) }
 {
     let [column, bound] = arguments else {
         unreachable!();
     };
-    let bound = number_of(bound);
-    Ok((name_of(alloc, column)?, bound))
+    Ok(Predicate::Order {
+        order,
+        column: name_of(alloc, column)?,
+        bound: number_of(bound),
+        span,
+    })
 }
 
-fn column_and_bounds(
-    alloc: Global,
-    arguments: &[Term],
-) -> Result<(Name, Number, Number), AllocError>
+fn between_of(alloc: Global, arguments: &[Term], span: Span) -> Result<Predicate, AllocError>
     requires { AllFit (place.Name ∷ place.Number ∷ place.Number ∷ []) arguments.now }
-    ensures { IfOk result (λ parts. terms_of arguments.now
-        ≡ name_before parts.0 (number_before parts.1 (number_before parts.2 none))) }
+    ensures { IfOk result (λ predicate.
+        IsCall (codes "between") arguments.now span
+        (predicate_before (plain_predicate predicate))) }
 {
     let [column, low, high] = arguments else {
         unreachable!();
     };
-    let low = number_of(low);
-    let high = number_of(high);
-    Ok((name_of(alloc, column)?, low, high))
+    Ok(Predicate::Between {
+        column: name_of(alloc, column)?,
+        low: number_of(low),
+        high: number_of(high),
+        span,
+    })
 }
 
-fn column_of(alloc: Global, arguments: &[Term]) -> Result<Name, AllocError>
+fn is_num_of(alloc: Global, arguments: &[Term], span: Span) -> Result<Predicate, AllocError>
     requires { AllFit (place.Name ∷ []) arguments.now }
-    ensures { IfOk result (λ column. terms_of arguments.now ≡ name_before column none) }
+    ensures { IfOk result (λ predicate.
+        IsCall (codes "isnum") arguments.now span (predicate_before (plain_predicate predicate))) }
 {
     let [column] = arguments else {
         unreachable!();
     };
-    name_of(alloc, column)
+    Ok(Predicate::IsNum {
+        column: name_of(alloc, column)?,
+        span,
+    })
+}
+
+#[cycle(read)]
+fn joined_of(
+    alloc: Global,
+    connective: Connective,
+    arguments: &[Term],
+    span: Span,
+) -> Result<Predicate, AllocError>
+    requires { AllFit (place.Pred ∷ place.Pred ∷ []) arguments.now }
+    ensures { IfOk result (λ predicate.
+        IsCall (connective_word connective) arguments.now span
+        (predicate_before (plain_predicate predicate))) }
+{
+    let [left, right] = arguments else {
+        unreachable!();
+    };
+    let left = boxed_predicate(alloc, left)?;
+    Ok(Predicate::Joined {
+        connective,
+        left,
+        right: boxed_predicate(alloc, right)?,
+        span,
+    })
+}
+
+#[cycle(read)]
+fn not_of(alloc: Global, arguments: &[Term], span: Span) -> Result<Predicate, AllocError>
+    requires { AllFit (place.Pred ∷ []) arguments.now }
+    ensures { IfOk result (λ predicate.
+        IsCall (codes "not") arguments.now span (predicate_before (plain_predicate predicate))) }
+{
+    let [operand] = arguments else {
+        unreachable!();
+    };
+    Ok(Predicate::Not {
+        operand: boxed_predicate(alloc, operand)?,
+        span,
+    })
 }
 
 #[cycle(read)]
@@ -146,35 +175,4 @@ pub(crate) fn boxed_predicate(alloc: Global, term: &Term) -> Result<Box<Predicat
 {
     let predicate = predicate_of(alloc, term)?;
     Ok(Box::new(alloc, predicate)?)
-}
-
-#[cycle(read)]
-fn operands_of(
-    alloc: Global,
-    arguments: &[Term],
-) -> Result<(Box<Predicate>, Box<Predicate>), AllocError>
-    requires { AllFit (place.Pred ∷ place.Pred ∷ []) arguments.now }
-    ensures { IfOk result (λ operands. terms_of arguments.now
-        ≡ predicate_before (plain_predicate operands.0.value)
-        (predicate_before (plain_predicate operands.1.value) none)) }
-{
-    let [left, right] = arguments else {
-        unreachable!();
-    };
-    Ok((
-        boxed_predicate(alloc, left)?,
-        boxed_predicate(alloc, right)?,
-    ))
-}
-
-#[cycle(read)]
-fn operand_of(alloc: Global, arguments: &[Term]) -> Result<Box<Predicate>, AllocError>
-    requires { AllFit (place.Pred ∷ []) arguments.now }
-    ensures { IfOk result (λ operand. terms_of arguments.now
-        ≡ predicate_before (plain_predicate operand.value) none) }
-{
-    let [operand] = arguments else {
-        unreachable!();
-    };
-    boxed_predicate(alloc, operand)
 }

@@ -1,6 +1,6 @@
 use Rattle.std.proofs.Common.{refl, arith}
 use Rattle.query_syntax.proofs.Fitting.{item_fits}
-use Rattle.query_syntax.proofs.predicate_reading.column_and_literal.Goals as goal
+use Rattle.query_syntax.proofs.predicate_reading.equality_of.Goals as goal
 
 pub name_of-requires : goal.name_of-requires
 name_of-requires c =

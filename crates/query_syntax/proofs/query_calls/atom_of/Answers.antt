@@ -1,6 +1,6 @@
 use Rattle.std.proofs.Common.{refl, arith}
 use Rattle.query_syntax.proofs.Fitting.{item_fits}
-use Rattle.query_syntax.proofs.query_reading.atom_of.Goals as goal
+use Rattle.query_syntax.proofs.query_calls.atom_of.Goals as goal
 
 pub boxed_predicate-requires : goal.boxed_predicate-requires
 boxed_predicate-requires c =
