@@ -1,7 +1,7 @@
 //! What a predicate says of an item.
-ghost use Rattle.std.specs.Prelude.{◌≡◌, ◌&&◌, int_le};
+ghost use Rattle.std.specs.Prelude.{◌≡◌, ◌&&◌, int_le, int_lt, is_some};
+ghost use Rattle.std.specs.Ordering.{int_eq};
 ghost use Rattle.std.specs.Str.{bytes_eq};
-ghost use Rattle.language_base.specs.Comparisons.{compares};
 ghost use Rattle.predicate_cells.specs.Plain.{plain_of};
 ghost use Rattle.predicate_cells.specs.Predicates.{conjunction, disjunction};
 ghost use Rattle.predicate_cells.specs.Truth.{holds, number_in, passes, text_in};
@@ -9,7 +9,7 @@ ghost use Rattle.predicate_cells.specs.Truth.{holds, number_in, passes, text_in}
 use crate::Pred;
 use crate::row::{Fields, Row};
 use item_schema::Item;
-use value_ops::{Bytes, Compare};
+use value_ops::Bytes;
 
 /// Whether the item meets the predicate.
 pub fn holds(pred: &Pred, item: &Item) -> bool
@@ -25,16 +25,16 @@ pub(crate) fn holds_in<R: Row>(pred: &Pred, row: &R) -> bool
 {
     match pred {
         Pred::Any => true,
-        Pred::Eq(column, n) => has_number(row, *column, Compare::Eq, *n),
-        Pred::Ne(column, n) => !has_number(row, *column, Compare::Eq, *n),
-        Pred::Lt(column, n) => has_number(row, *column, Compare::Lt, *n),
-        Pred::Le(column, n) => has_number(row, *column, Compare::Le, *n),
-        Pred::Gt(column, n) => has_number(row, *column, Compare::Gt, *n),
-        Pred::Ge(column, n) => has_number(row, *column, Compare::Ge, *n),
-        Pred::Between(column, low, high) => has_number_between(row, *column, *low, *high),
-        Pred::EqText(column, text) => has_text(row, *column, text),
-        Pred::NeText(column, text) => !has_text(row, *column, text),
-        Pred::IsNum(column) => row.number(*column).is_some(),
+        &Pred::Eq(column, n) => is_equal(row, column, n),
+        &Pred::Ne(column, n) => !is_equal(row, column, n),
+        &Pred::Lt(column, n) => is_less(row, column, n),
+        &Pred::Le(column, n) => is_at_most(row, column, n),
+        &Pred::Gt(column, n) => is_greater(row, column, n),
+        &Pred::Ge(column, n) => is_at_least(row, column, n),
+        &Pred::Between(column, low, high) => is_between(row, column, low, high),
+        Pred::EqText(column, text) => is_text(row, *column, text),
+        Pred::NeText(column, text) => !is_text(row, *column, text),
+        &Pred::IsNum(column) => is_number(row, column),
         Pred::And(first, second) => both_hold(first, second, row),
         Pred::Or(first, second) => either_holds(first, second, row),
         Pred::Not(inner) => !holds_in(inner, row),
@@ -59,16 +59,43 @@ fn either_holds<R: Row>(first: &Pred, second: &Pred, row: &R) -> bool
     holds_in(first, row) || holds_in(second, row)
 }
 
-// Whether a number stands in the column that compares so with this one.
 #[inline(always)]
-fn has_number<R: Row>(row: &R, column: u32, compare: Compare, n: i64) -> bool
-    ensures { result ≡ passes (λ x. compares compare x n) (number_in (R.fields row.now) column) }
+fn is_equal<R: Row>(row: &R, column: u32, n: i64) -> bool
+    ensures { result ≡ passes (λ x. int_eq x n) (number_in (R.fields row.now) column) }
 {
-    row.number(column).is_some_and(|x| compare.holds(x, n))
+    row.number(column).is_some_and(|x| x == n)
 }
 
 #[inline(always)]
-fn has_number_between<R: Row>(row: &R, column: u32, low: i64, high: i64) -> bool
+fn is_less<R: Row>(row: &R, column: u32, n: i64) -> bool
+    ensures { result ≡ passes (λ x. int_lt x n) (number_in (R.fields row.now) column) }
+{
+    row.number(column).is_some_and(|x| x < n)
+}
+
+#[inline(always)]
+fn is_at_most<R: Row>(row: &R, column: u32, n: i64) -> bool
+    ensures { result ≡ passes (λ x. int_le x n) (number_in (R.fields row.now) column) }
+{
+    row.number(column).is_some_and(|x| x <= n)
+}
+
+#[inline(always)]
+fn is_greater<R: Row>(row: &R, column: u32, n: i64) -> bool
+    ensures { result ≡ passes (λ x. int_lt n x) (number_in (R.fields row.now) column) }
+{
+    row.number(column).is_some_and(|x| x > n)
+}
+
+#[inline(always)]
+fn is_at_least<R: Row>(row: &R, column: u32, n: i64) -> bool
+    ensures { result ≡ passes (λ x. int_le n x) (number_in (R.fields row.now) column) }
+{
+    row.number(column).is_some_and(|x| x >= n)
+}
+
+#[inline(always)]
+fn is_between<R: Row>(row: &R, column: u32, low: i64, high: i64) -> bool
     ensures { result
         ≡ passes (λ x. int_le low x && int_le x high) (number_in (R.fields row.now) column) }
 {
@@ -76,8 +103,15 @@ fn has_number_between<R: Row>(row: &R, column: u32, low: i64, high: i64) -> bool
 }
 
 #[inline(always)]
-fn has_text<R: Row>(row: &R, column: u32, text: &Bytes) -> bool
+fn is_text<R: Row>(row: &R, column: u32, text: &Bytes) -> bool
     ensures { result ≡ passes (λ x. bytes_eq x text.now) (text_in (R.fields row.now) column) }
 {
     row.text(column).is_some_and(|x| x == text.as_slice())
+}
+
+#[inline(always)]
+fn is_number<R: Row>(row: &R, column: u32) -> bool
+    ensures { result ≡ is_some (number_in (R.fields row.now) column) }
+{
+    row.number(column).is_some()
 }

@@ -1,4 +1,4 @@
-use Rattle.std.proofs.Common.{◌≡◌, get_or, map, ap, ◌∙◌}
+use Rattle.std.proofs.Common.{◌≡◌, get_or, ap, ◌∙◌}
 use Rattle.predicate_cells.specs.Cells.{Partition}
 use Rattle.predicate_cells.specs.CellSets.{flagged_from}
 use Rattle.predicate_cells.specs.Plain.{plain_of}
