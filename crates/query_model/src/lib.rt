@@ -3,9 +3,11 @@
 
 mod cells;
 mod checked;
+mod copies;
 mod follower;
 mod laws;
 mod query;
+mod query_rates;
 
 pub use cells::cells_of;
 pub use checked::Checked;

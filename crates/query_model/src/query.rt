@@ -2,6 +2,11 @@
 ghost use Rattle.std.specs.Prelude.{◌≡◌, IfOk};
 
 use crate::Span;
+use crate::copies::{
+    copy_of_apply, copy_of_atom, copy_of_choice, copy_of_collect, copy_of_combine, copy_of_compose,
+    copy_of_iter, copy_of_split,
+};
+use crate::query_rates::{rate_of_choice, rate_of_iter, rate_of_split};
 use predicate_cells::Pred;
 use rate_expr::Rate;
 use std::alloc::{AllocError, Global};
@@ -52,17 +57,11 @@ impl Query {
             rates.plain_of rate ≡ rate_of (plain_of self.now.shape)) }
     {
         match &self.shape {
-            Shape::Atom(pred, _) => Ok(Rate::One(pred.try_copy(alloc)?)),
+            Shape::Atom(pred, _) => Rate::of_item(pred, alloc),
             Shape::Eps(_) => Ok(Rate::Empty),
-            Shape::Or(first, second) => {
-                let first = first.boxed_rate(alloc)?;
-                Ok(Rate::Alt(first, second.boxed_rate(alloc)?))
-            }
-            Shape::Split(first, second, _) => {
-                let first = first.boxed_rate(alloc)?;
-                Ok(Rate::Seq(first, second.boxed_rate(alloc)?))
-            }
-            Shape::Iter(inner, _, _) => Ok(Rate::Star(inner.boxed_rate(alloc)?)),
+            Shape::Or(first, second) => rate_of_choice(first, second, alloc),
+            Shape::Split(first, second, _) => rate_of_split(first, second, alloc),
+            Shape::Iter(inner, _, _) => rate_of_iter(inner, alloc),
             Shape::Combine(first, _, _) => first.rate(alloc),
             Shape::Apply(inner, _) => inner.rate(alloc),
             Shape::Compose(first, _) => first.rate(alloc),
@@ -71,7 +70,7 @@ impl Query {
     }
 
     #[cycle(rate)]
-    fn boxed_rate(&self, alloc: Global) -> Result<Box<Rate>, AllocError>
+    pub(crate) fn boxed_rate(&self, alloc: Global) -> Result<Box<Rate>, AllocError>
         ensures { IfOk result (λ rate.
             rates.plain_of rate.value ≡ rate_of (plain_of self.now.shape)) }
     {
@@ -85,50 +84,34 @@ impl Query {
         ensures spans { IfOk result (λ copy. spans_of copy.shape ≡ spans_of self.now.shape) }
         ensures span { IfOk result (λ copy. copy.span ≡ self.now.span) }
     {
-        let span = self.span;
-        let shape = match &self.shape {
-            Shape::Atom(pred, value) => {
-                let pred = pred.try_copy(alloc)?;
-                Shape::Atom(pred, value.try_copy(alloc)?)
-            }
-            Shape::Eps(number) => Shape::Eps(*number),
-            Shape::Or(first, second) => {
-                let first = first.boxed_copy(alloc)?;
-                Shape::Or(first, second.boxed_copy(alloc)?)
-            }
-            Shape::Split(first, second, value) => {
-                let first = first.boxed_copy(alloc)?;
-                let second = second.boxed_copy(alloc)?;
-                Shape::Split(first, second, value.try_copy(alloc)?)
-            }
-            Shape::Iter(inner, number, value) => {
-                let inner = inner.boxed_copy(alloc)?;
-                Shape::Iter(inner, *number, value.try_copy(alloc)?)
-            }
-            Shape::Combine(first, second, value) => {
-                let first = first.boxed_copy(alloc)?;
-                let second = second.boxed_copy(alloc)?;
-                Shape::Combine(first, second, value.try_copy(alloc)?)
-            }
-            Shape::Apply(inner, value) => {
-                let inner = inner.boxed_copy(alloc)?;
-                Shape::Apply(inner, value.try_copy(alloc)?)
-            }
-            Shape::Compose(first, second) => {
-                let first = first.boxed_copy(alloc)?;
-                Shape::Compose(first, second.boxed_copy(alloc)?)
-            }
-            Shape::Collect(key, sync, rate, inner) => {
-                let sync = sync.try_copy(alloc)?;
-                let rate = rate.try_copy(alloc)?;
-                Shape::Collect(*key, sync, rate, inner.boxed_copy(alloc)?)
-            }
-        };
-        Ok(Query { shape, span })
+        Ok(Query {
+            shape: self.copy_of_shape(alloc)?,
+            span: self.span,
+        })
     }
 
     #[cycle(copy)]
-    fn boxed_copy(&self, alloc: Global) -> Result<Box<Query>, AllocError>
+    fn copy_of_shape(&self, alloc: Global) -> Result<Shape, AllocError>
+        ensures query { IfOk result (λ copy. plain_of copy ≡ plain_of self.now.shape) }
+        ensures spans { IfOk result (λ copy. spans_of copy ≡ spans_of self.now.shape) }
+    {
+        match &self.shape {
+            Shape::Atom(pred, value) => copy_of_atom(pred, value, alloc),
+            Shape::Eps(number) => Ok(Shape::Eps(*number)),
+            Shape::Or(first, second) => copy_of_choice(first, second, alloc),
+            Shape::Split(first, second, value) => copy_of_split(first, second, value, alloc),
+            Shape::Iter(inner, number, value) => copy_of_iter(inner, *number, value, alloc),
+            Shape::Combine(first, second, value) => copy_of_combine(first, second, value, alloc),
+            Shape::Apply(inner, value) => copy_of_apply(inner, value, alloc),
+            Shape::Compose(first, second) => copy_of_compose(first, second, alloc),
+            Shape::Collect(key, sync, rate, inner) => {
+                copy_of_collect(*key, sync, rate, inner, alloc)
+            }
+        }
+    }
+
+    #[cycle(copy)]
+    pub(crate) fn boxed_copy(&self, alloc: Global) -> Result<Box<Query>, AllocError>
         ensures query { IfOk result (λ copy. plain_of copy.value.shape ≡ plain_of self.now.shape) }
         ensures spans { IfOk result (λ copy. spans_of copy.value.shape ≡ spans_of self.now.shape) }
         ensures span { IfOk result (λ copy. copy.value.span ≡ self.now.span) }

@@ -1,0 +1,130 @@
+//! Shapes that are copied with their operands, in which each place stays.
+ghost use Rattle.std.specs.Prelude.{◌≡◌, [], ◌∷◌, ◌++◌, IfOk};
+ghost use Rattle.predicate_cells.specs.Plain as predicates;
+ghost use Rattle.query_model.specs.Queries.{plain_of, spans_of, apply, atom, choice, collect, combine, compose, iter, split};
+ghost use Rattle.rate_expr.specs.Plain as rates;
+ghost use Rattle.value_ops.specs.Expressions as values;
+
+use crate::query::{Query, Shape};
+use predicate_cells::Pred;
+use rate_expr::Rate;
+use std::alloc::{AllocError, Global};
+use value_ops::Expr;
+
+pub(crate) fn copy_of_atom(pred: &Pred, value: &Expr, alloc: Global) -> Result<Shape, AllocError>
+    ensures query { IfOk result (λ copy. plain_of copy
+        ≡ atom (predicates.plain_of pred.now) (values.plain_of value.now)) }
+    ensures spans { IfOk result (λ copy. spans_of copy ≡ []) }
+{
+    let pred = pred.try_copy(alloc)?;
+    Ok(Shape::Atom(pred, value.try_copy(alloc)?))
+}
+
+#[cycle(copy)]
+pub(crate) fn copy_of_choice(
+    first: &Query,
+    second: &Query,
+    alloc: Global,
+) -> Result<Shape, AllocError>
+    ensures query { IfOk result (λ copy. plain_of copy
+        ≡ choice (plain_of first.now.shape) (plain_of second.now.shape)) }
+    ensures spans { IfOk result (λ copy. spans_of copy ≡ spans_of first.now.shape
+        ++ first.now.span ∷ spans_of second.now.shape ++ second.now.span ∷ []) }
+{
+    let first = first.boxed_copy(alloc)?;
+    Ok(Shape::Or(first, second.boxed_copy(alloc)?))
+}
+
+#[cycle(copy)]
+pub(crate) fn copy_of_split(
+    first: &Query,
+    second: &Query,
+    value: &Expr,
+    alloc: Global,
+) -> Result<Shape, AllocError>
+    ensures query { IfOk result (λ copy. plain_of copy ≡ split (plain_of first.now.shape)
+        (plain_of second.now.shape) (values.plain_of value.now)) }
+    ensures spans { IfOk result (λ copy. spans_of copy ≡ spans_of first.now.shape
+        ++ first.now.span ∷ spans_of second.now.shape ++ second.now.span ∷ []) }
+{
+    let first = first.boxed_copy(alloc)?;
+    let second = second.boxed_copy(alloc)?;
+    Ok(Shape::Split(first, second, value.try_copy(alloc)?))
+}
+
+#[cycle(copy)]
+pub(crate) fn copy_of_iter(
+    inner: &Query,
+    number: i64,
+    value: &Expr,
+    alloc: Global,
+) -> Result<Shape, AllocError>
+    ensures query { IfOk result (λ copy. plain_of copy
+        ≡ iter (plain_of inner.now.shape) number (values.plain_of value.now)) }
+    ensures spans { IfOk result (λ copy.
+        spans_of copy ≡ spans_of inner.now.shape ++ inner.now.span ∷ []) }
+{
+    let inner = inner.boxed_copy(alloc)?;
+    Ok(Shape::Iter(inner, number, value.try_copy(alloc)?))
+}
+
+#[cycle(copy)]
+pub(crate) fn copy_of_combine(
+    first: &Query,
+    second: &Query,
+    value: &Expr,
+    alloc: Global,
+) -> Result<Shape, AllocError>
+    ensures query { IfOk result (λ copy. plain_of copy ≡ combine (plain_of first.now.shape)
+        (plain_of second.now.shape) (values.plain_of value.now)) }
+    ensures spans { IfOk result (λ copy. spans_of copy ≡ spans_of first.now.shape
+        ++ first.now.span ∷ spans_of second.now.shape ++ second.now.span ∷ []) }
+{
+    let first = first.boxed_copy(alloc)?;
+    let second = second.boxed_copy(alloc)?;
+    Ok(Shape::Combine(first, second, value.try_copy(alloc)?))
+}
+
+#[cycle(copy)]
+pub(crate) fn copy_of_apply(inner: &Query, value: &Expr, alloc: Global) -> Result<Shape, AllocError>
+    ensures query { IfOk result (λ copy. plain_of copy
+        ≡ apply (plain_of inner.now.shape) (values.plain_of value.now)) }
+    ensures spans { IfOk result (λ copy.
+        spans_of copy ≡ spans_of inner.now.shape ++ inner.now.span ∷ []) }
+{
+    let inner = inner.boxed_copy(alloc)?;
+    Ok(Shape::Apply(inner, value.try_copy(alloc)?))
+}
+
+#[cycle(copy)]
+pub(crate) fn copy_of_compose(
+    first: &Query,
+    second: &Query,
+    alloc: Global,
+) -> Result<Shape, AllocError>
+    ensures query { IfOk result (λ copy. plain_of copy
+        ≡ compose (plain_of first.now.shape) (plain_of second.now.shape)) }
+    ensures spans { IfOk result (λ copy. spans_of copy ≡ spans_of first.now.shape
+        ++ first.now.span ∷ spans_of second.now.shape ++ second.now.span ∷ []) }
+{
+    let first = first.boxed_copy(alloc)?;
+    Ok(Shape::Compose(first, second.boxed_copy(alloc)?))
+}
+
+#[cycle(copy)]
+pub(crate) fn copy_of_collect(
+    key: u32,
+    sync: &Pred,
+    rate: &Rate,
+    inner: &Query,
+    alloc: Global,
+) -> Result<Shape, AllocError>
+    ensures query { IfOk result (λ copy. plain_of copy ≡ collect key
+        (predicates.plain_of sync.now) (rates.plain_of rate.now) (plain_of inner.now.shape)) }
+    ensures spans { IfOk result (λ copy.
+        spans_of copy ≡ spans_of inner.now.shape ++ inner.now.span ∷ []) }
+{
+    let inner = inner.boxed_copy(alloc)?;
+    let sync = sync.try_copy(alloc)?;
+    Ok(Shape::Collect(key, sync, rate.try_copy(alloc)?, inner))
+}
