@@ -26,7 +26,7 @@ known_more inside place known (first ∷ lets) one =
     known_more inside place (known_let inside place known first ∷ known) lets one
 
 -- the lets up to one, and that one
-lets_more : (lets : List raw.Let) (at : ℕ) (one : raw.Let) → one ≡ get_or lets at one → at < length lets
+pub lets_more : (lets : List raw.Let) (at : ℕ) (one : raw.Let) → one ≡ get_or lets at one → at < length lets
     → map plain_let (take (at + 1) lets) ≡ map plain_let (take at lets) ++ plain_let one ∷ []
 lets_more lets at one is_at within =
     map_more plain_let lets at one within
@@ -47,7 +47,7 @@ abbrev key : List ℕ → Bor (List ℕ)
 key name = record { ref_ptr = (0, 0); now = name }
 
 -- what a map has under a name behind a change
-changed : {S X : Type 0} (old new : HashMap (Bor (List ℕ)) X S) (name : Bor (List ℕ)) (value : X)
+pub changed : {S X : Type 0} (old new : HashMap (Bor (List ℕ)) X S) (name : Bor (List ℕ)) (value : X)
     → hash.Updates (λ x y. bytes_eq x.now y.now) old new name (Some value)
     → (other : List ℕ) → get_by (λ k. bytes_eq other k.now) new
     ≡ cond (bytes_eq other name.now) (Some value) (get_by (λ k. bytes_eq other k.now) old)

@@ -15,6 +15,7 @@ use Rattle.explanation.specs.Sentences.{broken_in, mended_by}
 use Rattle.explanation.specs.Standing.{standing_at, word_in}
 use Rattle.explanation.specs.declared.advice.TheConstants.{OPEN_AFTER}
 use Rattle.explanation.specs.declared.hint.Hint.{Hint}
+use Rattle.explanation.specs.declared.limit.Limit.{Limit}
 
 -- a sentence on a line of its own
 abbrev pub line : List ℕ → List ℕ
@@ -56,6 +57,7 @@ abbrev pub mending : Rule → List ℕ → Refusal → List ℕ
 mending rule.Form text refusal = form_lines text refusal.span
 mending other text refusal = repair text refusal
 
--- the rule, and how a query that breaks it is mended
-unfoldable pub advice : List ℕ → Refusal → List ℕ
-advice text refusal = line (broken_in text refusal) ++ mending refusal.rule text refusal
+-- the rule, or the limit that is passed, and how a query that breaks it is mended
+unfoldable pub advice : List ℕ → Refusal → Option Limit → List ℕ
+advice text refusal limit =
+    line (broken_in text refusal limit) ++ mending refusal.rule text refusal

@@ -9,8 +9,10 @@ use Rattle.explanation.specs.Advice.{advice}
 use Rattle.explanation.specs.Asides.{aside_of, place_aside, said_of_place}
 use Rattle.explanation.specs.CulpritLines.{culprit_line}
 use Rattle.explanation.specs.Culprits.{culprit_of}
+use Rattle.explanation.specs.Limits.{limit_of}
 use Rattle.explanation.specs.declared.aside.Aside.{Aside}
 use Rattle.explanation.specs.declared.culprit.Culprit.{Culprit}
+use Rattle.explanation.specs.declared.limit.Limit.{Limit}
 
 -- the query's name, the line and the column
 abbrev pub place_text : List ℕ → ℕ → ℕ → List ℕ
@@ -33,19 +35,20 @@ aside_lines name text (Some aside) =
     ++ marked_line text (place_aside aside).from (place_aside aside).to
 aside_lines name text None = []
 
--- the explanation of a refusal of this text, which is called by this name, about that of the query, beside that place
-unfoldable pub explanation : List ℕ → List ℕ → Refusal → Option Culprit → Option Aside → List ℕ
-explanation name text refusal culprit aside =
+-- the explanation of a refusal of this text, which is called by this name, for the limit that is passed, about that of
+-- the query, beside that place
+unfoldable pub explanation : List ℕ → List ℕ → Refusal → Option Limit → Option Culprit → Option Aside → List ℕ
+explanation name text refusal limit culprit aside =
     heading name (line_of text refusal.span.from) (column_of text refusal.span.from) refusal
     ++ marked_line text refusal.span.from refusal.span.to
-    ++ advice text refusal ++ culprit_line text culprit
+    ++ advice text refusal limit ++ culprit_line text culprit
     ++ aside_lines name text aside
 
 -- that of a text that writes no program
 abbrev pub text_explanation : List ℕ → List ℕ → Refusal → List ℕ
-text_explanation name text refusal = explanation name text refusal None None
+text_explanation name text refusal = explanation name text refusal None None None
 
 -- that of a text that writes this program
 abbrev pub program_explanation : List ℕ → List ℕ → Program → Refusal → List ℕ
 program_explanation name text program refusal =
-    explanation name text refusal (culprit_of program refusal) (aside_of program refusal)
+    explanation name text refusal (limit_of program refusal) (culprit_of program refusal) (aside_of program refusal)

@@ -1,6 +1,7 @@
 pub mod Advice
 pub mod Asides
 pub mod Calls
+pub mod Counted
 pub mod CulpritLines
 pub mod Culprits
 pub mod Explanations
@@ -8,8 +9,10 @@ pub mod FormSentences
 pub mod HintSentences
 pub mod Hints
 pub mod Leads
+pub mod Limits
 pub mod Misfits
 pub mod Nearest
+pub mod Positions
 pub mod Scopes
 pub mod Sentences
 pub mod Spots

@@ -1,8 +1,10 @@
 -- Statement. Which sentence tells a rule, and how a query that breaks it is mended. The words are constants of the code.
-use Rattle.std.specs.Prelude.{ℕ, List, [], length, nat_lt, if◌then◌else◌}
+use Rattle.std.specs.Prelude.{ℕ, List, [], length, nat_lt, Option, None, Some, if◌then◌else◌}
 use Rattle.language_base.specs.declared.refusal.Refusal.{Refusal}
 use Rattle.language_base.specs.declared.rule.Rule.{Rule}
 use Rattle.language_base.specs.declared.rule.Rule.TheVariants.{Long, Token, Term, Depth, Form, Name, Nested, Size, Literal, Type_, Cells, Empty, Choice, Split, Iter, Reach, Rates, Compose}
+use Rattle.explanation.specs.declared.limit.Limit.{Limit}
+use Rattle.explanation.specs.declared.limit.Limit.TheVariants.{Nodes, Positions, Slots}
 use Rattle.explanation.specs.declared.mending.TheConstants as mended
 use Rattle.explanation.specs.declared.rule_sentence.TheConstants as broken
 
@@ -34,10 +36,21 @@ ended_where Form = broken.NO_TERM.now
 ended_where rule = broken_where rule
 
 -- where the rule of a refusal of the text is broken
-abbrev pub broken_in : List ℕ → Refusal → List ℕ
-broken_in text refusal =
+abbrev pub broken_at : List ℕ → Refusal → List ℕ
+broken_at text refusal =
     if nat_lt refusal.span.from (length text) then broken_where refusal.rule
     else ended_where refusal.rule
+
+-- the limit that is passed
+unfoldable pub passed : Limit → List ℕ
+passed Nodes = broken.NODES.now
+passed Positions = broken.POSITIONS.now
+passed Slots = broken.SLOTS.now
+
+-- the limit that is passed, if one is, or else where the rule is broken
+abbrev pub broken_in : List ℕ → Refusal → Option Limit → List ℕ
+broken_in text refusal (Some limit) = passed limit
+broken_in text refusal None = broken_at text refusal
 
 -- how it is kept; the rule `form` by one of the forms of the place
 unfoldable pub mended_by : Rule → List ℕ

@@ -8,6 +8,7 @@ use crate::culprit_line::push_named;
 use crate::form_sentence::forms_of;
 use crate::hint::Hint;
 use crate::hint_sentence::hint_sentence;
+use crate::limit::Limit;
 use crate::mending::mended_by;
 use crate::nearest::nearest_to;
 use crate::recognizers::{hint_of, word_at};
@@ -23,11 +24,12 @@ const OPEN_AFTER: &str = "A bracket is still open after this word: ";
 pub(crate) fn push_advice(
     text: &[u8],
     refusal: Refusal,
+    limit: Option<Limit>,
     shown: &mut Vec<u8>,
 ) -> Result<(), AllocError>
-    ensures { OnOk result (shown.new.items ≡ shown.old.items ++ advice text.now refusal) }
+    ensures { OnOk result (shown.new.items ≡ shown.old.items ++ advice text.now refusal limit) }
 {
-    push_line(broken_in(text, refusal), shown)?;
+    push_line(broken_in(text, refusal, limit), shown)?;
     push_mending(refusal.rule, text, refusal, shown)
 }
 

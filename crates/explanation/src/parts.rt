@@ -9,6 +9,7 @@ use crate::aside::{Aside, aside_of};
 use crate::culprit::Culprit;
 use crate::culprit_line::push_culprit;
 use crate::finding::culprit_of;
+use crate::limit::{Limit, limit_of};
 use language_base::{Bytes, Refusal, Span};
 use place_in_text::{Position, locate, push_marked_line};
 use query_syntax::Program;
@@ -25,11 +26,11 @@ pub fn text_explanation(
 ) -> Result<Bytes, AllocError>
     ensures { IfOk result (λ shown. shown ≡ text_explanation name.now text.now refusal) }
 {
-    explanation(alloc, name, text, refusal, None, None)
+    explanation(alloc, name, text, refusal, None, None, None)
 }
 
-/// The same of a text that writes this program, with the name that it is about where it is about
-/// one, and a second place where there is one.
+/// The same of a text that writes this program, with the limit that is passed where one is, the name
+/// that it is about where it is about one, and a second place where there is one.
 pub fn program_explanation(
     alloc: Global,
     name: &str,
@@ -40,9 +41,10 @@ pub fn program_explanation(
     ensures { IfOk result (λ shown.
         shown ≡ program_explanation name.now text.now (plain_program program.now) refusal) }
 {
+    let limit = limit_of(alloc, program, refusal)?;
     let culprit = culprit_of(alloc, program, refusal)?;
     let aside = aside_of(alloc, program, refusal)?;
-    explanation(alloc, name, text, refusal, culprit, aside)
+    explanation(alloc, name, text, refusal, limit, culprit, aside)
 }
 
 #[tactic(auto, unfolding(crate::specs::Explanations::explanation))]
@@ -51,16 +53,17 @@ fn explanation(
     name: &str,
     text: &[u8],
     refusal: Refusal,
+    limit: Option<Limit>,
     culprit: Option<Culprit>,
     aside: Option<Aside>,
 ) -> Result<Bytes, AllocError>
     ensures { IfOk result (λ shown.
-        shown ≡ explanation name.now text.now refusal culprit aside) }
+        shown ≡ explanation name.now text.now refusal limit culprit aside) }
 {
     let Span { from, to } = refusal.span;
     let mut shown = heading(alloc, name, locate(text, from as usize), refusal)?;
     push_marked_line(alloc, text, from as usize, to as usize, &mut shown)?;
-    push_advice(text, refusal, &mut shown)?;
+    push_advice(text, refusal, limit, &mut shown)?;
     push_culprit(text, culprit, &mut shown)?;
     push_aside(alloc, name, text, aside, &mut shown)?;
     Ok(Bytes::from_vec(shown))

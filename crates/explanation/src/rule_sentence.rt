@@ -1,7 +1,8 @@
 //! The rules in a sentence each.
 ghost use Rattle.std.specs.Prelude.{◌≡◌, ◌≤◌, length};
-ghost use Rattle.explanation.specs.Sentences.{broken_in, broken_where, ended_where};
+ghost use Rattle.explanation.specs.Sentences.{broken_at, broken_in, broken_where, ended_where, passed};
 
+use crate::limit::Limit;
 use language_base::{Refusal, Rule};
 
 const LONG: &str = "A query text has at most 65,536 bytes.";
@@ -53,9 +54,38 @@ const OPEN_BRACKET: &str = "The text ends here, and a bracket is still open.";
 
 const NO_TERM: &str = "The text ends here, and a term is missing.";
 
-/// Where the rule of the refusal is broken.
-pub(crate) fn broken_in(text: &[u8], refusal: Refusal) -> &'static str
-    ensures { result.now ≡ broken_in text.now refusal }
+const NODES: &str =
+    "The query has over 256 nodes: its shapes, with each name replaced by the query of its let.";
+
+const POSITIONS: &str =
+    "The rate of this node has over 128 positions: its atoms, or the items of a written rate.";
+
+const SLOTS: &str =
+    "The query has over 1,048,576 slots: what an engine keeps for it that keeps no items.";
+
+/// Where the rule of the refusal is broken, or which limit is passed, if one is.
+pub(crate) fn broken_in(text: &[u8], refusal: Refusal, limit: Option<Limit>) -> &'static str
+    ensures { result.now ≡ broken_in text.now refusal limit }
+{
+    match limit {
+        Some(limit) => passed(limit),
+        None => broken_at(text, refusal),
+    }
+}
+
+#[tactic(auto, unfolding(crate::specs::Sentences::passed))]
+fn passed(limit: Limit) -> &'static str
+    ensures { result.now ≡ passed limit }
+{
+    match limit {
+        Limit::Nodes => NODES,
+        Limit::Positions => POSITIONS,
+        Limit::Slots => SLOTS,
+    }
+}
+
+fn broken_at(text: &[u8], refusal: Refusal) -> &'static str
+    ensures { result.now ≡ broken_at text.now refusal }
 {
     if (refusal.span.from as usize) < text.len() {
         broken_where(refusal.rule)
