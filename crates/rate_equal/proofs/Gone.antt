@@ -1,6 +1,6 @@
 -- Pairs from which words go on in the same positions lead to the same pairs.
-use Rattle.std.proofs.Common.{◌≡◌, ℕ, ◌+◌, Bool, true, List, [], Some, slice_get, subst, sym, inl, inr}
-use Rattle.std.specs.List.{Contains, IsDistinct, list_any}
+use Rattle.std.proofs.Common.{◌≡◌, ℕ, ◌+◌, ◌⊎◌, List, [], Some, ap, arith, length, slice_get, subst, sym, inl, inr}
+use Rattle.std.specs.List.{Contains}
 use Rattle.std.proofs.lemmas.List.{append-nil}
 use Rattle.std.proofs.lemmas.List.Elements.{Contains-append_left}
 use Rattle.std.proofs.lemmas.Option.{get_or_from_slice_get, slice_get_within}
@@ -10,11 +10,8 @@ use Rattle.rate_expr.specs.declared.state.State.{State}
 use Rattle.rate_expr.specs.declared.state.State.TheVariants.{Initial, At}
 use Rattle.symbolic_nfa.specs.Automata.{Automaton}
 use Rattle.symbolic_nfa.specs.States.{AreWaysOn, Steps}
-use Rattle.indexmap.specs.IndexSet.{insert_key}
-use Rattle.indexmap.proofs.CallerLemmas.{Contains-list_any}
 use Rattle.rate_equal.specs.Pairs.{AreWaysOnFrom, IsExplored, IsGrown, LeadsInto}
 use Rattle.rate_equal.specs.declared.pair.Pair.{Pair}
-use Rattle.rate_equal.proofs.Inserted.{put_behind}
 use Rattle.rate_equal.proofs.Searched.{IsSearched, searched_next}
 
 -- where one state leads, another with the same ways on does
@@ -46,6 +43,10 @@ module _ (first second : Automaton) where
   abbrev pub AreGone : List Pair → List (ℕ × ℕ) → Type 0
   AreGone pairs gone = (ways : ℕ × ℕ) → Contains gone ways → IsGone pairs ways
 
+  -- at first none have gone
+  pub none_gone : (pairs : List Pair) (gone : List (ℕ × ℕ)) → gone ≡ [] → AreGone pairs gone
+  none_gone pairs gone none ways c = let lt = c.1 in absurd (omega (arith, lt, ap length none))
+
   -- more pairs do not matter
   gone_grown : (pairs pairs' : List Pair) (ways : ℕ × ℕ) → IsGrown pairs pairs' → IsGone pairs ways
       → IsGone pairs' ways
@@ -61,18 +62,17 @@ module _ (first second : Automaton) where
         ),
   )
 
-  module _ (eq : ℕ × ℕ → ℕ × ℕ → Bool) (gone gone' : List (ℕ × ℕ)) (ways : ℕ × ℕ)
-      (distinct : IsDistinct eq gone') (put_in : gone' ≡ insert_key eq gone ways)
+  module _ (gone gone' : List (ℕ × ℕ)) (ways : ℕ × ℕ)
+      (more : (other : ℕ × ℕ) → Contains gone' other → Contains gone other ⊎ (ways ≡ other))
       (pairs : List Pair) (before : AreGone pairs gone) (end : ℕ)
       (searched : IsSearched first second pairs end) (from : Pair) (found : slice_get pairs end ≡ Some from)
       (here : AreWaysOnFrom first second from ways) where
     -- some pair with these ways on leads into these
     more_gone : (pairs' : List Pair) → IsExplored first second from pairs pairs' → AreGone pairs' gone'
-    more_gone pairs' explored other c =
-        elim ((put_behind eq gone ways).2 other (subst (λ l. Contains l other) put_in c)) [
-          | inl was ↦ gone_grown pairs pairs' other explored.grown (before other was)
-          | inr is ↦ subst (λ w. IsGone pairs' w) is (from, here, explored.done)
-        ]
+    more_gone pairs' explored other c = elim (more other c) [
+      | inl was ↦ gone_grown pairs pairs' other explored.grown (before other was)
+      | inr is ↦ subst (λ w. IsGone pairs' w) is (from, here, explored.done)
+    ]
 
     -- from the pair words now go on, and with its ways
     pub searched_new : (pairs' : List Pair) → IsExplored first second from pairs pairs'
@@ -84,10 +84,9 @@ module _ (first second : Automaton) where
     )
 
     -- with its ways they went on before
-    pub searched_known : ((x y : ℕ × ℕ) → eq x y ≡ true → x ≡ y) → list_any (eq ways) gone ≡ true
-        → IsSearched first second pairs (end + 1) × AreGone pairs gone'
-    searched_known same is =
-        let (one, of_one, leads) = before ways (Contains-list_any eq same gone ways is) in
+    pub searched_known : Contains gone ways → IsSearched first second pairs (end + 1) × AreGone pairs gone'
+    searched_known known =
+        let (one, of_one, leads) = before ways known in
         searched_new pairs record {
           reached = searched.reached;
           grown = ([], sym (append-nil pairs));

@@ -1,11 +1,12 @@
 -- A list of different things with one more.
 use Rattle.std.proofs.Common.{◌≡◌, ◌+◌, ◌≤◌, ◌⊎◌, ℕ, zero, suc, Bool, true, false, cond, List, [], ◌∷◌, ◌++◌, Some, length, refl, sym, ap, subst, ◌∙◌, inl, arith, length-append, if◌then◌else◌}
-use Rattle.std.specs.List.{Contains, list_any, position, position_from, slice_get}
+use Rattle.std.specs.List.{Contains, IsDistinct, list_any, position, position_from, slice_get}
 use Rattle.std.proofs.lemmas.Option.{none-some, same_Some}
 use Rattle.std.proofs.lemmas.Iterator.Adapters.{position_from-zero}
 use Rattle.std.proofs.lemmas.List.{append-nil}
 use Rattle.std.proofs.lemmas.List.Elements.{Contains-push_cases}
 use Rattle.indexmap.specs.IndexSet.{insert_key}
+use Rattle.indexmap.proofs.CallerLemmas.{Contains-list_any}
 
 module _ {K : Type 0} (eq : K → K → Bool) (ks : List K) (k : K) where
   -- what is put behind the list
@@ -30,6 +31,16 @@ module _ {K : Type 0} (eq : K → K → Bool) (ks : List K) (k : K) where
         λ other c. Contains-push_cases ks k other (subst (λ l. Contains l other) same c),
         omega (arith, ap length same, length-append ks (k ∷ [])),
       )
+
+module _ {K : Type 0} (eq : K → K → Bool) (ks ks' : List K) (k : K) (distinct : IsDistinct eq ks')
+    (put_in : ks' ≡ insert_key eq ks k) where
+  -- what is there now was there, or is what was put there
+  pub had_or_put : (other : K) → Contains ks' other → Contains ks other ⊎ (k ≡ other)
+  had_or_put other c = (put_behind eq ks k).2 other (subst (λ l. Contains l other) put_in c)
+
+  -- what passed for one of the list was there
+  pub had_before : ((x y : K) → eq x y ≡ true → x ≡ y) → list_any (eq k) ks ≡ true → Contains ks k
+  had_before same is = Contains-list_any eq same ks k is
 
 module _ {K : Type 0} (test : K → Bool) where
   there_first : (is : Bool) (x : K) (xs : List K) (from i : ℕ) → test x ≡ is

@@ -1,5 +1,6 @@
 pub mod Added
 pub mod Agreeing
+pub mod Along
 pub mod Coming
 pub mod Differing
 pub mod Exploring

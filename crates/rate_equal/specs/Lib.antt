@@ -8,3 +8,4 @@ pub mod Pairs
 pub mod PlaceSets
 pub mod Reach
 pub mod Targets
+pub mod Trails

@@ -19,6 +19,18 @@ pub(crate) struct Letter {
 }
 
 impl Letter {
+    // That of the positions that some items meet.
+    fn of(met: (u128, u128)) -> Letter
+        ensures first { result.first ≡ met.0 }
+        ensures second { result.second ≡ met.1 }
+    {
+        Letter {
+            missed: met.0.count_zeros() + met.1.count_zeros(),
+            first: met.0,
+            second: met.1,
+        }
+    }
+
     /// The pair to which it leads along the ways.
     pub(crate) fn target(&self, ways: (u128, u128)) -> Pair
         ensures { result ≡ target ways self.now }
@@ -36,19 +48,25 @@ pub(crate) fn letters(alloc: Global, first: &Nfa, second: &Nfa) -> Result<Vec<Le
     ensures letters { IfOk result (λ letters. AreLetters first.now second.now letters.items) }
     ensures few { IfOk result (λ letters. length letters.items ≤ max_reach) }
 {
+    let mut letters = letters_of_cells(alloc, first, second)?;
+    // Pairs with more ways on are to come before those with fewer.
+    letters.sort_unstable();
+    Ok(letters)
+}
+
+// The same in the order of the cells.
+fn letters_of_cells(alloc: Global, first: &Nfa, second: &Nfa) -> Result<Vec<Letter>, AllocError>
+    requires { first.now.cells ≡ second.now.cells }
+    ensures letters { IfOk result (λ letters. AreLetters first.now second.now letters.items) }
+    ensures few { IfOk result (λ letters. length letters.items ≤ max_reach) }
+{
     let mut letters = Vec::new(alloc);
     let mut known = IndexSet::new(alloc);
     'cells: for cell in 0..first.cells().count() {
         let met = (first.met_by(cell), second.met_by(cell));
         if known.insert(met)? {
-            letters.push(Letter {
-                missed: met.0.count_zeros() + met.1.count_zeros(),
-                first: met.0,
-                second: met.1,
-            })?;
+            letters.push(Letter::of(met))?;
         }
     }
-    // Pairs with more ways on are to come before those with fewer.
-    letters.sort_unstable();
     Ok(letters)
 }

@@ -16,6 +16,7 @@ mod rows;
 mod search;
 mod stop;
 mod targets;
+mod trail;
 
 pub use equal::{all_but_empty, same};
 pub use stop::EqualStop;

@@ -7,12 +7,10 @@ ghost use Rattle.rate_equal.specs.Pairs.{AreAll};
 ghost use Rattle.rate_equal.specs.Reach.{max_reach, ReachPairs};
 
 use crate::alphabet::Alphabet;
-use crate::holders::Holders;
-use crate::known::Known;
 use crate::letters::letters;
 use crate::pair::Pair;
 use crate::stop::EqualStop;
-use crate::targets::targets;
+use crate::trail::Trail;
 use indexmap::IndexSet;
 use std::alloc::{AllocError, Global};
 use symbolic_nfa::{Nfa, State};
@@ -57,18 +55,12 @@ fn explore(
     ensures too_many { result ≡ Err Reach → ReachPairs first.now.cells.layout.columns
         first.now.sets second.now.sets (max_reach + 1) }
 {
-    let mut holders = Holders::new(alloc)?;
-    let mut gone = IndexSet::new(alloc);
-    let mut known = Vec::new(alloc);
+    let mut trail = Trail::new(alloc)?;
     let mut next = 0;
     'pairs: while let Some(from) = pairs.get_index(next).copied() {
-        let ways = (first.ways_on(from.first), second.ways_on(from.second));
         // Items lead from a pair with the same ways on to the same pairs.
-        if gone.insert(ways)? {
-            holders.enter(pairs.as_slice());
-            let targets = targets(alloc, alphabet, &known, &holders, ways, pairs)?;
-            known.push(Known { ways, targets })?;
-        }
+        let ways = (first.ways_on(from.first), second.ways_on(from.second));
+        trail.go_along(alloc, alphabet, ways, pairs)?;
         next += 1;
     }
     Ok(())

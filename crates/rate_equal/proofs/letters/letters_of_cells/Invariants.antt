@@ -1,6 +1,6 @@
 use Rattle.std.proofs.Common.{◌≤◌, length}
 use Rattle.rate_equal.proofs.Gathered.{IsGathered}
-use Rattle.rate_equal.proofs.letters.letters.Given as goal
+use Rattle.rate_equal.proofs.letters.letters_of_cells.Given as goal
 
 abbrev pub invariant-cells : goal.invariant-cells
 invariant-cells l = record {

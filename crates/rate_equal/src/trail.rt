@@ -1,0 +1,69 @@
+//! The ways on along which a search has gone.
+ghost use Rattle.std.specs.Prelude.{◌≡◌, ◌≤◌, ◌⊎◌, ℕ, [], List, Err, IfOk, OnOk, length};
+ghost use Rattle.std.specs.List.{Contains};
+ghost use Rattle.rate_equal.specs.declared.letters.Letter.{Letter};
+ghost use Rattle.rate_equal.specs.declared.pair.Pair.{Pair as PairOf};
+ghost use Rattle.rate_equal.specs.declared.stop.EqualStop.TheVariants.{Reach};
+ghost use Rattle.rate_equal.specs.Added.{AreTooMany};
+ghost use Rattle.rate_equal.specs.Reach.{max_reach};
+ghost use Rattle.rate_equal.specs.Targets.{IsTarget};
+ghost use Rattle.rate_equal.specs.Trails.{GoesAlong, IsTrailOf};
+
+use crate::alphabet::Alphabet;
+use crate::holders::Holders;
+use crate::known::Known;
+use crate::pair::Pair;
+use crate::stop::EqualStop;
+use crate::targets::targets;
+use indexmap::IndexSet;
+use std::alloc::{AllocError, Global};
+
+/// The ways, the targets along them, and which of the pairs have a position.
+#[derive(Drop)]
+pub(crate) struct Trail {
+    pub(crate) gone: IndexSet<(u128, u128)>,
+    pub(crate) known: Vec<Known>,
+    pub(crate) holders: Holders,
+}
+
+impl Trail {
+    /// That of a search that has gone nowhere.
+    pub(crate) fn new(alloc: Global) -> Result<Trail, AllocError>
+        ensures gone { IfOk result (λ trail. trail.gone.keys ≡ []) }
+        ensures trail { IfOk result (λ trail. (letters : List Letter) (pairs : List PairOf)
+            → IsTrailOf letters pairs trail) }
+    {
+        Ok(Trail {
+            holders: Holders::new(alloc)?,
+            gone: IndexSet::new(alloc),
+            known: Vec::new(alloc),
+        })
+    }
+
+    /// Adds the pairs to which letters lead along the ways, if it was not gone along them before.
+    pub(crate) fn go_along(
+        &mut self,
+        alloc: Global,
+        alphabet: &Alphabet,
+        ways: (u128, u128),
+        pairs: &mut IndexSet<Pair>,
+    ) -> Result<(), EqualStop>
+        requires trail { IsTrailOf alphabet.now.letters.items pairs.old.keys self.old }
+        requires few { length pairs.old.keys ≤ max_reach }
+        ensures trail { OnOk result (IsTrailOf alphabet.now.letters.items pairs.new.keys self.new) }
+        ensures gone { OnOk result ((other : ℕ × ℕ) → Contains self.new.gone.keys other
+            → Contains self.old.gone.keys other ⊎ (ways ≡ other)) }
+        ensures along { OnOk result (GoesAlong alphabet.now.letters.items ways
+            self.old.gone.keys pairs.old.keys pairs.new.keys) }
+        ensures too_many { result ≡ Err Reach
+            → AreTooMany pairs.old.keys (IsTarget alphabet.now.letters.items ways) }
+    {
+        if !self.gone.insert(ways)? {
+            return Ok(());
+        }
+        self.holders.enter(pairs.as_slice());
+        let targets = targets(alloc, alphabet, &self.known, &self.holders, ways, pairs)?;
+        self.known.push(Known { ways, targets })?;
+        Ok(())
+    }
+}
