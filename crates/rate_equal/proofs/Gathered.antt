@@ -8,40 +8,25 @@ use Rattle.std.proofs.lemmas.List.Sorted.{All-permutation, Contains-permutation}
 use Rattle.predicate_cells.specs.Cells.{cell_count}
 use Rattle.symbolic_nfa.specs.Automata.{Automaton}
 use Rattle.symbolic_nfa.specs.States.{IsMetBy}
-use Rattle.rate_equal.specs.Letters.{AreLetters, IsLetter}
+use Rattle.rate_equal.specs.Letters.{AreLetters, AreMetBy, HasThese, IsGathered, IsLetter}
 use Rattle.rate_equal.specs.declared.letters.Letter.{Letter}
 use Rattle.indexmap.specs.IndexSet.{insert_key}
 use Rattle.indexmap.proofs.CallerLemmas.{Contains-list_any, Contains-insert_key}
 use Rattle.rate_equal.proofs.Inserted.{put_behind}
 
 module _ (first second : Automaton) where
-  -- these are the positions of both automata that the items of the cell meet
-  abbrev pub AreMetBy : ℕ → ℕ × ℕ → Type 0
-  AreMetBy cell met = IsMetBy first cell met.0 × IsMetBy second cell met.1
-
-  -- the letter has these positions
-  abbrev pub HasThese : Letter → ℕ × ℕ → Type 0
-  HasThese letter met = (letter.first ≡ met.0) × (letter.second ≡ met.1)
-
-  -- the cells below one have letters for which their masks are known
-  pub record IsGathered (cell : ℕ) (known : List (ℕ × ℕ)) (letters : List Letter) : Type 0 where
-    pub sound : All (IsLetter first second) letters
-    pub stands : (met : ℕ × ℕ) → Contains known met
-        → (letter : Letter) × Contains letters letter × HasThese letter met
-    pub below : (other : ℕ) → other < cell → (met : ℕ × ℕ) × Contains known met × AreMetBy other met
-
   module _ (eq : ℕ × ℕ → ℕ × ℕ → Bool) (cell : ℕ) (known known' : List (ℕ × ℕ)) (letters : List Letter)
       (met : ℕ × ℕ) (distinct : IsDistinct eq known') (put_in : known' ≡ insert_key eq known met)
       (same : (x y : ℕ × ℕ) → eq x y ≡ true → x ≡ y)
-      (before : IsGathered cell known letters) (here : AreMetBy cell met) where
+      (before : IsGathered first second cell known letters) (here : AreMetBy first second cell met) where
     -- one more cell, for whose masks some letter stands
     gathered_next : (letters' : List Letter) → All (IsLetter first second) letters'
         → ((letter : Letter) → Contains letters letter → Contains letters' letter)
         → (letter : Letter) × Contains letters' letter × HasThese letter met
-        → IsGathered (cell + 1) known' letters'
+        → IsGathered first second (cell + 1) known' letters'
     gathered_next letters' sound kept one =
         let put = put_behind eq known met in
-        subst (λ l. IsGathered (cell + 1) l letters') (sym put_in) record {
+        subst (λ l. IsGathered first second (cell + 1) l letters') (sym put_in) record {
           sound = sound;
           stands = λ other c. elim (put.2 other c) [
             | inl was ↦ let old = before.stands other was in (old.0, kept old.0 old.1, old.2)
@@ -57,20 +42,20 @@ module _ (first second : Automaton) where
             | inr most ↦ let is : other ≡ cell = omega arith in (
               met,
               Contains-insert_key eq same known met,
-              subst (λ (c : ℕ). AreMetBy c met) (sym is) here,
+              subst (λ (c : ℕ). AreMetBy first second c met) (sym is) here,
             )
           ];
         }
 
     -- its masks are known
     pub gathered_known : list_any (eq met) known ≡ true
-        → IsGathered (cell + 1) known' letters
+        → IsGathered first second (cell + 1) known' letters
     gathered_known is = gathered_next letters before.sound (λ letter c. c)
         (before.stands met (Contains-list_any eq same known met is))
 
     -- it has a letter of its own
     pub gathered_new : (letter : Letter) → HasThese letter met → cell < cell_count first.cells
-        → IsGathered (cell + 1) known' (letters ++ letter ∷ [])
+        → IsGathered first second (cell + 1) known' (letters ++ letter ∷ [])
     gathered_new letter has lt = gathered_next (letters ++ letter ∷ [])
         (All-push (IsLetter first second) letters letter before.sound (
           cell,
@@ -85,7 +70,7 @@ module _ (first second : Automaton) where
 
   -- all cells
   pub gathered_all : first.cells ≡ second.cells → (known : List (ℕ × ℕ)) (letters : List Letter)
-      → IsGathered (cell_count first.cells) known letters → AreLetters first second letters
+      → IsGathered first second (cell_count first.cells) known letters → AreLetters first second letters
   gathered_all same known letters all = record {
     same = same;
     sound = all.sound;

@@ -22,3 +22,20 @@ pub record AreLetters (first second : Automaton) (letters : List Letter) : Type 
   pub sound : All (IsLetter first second) letters
   pub whole : (cell : ℕ) → cell < cell_count first.cells
       → (letter : Letter) × Contains letters letter × IsLetterOf first second cell letter
+
+-- these are the positions of both automata that the items of the cell meet
+abbrev pub AreMetBy : Automaton → Automaton → ℕ → ℕ × ℕ → Type 0
+AreMetBy first second cell met = IsMetBy first cell met.0 × IsMetBy second cell met.1
+
+-- the letter has these positions
+abbrev pub HasThese : Letter → ℕ × ℕ → Type 0
+HasThese letter met = (letter.first ≡ met.0) × (letter.second ≡ met.1)
+
+-- the cells below one have letters, for which their positions are known
+pub record IsGathered (first second : Automaton) (cell : ℕ) (known : List (ℕ × ℕ))
+    (letters : List Letter) : Type 0 where
+  pub sound : All (IsLetter first second) letters
+  pub stands : (met : ℕ × ℕ) → Contains known met
+      → (letter : Letter) × Contains letters letter × HasThese letter met
+  pub below : (other : ℕ) → other < cell
+      → (met : ℕ × ℕ) × Contains known met × AreMetBy first second other met

@@ -1,6 +1,8 @@
 //! What items meet.
-ghost use Rattle.std.specs.Prelude.{◌≡◌, ◌≤◌, IfOk, length};
-ghost use Rattle.rate_equal.specs.Letters.{AreLetters};
+ghost use Rattle.std.specs.Prelude.{◌≡◌, ◌+◌, ◌<◌, ◌≤◌, ℕ, IfOk, OnOk, length};
+ghost use Rattle.predicate_cells.specs.Cells.{cell_count};
+ghost use Rattle.symbolic_nfa.specs.Automata.{Automaton};
+ghost use Rattle.rate_equal.specs.Letters.{AreLetters, AreMetBy, IsGathered};
 ghost use Rattle.rate_equal.specs.Reach.{max_reach};
 ghost use Rattle.rate_equal.specs.Targets.{target};
 
@@ -64,9 +66,26 @@ fn letters_of_cells(alloc: Global, first: &Nfa, second: &Nfa) -> Result<Vec<Lett
     let mut known = IndexSet::new(alloc);
     'cells: for cell in 0..first.cells().count() {
         let met = (first.met_by(cell), second.met_by(cell));
-        if known.insert(met)? {
-            letters.push(Letter::of(met))?;
-        }
+        add_letter(met, &mut known, &mut letters)?;
     }
     Ok(letters)
+}
+
+// Adds the letter of the positions that a cell's items meet, if they are new.
+fn add_letter(
+    met: (u128, u128),
+    known: &mut IndexSet<(u128, u128)>,
+    letters: &mut Vec<Letter>,
+) -> Result<(), AllocError>
+    ensures gathered { OnOk result ((first second : Automaton) (cell : ℕ)
+        → IsGathered first second cell known.old.keys letters.old.items
+        → AreMetBy first second cell met → cell < cell_count first.cells
+        → IsGathered first second (cell + 1) known.new.keys letters.new.items) }
+    ensures few { OnOk result (length letters.new.items ≤ length letters.old.items + 1) }
+{
+    if !known.insert(met)? {
+        return Ok(());
+    }
+    letters.push(Letter::of(met))?;
+    Ok(())
 }

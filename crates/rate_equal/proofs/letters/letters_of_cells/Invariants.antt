@@ -1,5 +1,5 @@
 use Rattle.std.proofs.Common.{◌≤◌, length}
-use Rattle.rate_equal.proofs.Gathered.{IsGathered}
+use Rattle.rate_equal.specs.Letters.{IsGathered}
 use Rattle.rate_equal.proofs.letters.letters_of_cells.Given as goal
 
 abbrev pub invariant-cells : goal.invariant-cells
