@@ -3,10 +3,9 @@ ghost use Rattle.std.specs.Prelude.{◌≡◌, ◌<◌, None, Ok, false, length,
 ghost use Rattle.std.specs.Io.{ReadsAtMost};
 ghost use Rattle.std.specs.Io.KnownBytes.{ReadConsumes};
 ghost use Rattle.io_edge.specs.Counts.{EndsByEnd, FailsByFault};
-ghost use Rattle.io_edge.specs.RealFile.{ReadsFile};
+ghost use Rattle.io_edge.specs.RealFile.{ReadsFile, source_of};
 
 use crate::opened::{Opened, open};
-use crate::system::fault;
 use crate::{Failed, Source};
 use std::alloc::{AllocError, Global};
 use std::marker::Model;
@@ -73,13 +72,32 @@ impl<R: Files + Input + Drop> Source for LazyFile<R> {
         if let Some(source) = &mut self.opened {
             return source.read(buf);
         }
-        match open(&self.rt, self.path.as_str(), self.faults) {
-            Ok(mut source) => {
-                let answer = source.read(buf);
-                self.opened = Some(source);
-                answer
-            }
-            Err(_) => Err(fault(&mut self.faults)),
-        }
+        let path = self.path.as_str();
+        read_first(&self.rt, path, &mut self.faults, &mut self.opened, buf)
     }
+}
+
+// Opens a path, and reads from what was opened.
+fn read_first<R: Files + Input + Drop>(
+    rt: &R,
+    path: &str,
+    faults: &mut u64,
+    opened: &mut Option<Opened<R::Reader, R::File>>,
+    buf: &mut [u8],
+) -> Result<usize, Failed>
+    requires closed { opened.old ≡ None }
+    requires room { 0 < length buf.old }
+    ensures bound { ReadsAtMost result buf.new }
+    ensures bytes { ReadConsumes None (source_of R.Reader.remaining R.File.remaining path.now
+        faults.new opened.new).left result buf.new }
+    ensures cause { FailsByFault faults.old (source_of R.Reader.remaining R.File.remaining path.now
+        faults.new opened.new).faults result }
+    ensures end { EndsByEnd 0 (source_of R.Reader.remaining R.File.remaining path.now
+        faults.new opened.new).ends result (length buf.new) }
+    ensures counts { ReadsFile
+        (source_of R.Reader.remaining R.File.remaining path.now faults.old opened.old)
+        (source_of R.Reader.remaining R.File.remaining path.now faults.new opened.new) result }
+{
+    let source = open(rt, path, faults)?;
+    opened.insert(source).read(buf)
 }

@@ -2,12 +2,13 @@
 ghost use Rattle.std.specs.Prelude.{◌≡◌, ◌<◌, Ok, false, length, IfOk};
 ghost use Rattle.std.specs.Io.{ReadsAtMost};
 ghost use Rattle.std.specs.Io.KnownBytes.{ReadConsumes};
-ghost use Rattle.io_edge.specs.Counts.{EndsByEnd, FailsByFault};
+ghost use Rattle.io_edge.specs.Counts.{CountsFault, EndsByEnd, FailsByFault};
 ghost use Rattle.io_edge.specs.RealFile.{IsNew, ends_of, faults_of, is_open, left_in};
 
+use crate::system::fault;
 use crate::{Failed, ReaderSource, Source};
 use std::fs::File;
-use std::io::{self, Read};
+use std::io::Read;
 use std::rt::Files;
 
 #[derive(Drop)]
@@ -16,17 +17,22 @@ pub(crate) enum Opened<I: Read + Drop, F: Read + Drop> {
     File(ReaderSource<F>),
 }
 
-/// Opens a path, after so many faults. The path `-` is standard input.
+/// Opens a path, and counts a fault where it can not be opened. The path `-` is standard input.
 pub(crate) fn open<R: Files + Input>(
     rt: &R,
     path: &str,
-    faults: u64,
-) -> io::Result<Opened<R::Reader, R::File>>
-    ensures { IfOk result (IsNew faults) }
+    faults: &mut u64,
+) -> Result<Opened<R::Reader, R::File>, Failed>
+    ensures new { IfOk result (IsNew faults.old) }
+    ensures cause { FailsByFault faults.old faults.new result }
+    ensures faults { CountsFault faults.old faults.new result }
 {
     match path {
-        "-" => Ok(Opened::Input(ReaderSource::new(rt.reader(), faults))),
-        _ => Ok(Opened::File(ReaderSource::new(File::open(rt, path)?, faults))),
+        "-" => Ok(Opened::Input(ReaderSource::new(rt.reader(), *faults))),
+        _ => match File::open(rt, path) {
+            Ok(file) => Ok(Opened::File(ReaderSource::new(file, *faults))),
+            Err(_) => Err(fault(faults)),
+        },
     }
 }
 
