@@ -1,5 +1,6 @@
 -- Statement. Which limit a query that breaks the rule `size` has passed: the first in the order in which they are asked.
 use Rattle.std.specs.Prelude.{ℕ, Option, None, Some, nat_lt, if◌then◌else◌}
+use Rattle.language_base.specs.Limits.{max_nodes}
 use Rattle.language_base.specs.declared.refusal.Refusal.{Refusal}
 use Rattle.language_base.specs.declared.rule.Rule.{Rule}
 use Rattle.language_base.specs.declared.rule.Rule.TheVariants as rule
@@ -9,10 +10,6 @@ use Rattle.query_syntax.specs.Programs.{Program}
 use Rattle.explanation.specs.Positions.{few_positions}
 use Rattle.explanation.specs.declared.limit.Limit.{Limit}
 use Rattle.explanation.specs.declared.limit.Limit.TheVariants.{Nodes, Positions, Slots}
-
--- the nodes of a main query
-abbrev pub max_nodes : ℕ
-max_nodes = 256
 
 -- a limit other than that of nodes
 abbrev pub other_limit : Option ℕ → Limit

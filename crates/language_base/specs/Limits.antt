@@ -20,3 +20,7 @@ max_cells = 4096
 -- the positions of a rate
 abbrev pub max_positions : ℕ
 max_positions = 128
+
+-- the nodes of a main query, with each name replaced by the query of its let
+abbrev pub max_nodes : ℕ
+max_nodes = 256

@@ -1,6 +1,6 @@
 -- Statement. The limits that a query keeps: nodes, positions, slots, and the cells of each of its streams.
 use Rattle.std.specs.Prelude.{◌≤◌, ◌+◌, ℕ, List, [], ◌∷◌, ◌++◌}
-use Rattle.language_base.specs.Limits.{max_cells, max_positions}
+use Rattle.language_base.specs.Limits.{max_cells, max_nodes, max_positions}
 use Rattle.item_schema.specs.declared.column.Column.{Column}
 use Rattle.predicate_cells.specs.Cells.{count_from}
 use Rattle.predicate_cells.specs.Predicates.{Predicate}
@@ -10,10 +10,7 @@ use Rattle.query_model.specs.Queries.{Qre, atom, eps, choice, split, iter, combi
 use Rattle.query_model.specs.QueryTypes.{derived_columns, type_of}
 use Rattle.query_model.specs.Rates.{rate_of}
 
--- the nodes of a query, and what is kept for it, at the most
-abbrev pub max_nodes : ℕ
-max_nodes = 256
-
+-- what is kept for a query, at the most
 abbrev pub max_slots : ℕ
 max_slots = 1048576
 

@@ -2,6 +2,7 @@
 use Rattle.std.proofs.Common.{◌≡◌, ◌≤◌, ◌<◌, Bool, true, false, cond, List, [], ◌∷◌, ◌++◌, map, length, Option, None, Some, Result, Ok, Err, refl, sym, ap, subst, ◌∙◌, ⊎_elim, arith}
 use Rattle.std.proofs.lemmas.Bool.Decides.{nat_tests}
 use Rattle.std.specs.List.{Contains, list_all}
+use Rattle.language_base.specs.Limits.{max_nodes}
 use Rattle.language_base.specs.declared.refusal.Refusal.{Refusal}
 use Rattle.language_base.specs.declared.rule.Rule.{Rule}
 use Rattle.language_base.specs.declared.rule.Rule.TheVariants.{Cells, Name, Size}
@@ -15,7 +16,7 @@ use Rattle.query_lets.specs.Words.{Word, column_words, first_wrong, is_wrong, le
 use Rattle.query_model.specs.Bounds.{nodes_of, slots_of}
 use Rattle.query_model.specs.Queries.{Qre, plain_of}
 use Rattle.query_model.specs.Rules.{free}
-use Rattle.query_model.specs.Sizes.{HaveFewCells, max_nodes, max_slots, predicates_of}
+use Rattle.query_model.specs.Sizes.{HaveFewCells, max_slots, predicates_of}
 use Rattle.query_model.specs.declared.query.Query as memory
 use Rattle.query_syntax.specs.Programs.{Program, Stream}
 use Rattle.query_syntax.specs.Queries.{Query}

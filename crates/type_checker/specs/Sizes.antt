@@ -1,6 +1,6 @@
 -- Statement. The limits of a program.
 use Rattle.std.specs.Prelude.{Bool, false, not, List, nat_le, Option}
-use Rattle.language_base.specs.Limits.{max_positions}
+use Rattle.language_base.specs.Limits.{max_nodes, max_positions}
 use Rattle.language_base.specs.declared.span.Span.{Span}
 use Rattle.item_schema.specs.declared.column.Column.{Column}
 use Rattle.query_model.specs.Few.{has_few_cells}
@@ -10,7 +10,7 @@ use Rattle.query_model.specs.Queries.{Qre, compose}
 use Rattle.query_model.specs.QueryTypes.{derived_columns, type_of}
 use Rattle.query_model.specs.Rates.{rate_of}
 use Rattle.query_model.specs.Rules.{free}
-use Rattle.query_model.specs.Sizes.{max_nodes, max_slots}
+use Rattle.query_model.specs.Sizes.{max_slots}
 use Rattle.query_syntax.specs.Queries.{Query}
 use Rattle.rate_expr.specs.Rates.{size_of}
 use Rattle.type_checker.specs.Nodes.{Node, first_where, nodes_in}
