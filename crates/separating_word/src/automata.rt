@@ -1,5 +1,6 @@
 //! The automata of two queries over the same cells.
 ghost use Rattle.std.specs.Prelude.{IfOk, IfSome};
+ghost use Rattle.predicate_cells.specs.Cells.{AllFit};
 ghost use Rattle.separating_word.specs.Pairs.{ShareCells};
 
 use item_schema::Schema;
@@ -56,17 +57,22 @@ fn cells_of(
     first: &Positions,
     second: &Positions,
 ) -> Result<Option<Rc<Cells>>, AllocError> {
-    let mut preds = Preds::new(alloc);
-    add_all(first.preds().distinct(), &mut preds)?;
-    add_all(second.preds().distinct(), &mut preds)?;
+    let preds = preds_of_both(alloc, first, second)?;
     if !preds.fit(schema) {
         return Ok(None);
     }
-    match Cells::new(alloc, schema, &preds) {
-        Ok(cells) => Ok(Some(Rc::new(alloc, cells)?)),
-        Err(CellStop::TooMany) => Ok(None),
-        Err(CellStop::Memory) => Err(AllocError),
-    }
+    cells_over(alloc, schema, &preds)
+}
+
+fn preds_of_both(
+    alloc: Global,
+    first: &Positions,
+    second: &Positions,
+) -> Result<Preds, AllocError> {
+    let mut preds = Preds::new(alloc);
+    add_all(first.preds().distinct(), &mut preds)?;
+    add_all(second.preds().distinct(), &mut preds)?;
+    Ok(preds)
 }
 
 fn add_all(added: &Preds, preds: &mut Preds) -> Result<(), AllocError> {
@@ -74,6 +80,20 @@ fn add_all(added: &Preds, preds: &mut Preds) -> Result<(), AllocError> {
         preds.add(pred)?;
     }
     Ok(())
+}
+
+fn cells_over(
+    alloc: Global,
+    schema: &Schema,
+    preds: &Preds,
+) -> Result<Option<Rc<Cells>>, AllocError>
+    requires { AllFit schema.now.columns preds.now }
+{
+    match Cells::new(alloc, schema, preds) {
+        Ok(cells) => Ok(Some(Rc::new(alloc, cells)?)),
+        Err(CellStop::TooMany) => Ok(None),
+        Err(CellStop::Memory) => Err(AllocError),
+    }
 }
 
 fn over(

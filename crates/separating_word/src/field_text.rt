@@ -24,19 +24,28 @@ fn push_whole(number: i64, line: &mut Vec<u8>) -> Result<(), AllocError> {
 fn push_fixed(places: u8, number: i64, line: &mut Vec<u8>) -> Result<(), AllocError> {
     let mut buffer = Buffer::new();
     let digits = buffer.format(number.unsigned_abs()).as_bytes();
-    let whole = digits.len().saturating_sub(usize::from(places));
     if number < 0 {
         line.push(b'-')?;
     }
-    if whole == 0 {
-        line.push(b'0')?;
-    }
-    line.extend_from_slice(&digits[..whole])?;
+    push_with_point(digits, usize::from(places), line)
+}
+
+// Digits with a point before the last so many, and zeros where there are fewer.
+fn push_with_point(digits: &[u8], places: usize, line: &mut Vec<u8>) -> Result<(), AllocError> {
+    let whole = digits.len().saturating_sub(places);
+    push_before_point(&digits[..whole], line)?;
     line.push(b'.')?;
-    for _ in digits.len()..usize::from(places) {
+    for _ in digits.len()..places {
         line.push(b'0')?;
     }
     line.extend_from_slice(&digits[whole..])
+}
+
+fn push_before_point(digits: &[u8], line: &mut Vec<u8>) -> Result<(), AllocError> {
+    if digits.is_empty() {
+        line.push(b'0')?;
+    }
+    line.extend_from_slice(digits)
 }
 
 // A text, between quotes where it is not read as it is without them.

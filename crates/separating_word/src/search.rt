@@ -44,10 +44,27 @@ pub(crate) fn cells_apart(
         return Ok(Some(Vec::new(alloc)));
     }
     let letters = letters_of(alloc, automata)?;
+    let first = first_level(alloc)?;
     let mut known = IndexSet::new(alloc);
-    let mut level = first_level(alloc)?;
+    search_from(alloc, automata, &letters, first, &mut known)
+}
+
+// The same of the words of letters that go on from this level.
+fn search_from(
+    alloc: Global,
+    automata: &Automata,
+    letters: &[u32],
+    first: Vec<Reached>,
+    known: &mut IndexSet<(u128, u128)>,
+) -> Result<Option<Vec<u32>>, AllocError>
+    requires cells { ShareCells automata.now }
+    requires letters { AreCellsOf automata.now letters.now }
+    requires level { All (IsReachedIn automata.now) first.items }
+    ensures { IfOk result (λ found. IfSome found (λ cells. AreCellsOf automata.now cells.items)) }
+{
+    let mut level = first;
     'levels: for _ in 0..MAX_ITEMS {
-        match next_level(alloc, automata, &letters, &level, &mut known)? {
+        match next_level(alloc, automata, letters, &level, known)? {
             Level::Found(word) => return Ok(Some(word)),
             Level::Next(next) => level = next,
         }
