@@ -1,17 +1,18 @@
 -- What an atom is resolved to.
-use Rattle.std.proofs.Common.{◌≡◌, true, false, List, [], Option, Some, None, Ok, Err, refl, ◌∙◌, ap, subst}
+use Rattle.std.proofs.Common.{◌≡◌, true, false, List, Option, Some, None, Ok, Err, refl, ◌∙◌, ap, subst}
 use Rattle.item_schema.specs.declared.column.Column.{Column}
 use Rattle.language_base.specs.declared.rule.Rule.TheVariants.{Name, Type_}
 use Rattle.language_base.specs.declared.span.Span.{Span}
 use Rattle.predicate_cells.specs.Fits.{fits}
 use Rattle.predicate_cells.specs.Predicates as plain
-use Rattle.query_model.specs.Queries.{atom, plain_of, spans_of}
+use Rattle.query_model.specs.Queries.{atom, plain_of}
 use Rattle.query_model.specs.QueryTypes as types
 use Rattle.query_syntax.specs.Expressions as e
 use Rattle.query_syntax.specs.Predicates as p
 use Rattle.query_syntax.specs.Queries as q
 use Rattle.type_checker.specs.Expressions.{expression_over, is_typed, of_item}
-use Rattle.type_checker.specs.Findings.{IsUnresolved}
+use Rattle.type_checker.specs.Findings.{IsUnresolved, places_at}
+use Rattle.type_checker.specs.Nodes.{alone}
 use Rattle.type_checker.specs.Resolutions.{HasTypes, IsMade, IsRefused, columns_of}
 use Rattle.type_checker.specs.Resolved.{Nesting, resolved}
 use Rattle.type_checker.specs.Scopes.{HasFittingNumbers}
@@ -78,13 +79,13 @@ module _ (nesting : Nesting) (columns : List Column) (predicate : p.Predicate) (
         passes is = rw (← tested, ← named, fit, is) refl
 
         pub atom_made : (ty : ValueType) (made : Typed) → HasType names value ty
-            → plain_of made.query.value.shape ≡ atom pred value → spans_of made.query.value.shape ≡ []
+            → plain_of made.query.value.shape ≡ atom pred value → places_at made.query.value.shape ≡ alone
             → made.query.value.span ≡ span → made.ty ≡ ty → IsMade nesting columns (q.atom predicate tree span) made
-        atom_made ty made has is spans at ty_is =
+        atom_made ty made has is places at ty_is =
             let has' : HasType (types.of_columns columns) value ty = subst (λ (t : Types). HasType t value ty) are
             has in
             made_of nesting columns (q.atom predicate tree span) made (atom pred value) is
             (passes (is_typed_true (types.of_columns columns) value ty has'))
             (ty_is ∙ type_is (types.of_columns columns) value ty has')
             (fit, well_typed (types.of_columns columns) value ty has')
-            (no_place made.query.value span spans at)
+            (no_place made.query.value span places at)

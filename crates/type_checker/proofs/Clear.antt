@@ -2,7 +2,6 @@
 use Rattle.std.proofs.Common.{inl, inr, List, [], ◌∷◌, ◌++◌, None}
 use Rattle.std.specs.List.{AllByRecursion, list_all}
 use Rattle.std.proofs.lemmas.Bool.{and_parts}
-use Rattle.language_base.specs.declared.span.Span.{Span}
 use Rattle.item_schema.specs.declared.column.Column.{Column}
 use Rattle.predicate_cells.specs.Cells.{AllFit}
 use Rattle.predicate_cells.specs.Fits.{fits}
@@ -15,7 +14,7 @@ use Rattle.query_model.specs.Rates.{rate_of}
 use Rattle.query_model.specs.Rules.{CanBeMet, IsClear, IsFedWell, Standing, bound, free}
 use Rattle.rate_expr.specs.Rates.{preds_of}
 use Rattle.type_checker.specs.Findings.{KeepsTypes}
-use Rattle.type_checker.specs.Nodes.{Node, nodes_in}
+use Rattle.type_checker.specs.Nodes.{Node, Places, first_places, nodes_in, root, second_places}
 use Rattle.type_checker.specs.WordRules.{Breaks, BreaksFed, FirstBroken}
 
 -- the node breaks no rule of words
@@ -23,11 +22,10 @@ abbrev IsKept : Node → Type 0
 IsKept node = Breaks node None
 
 -- where no node is refused, none breaks a rule
-all_kept : (nodes : List Node) (places : List Span) → FirstBroken nodes places None → AllByRecursion IsKept nodes
-all_kept [] places kept = tt
-all_kept (node ∷ nodes) [] kept = absurd kept
-all_kept (node ∷ nodes) (span ∷ spans) (inl (rule, broken, is)) = absurd (cc)
-all_kept (node ∷ nodes) (span ∷ spans) (inr (here, rest)) = (here, all_kept nodes spans rest)
+all_kept : (nodes : List Node) → FirstBroken nodes None → AllByRecursion IsKept nodes
+all_kept [] kept = tt
+all_kept (node ∷ nodes) (inl (rule, broken, is)) = absurd (cc)
+all_kept (node ∷ nodes) (inr (here, rest)) = (here, all_kept nodes rest)
 
 module _ (nodes others : List Node) (node : Node) (kept : AllByRecursion IsKept (nodes ++ others ++ node ∷ [])) where
   operands_kept : AllByRecursion IsKept (nodes ++ others)
@@ -63,65 +61,73 @@ all_met columns (pred ∷ preds) fit ((item, is, meets), rest) =
     let both = and_parts (fits columns pred) (list_all (fits columns) preds) fit in
     (record { fit = both.0; item = item; is_item = is; meets = meets }, all_met columns preds both.1 rest)
 
-clear_of : (columns : List Column) (standing : Standing) (query : Qre) → KeepsTypes columns query
-    → AllByRecursion IsKept (nodes_in columns standing query) → IsClear standing columns query
-clear_of columns standing (atom pred e) types ((item, is, meets), rest) =
+clear_of : (columns : List Column) (standing : Standing) (query : Qre) (places : Places) → KeepsTypes columns query
+    → AllByRecursion IsKept (nodes_in columns standing query places) → IsClear standing columns query
+clear_of columns standing (atom pred e) places types ((item, is, meets), rest) =
     (record { fit = types.0; item = item; is_item = is; meets = meets }, types.1)
-clear_of columns standing (eps number) types kept = types
-clear_of columns standing (choice f g) (left, right, same) kept =
-    let fs = nodes_in columns bound f in let gs = nodes_in columns bound g in
-    let root : Node = record { columns = columns; standing = standing; query = choice f g } in (
-      clear_of columns bound f left (left_kept fs gs root kept),
-      clear_of columns bound g right (right_kept fs gs root kept),
+clear_of columns standing (eps number) places types kept = types
+clear_of columns standing (choice f g) places (left, right, same) kept =
+    let fs = nodes_in columns bound f (first_places places) in
+    let gs = nodes_in columns bound g (second_places places) in
+    let last = root columns standing (choice f g) places in (
+      clear_of columns bound f (first_places places) left (left_kept fs gs last kept),
+      clear_of columns bound g (second_places places) right (right_kept fs gs last kept),
       same,
-      root_kept fs gs root kept,
+      root_kept fs gs last kept,
     )
-clear_of columns standing (split f g e) (left, right, typed) kept =
-    let fs = nodes_in columns bound f in let gs = nodes_in columns bound g in
-    let root : Node = record { columns = columns; standing = standing; query = split f g e } in (
-      clear_of columns bound f left (left_kept fs gs root kept),
-      clear_of columns bound g right (right_kept fs gs root kept),
+clear_of columns standing (split f g e) places (left, right, typed) kept =
+    let fs = nodes_in columns bound f (first_places places) in
+    let gs = nodes_in columns bound g (second_places places) in
+    let last = root columns standing (split f g e) places in (
+      clear_of columns bound f (first_places places) left (left_kept fs gs last kept),
+      clear_of columns bound g (second_places places) right (right_kept fs gs last kept),
       typed,
-      root_kept fs gs root kept,
+      root_kept fs gs last kept,
     )
-clear_of columns standing (iter f number e) (inner, fits, typed) kept =
-    let fs = nodes_in columns bound f in
-    let root : Node = record { columns = columns; standing = standing; query = iter f number e } in
-    (clear_of columns bound f inner (operand_kept fs root kept), fits, typed, last_kept fs root kept)
-clear_of columns standing (combine f g e) (left, right, typed) kept =
-    let fs = nodes_in columns bound f in let gs = nodes_in columns bound g in
-    let root : Node = record { columns = columns; standing = standing; query = combine f g e } in (
-      clear_of columns bound f left (left_kept fs gs root kept),
-      clear_of columns bound g right (right_kept fs gs root kept),
+clear_of columns standing (iter f number e) places (inner, fits, typed) kept =
+    let fs = nodes_in columns bound f (first_places places) in
+    let last = root columns standing (iter f number e) places in (
+      clear_of columns bound f (first_places places) inner (operand_kept fs last kept),
+      fits,
       typed,
-      (root_kept fs gs root kept).1,
+      last_kept fs last kept,
     )
-clear_of columns standing (apply f e) (inner, typed) kept =
-    let fs = nodes_in columns bound f in
-    let root : Node = record { columns = columns; standing = standing; query = apply f e } in
-    (clear_of columns bound f inner (operand_kept fs root kept), typed)
-clear_of columns standing (compose f g) (left, right, single) kept =
+clear_of columns standing (combine f g e) places (left, right, typed) kept =
+    let fs = nodes_in columns bound f (first_places places) in
+    let gs = nodes_in columns bound g (second_places places) in
+    let last = root columns standing (combine f g e) places in (
+      clear_of columns bound f (first_places places) left (left_kept fs gs last kept),
+      clear_of columns bound g (second_places places) right (right_kept fs gs last kept),
+      typed,
+      (root_kept fs gs last kept).1,
+    )
+clear_of columns standing (apply f e) places (inner, typed) kept =
+    let fs = nodes_in columns bound f (first_places places) in
+    let last = root columns standing (apply f e) places in
+    (clear_of columns bound f (first_places places) inner (operand_kept fs last kept), typed)
+clear_of columns standing (compose f g) places (left, right, single) kept =
     let values = derived_columns (type_of columns f) in
-    let fs = nodes_in columns standing f in let gs = nodes_in values standing g in
-    let root : Node = record { columns = columns; standing = standing; query = compose f g } in (
-      clear_of columns standing f left (left_kept fs gs root kept),
-      clear_of values standing g right (right_kept fs gs root kept),
+    let fs = nodes_in columns standing f (first_places places) in
+    let gs = nodes_in values standing g (second_places places) in
+    let last = root columns standing (compose f g) places in (
+      clear_of columns standing f (first_places places) left (left_kept fs gs last kept),
+      clear_of values standing g (second_places places) right (right_kept fs gs last kept),
       single,
-      fed_well standing values g (root_kept fs gs root kept),
+      fed_well standing values g (root_kept fs gs last kept),
     )
-clear_of columns standing (collect column sync rate f) (inner, number, single, texts, test, words) kept =
-    let fs = nodes_in columns bound f in
-    let root : Node = record { columns = columns; standing = standing; query = collect column sync rate f } in (
-      clear_of columns bound f inner (operand_kept fs root kept),
+clear_of columns standing (collect column sync rate f) places (inner, number, single, texts, test, words) kept =
+    let fs = nodes_in columns bound f (first_places places) in
+    let last = root columns standing (collect column sync rate f) places in (
+      clear_of columns bound f (first_places places) inner (operand_kept fs last kept),
       number,
       single,
       texts,
       test,
-      all_met columns (preds_of rate) words (last_kept fs root kept),
+      all_met columns (preds_of rate) words (last_kept fs last kept),
     )
 
-pub clear_from : (columns : List Column) (standing : Standing) (query : Qre) (places : List Span)
-    → KeepsTypes columns query → FirstBroken (nodes_in columns standing query) places None
+pub clear_from : (columns : List Column) (standing : Standing) (query : Qre) (places : Places)
+    → KeepsTypes columns query → FirstBroken (nodes_in columns standing query places) None
     → IsClear standing columns query
 clear_from columns standing query places types kept =
-    clear_of columns standing query types (all_kept (nodes_in columns standing query) places kept)
+    clear_of columns standing query places types (all_kept (nodes_in columns standing query places) kept)

@@ -1,5 +1,5 @@
 -- What a collection is resolved to.
-use Rattle.std.proofs.Common.{◌≡◌, ◌&&◌, ℕ, Bool, true, false, List, [], ◌∷◌, ◌++◌, Some, None, Result, Ok, Err, refl}
+use Rattle.std.proofs.Common.{◌≡◌, ◌&&◌, ℕ, Bool, true, false, List, Some, None, Result, Ok, Err, refl}
 use Rattle.std.specs.List.{list_all}
 use Rattle.std.specs.Result.{IfErr, IfOk}
 use Rattle.std.proofs.lemmas.Bool.{and_parts}
@@ -10,15 +10,16 @@ use Rattle.language_base.specs.declared.rule.Rule.TheVariants.{Name, Nested, Typ
 use Rattle.language_base.specs.declared.span.Span.{Span}
 use Rattle.predicate_cells.specs.Fits.{fits, has_texts}
 use Rattle.predicate_cells.specs.Predicates as plain
-use Rattle.query_model.specs.Queries.{Qre, collect, plain_of, spans_of}
+use Rattle.query_model.specs.Queries.{Qre, collect, plain_of}
 use Rattle.query_syntax.specs.Predicates as p
 use Rattle.query_syntax.specs.Queries as q
 use Rattle.query_syntax.specs.Rates as r
 use Rattle.query_syntax.specs.declared.leaf.Name as leaf
 use Rattle.rate_expr.specs.Rates.{Expression, preds_of}
-use Rattle.type_checker.specs.Findings.{IsUnresolved}
+use Rattle.type_checker.specs.Findings.{IsUnresolved, places_at, places_in}
 use Rattle.type_checker.specs.Names.{column_named}
 use Rattle.type_checker.specs.Nestings.{MayStand}
+use Rattle.type_checker.specs.Nodes.{with_one}
 use Rattle.type_checker.specs.Rates.{rate_over}
 use Rattle.type_checker.specs.Resolutions.{IsMadeOfInner, IsMade, IsRefused, IsRefusedOverInner}
 use Rattle.type_checker.specs.Resolved.{Nesting, inside, may_collect, outside, resolved}
@@ -95,10 +96,10 @@ module _ (nesting : Nesting) (columns : List Column) (key : leaf.Name) (sync : p
 
               pub collect_made : (made : Typed) → MayStand nesting columns
                   → plain_of made.query.value.shape ≡ collect column pred words (plain_of operand.query.value.shape)
-                  → spans_of made.query.value.shape ≡ spans_of operand.query.value.shape ++ operand.query.value.span ∷ []
+                  → places_at made.query.value.shape ≡ with_one (places_in operand.query.value)
                   → made.query.value.span ≡ span → made.ty ≡ type.Table
                   → IsMade nesting columns (q.collect key sync rate f span) made
-              collect_made made stands shape spans at ty =
+              collect_made made stands shape places at ty =
                   let inner : Qre = plain_of operand.query.value.shape in
                   let single = made_inside columns f operand is in
                   let parts = and_parts (has_texts columns column)
@@ -113,7 +114,7 @@ module _ (nesting : Nesting) (columns : List Column) (key : leaf.Name) (sync : p
                     tests.0,
                     tests.1,
                   )
-                  (one_place f operand made.query.value span is.places spans at)
+                  (one_place f operand made.query.value span is.places places at)
 
 -- what a collection is over its operand
 module _ (nesting : Nesting) (columns : List Column) (f : q.Query) (operand : Typed)

@@ -1,13 +1,14 @@
 -- What a composition is resolved to.
-use Rattle.std.proofs.Common.{◌≡◌, List, [], ◌∷◌, ◌++◌, Ok, Err, refl, ◌∙◌, ap, subst}
+use Rattle.std.proofs.Common.{◌≡◌, List, Ok, Err, refl, ◌∙◌, ap, subst}
 use Rattle.item_schema.specs.Layout.{Layout, derived_layout}
 use Rattle.item_schema.specs.declared.column.Column.{Column}
 use Rattle.language_base.specs.declared.span.Span.{Span}
-use Rattle.query_model.specs.Queries.{compose, plain_of, spans_of}
+use Rattle.query_model.specs.Queries.{compose, plain_of}
 use Rattle.query_model.specs.QueryTypes.{derived_columns, type_of}
 use Rattle.query_model.specs.Rules.{HasNoCollect}
 use Rattle.query_syntax.specs.Queries as q
-use Rattle.type_checker.specs.Findings.{KeepsTypes}
+use Rattle.type_checker.specs.Findings.{KeepsTypes, places_at, places_in}
+use Rattle.type_checker.specs.Nodes.{with_two}
 use Rattle.type_checker.specs.Resolutions.{IsMade, IsRefused}
 use Rattle.type_checker.specs.Resolved.{Nesting, inside, resolved}
 use Rattle.type_checker.specs.declared.naming.Typed.{Typed}
@@ -61,10 +62,9 @@ module _ (nesting : Nesting) (columns : List Column) (f g : q.Query) (span : Spa
 
       pub compose_made : (made : Typed)
           → plain_of made.query.value.shape ≡ compose (plain_of left.query.value.shape) (plain_of right.query.value.shape)
-          → spans_of made.query.value.shape
-          ≡ spans_of left.query.value.shape ++ left.query.value.span ∷ spans_of right.query.value.shape ++ right.query.value.span ∷ []
+          → places_at made.query.value.shape ≡ with_two (places_in left.query.value) (places_in right.query.value)
           → made.query.value.span ≡ span → made.ty ≡ right.ty → IsMade nesting columns (q.compose f g span) made
-      compose_made made is spans at ty =
+      compose_made made is places at ty =
           made_of nesting columns (q.compose f g span) made
           (compose (plain_of left.query.value.shape) (plain_of right.query.value.shape)) is compose_step
           (ty ∙ is_right.typed.type
@@ -74,4 +74,4 @@ module _ (nesting : Nesting) (columns : List Column) (f g : q.Query) (span : Spa
                 is_right.typed.keeps,
             made_inside (derived_columns left.ty) g right is_right,
           )
-          (two_places f g left right made.query.value span is_left.places is_right.places spans at)
+          (two_places f g left right made.query.value span is_left.places is_right.places places at)

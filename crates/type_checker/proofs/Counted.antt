@@ -1,33 +1,41 @@
--- A query as it is written has as many nodes as there are places of them.
-use Rattle.std.proofs.Common.{◌≡◌, ℕ, ◌+◌, List, [], ◌∷◌, ◌++◌, length, length-append, refl, arith}
+-- A query has as many nodes as places, as it is written and in memory.
+use Rattle.std.proofs.Common.{◌≡◌, ℕ, ◌+◌, refl, arith}
 use Rattle.language_base.specs.declared.span.Span.{Span}
-use Rattle.query_lets.specs.Sizes.{nodes_of}
+use Rattle.query_lets.specs.Sizes as trees
+use Rattle.query_model.specs.Bounds.{nodes_of}
+use Rattle.query_model.specs.Queries.{plain_of}
+use Rattle.query_model.specs.declared.query.Shape.{Shape}
+use Rattle.query_model.specs.declared.query.Shape.TheVariants.{Atom, Eps, Or', Split', Iter', Combine', Apply', Compose', Collect'}
 use Rattle.query_syntax.specs.Queries as q
 use Rattle.query_syntax.specs.Queries.{Query}
-use Rattle.type_checker.specs.Nodes.{places_of}
+use Rattle.type_checker.specs.Findings.{places_at}
+use Rattle.type_checker.specs.Nodes.{Places, alone, places_of, with_one, with_two}
 
--- behind one operand, and behind two
-one : (f : List Span) (span : Span) (nodes : ℕ) → nodes ≡ length f → nodes + 1 ≡ length (f ++ span ∷ [])
-one f span nodes is = let all = length-append f (span ∷ []) in omega arith
+-- how many places there are
+abbrev pub count_of : Places → ℕ
+count_of (alone span) = 1
+count_of (with_one first span) = count_of first + 1
+count_of (with_two first second span) = count_of first + count_of second + 1
 
-two : (f g : List Span) (span : Span) (left right : ℕ) → left ≡ length f → right ≡ length g
-    → left + right + 1 ≡ length (f ++ g ++ span ∷ [])
-two f g span left right is is' =
-    let both = length-append f g in
-    let all = length-append (f ++ g) (span ∷ []) in omega arith
+pub count_written : (tree : Query) → trees.nodes_of tree ≡ count_of (places_of tree)
+count_written (q.name name) = refl
+count_written (q.atom predicate value span) = refl
+count_written (q.eps number span) = refl
+count_written (q.or f g span) = omega (arith, count_written f, count_written g)
+count_written (q.split f g value span) = omega (arith, count_written f, count_written g)
+count_written (q.iter f first step span) = omega (arith, count_written f)
+count_written (q.combine f g value span) = omega (arith, count_written f, count_written g)
+count_written (q.apply f value span) = omega (arith, count_written f)
+count_written (q.compose f g span) = omega (arith, count_written f, count_written g)
+count_written (q.collect key sync rate f span) = omega (arith, count_written f)
 
-pub nodes_are_spans : (tree : Query) → nodes_of tree ≡ length (places_of tree)
-nodes_are_spans (q.name name) = refl
-nodes_are_spans (q.atom predicate value span) = refl
-nodes_are_spans (q.eps number span) = refl
-nodes_are_spans (q.or f g span) =
-    two (places_of f) (places_of g) span (nodes_of f) (nodes_of g) (nodes_are_spans f) (nodes_are_spans g)
-nodes_are_spans (q.split f g value span) =
-    two (places_of f) (places_of g) span (nodes_of f) (nodes_of g) (nodes_are_spans f) (nodes_are_spans g)
-nodes_are_spans (q.iter f first step span) = one (places_of f) span (nodes_of f) (nodes_are_spans f)
-nodes_are_spans (q.combine f g value span) =
-    two (places_of f) (places_of g) span (nodes_of f) (nodes_of g) (nodes_are_spans f) (nodes_are_spans g)
-nodes_are_spans (q.apply f value span) = one (places_of f) span (nodes_of f) (nodes_are_spans f)
-nodes_are_spans (q.compose f g span) =
-    two (places_of f) (places_of g) span (nodes_of f) (nodes_of g) (nodes_are_spans f) (nodes_are_spans g)
-nodes_are_spans (q.collect key sync rate f span) = one (places_of f) span (nodes_of f) (nodes_are_spans f)
+pub count_made : (shape : Shape) (span : Span) → nodes_of (plain_of shape) ≡ count_of (places_at shape span)
+count_made (Atom pred value) span = refl
+count_made (Eps number) span = refl
+count_made (Or' p first a q second b) span = omega (arith, count_made first a, count_made second b)
+count_made (Split' p first a q second b value) span = omega (arith, count_made first a, count_made second b)
+count_made (Iter' p inner a number value) span = omega (arith, count_made inner a)
+count_made (Combine' p first a q second b value) span = omega (arith, count_made first a, count_made second b)
+count_made (Apply' p inner a value) span = omega (arith, count_made inner a)
+count_made (Compose' p first a q second b) span = omega (arith, count_made first a, count_made second b)
+count_made (Collect' key sync rate p inner a) span = omega (arith, count_made inner a)

@@ -3,7 +3,6 @@ use Rattle.std.proofs.Common.{List, Option, None, Some, sym, ap, subst}
 use Rattle.item_schema.specs.Layout.{Layout}
 use Rattle.item_schema.specs.declared.column.Column.{Column}
 use Rattle.language_base.specs.declared.refusal.Refusal.{Refusal}
-use Rattle.language_base.specs.declared.span.Span.{Span}
 use Rattle.query_lets.specs.Unfolded.{unfolded}
 use Rattle.query_model.specs.Checked.{IsChecked}
 use Rattle.query_model.specs.Queries.{Qre, plain_of}
@@ -12,7 +11,7 @@ use Rattle.query_syntax.specs.Programs.{Program}
 use Rattle.type_checker.specs.Findings.{IsBrokenBy, IsUnresolved, places_in}
 use Rattle.type_checker.specs.Judged.{BreaksFirst, IsJudged, accepted, ambiguous, measured, sound, unmeasured}
 use Rattle.type_checker.specs.Layouts.{layout_of}
-use Rattle.type_checker.specs.Nodes.{nodes_in, places_of}
+use Rattle.type_checker.specs.Nodes.{Places, nodes_in, places_of}
 use Rattle.type_checker.specs.Passes.{IsMeasured}
 use Rattle.type_checker.specs.Stops.{IsStopOf}
 use Rattle.type_checker.specs.WordRules.{FirstBroken}
@@ -34,18 +33,18 @@ module _ (program : Program) (made : Measured) (is : IsMeasured program made) wh
   query = plain_of made.query.value.shape
 
   abbrev Answers : Option Refusal → Type 0
-  Answers why = FirstBroken (nodes_in made.cells.layout.columns free query) (places_in made.query.value) why
+  Answers why = FirstBroken (nodes_in made.cells.layout.columns free query (places_in made.query.value)) why
 
   answers : (why : Option Refusal) → Answers why → BreaksFirst program query why
   answers why is_first =
-      subst (λ (columns : List Column). FirstBroken (nodes_in columns free query) (places_of (unfolded program)) why)
+      subst (λ (columns : List Column). FirstBroken (nodes_in columns free query (places_of (unfolded program))) why)
       (ap (λ (layout : Layout). layout.columns) is.cells)
-      (subst (λ (places : List Span). FirstBroken (nodes_in made.cells.layout.columns free query) places why) is.places
+      (subst (λ (places : Places). FirstBroken (nodes_in made.cells.layout.columns free query places) why) is.places
       is_first)
 
   -- a rule of words is broken
   pub broken_stop : (stop : CheckStop)
-      → IsBrokenBy (nodes_in made.cells.layout.columns free query) (places_in made.query.value) stop
+      → IsBrokenBy (nodes_in made.cells.layout.columns free query (places_in made.query.value)) stop
       → IsStopOf program stop
   broken_stop (Refused why) broken = ambiguous query why is.measured (answers (Some why) broken)
   broken_stop Memory broken = tt

@@ -1,5 +1,4 @@
 pub mod Asked
-pub mod AsManyPlaces
 mod Atoms
 pub mod Behind
 pub mod Clear

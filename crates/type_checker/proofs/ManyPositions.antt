@@ -4,7 +4,6 @@ use Rattle.std.specs.Result.{OnOk}
 use Rattle.std.proofs.lemmas.Bool.Decides.{nat_tests}
 use Rattle.item_schema.specs.declared.column.Column.{Column}
 use Rattle.language_base.specs.Limits.{max_positions}
-use Rattle.language_base.specs.declared.span.Span.{Span}
 use Rattle.query_model.specs.Rates.{rate_of}
 use Rattle.query_model.specs.Rules.{Standing}
 use Rattle.query_model.specs.declared.query.Query.{Query}
@@ -26,33 +25,33 @@ pub on_ok_both : {A E P Q R : Type 0} (result : Result A E) → (P → Q → R) 
 on_ok_both (Ok value) both one other = both one other
 on_ok_both (Err stop) both one other = tt
 
-module _ (span : Span) (node : Node) (columns : List Column) (standing : Standing) (f : Query)
+module _ (node : Node) (columns : List Column) (standing : Standing) (f : Query)
     (none : first_in has_many_positions columns standing f ≡ None) where
   -- a node with few positions over one operand, whose nodes have few
   pub few_over : size_of (rate_of node.query) ≤ max_positions
-      → first_over has_many_positions span node columns standing f ≡ None
+      → first_over has_many_positions node columns standing f ≡ None
   few_over few =
-      none_inside has_many_positions span node columns standing f none
-      ∙ ap (λ (b : Bool). cond b (Some span) None) (are_few (size_of (rate_of node.query)) few)
+      none_inside has_many_positions node columns standing f none
+      ∙ ap (λ (b : Bool). cond b (Some node.place) None) (are_few (size_of (rate_of node.query)) few)
 
   -- and one with many
   pub many_over : max_positions < size_of (rate_of node.query)
-      → first_over has_many_positions span node columns standing f ≡ Some span
+      → first_over has_many_positions node columns standing f ≡ Some node.place
   many_over many =
-      none_inside has_many_positions span node columns standing f none
-      ∙ ap (λ (b : Bool). cond b (Some span) None) (are_many (size_of (rate_of node.query)) many)
+      none_inside has_many_positions node columns standing f none
+      ∙ ap (λ (b : Bool). cond b (Some node.place) None) (are_many (size_of (rate_of node.query)) many)
 
   module _ (others : List Column) (other : Standing) (g : Query)
       (neither : first_in has_many_positions others other g ≡ None) where
     -- the same over two
     pub few_over_both : size_of (rate_of node.query) ≤ max_positions
-        → first_over_both has_many_positions span node columns standing f others other g ≡ None
+        → first_over_both has_many_positions node columns standing f others other g ≡ None
     few_over_both few =
-        none_inside_both has_many_positions span node columns standing f others other g none neither
-        ∙ ap (λ (b : Bool). cond b (Some span) None) (are_few (size_of (rate_of node.query)) few)
+        none_inside_both has_many_positions node columns standing f others other g none neither
+        ∙ ap (λ (b : Bool). cond b (Some node.place) None) (are_few (size_of (rate_of node.query)) few)
 
     pub many_over_both : max_positions < size_of (rate_of node.query)
-        → first_over_both has_many_positions span node columns standing f others other g ≡ Some span
+        → first_over_both has_many_positions node columns standing f others other g ≡ Some node.place
     many_over_both many =
-        none_inside_both has_many_positions span node columns standing f others other g none neither
-        ∙ ap (λ (b : Bool). cond b (Some span) None) (are_many (size_of (rate_of node.query)) many)
+        none_inside_both has_many_positions node columns standing f others other g none neither
+        ∙ ap (λ (b : Bool). cond b (Some node.place) None) (are_many (size_of (rate_of node.query)) many)

@@ -1,5 +1,5 @@
 -- What the passes before the rules of words make of a program, from what each of them finds.
-use Rattle.std.proofs.Common.{◌≡◌, ◌≤◌, ◌<◌, Bool, true, false, cond, List, [], ◌∷◌, ◌++◌, map, length, Option, None, Some, Result, Ok, Err, refl, sym, ap, subst, ◌∙◌, ⊎_elim, arith}
+use Rattle.std.proofs.Common.{◌≡◌, ◌≤◌, ◌<◌, Bool, true, false, cond, List, [], ◌∷◌, ◌++◌, map, Option, None, Some, Result, Ok, Err, refl, sym, ap, subst, ◌∙◌, ⊎_elim, arith}
 use Rattle.std.proofs.lemmas.Bool.Decides.{nat_tests}
 use Rattle.std.specs.List.{Contains, list_all}
 use Rattle.language_base.specs.Limits.{max_nodes}
@@ -27,7 +27,7 @@ use Rattle.query_syntax.specs.declared.stream.Kind.TheVariants.{Int, Text, Fixed
 use Rattle.type_checker.specs.Findings.{IsUnresolved, KeepsTypes, derives_many, first_in, places_in}
 use Rattle.type_checker.specs.Judged.{limited, measured, parted}
 use Rattle.type_checker.specs.Layouts.{column_of, kind_of, layout_of}
-use Rattle.type_checker.specs.Nodes.{first_where, nodes_in, places_of}
+use Rattle.type_checker.specs.Nodes.{Places, first_where, nodes_in, places_of}
 use Rattle.type_checker.specs.Passes.{IsBeyond, IsCounted, IsLimited, IsMeasured, IsNamed, counted, told_apart, values_apart}
 use Rattle.type_checker.specs.Resolved.{outside, resolved}
 use Rattle.query_model.specs.Few.{has_few_cells}
@@ -37,8 +37,7 @@ use Rattle.type_checker.specs.declared.measured.Measured.{Measured}
 use Rattle.type_checker.specs.declared.stop.CheckStop.{CheckStop}
 use Rattle.type_checker.specs.declared.stop.CheckStop.TheVariants.{Refused, Memory}
 use Rattle.type_checker.proofs.Parted.{few_values}
-use Rattle.type_checker.proofs.Counted.{nodes_are_spans}
-use Rattle.type_checker.proofs.Placed.{nodes_are_places, nodes_have_places}
+use Rattle.type_checker.proofs.Counted.{count_made, count_of, count_written}
 
 -- a step with a value
 goes_on : {A B E : Type 0} (first : Result A E) (next : A → Result B E) (value : A) → first ≡ Ok value
@@ -257,8 +256,8 @@ module _ (program : Program) (count : IsCounted program) (schema : Layout)
         values_refused = unresolved_as (values_apart schema.columns query) (measured program)
             (λ (why : Refusal). λ is. cells_stop program counts (plain_of query.shape) over small why
             (many_values program.stream (unfolded program) (plain_of query.shape) why few_there
-            (subst (λ (spans : List Span). because Cells (unless (first_where derives_many
-            (nodes_in (layout_of program.stream).columns free (plain_of query.shape)) spans)) ≡ Err why) named.places
+            (subst (λ (places : Places). because Cells (unless (first_where derives_many
+            (nodes_in (layout_of program.stream).columns free (plain_of query.shape) places))) ≡ Err why) named.places
             (subst (λ (layout : Layout). values_apart layout.columns query ≡ Err why) same is))))
 
     -- what is beyond the limits is refused
@@ -272,9 +271,9 @@ module _ (program : Program) (count : IsCounted program) (schema : Layout)
 few_nodes : (program : Program) (query : memory.Query) → places_in query ≡ places_of (unfolded program)
     → has_few_nodes (unfolded program) ≡ true → nodes_of (plain_of query.shape) ≤ max_nodes
 few_nodes program query there few =
-    let nodes = nodes_are_places query in
-    let same : length (places_in query) ≡ length (places_of (unfolded program)) = ap length there in
-    let whole = nodes_are_spans (unfolded program) in
+    let nodes = count_made query.shape query.span in
+    let same : count_of (places_in query) ≡ count_of (places_of (unfolded program)) = ap count_of there in
+    let whole = count_written (unfolded program) in
     let little : trees.nodes_of (unfolded program) ≤ max_nodes = grind (arith, nat_tests, few) in omega arith
 
 -- all that the passes found
@@ -295,13 +294,12 @@ measured_by program made count layout named limits cells few members values =
     let little : has_few_cells columns query ≡ true =
     passed Cells program.stream.span (has_few_cells columns query)
     (subst (λ (c : List schema.Column). told_apart c program.stream.span query ≡ Ok tt) same few) in
-    let none : first_where derives_many (nodes_in columns free query) (places_of (unfolded program)) ≡ None =
-    subst (λ (spans : List Span). first_where derives_many (nodes_in columns free query) spans ≡ None) there
+    let none : first_where derives_many (nodes_in columns free query (places_of (unfolded program))) ≡ None =
+    subst (λ (places : Places). first_where derives_many (nodes_in columns free query places) ≡ None) there
     (none_found Cells (first_in derives_many columns free made.query.value)
     (subst (λ (c : List schema.Column). values_apart c made.query.value ≡ Ok tt) same values)) in
     let derived : HaveFewCells columns query =
-    few_values columns free query (places_of (unfolded program))
-    (nodes_have_places columns free made.query.value ∙ ap length there) none in record {
+    few_values columns free query (places_of (unfolded program)) none in record {
       layout = layout;
       cells = cells ∙ layout;
       measured = all_measured program (few_count program count) query over

@@ -1,20 +1,20 @@
 -- What a node takes from its operands: their places, and the first refusal of theirs.
-use Rattle.std.proofs.Common.{◌≡◌, List, [], ◌∷◌, ◌++◌, Result, Ok, Err, unwrap_or, refl, sym, ◌∙◌, ap, subst, append_assoc}
+use Rattle.std.proofs.Common.{◌≡◌, List, Result, Ok, Err, unwrap_or, refl, sym, ◌∙◌, ap, ap₂, subst}
 use Rattle.item_schema.specs.declared.column.Column.{Column}
 use Rattle.language_base.specs.declared.refusal.Refusal.{Refusal}
 use Rattle.language_base.specs.declared.span.Span.{Span}
 use Rattle.query_lets.specs.Places.{IsRoot, query_of, unfolded_at, unfolded_of}
 use Rattle.query_lets.specs.declared.scope.Scope.{Scope}
-use Rattle.query_model.specs.Queries.{Qre, plain_of, spans_of}
+use Rattle.query_model.specs.Queries.{Qre, plain_of}
 use Rattle.query_model.specs.QueryTypes.{type_of}
 use Rattle.query_model.specs.declared.query.Query.{Query}
 use Rattle.query_syntax.specs.Expressions as e
 use Rattle.query_syntax.specs.Queries as q
 use Rattle.query_syntax.specs.declared.leaf.Name.{Name}
 use Rattle.query_syntax.specs.declared.leaf.Number.{Number}
-use Rattle.type_checker.specs.Findings.{KeepsTypes, places_in}
+use Rattle.type_checker.specs.Findings.{KeepsTypes, places_at, places_in}
 use Rattle.type_checker.specs.Joints.{joint_node}
-use Rattle.type_checker.specs.Nodes.{places_of}
+use Rattle.type_checker.specs.Nodes.{Places, alone, places_of, with_one, with_two}
 use Rattle.type_checker.specs.Resolutions.{IsMade, IsMadeOfOne, IsMadeOfTwo, IsRefused, IsRefusedOfTwo, IsRefusedOverOne, IsRefusedOverTwo}
 use Rattle.type_checker.specs.Resolved.{Nesting, resolved}
 use Rattle.type_checker.specs.Steps.{◌>>=◌}
@@ -26,35 +26,26 @@ use Rattle.type_checker.specs.declared.stop.CheckStop.TheVariants.{Refused, Memo
 use Rattle.std.specs.Result.{IfErr, IfOk}
 use Rattle.std.proofs.lemmas.Result.{IfErr-weaker, IfOk-weaker}
 
--- the places of two operands and a node
-regroup : (first second : List Span) (a b c : Span)
-    → (first ++ a ∷ second ++ b ∷ []) ++ c ∷ [] ≡ (first ++ a ∷ []) ++ (second ++ b ∷ []) ++ c ∷ []
-regroup first second a b c = simp append_assoc
-
 -- the place of a node with no operand
-pub no_place : (made : Query) (span : Span) → spans_of made.shape ≡ [] → made.span ≡ span
-    → places_in made ≡ span ∷ []
-no_place made span spans at =
-    ap (λ (s : List Span). s ++ made.span ∷ []) spans ∙ ap (λ (a : Span). a ∷ []) at
+pub no_place : (made : Query) (span : Span) → places_at made.shape ≡ alone → made.span ≡ span
+    → places_in made ≡ alone span
+no_place made span places at = ap (λ (placed : Span → Places). placed made.span) places ∙ ap alone at
 
 -- the places of a node with one operand
 pub one_place : (f : q.Query) (inner : Typed) (made : Query) (span : Span) → places_in inner.query.value ≡ places_of f
-    → spans_of made.shape ≡ spans_of inner.query.value.shape ++ inner.query.value.span ∷ [] → made.span ≡ span
-    → places_in made ≡ places_of f ++ span ∷ []
-one_place f inner made span places spans at =
-    ap (λ (s : List Span). s ++ made.span ∷ []) (spans ∙ places) ∙ ap (λ (a : Span). places_of f ++ a ∷ []) at
+    → places_at made.shape ≡ with_one (places_in inner.query.value) → made.span ≡ span
+    → places_in made ≡ with_one (places_of f) span
+one_place f inner made span same places at =
+    ap (λ (placed : Span → Places). placed made.span) places ∙ ap₂ with_one same at
 
 -- and with two
 pub two_places : (f g : q.Query) (left right : Typed) (made : Query) (span : Span)
-    → places_in left.query.value ≡ places_of f → places_in right.query.value ≡ places_of g → spans_of made.shape
-    ≡ spans_of left.query.value.shape ++ left.query.value.span ∷ spans_of right.query.value.shape ++ right.query.value.span ∷ []
-    → made.span ≡ span → places_in made ≡ places_of f ++ places_of g ++ span ∷ []
-two_places f g left right made span first second spans at =
-    ap (λ (s : List Span). s ++ made.span ∷ []) spans
-    ∙ regroup (spans_of left.query.value.shape) (spans_of right.query.value.shape) left.query.value.span right.query.value.span made.span
-    ∙ ap (λ (s : List Span). s ++ places_in right.query.value ++ made.span ∷ []) first
-    ∙ ap (λ (s : List Span). places_of f ++ s ++ made.span ∷ []) second
-    ∙ ap (λ (a : Span). places_of f ++ places_of g ++ a ∷ []) at
+    → places_in left.query.value ≡ places_of f → places_in right.query.value ≡ places_of g
+    → places_at made.shape ≡ with_two (places_in left.query.value) (places_in right.query.value)
+    → made.span ≡ span → places_in made ≡ with_two (places_of f) (places_of g) span
+two_places f g left right made span first second places at =
+    ap (λ (placed : Span → Places). placed made.span) places
+    ∙ ap₂ (λ (one two : Places). with_two one two made.span) first second ∙ ap (with_two (places_of f) (places_of g)) at
 
 -- why a step stops
 abbrev why_of : {A : Type 0} → Refusal → Result A Refusal → Refusal

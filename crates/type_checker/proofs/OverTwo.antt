@@ -1,11 +1,11 @@
--- A query over two operands: its nodes and places by those of the operands, and what is told of its root.
-use Rattle.std.proofs.Common.{◌≡◌, ◌≤◌, ◌+◌, List, [], ◌∷◌, ◌++◌, length, None, Result, Ok, Err}
+-- A query over two operands: its nodes by those of the operands, and what is told of its root.
+use Rattle.std.proofs.Common.{◌≡◌, ◌≤◌, ◌+◌, List, ◌++◌, length, None, Result, Ok, Err}
 use Rattle.std.proofs.Common.{IfErr, IfOk, OnOk, sym, subst, ap, ◌∙◌}
 use Rattle.item_schema.specs.declared.column.Column.{Column}
 use Rattle.language_base.specs.Limits.{max_positions}
 use Rattle.language_base.specs.declared.span.Span.{Span}
 use Rattle.predicate_cells.specs.Cells.{Partition}
-use Rattle.query_model.specs.Queries.{Qre, plain_of, spans_of}
+use Rattle.query_model.specs.Queries.{Qre, plain_of}
 use Rattle.query_model.specs.Rates.{rate_of}
 use Rattle.query_model.specs.Rules.{Standing, bound}
 use Rattle.query_model.specs.Sizes.{HasFewPositions}
@@ -16,23 +16,18 @@ use Rattle.rate_expr.specs.Rates.{size_of}
 use Rattle.rate_expr.specs.Sets.{Sets}
 use Rattle.value_ops.specs.Expressions.{Expression}
 use Rattle.type_checker.specs.Findings.{AreOperands, CanBeAsked, IsBrokenAt, IsBrokenBy, IsKept}
-use Rattle.type_checker.specs.Findings.{operand_nodes, places_in}
-use Rattle.type_checker.specs.Nodes.{Node, nodes_in}
+use Rattle.type_checker.specs.Findings.{operand_nodes, places_at}
+use Rattle.type_checker.specs.Nodes.{Node}
 use Rattle.type_checker.specs.WordRules.{FirstBroken}
 use Rattle.type_checker.specs.declared.roots.Operands.{Operands}
 use Rattle.type_checker.specs.declared.stop.CheckStop.{CheckStop}
 use Rattle.type_checker.proofs.Asked.{few_together}
-use Rattle.type_checker.proofs.Placed.{places_of_two}
 use Rattle.type_checker.proofs.Told.{told_err, told_ok}
-use Rattle.type_checker.proofs.Walked.{root_kept, root_refused, stopped_in}
+use Rattle.type_checker.proofs.Walked.{nodes_at, operands_at, root_kept, root_refused, stopped_in}
 
--- the nodes of two operands, and their places
+-- the nodes of two operands
 abbrev nodes_of_both : List Column → Query → Query → List Node
-nodes_of_both columns first second =
-    nodes_in columns bound (plain_of first.shape) ++ nodes_in columns bound (plain_of second.shape)
-
-abbrev places_of_both : Query → Query → List Span
-places_of_both first second = places_in first ++ places_in second
+nodes_of_both columns first second = nodes_at columns bound first ++ nodes_at columns bound second
 
 -- what is told of each value is told of one
 module _ (node : Qre → Qre → Expression → Qre) (operands : Operands) (value : Expression) where
@@ -56,23 +51,21 @@ module _ (node : Qre → Qre → Expression → Qre) (operands : Operands) (valu
 pub record IsOverTwo (node : Qre → Qre → Qre) (query first second : Query) : Type 0 where
   pub plain : plain_of query.shape ≡ node (plain_of first.shape) (plain_of second.shape)
   pub nodes : (columns : List Column) (standing : Standing)
-      → operand_nodes columns standing (plain_of query.shape) ≡ nodes_of_both columns first second
-  pub places : spans_of query.shape ≡ places_of_both first second
+      → operands_at columns standing query ≡ nodes_of_both columns first second
 
 -- by its shape
 pub over_two : (node : Qre → Qre → Qre) (query : Query) (shape : Shape) (f g first second : Query)
     → query.shape ≡ shape → first ≡ f → second ≡ g
     → plain_of shape ≡ node (plain_of f.shape) (plain_of g.shape)
-    → ((columns : List Column) (standing : Standing)
-    → operand_nodes columns standing (plain_of shape) ≡ nodes_of_both columns f g)
-    → spans_of shape ≡ spans_of f.shape ++ f.span ∷ spans_of g.shape ++ g.span ∷ []
+    → ((columns : List Column) (standing : Standing) (span : Span)
+    → operand_nodes columns standing (plain_of shape) (places_at shape span) ≡ nodes_of_both columns f g)
     → IsOverTwo node query first second
-over_two node query shape f g first second is left right plain nodes spans =
+over_two node query shape f g first second is left right plain nodes =
     let here : IsOverTwo node query f g = record {
       plain = ap plain_of is ∙ plain;
       nodes = λ columns standing.
-          ap (λ (s : Shape). operand_nodes columns standing (plain_of s)) is ∙ nodes columns standing;
-      places = ap spans_of is ∙ spans ∙ places_of_two (spans_of f.shape) (spans_of g.shape) f.span g.span;
+          ap (λ (s : Shape). operand_nodes columns standing (plain_of s) (places_at s query.span)) is
+          ∙ nodes columns standing query.span;
     } in
     subst (λ (one : Query). IsOverTwo node query one second) (sym left)
     (subst (λ (other : Query). IsOverTwo node query f other) (sym right) here)
@@ -93,25 +86,19 @@ module _ (node : Qre → Qre → Qre) (query first second : Query) (is : IsOverT
       (few_of (plain_of first.shape) (plain_of second.shape) (subst HasFewPositions is.plain can.few))
 
   -- a node of an operand stops it
-  pub two_stopped : (standing : Standing) (stop : CheckStop)
-      → IsBrokenBy (nodes_of_both columns first second) (places_of_both first second) stop
-      → IsBrokenBy (nodes_in columns standing (plain_of query.shape)) (places_in query) stop
+  pub two_stopped : (standing : Standing) (stop : CheckStop) → IsBrokenBy (nodes_of_both columns first second) stop
+      → IsBrokenBy (nodes_at columns standing query) stop
   two_stopped standing stop broken =
       stopped_in columns standing query stop
-      (subst (λ (nodes : List Node). IsBrokenBy nodes (spans_of query.shape) stop) (sym (is.nodes columns standing))
-      (subst (λ (places : List Span). IsBrokenBy (nodes_of_both columns first second) places stop) (sym is.places)
-      broken))
+      (subst (λ (nodes : List Node). IsBrokenBy nodes stop) (sym (is.nodes columns standing)) broken)
 
   -- no node of an operand does
   module _ (standing : Standing)
-      (kept : FirstBroken (nodes_of_both columns first second) (places_of_both first second) None)
+      (kept : FirstBroken (nodes_of_both columns first second) None)
       (operands : Operands) (are : AreOperands cells (plain_of first.shape) (plain_of second.shape) operands)
       (result : Result Sets CheckStop) where
-    none : FirstBroken (operand_nodes columns standing (plain_of query.shape)) (spans_of query.shape) None
-    none =
-        subst (λ (nodes : List Node). FirstBroken nodes (spans_of query.shape) None) (sym (is.nodes columns standing))
-        (subst (λ (places : List Span). FirstBroken (nodes_of_both columns first second) places None) (sym is.places)
-        kept)
+    none : FirstBroken (operands_at columns standing query) None
+    none = subst (λ (nodes : List Node). FirstBroken nodes None) (sym (is.nodes columns standing)) kept
 
     -- what is told of the root where there are sets
     abbrev pub AreTold : Type 0
@@ -123,8 +110,7 @@ module _ (node : Qre → Qre → Qre) (query first second : Query) (is : IsOverT
         told_ok result _ (IsKept columns (plain_of query.shape)) told (λ sets given.
         subst (λ (n : Qre). IsKept columns n sets) (sym is.plain) (given cells _ _ are))
 
-    pub two_kept : AreTold
-        → OnOk result (FirstBroken (nodes_in columns standing (plain_of query.shape)) (places_in query) None)
+    pub two_kept : AreTold → OnOk result (FirstBroken (nodes_at columns standing query) None)
     two_kept told = root_kept columns standing query none result (kept_here told)
 
     pub two_sets : AreTold → IfOk result (λ sets. AreSetsOf sets (rate_of (plain_of query.shape)))
@@ -133,7 +119,7 @@ module _ (node : Qre → Qre → Qre) (query first second : Query) (is : IsOverT
     -- and where it is refused
     pub two_refused : IfErr result (λ stop. (c : Partition) (f g : Qre) → AreOperands c f g operands
         → IsBrokenAt c.layout.columns (node f g) query.span stop)
-        → IfErr result (IsBrokenBy (nodes_in columns standing (plain_of query.shape)) (places_in query))
+        → IfErr result (IsBrokenBy (nodes_at columns standing query))
     two_refused told =
         root_refused columns standing query none result
         (told_err result _ (IsBrokenAt columns (plain_of query.shape) query.span) told (λ stop given.

@@ -1,39 +1,39 @@
--- The place of a query as it is written is the last of the places of its nodes.
-use Rattle.std.proofs.Common.{◌≡◌, List, [], ◌∷◌, ◌++◌, refl, sym, ap, ◌∙◌}
+-- The place of a query as it is written is that of its root, and so is that of a query in memory.
+use Rattle.std.proofs.Common.{◌≡◌, refl, sym, ap, ◌∙◌}
 use Rattle.language_base.specs.declared.span.Span.{Span}
-use Rattle.query_model.specs.Queries.{spans_of}
 use Rattle.query_model.specs.declared.query.Query as memory
+use Rattle.query_model.specs.declared.query.Shape.{Shape}
+use Rattle.query_model.specs.declared.query.Shape.TheVariants.{Atom, Eps, Or', Split', Iter', Combine', Apply', Compose', Collect'}
 use Rattle.query_syntax.specs.Queries as q
 use Rattle.query_syntax.specs.Queries.{Query}
 use Rattle.query_syntax.specs.Spans.{query_span}
-use Rattle.type_checker.specs.Findings.{places_in}
-use Rattle.type_checker.specs.Nodes.{places_of}
+use Rattle.type_checker.specs.Findings.{places_at, places_in}
+use Rattle.type_checker.specs.Nodes.{own_place, places_of}
 
--- the last place, or this one
-last_of : List Span → Span → Span
-last_of [] span = span
-last_of (first ∷ spans) span = last_of spans first
+root_written : (tree : Query) → own_place (places_of tree) ≡ query_span tree
+root_written (q.name name) = refl
+root_written (q.atom predicate value span) = refl
+root_written (q.eps number span) = refl
+root_written (q.or f g span) = refl
+root_written (q.split f g value span) = refl
+root_written (q.iter f first step span) = refl
+root_written (q.combine f g value span) = refl
+root_written (q.apply f value span) = refl
+root_written (q.compose f g span) = refl
+root_written (q.collect key sync rate f span) = refl
 
-last_behind : (spans : List Span) (span other : Span) → last_of (spans ++ span ∷ []) other ≡ span
-unfolding last_of
-last_behind [] span other = refl
-last_behind (first ∷ spans) span other = last_behind spans span first
+pub root_made : (shape : Shape) (span : Span) → own_place (places_at shape span) ≡ span
+root_made (Atom pred value) span = refl
+root_made (Eps number) span = refl
+root_made (Or' p first a q second b) span = refl
+root_made (Split' p first a q second b value) span = refl
+root_made (Iter' p inner a number value) span = refl
+root_made (Combine' p first a q second b value) span = refl
+root_made (Apply' p inner a value) span = refl
+root_made (Compose' p first a q second b) span = refl
+root_made (Collect' key sync rate p inner a) span = refl
 
-last_place : (tree : Query) (other : Span) → last_of (places_of tree) other ≡ query_span tree
-unfolding last_of
-last_place (q.name name) other = refl
-last_place (q.atom predicate value span) other = refl
-last_place (q.eps number span) other = refl
-last_place (q.or f g span) other = last_behind (places_of f ++ places_of g) span other
-last_place (q.split f g value span) other = last_behind (places_of f ++ places_of g) span other
-last_place (q.iter f first step span) other = last_behind (places_of f) span other
-last_place (q.combine f g value span) other = last_behind (places_of f ++ places_of g) span other
-last_place (q.apply f value span) other = last_behind (places_of f) span other
-last_place (q.compose f g span) other = last_behind (places_of f ++ places_of g) span other
-last_place (q.collect key sync rate f span) other = last_behind (places_of f) span other
-
--- it is the place of the query in memory
+-- one that was made of the other has its place
 pub root_span : (tree : Query) (query : memory.Query) → places_of tree ≡ places_in query → query_span tree ≡ query.span
 root_span tree query same =
-    sym (last_place tree query.span) ∙ ap (λ (spans : List Span). last_of spans query.span) same
-    ∙ last_behind (spans_of query.shape) query.span query.span
+    sym (root_written tree) ∙ ap own_place same ∙ root_made query.shape query.span

@@ -18,19 +18,19 @@ use Rattle.type_checker.proofs.OverTwo.{IsOverTwo, over_two}
 module _ (query first second : Query) (a b : Box Query Global) (left : first ≡ a.value) (right : second ≡ b.value) where
   pub over_choice : query.shape ≡ Or a b → IsOverTwo q.choice query first second
   over_choice is =
-      over_two q.choice query (Or a b) a.value b.value first second is left right refl (λ columns standing. refl) refl
+      over_two q.choice query (Or a b) a.value b.value first second is left right refl (λ columns standing span. refl)
 
   pub over_split : (value : Expr) → query.shape ≡ Split a b value
       → IsOverTwo (λ f g. q.split f g (values.plain_of value)) query first second
   over_split value is =
       over_two (λ f g. q.split f g (values.plain_of value)) query (Split a b value) a.value b.value first second
-      is left right refl (λ columns standing. refl) refl
+      is left right refl (λ columns standing span. refl)
 
   pub over_combine : (value : Expr) → query.shape ≡ Combine a b value
       → IsOverTwo (λ f g. q.combine f g (values.plain_of value)) query first second
   over_combine value is =
       over_two (λ f g. q.combine f g (values.plain_of value)) query (Combine a b value) a.value b.value first second
-      is left right refl (λ columns standing. refl) refl
+      is left right refl (λ columns standing span. refl)
 
   pub over_compose : query.shape ≡ Compose a b → IsComposition query first second
   over_compose is = composition query (Compose a b) a.value b.value first second is left right refl refl
@@ -41,16 +41,16 @@ module _ (query inner : Query) (a : Box Query Global) (same : inner ≡ a.value)
       → IsOverOne (λ f. q.iter f number (values.plain_of step)) query inner
   over_iter number step is =
       over_one (λ f. q.iter f number (values.plain_of step)) query (Iter a number step) a.value inner
-      is same refl (λ columns standing. refl) refl
+      is same refl (λ columns standing span. refl)
 
   pub over_apply : (value : Expr) → query.shape ≡ Apply a value
       → IsOverOne (λ f. q.apply f (values.plain_of value)) query inner
   over_apply value is =
       over_one (λ f. q.apply f (values.plain_of value)) query (Apply a value) a.value inner
-      is same refl (λ columns standing. refl) refl
+      is same refl (λ columns standing span. refl)
 
   pub over_collect : (key : ℕ) (sync : Pred) (rate : Rate) → query.shape ≡ Collect key sync rate a
       → IsOverOne (λ f. q.collect key (predicates.plain_of sync) (rates.plain_of rate) f) query inner
   over_collect key sync rate is =
       over_one (λ f. q.collect key (predicates.plain_of sync) (rates.plain_of rate) f) query
-      (Collect key sync rate a) a.value inner is same refl (λ columns standing. refl) refl
+      (Collect key sync rate a) a.value inner is same refl (λ columns standing span. refl)

@@ -1,10 +1,10 @@
 -- What a node is resolved to, from what its operands are.
-use Rattle.std.proofs.Common.{◌≡◌, Bool, true, false, List, [], ◌∷◌, ◌++◌, Ok, Err, FitsSigned, refl, sym, ◌∙◌, ap, subst}
+use Rattle.std.proofs.Common.{◌≡◌, Bool, true, false, List, Ok, Err, FitsSigned, refl, sym, ◌∙◌, ap, subst}
 use Rattle.std.specs.Int.{w64}
 use Rattle.item_schema.specs.declared.column.Column.{Column}
 use Rattle.language_base.specs.declared.rule.Rule.TheVariants.{Name, Type_}
 use Rattle.language_base.specs.declared.span.Span.{Span}
-use Rattle.query_model.specs.Queries.{Qre, eps, choice, split, iter, combine, apply, plain_of, spans_of}
+use Rattle.query_model.specs.Queries.{Qre, eps, choice, split, iter, combine, apply, plain_of}
 use Rattle.query_model.specs.QueryTypes as types
 use Rattle.query_model.specs.QueryTypes.{type_of, type_of_expression}
 use Rattle.query_model.specs.Rules.{IsTyped}
@@ -13,8 +13,8 @@ use Rattle.query_syntax.specs.Queries as q
 use Rattle.query_syntax.specs.declared.leaf.Name as leaf
 use Rattle.query_syntax.specs.declared.leaf.Number.{Number}
 use Rattle.type_checker.specs.Expressions.{of_one, of_two}
-use Rattle.type_checker.specs.Findings.{IsUnresolved, places_in}
-use Rattle.type_checker.specs.Nodes.{places_of}
+use Rattle.type_checker.specs.Findings.{IsUnresolved, places_at, places_in}
+use Rattle.type_checker.specs.Nodes.{alone, places_of, with_one, with_two}
 use Rattle.type_checker.specs.Resolutions.{IsRefused, IsMade, IsNumberOver, IsValueOver, number_then, typed_then}
 use Rattle.type_checker.specs.Resolved.{Nesting, resolved, same_type}
 use Rattle.type_checker.specs.Steps.{◌>>=◌, provided, refusal}
@@ -49,12 +49,12 @@ module _ (nesting : Nesting) (columns : List Column) where
 
   -- a number
   pub eps_made : (number : Number) (span : Span) (made : Typed) → FitsSigned w64 number.value
-      → plain_of made.query.value.shape ≡ eps number.value → spans_of made.query.value.shape ≡ []
+      → plain_of made.query.value.shape ≡ eps number.value → places_at made.query.value.shape ≡ alone
       → made.query.value.span ≡ span → made.ty ≡ type.Number → IsMade nesting columns (q.eps number span) made
   unfolding resolved
-  eps_made number span made fits is spans at ty =
+  eps_made number span made fits is places at ty =
       made_of nesting columns (q.eps number span) made (eps number.value) is refl ty fits
-      (no_place made.query.value span spans at)
+      (no_place made.query.value span places at)
 
   -- a choice
   module _ (f g : q.Query) (left right : Typed) (is_left : IsMade nesting columns f left)
@@ -82,10 +82,9 @@ module _ (nesting : Nesting) (columns : List Column) where
 
     pub or_made : (made : Typed) → same_type right.ty left.ty ≡ true
         → plain_of made.query.value.shape ≡ choice (plain_of left.query.value.shape) (plain_of right.query.value.shape)
-        → spans_of made.query.value.shape
-        ≡ spans_of left.query.value.shape ++ left.query.value.span ∷ spans_of right.query.value.shape ++ right.query.value.span ∷ []
+        → places_at made.query.value.shape ≡ with_two (places_in left.query.value) (places_in right.query.value)
         → made.query.value.span ≡ span → made.ty ≡ left.ty → IsMade nesting columns (q.or f g span) made
-    or_made made same is spans at ty =
+    or_made made same is places at ty =
         made_of nesting columns (q.or f g span) made
         (choice (plain_of left.query.value.shape) (plain_of right.query.value.shape)) is
         (or_tested true same) (ty ∙ is_left.typed.type) (
@@ -93,7 +92,7 @@ module _ (nesting : Nesting) (columns : List Column) where
           is_right.typed.keeps,
           sym is_right.typed.type ∙ same_is right.ty left.ty same ∙ is_left.typed.type,
         )
-        (two_places f g left right made.query.value span is_left.places is_right.places spans at)
+        (two_places f g left right made.query.value span is_left.places is_right.places places at)
 
     -- a split, and a combination
     module _ (tree : e.Expression) (names : Types) (are : names ≡ types.of_two left.ty right.ty) where
@@ -132,8 +131,7 @@ module _ (nesting : Nesting) (columns : List Column) where
       combine_refused Memory left' = tt
 
       module _ (value : Expr) (ty : ValueType) (is_value : IsValueOver of_two names tree value ty) (made : Typed)
-          (spans : spans_of made.query.value.shape
-          ≡ spans_of left.query.value.shape ++ left.query.value.span ∷ spans_of right.query.value.shape ++ right.query.value.span ∷ [])
+          (places : places_at made.query.value.shape ≡ with_two (places_in left.query.value) (places_in right.query.value))
           (at : made.query.value.span ≡ span) (type_is : made.ty ≡ ty) where
         type_two : made.ty ≡ type_of_expression
             (types.of_two (type_of columns (plain_of left.query.value.shape))
@@ -147,8 +145,8 @@ module _ (nesting : Nesting) (columns : List Column) where
             (values.plain_of value)
         typed_two = subst (λ (t : Types). IsTyped t (values.plain_of value)) are_two is_value.typed
 
-        places_two : places_in made.query.value ≡ places_of f ++ places_of g ++ span ∷ []
-        places_two = two_places f g left right made.query.value span is_left.places is_right.places spans at
+        places_two : places_in made.query.value ≡ with_two (places_of f) (places_of g) span
+        places_two = two_places f g left right made.query.value span is_left.places is_right.places places at
 
         fit_two : (make : values.Expression → Qre) → typed_then of_two names tree span make ≡ Ok
             (make (values.plain_of value))
@@ -200,9 +198,9 @@ module _ (nesting : Nesting) (columns : List Column) where
       pub iter_made : (value : Expr) (made : Typed) → IsNumberOver of_two names tree value
           → FitsSigned w64 first.value
           → plain_of made.query.value.shape ≡ iter (plain_of inner.query.value.shape) first.value (values.plain_of value)
-          → spans_of made.query.value.shape ≡ spans_of inner.query.value.shape ++ inner.query.value.span ∷ []
+          → places_at made.query.value.shape ≡ with_one (places_in inner.query.value)
           → made.query.value.span ≡ span → made.ty ≡ type.Number → IsMade nesting columns (q.iter f first tree span) made
-      iter_made value made is_value fits is spans at ty =
+      iter_made value made is_value fits is places at ty =
           made_of nesting columns (q.iter f first tree span) made
           (iter (plain_of inner.query.value.shape) first.value (values.plain_of value)) is
           (iter_step ∙ fit_number of_two names tree span (values.plain_of value)
@@ -213,7 +211,7 @@ module _ (nesting : Nesting) (columns : List Column) where
             fits,
             subst (λ (t : Types). HasType t (values.plain_of value) type.Number) are_number is_value.number,
           )
-          (one_place f inner made.query.value span is_inner.places spans at)
+          (one_place f inner made.query.value span is_inner.places places at)
 
     module _ (are : names ≡ types.of_one inner.ty) where
       are_one : names ≡ types.of_one (type_of columns (plain_of inner.query.value.shape))
@@ -234,13 +232,13 @@ module _ (nesting : Nesting) (columns : List Column) where
 
       pub apply_made : (value : Expr) (made : Typed) (ty : ValueType) → IsValueOver of_one names tree value ty
           → plain_of made.query.value.shape ≡ apply (plain_of inner.query.value.shape) (values.plain_of value)
-          → spans_of made.query.value.shape ≡ spans_of inner.query.value.shape ++ inner.query.value.span ∷ []
+          → places_at made.query.value.shape ≡ with_one (places_in inner.query.value)
           → made.query.value.span ≡ span → made.ty ≡ ty → IsMade nesting columns (q.apply f tree span) made
-      apply_made value made ty is_value is spans at ty_is =
+      apply_made value made ty is_value is places at ty_is =
           made_of nesting columns (q.apply f tree span) made
           (apply (plain_of inner.query.value.shape) (values.plain_of value)) is
           (apply_step ∙ fit of_one names tree span (values.plain_of value) (sym is_value.named)
           is_value.passes (apply (plain_of inner.query.value.shape)))
           (ty_is ∙ is_value.type ∙ ap (λ (t : Types). type_of_expression t (values.plain_of value)) are_one)
           (is_inner.typed.keeps, subst (λ (t : Types). IsTyped t (values.plain_of value)) are_one is_value.typed)
-          (one_place f inner made.query.value span is_inner.places spans at)
+          (one_place f inner made.query.value span is_inner.places places at)

@@ -7,7 +7,6 @@ use Rattle.std.specs.Str.{bytes_eq}
 use Rattle.language_base.specs.declared.refusal.Refusal.{Refusal}
 use Rattle.language_base.specs.declared.rule.Rule.{Rule}
 use Rattle.language_base.specs.declared.rule.Rule.TheVariants.{Choice, Compose, Empty, Iter, Rates, Reach, Split}
-use Rattle.language_base.specs.declared.span.Span.{Span}
 use Rattle.item_schema.specs.declared.column.Column.{Column}
 use Rattle.predicate_cells.specs.Met.{IsMet, IsUnmet}
 use Rattle.predicate_cells.specs.Predicates.{Predicate}
@@ -29,7 +28,6 @@ use Rattle.type_checker.specs.Layouts.{layout_of}
 use Rattle.type_checker.specs.Nodes.{Node, nodes_in, places_of}
 use Rattle.type_checker.specs.Steps.{refusal}
 use Rattle.type_checker.specs.WordRules.{BreaksAt, BreaksEqual, BreaksFed, BreaksMet, FirstBroken}
-use Rattle.type_checker.proofs.AsManyPlaces.{measured_placed}
 
 -- parts of one list that are as long are alike
 same_front : {A : Type 0} (u v s t : List A) → length u ≡ length v → u ++ s ≡ v ++ t → (u ≡ v) × (s ≡ t)
@@ -196,18 +194,15 @@ module _ (columns : List Column) (standing : Standing) where
   told_at (collect column sync rate f) never = met_told columns (preds_of rate) never
 
 -- the first node that breaks a rule is refused, or none is
-some_refusal : (nodes : List Node) (spans : List Span) → length nodes ≡ length spans
-    → ((why : Option Refusal) → FirstBroken nodes spans why → ⊥) → ⊥
-some_refusal [] [] same never = never None refl
-some_refusal [] (span ∷ spans) same never = absurd (omega arith)
-some_refusal (node ∷ nodes) [] same never = absurd (omega arith)
-some_refusal (node ∷ nodes) (span ∷ spans) same never =
+some_refusal : (nodes : List Node) → ((why : Option Refusal) → FirstBroken nodes why → ⊥) → ⊥
+some_refusal [] never = never None refl
+some_refusal (node ∷ nodes) never =
     told_at node.columns node.standing node.query
-    (by (λ kept. some_refusal nodes spans (omega arith) (λ why rest. never why (inr (kept, rest)))))
+    (by (λ kept. some_refusal nodes (λ why rest. never why (inr (kept, rest)))))
   where
     by : (BreaksAt node.columns node.standing node.query None → ⊥)
         → Told (BreaksAt node.columns node.standing node.query) → ⊥
-    by none (inl (rule, broken)) = never (Some (refusal rule span)) (inl (rule, broken, refl))
+    by none (inl (rule, broken)) = never (Some (refusal rule node.place)) (inl (rule, broken, refl))
     by none (inr kept) = none kept
 
 module _ (program : Program) (never : (verdict : Verdict) → IsJudged program verdict → ⊥) where
@@ -217,8 +212,8 @@ module _ (program : Program) (never : (verdict : Verdict) → IsJudged program v
 
   of_measured : (made : Result Qre Refusal) → measured program ≡ made → ⊥
   of_measured (Ok query) is =
-      some_refusal (nodes_in (layout_of program.stream).columns free query) (places_of (unfolded program))
-      (measured_placed program query is (layout_of program.stream).columns free) (of_answer query is)
+      some_refusal (nodes_in (layout_of program.stream).columns free query (places_of (unfolded program)))
+      (of_answer query is)
   of_measured (Err why) is = never (refused why) (unmeasured why is)
 
   pub none_without : ⊥

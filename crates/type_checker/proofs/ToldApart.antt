@@ -4,30 +4,30 @@ use Rattle.std.specs.Option.{option_or}
 use Rattle.item_schema.specs.Layout.{Layout, derived_layout}
 use Rattle.item_schema.specs.declared.column.Column.{Column}
 use Rattle.language_base.specs.declared.span.Span.{Span}
-use Rattle.query_model.specs.Queries.{Qre, compose, plain_of, spans_of}
+use Rattle.query_model.specs.Queries.{compose, plain_of}
 use Rattle.query_model.specs.QueryTypes.{derived_columns, type_of}
 use Rattle.query_model.specs.Rules.{Standing, bound}
 use Rattle.query_model.specs.declared.query.Query.{Query}
 use Rattle.query_model.specs.declared.query.Shape.{Shape}
-use Rattle.type_checker.specs.Findings.{KeepsTypes, derives_many, first_behind, first_in}
-use Rattle.type_checker.specs.Nodes.{Node, first_where, nodes_in}
+use Rattle.type_checker.specs.Findings.{KeepsTypes, derives_many, first_behind, first_in, places_at, places_in}
+use Rattle.type_checker.specs.Nodes.{Node, Places, first_where, nodes_in, root, with_two}
 use Rattle.query_model.specs.Few.{has_few_cells}
 use Rattle.type_checker.specs.Sizes.{derives_many_cells}
 use Rattle.type_checker.proofs.OfOperands.{first_of_one, first_of_two, or_none}
+use Rattle.type_checker.proofs.Walked.{nodes_at}
 
--- the root of a query
-abbrev root : List Column → Standing → Qre → Node
-root columns standing query = record { columns = columns; standing = standing; query = query }
+-- the root of a query in memory that has this shape
+abbrev root_of : List Column → Standing → Shape → Span → Node
+root_of columns standing shape span = root columns standing (plain_of shape) (places_at shape span)
 
--- the first in a query that has nodes and places like these
+-- the first in a query that has nodes like these
 first_like : (columns : List Column) (standing : Standing) (query : Query) (shape : Shape) → query.shape ≡ shape
-    → (nodes : List Node) (spans : List Span) → nodes_in columns standing (plain_of shape) ≡ nodes
-    → spans_of shape ≡ spans
-    → first_in derives_many columns standing query ≡ first_where derives_many nodes (spans ++ query.span ∷ [])
-first_like columns standing query shape is nodes spans same places =
+    → (nodes : List Node) → nodes_in columns standing (plain_of shape) (places_at shape query.span) ≡ nodes
+    → first_in derives_many columns standing query ≡ first_where derives_many nodes
+first_like columns standing query shape is nodes same =
     ap (λ (s : Shape).
-    first_where derives_many (nodes_in columns standing (plain_of s)) (spans_of s ++ query.span ∷ [])) is
-    ∙ ap₂ (first_where derives_many) same (ap (λ (all : List Span). all ++ query.span ∷ []) places)
+    first_where derives_many (nodes_in columns standing (plain_of s) (places_at s query.span))) is
+    ∙ ap (first_where derives_many) same
 
 -- the query is no composition, and has this operand on its own stream
 pub record IsAbove (query f : Query) : Type 0 where
@@ -38,16 +38,17 @@ pub record IsAbove (query f : Query) : Type 0 where
 
 pub above : (query : Query) (shape : Shape) (f : Query) → query.shape ≡ shape
     → ((columns : List Column) → KeepsTypes columns (plain_of shape) → KeepsTypes columns (plain_of f.shape))
-    → ((columns : List Column) (standing : Standing) → nodes_in columns standing (plain_of shape)
-    ≡ nodes_in columns bound (plain_of f.shape) ++ root columns standing (plain_of shape) ∷ [])
-    → ((columns : List Column) → derives_many_cells columns (plain_of shape) ≡ false)
-    → spans_of shape ≡ spans_of f.shape ++ f.span ∷ [] → IsAbove query f
-above query shape f is keeps nodes single spans = record {
+    → ((columns : List Column) (standing : Standing) (span : Span)
+    → nodes_in columns standing (plain_of shape) (places_at shape span)
+    ≡ nodes_at columns bound f ++ root_of columns standing shape span ∷ [])
+    → ((columns : List Column) → derives_many_cells columns (plain_of shape) ≡ false) → IsAbove query f
+above query shape f is keeps nodes single = record {
   keeps = λ columns kept. keeps columns (subst (λ (s : Shape). KeepsTypes columns (plain_of s)) is kept);
   first = λ columns standing found one.
-      first_like columns standing query shape is _ _ (nodes columns standing) spans
-      ∙ first_of_one derives_many query.span (root columns standing (plain_of shape)) columns bound f found one
-      ∙ ap (λ (b : Bool). option_or found (cond b (Some query.span) None)) (single columns)
+      let last = root_of columns standing shape query.span in
+      first_like columns standing query shape is _ (nodes columns standing query.span)
+      ∙ first_of_one derives_many last columns bound f found one
+      ∙ ap (λ (b : Bool). option_or found (cond b (Some last.place) None)) (single columns)
       ∙ or_none found;
 }
 
@@ -62,18 +63,17 @@ pub record IsBeside (query f g : Query) : Type 0 where
 pub beside : (query : Query) (shape : Shape) (f g : Query) → query.shape ≡ shape
     → ((columns : List Column) → KeepsTypes columns (plain_of shape)
     → KeepsTypes columns (plain_of f.shape) × KeepsTypes columns (plain_of g.shape))
-    → ((columns : List Column) (standing : Standing) → nodes_in columns standing (plain_of shape)
-    ≡ nodes_in columns bound (plain_of f.shape) ++ nodes_in columns bound (plain_of g.shape)
-    ++ root columns standing (plain_of shape) ∷ [])
-    → ((columns : List Column) → derives_many_cells columns (plain_of shape) ≡ false)
-    → spans_of shape ≡ spans_of f.shape ++ f.span ∷ spans_of g.shape ++ g.span ∷ [] → IsBeside query f g
-beside query shape f g is keeps nodes single spans = record {
+    → ((columns : List Column) (standing : Standing) (span : Span)
+    → nodes_in columns standing (plain_of shape) (places_at shape span)
+    ≡ nodes_at columns bound f ++ nodes_at columns bound g ++ root_of columns standing shape span ∷ [])
+    → ((columns : List Column) → derives_many_cells columns (plain_of shape) ≡ false) → IsBeside query f g
+beside query shape f g is keeps nodes single = record {
   keeps = λ columns kept. keeps columns (subst (λ (s : Shape). KeepsTypes columns (plain_of s)) is kept);
   first = λ columns standing found later one other.
-      first_like columns standing query shape is _ _ (nodes columns standing) spans
-      ∙ first_of_two derives_many query.span (root columns standing (plain_of shape)) columns bound f columns bound g
-      found later one other
-      ∙ ap (λ (b : Bool). option_or (option_or found later) (cond b (Some query.span) None)) (single columns)
+      let last = root_of columns standing shape query.span in
+      first_like columns standing query shape is _ (nodes columns standing query.span)
+      ∙ first_of_two derives_many last columns bound f columns bound g found later one other
+      ∙ ap (λ (b : Bool). option_or (option_or found later) (cond b (Some last.place) None)) (single columns)
       ∙ or_none (option_or found later);
 }
 
@@ -97,8 +97,7 @@ here_behind values standing g span later here one many =
 -- the query is a composition
 module _ (query : Query) (shape : Shape) (f g : Query) (is : query.shape ≡ shape)
     (plain : plain_of shape ≡ compose (plain_of f.shape) (plain_of g.shape))
-    (spans : spans_of shape ≡ spans_of f.shape ++ f.span ∷ spans_of g.shape ++ g.span ∷ [])
-    (columns : List Column) where
+    (places : places_at shape ≡ with_two (places_in f) (places_in g)) (columns : List Column) where
   abbrev values : List Column
   values = derived_columns (type_of columns (plain_of f.shape))
 
@@ -113,9 +112,10 @@ module _ (query : Query) (shape : Shape) (f g : Query) (is : query.shape ≡ sha
       → here ≡ cond (not (has_few_cells values (plain_of g.shape))) (Some query.span) None
       → first_in derives_many columns standing query ≡ option_or (option_or found later) here
   compose_first standing found later here one other many =
-      first_like columns standing query shape is _ _ (ap (nodes_in columns standing) plain) spans
-      ∙ first_of_two derives_many query.span (root columns standing (compose (plain_of f.shape) (plain_of g.shape)))
-      columns standing f values standing g found later one other
+      first_like columns standing query shape is _
+      (ap₂ (nodes_in columns standing) plain (ap (λ (placed : Span → Places). placed query.span) places))
+      ∙ first_of_two derives_many (root columns standing (compose (plain_of f.shape) (plain_of g.shape))
+      (with_two (places_in f) (places_in g) query.span)) columns standing f values standing g found later one other
       ∙ ap (option_or (option_or found later)) (sym many)
 
   pub compose_behind : (standing : Standing) (found behind : Option Span)

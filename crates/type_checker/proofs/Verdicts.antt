@@ -25,7 +25,7 @@ module _ (program : Program) where
   one_answer : (query other : Qre) (why why' : Option Refusal) → measured program ≡ Ok query
       → measured program ≡ Ok other → BreaksFirst program query why → BreaksFirst program other why' → why' ≡ why
   one_answer query other why why' is is' breaks breaks' =
-      one_refusal (nodes_in (layout_of program.stream).columns free query) (places_of (unfolded program)) why why'
+      one_refusal (nodes_in (layout_of program.stream).columns free query (places_of (unfolded program))) why why'
       breaks
       (subst (λ (q : Qre). BreaksFirst program q why') (one_query query other is is') breaks')
 

@@ -4,7 +4,6 @@ use Rattle.std.specs.List.{AllByRecursion, Contains}
 use Rattle.language_base.specs.declared.refusal.Refusal.{Refusal}
 use Rattle.language_base.specs.declared.rule.Rule.{Rule}
 use Rattle.language_base.specs.declared.rule.Rule.TheVariants.{Choice, Compose, Empty, Iter, Rates, Reach, Split}
-use Rattle.language_base.specs.declared.span.Span.{Span}
 use Rattle.item_schema.specs.declared.column.Column.{Column}
 use Rattle.predicate_cells.specs.Met.{IsMet, IsUnmet}
 use Rattle.predicate_cells.specs.Predicates.{Predicate}
@@ -146,17 +145,15 @@ module _ (columns : List Column) (standing : Standing) where
       met_or columns (preds_of rate) rule broken kept
 
 -- the first node that breaks a rule of words is refused in one way
-pub one_refusal : (nodes : List Node) (spans : List Span) (why other : Option Refusal) → FirstBroken nodes spans why
-    → FirstBroken nodes spans other → other ≡ why
-one_refusal [] [] why other is is' = is' ∙ sym is
-one_refusal [] (span ∷ spans) why other is is' = absurd is
-one_refusal (node ∷ nodes) [] why other is is' = absurd is
-one_refusal (node ∷ nodes) (span ∷ spans) why other (inl (rule, broken, is)) (inl (rule', broken', is')) =
-    is' ∙ ap (λ (r : Rule). Some (refusal r span))
+pub one_refusal : (nodes : List Node) (why other : Option Refusal) → FirstBroken nodes why
+    → FirstBroken nodes other → other ≡ why
+one_refusal [] why other is is' = is' ∙ sym is
+one_refusal (node ∷ nodes) why other (inl (rule, broken, is)) (inl (rule', broken', is')) =
+    is' ∙ ap (λ (r : Rule). Some (refusal r node.place))
     (one_rule node.columns node.standing node.query rule rule' broken broken') ∙ sym is
-one_refusal (node ∷ nodes) (span ∷ spans) why other (inl (rule, broken, is)) (inr (kept, rest)) =
+one_refusal (node ∷ nodes) why other (inl (rule, broken, is)) (inr (kept, rest)) =
     absurd (broken_or_kept node.columns node.standing node.query rule broken kept)
-one_refusal (node ∷ nodes) (span ∷ spans) why other (inr (kept, rest)) (inl (rule, broken, is)) =
+one_refusal (node ∷ nodes) why other (inr (kept, rest)) (inl (rule, broken, is)) =
     absurd (broken_or_kept node.columns node.standing node.query rule broken kept)
-one_refusal (node ∷ nodes) (span ∷ spans) why other (inr (kept, rest)) (inr (kept', rest')) =
-    one_refusal nodes spans why other rest rest'
+one_refusal (node ∷ nodes) why other (inr (kept, rest)) (inr (kept', rest')) =
+    one_refusal nodes why other rest rest'

@@ -6,7 +6,7 @@ use Rattle.language_base.specs.declared.refusal.Refusal.{Refusal}
 use Rattle.language_base.specs.declared.rule.Rule.{Rule}
 use Rattle.language_base.specs.declared.span.Span.{Span}
 use Rattle.predicate_cells.specs.Predicates.{Predicate}
-use Rattle.query_model.specs.Queries.{spans_of, Qre, atom, eps, choice, split, iter, combine, apply, compose, collect, plain_of}
+use Rattle.query_model.specs.Queries.{Qre, atom, eps, choice, split, iter, combine, apply, compose, collect, plain_of}
 use Rattle.item_schema.specs.declared.column.Column.{Column}
 use Rattle.predicate_cells.specs.Cells.{AllFit, Partition}
 use Rattle.rate_expr.specs.FirstLastFollow.{AreSetsOf}
@@ -20,7 +20,9 @@ use Rattle.query_model.specs.Rates.{rate_of}
 use Rattle.query_model.specs.Rules.{HasNoCollect, Standing, bound, IsTyped}
 use Rattle.query_model.specs.Sizes.{HasFewPositions, HaveFewCells, predicates_of}
 use Rattle.query_model.specs.declared.query.Query.{Query}
-use Rattle.type_checker.specs.Nodes.{Node, first_where, nodes_in}
+use Rattle.query_model.specs.declared.query.Shape.{Shape}
+use Rattle.query_model.specs.declared.query.Shape.TheVariants.{Atom, Eps, Or', Split', Iter', Combine', Apply', Compose', Collect'}
+use Rattle.type_checker.specs.Nodes.{Node, Places, alone, first_places, first_where, nodes_in, second_places, with_one, with_two}
 use Rattle.type_checker.specs.Sizes.{derives_many_cells}
 use Rattle.type_checker.specs.Steps.{refusal}
 use Rattle.type_checker.specs.WordRules.{BreaksAt, BreaksFed, FirstBroken}
@@ -38,14 +40,26 @@ abbrev pub IsUnresolved : {A : Type 0} → Result A Refusal → CheckStop → Ty
 IsUnresolved found (Refused refusal) = found ≡ Err refusal
 IsUnresolved found Memory = Unit {0}
 
--- the places of the nodes of a query in memory
-abbrev pub places_in : Query → List Span
-places_in query = spans_of query.shape ++ query.span ∷ []
+-- the places of a query of this shape
+abbrev pub places_at : Shape → Span → Places
+places_at (Atom pred value) = alone
+places_at (Eps number) = alone
+places_at (Or' p first a q second b) = with_two (places_at first a) (places_at second b)
+places_at (Split' p first a q second b value) = with_two (places_at first a) (places_at second b)
+places_at (Iter' p inner a number value) = with_one (places_at inner a)
+places_at (Combine' p first a q second b value) = with_two (places_at first a) (places_at second b)
+places_at (Apply' p inner a value) = with_one (places_at inner a)
+places_at (Compose' p first a q second b) = with_two (places_at first a) (places_at second b)
+places_at (Collect' key sync rate p inner a) = with_one (places_at inner a)
+
+-- the places of a query in memory
+abbrev pub places_in : Query → Places
+places_in query = places_at query.shape query.span
 
 -- the place of the first node of a query in memory that is so
 abbrev pub first_in : (Node → Bool) → List Column → Standing → Query → Option Span
 first_in is_so columns standing query =
-    first_where is_so (nodes_in columns standing (plain_of query.shape)) (places_in query)
+    first_where is_so (nodes_in columns standing (plain_of query.shape) (places_in query))
 
 -- the node is a composition whose right operand tells too many values of the left one apart
 abbrev pub derives_many : Node → Bool
@@ -125,30 +139,38 @@ IsUnfed standing columns r span (Refused why) =
 IsUnfed standing columns r span Memory = Unit {0}
 
 -- the nodes of the second operand of a composition, and then the composition
-abbrev pub nodes_behind : List Column → Standing → Qre → Qre → List Node
-nodes_behind columns standing f g =
-    nodes_in (derived_columns (type_of columns f)) standing g
-    ++ (record { columns = columns; standing = standing; query = compose f g }) ∷ []
+abbrev pub nodes_behind : List Column → Standing → Qre → Qre → Places → Span → List Node
+nodes_behind columns standing f g places span =
+    nodes_in (derived_columns (type_of columns f)) standing g places
+    ++ (record { columns = columns; standing = standing; query = compose f g; place = span }) ∷ []
 
 -- the nodes of the operands of a query
-abbrev pub operand_nodes : List Column → Standing → Qre → List Node
-operand_nodes columns standing (atom pred expression) = []
-operand_nodes columns standing (eps number) = []
-operand_nodes columns standing (choice f g) = nodes_in columns bound f ++ nodes_in columns bound g
-operand_nodes columns standing (split f g expression) =
-    nodes_in columns bound f ++ nodes_in columns bound g
-operand_nodes columns standing (iter f number expression) = nodes_in columns bound f
-operand_nodes columns standing (combine f g expression) =
-    nodes_in columns bound f ++ nodes_in columns bound g
-operand_nodes columns standing (apply f expression) = nodes_in columns bound f
-operand_nodes columns standing (compose f g) =
-    nodes_in columns standing f ++ nodes_in (derived_columns (type_of columns f)) standing g
-operand_nodes columns standing (collect column sync rate f) = nodes_in columns bound f
+abbrev pub operand_nodes : List Column → Standing → Qre → Places → List Node
+operand_nodes columns standing (atom pred expression) places = []
+operand_nodes columns standing (eps number) places = []
+operand_nodes columns standing (choice f g) places =
+    nodes_in columns bound f (first_places places)
+    ++ nodes_in columns bound g (second_places places)
+operand_nodes columns standing (split f g expression) places =
+    nodes_in columns bound f (first_places places)
+    ++ nodes_in columns bound g (second_places places)
+operand_nodes columns standing (iter f number expression) places =
+    nodes_in columns bound f (first_places places)
+operand_nodes columns standing (combine f g expression) places =
+    nodes_in columns bound f (first_places places)
+    ++ nodes_in columns bound g (second_places places)
+operand_nodes columns standing (apply f expression) places =
+    nodes_in columns bound f (first_places places)
+operand_nodes columns standing (compose f g) places =
+    nodes_in columns standing f (first_places places)
+    ++ nodes_in (derived_columns (type_of columns f)) standing g (second_places places)
+operand_nodes columns standing (collect column sync rate f) places =
+    nodes_in columns bound f (first_places places)
 
 -- the refusal is that of the first node that breaks a rule of words, or memory was wanting
-abbrev pub IsBrokenBy : List Node → List Span → CheckStop → Type 0
-IsBrokenBy nodes places (Refused refusal) = FirstBroken nodes places (Some refusal)
-IsBrokenBy nodes places Memory = Unit {0}
+abbrev pub IsBrokenBy : List Node → CheckStop → Type 0
+IsBrokenBy nodes (Refused refusal) = FirstBroken nodes (Some refusal)
+IsBrokenBy nodes Memory = Unit {0}
 
 -- a query with its type
 pub record IsResolved (columns : List Column) (made : Typed) : Type 0 where

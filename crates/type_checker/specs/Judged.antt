@@ -49,7 +49,7 @@ measured program = do
 -- the last: the rules of words at the nodes of the query
 abbrev pub BreaksFirst : Program → Qre → Option Refusal → Type 0
 BreaksFirst program query why = FirstBroken
-    (nodes_in (layout_of program.stream).columns free query) (places_of (unfolded program)) why
+    (nodes_in (layout_of program.stream).columns free query (places_of (unfolded program))) why
 
 -- a query that is run, or a refusal
 pub data Verdict : Type 0 where

@@ -1,4 +1,4 @@
--- Statement. The nodes of a query and their places, each behind those of its operands, from left to
+-- Statement. The nodes of a query with their places, each behind those of its operands, from left to
 -- right.
 use Rattle.std.specs.Prelude.{Bool, List, [], ◌∷◌, ◌++◌, Option, None, Some, if◌then◌else◌}
 use Rattle.language_base.specs.declared.span.Span.{Span}
@@ -9,55 +9,89 @@ use Rattle.query_model.specs.Rules.{Standing, bound}
 use Rattle.query_syntax.specs.Queries as q
 use Rattle.query_syntax.specs.Queries.{Query}
 
--- a node: the columns of its stream, whether it is free, and the query that it is the root of
+-- the places of a query: its own alone, or with those of one operand or of two
+pub data Places : Type 0 where
+  alone : Span → Places
+  with_one : Places → Span → Places
+  with_two : Places → Places → Span → Places
+
+-- its own
+abbrev pub own_place : Places → Span
+own_place (alone span) = span
+own_place (with_one first span) = span
+own_place (with_two first second span) = span
+
+-- those of its first operand, where it has one
+abbrev pub first_places : Places → Places
+first_places (alone span) = alone span
+first_places (with_one first span) = first
+first_places (with_two first second span) = first
+
+-- those of its second operand, where it has two
+abbrev pub second_places : Places → Places
+second_places (alone span) = alone span
+second_places (with_one first span) = first
+second_places (with_two first second span) = second
+
+-- the places of a query as it is written
+abbrev pub places_of : Query → Places
+places_of (q.name name) = alone name.span
+places_of (q.atom predicate value span) = alone span
+places_of (q.eps number span) = alone span
+places_of (q.or f g span) = with_two (places_of f) (places_of g) span
+places_of (q.split f g value span) = with_two (places_of f) (places_of g) span
+places_of (q.iter f first step span) = with_one (places_of f) span
+places_of (q.combine f g value span) = with_two (places_of f) (places_of g) span
+places_of (q.apply f value span) = with_one (places_of f) span
+places_of (q.compose f g span) = with_two (places_of f) (places_of g) span
+places_of (q.collect key sync rate f span) = with_one (places_of f) span
+
+-- a node: the columns of its stream, whether it is free, the query that it is the root of, and its
+-- place
 pub record Node : Type 0 where
   pub columns : List Column
   pub standing : Standing
   pub query : Qre
+  pub place : Span
 
--- the nodes of a query that stands so over these columns
-abbrev pub nodes_in : List Column → Standing → Qre → List Node
-nodes_in columns standing (atom pred expression) =
-    (record { columns = columns; standing = standing; query = atom pred expression }) ∷ []
-nodes_in columns standing (eps number) =
-    (record { columns = columns; standing = standing; query = eps number }) ∷ []
-nodes_in columns standing (choice f g) =
-    nodes_in columns bound f ++ nodes_in columns bound g
-    ++ (record { columns = columns; standing = standing; query = choice f g }) ∷ []
-nodes_in columns standing (split f g expression) =
-    nodes_in columns bound f ++ nodes_in columns bound g
-    ++ (record { columns = columns; standing = standing; query = split f g expression }) ∷ []
-nodes_in columns standing (iter f number expression) =
-    nodes_in columns bound f
-    ++ (record { columns = columns; standing = standing; query = iter f number expression }) ∷ []
-nodes_in columns standing (combine f g expression) =
-    nodes_in columns bound f ++ nodes_in columns bound g
-    ++ (record { columns = columns; standing = standing; query = combine f g expression }) ∷ []
-nodes_in columns standing (apply f expression) =
-    nodes_in columns bound f
-    ++ (record { columns = columns; standing = standing; query = apply f expression }) ∷ []
-nodes_in columns standing (compose f g) =
-    nodes_in columns standing f ++ nodes_in (derived_columns (type_of columns f)) standing g
-    ++ (record { columns = columns; standing = standing; query = compose f g }) ∷ []
-nodes_in columns standing (collect column sync rate f) =
-    nodes_in columns bound f
-    ++ (record { columns = columns; standing = standing; query = collect column sync rate f }) ∷ []
+-- the root of a query
+abbrev pub root : List Column → Standing → Qre → Places → Node
+root columns standing query places =
+    record { columns = columns; standing = standing; query = query; place = own_place places }
 
--- the places of the nodes of a query as it is written
-abbrev pub places_of : Query → List Span
-places_of (q.name name) = name.span ∷ []
-places_of (q.atom predicate value span) = span ∷ []
-places_of (q.eps number span) = span ∷ []
-places_of (q.or f g span) = places_of f ++ places_of g ++ span ∷ []
-places_of (q.split f g value span) = places_of f ++ places_of g ++ span ∷ []
-places_of (q.iter f first step span) = places_of f ++ span ∷ []
-places_of (q.combine f g value span) = places_of f ++ places_of g ++ span ∷ []
-places_of (q.apply f value span) = places_of f ++ span ∷ []
-places_of (q.compose f g span) = places_of f ++ places_of g ++ span ∷ []
-places_of (q.collect key sync rate f span) = places_of f ++ span ∷ []
+-- the nodes of a query that stands so over these columns, with these places: each of its nodes is one
+-- of them, whatever the places are
+abbrev pub nodes_in : List Column → Standing → Qre → Places → List Node
+nodes_in columns standing (atom pred expression) places =
+    root columns standing (atom pred expression) places ∷ []
+nodes_in columns standing (eps number) places = root columns standing (eps number) places ∷ []
+nodes_in columns standing (choice f g) places =
+    nodes_in columns bound f (first_places places)
+    ++ nodes_in columns bound g (second_places places)
+    ++ root columns standing (choice f g) places ∷ []
+nodes_in columns standing (split f g expression) places =
+    nodes_in columns bound f (first_places places)
+    ++ nodes_in columns bound g (second_places places)
+    ++ root columns standing (split f g expression) places ∷ []
+nodes_in columns standing (iter f number expression) places =
+    nodes_in columns bound f (first_places places)
+    ++ root columns standing (iter f number expression) places ∷ []
+nodes_in columns standing (combine f g expression) places =
+    nodes_in columns bound f (first_places places)
+    ++ nodes_in columns bound g (second_places places)
+    ++ root columns standing (combine f g expression) places ∷ []
+nodes_in columns standing (apply f expression) places =
+    nodes_in columns bound f (first_places places)
+    ++ root columns standing (apply f expression) places ∷ []
+nodes_in columns standing (compose f g) places =
+    nodes_in columns standing f (first_places places)
+    ++ nodes_in (derived_columns (type_of columns f)) standing g (second_places places)
+    ++ root columns standing (compose f g) places ∷ []
+nodes_in columns standing (collect column sync rate f) places =
+    nodes_in columns bound f (first_places places)
+    ++ root columns standing (collect column sync rate f) places ∷ []
 
--- the place of the first node that is so, where the nodes have these places
-abbrev pub first_where : (Node → Bool) → List Node → List Span → Option Span
-first_where is_so (node ∷ nodes) (span ∷ spans) =
-    if is_so node then Some span else first_where is_so nodes spans
-first_where is_so _ _ = None
+-- the place of the first node that is so
+abbrev pub first_where : (Node → Bool) → List Node → Option Span
+first_where is_so (node ∷ nodes) = if is_so node then Some node.place else first_where is_so nodes
+first_where is_so [] = None

@@ -13,7 +13,7 @@ use Rattle.query_model.specs.Rules.{free}
 use Rattle.query_model.specs.Sizes.{max_slots}
 use Rattle.query_syntax.specs.Queries.{Query}
 use Rattle.rate_expr.specs.Rates.{size_of}
-use Rattle.type_checker.specs.Nodes.{Node, first_where, nodes_in}
+use Rattle.type_checker.specs.Nodes.{Node, Places, first_where, nodes_in}
 
 -- the query as it is written has few nodes
 abbrev pub has_few_nodes : Query → Bool
@@ -35,5 +35,5 @@ derives_many_cells columns (compose f g) =
 derives_many_cells columns _ = false
 
 -- the place of the first node that is so
-abbrev pub first_node : (Node → Bool) → List Column → Qre → List Span → Option Span
-first_node is_so columns query places = first_where is_so (nodes_in columns free query) places
+abbrev pub first_node : (Node → Bool) → List Column → Qre → Places → Option Span
+first_node is_so columns query places = first_where is_so (nodes_in columns free query places)

@@ -5,7 +5,6 @@ use Rattle.std.specs.List.{AllByRecursion, Contains}
 use Rattle.language_base.specs.declared.refusal.Refusal.{Refusal}
 use Rattle.language_base.specs.declared.rule.Rule.{Rule}
 use Rattle.language_base.specs.declared.rule.Rule.TheVariants.{Choice, Compose, Empty, Iter, Rates, Reach, Split}
-use Rattle.language_base.specs.declared.span.Span.{Span}
 use Rattle.item_schema.specs.declared.column.Column.{Column}
 use Rattle.predicate_cells.specs.Met.{IsMet, IsUnmet}
 use Rattle.predicate_cells.specs.Predicates.{Predicate}
@@ -82,10 +81,9 @@ BreaksAt columns standing _ _ = ⊥
 abbrev pub Breaks : Node → Option Rule → Type 0
 Breaks node broken = BreaksAt node.columns node.standing node.query broken
 
--- the refusal at the first node that breaks a rule, where the nodes have these places, one each
-abbrev pub FirstBroken : List Node → List Span → Option Refusal → Type 0
-FirstBroken (node ∷ nodes) (span ∷ spans) why =
-    ((rule : Rule) × Breaks node (Some rule) × (why ≡ Some (refusal rule span)))
-    ⊎ (Breaks node None × FirstBroken nodes spans why)
-FirstBroken [] [] why = why ≡ None
-FirstBroken _ _ why = ⊥
+-- the first rule that one of the nodes breaks, with the place of the node, or none where none does
+abbrev pub FirstBroken : List Node → Option Refusal → Type 0
+FirstBroken (node ∷ nodes) why =
+    ((rule : Rule) × Breaks node (Some rule) × (why ≡ Some (refusal rule node.place)))
+    ⊎ (Breaks node None × FirstBroken nodes why)
+FirstBroken [] why = why ≡ None

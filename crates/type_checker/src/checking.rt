@@ -40,10 +40,10 @@ pub fn check(alloc: Global, program: &Program) -> Result<Checked, CheckStop>
 fn keep_words_over(alloc: Global, cells: Cells, query: &Query) -> Result<(), CheckStop>
     requires { CanBeAsked cells (plain_of query.now.shape) }
     ensures kept { OnOk result (FirstBroken
-        (nodes_in cells.layout.columns free (plain_of query.now.shape))
-        (places_in query.now) None) }
+        (nodes_in cells.layout.columns free (plain_of query.now.shape) (places_in query.now))
+        None) }
     ensures refused { IfErr result (IsBrokenBy
-        (nodes_in cells.layout.columns free (plain_of query.now.shape)) (places_in query.now)) }
+        (nodes_in cells.layout.columns free (plain_of query.now.shape) (places_in query.now))) }
 {
     let cells = shared(alloc, cells)?;
     keep_words(alloc, Standing::Free, &cells, query)?;

@@ -32,11 +32,11 @@ pub fn positions_of(query: &Query) -> Result<u32, Span>
     ensures few { OnOk result (HasFewPositions (plain_of query.now.shape)
         × (size_of (rate_of (plain_of query.now.shape)) ≤ max_positions)) }
     ensures none { OnOk result ((columns : List Column) (standing : Standing)
-        → first_where has_many_positions (nodes_in columns standing (plain_of query.now.shape))
-        (places_in query.now) ≡ None) }
+        → first_where has_many_positions
+        (nodes_in columns standing (plain_of query.now.shape) (places_in query.now)) ≡ None) }
     ensures first { IfErr result (λ span. (columns : List Column) (standing : Standing)
-        → first_where has_many_positions (nodes_in columns standing (plain_of query.now.shape))
-        (places_in query.now) ≡ Some span) }
+        → first_where has_many_positions
+        (nodes_in columns standing (plain_of query.now.shape) (places_in query.now)) ≡ Some span) }
 {
     match &query.shape {
         Shape::Atom(..) => Ok(1),

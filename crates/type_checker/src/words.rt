@@ -1,5 +1,5 @@
 //! The rules of words, at each node of a query.
-ghost use Rattle.std.specs.Prelude.{◌≡◌, [], ◌∷◌, ◌++◌, IfErr, IfOk, None, OnOk};
+ghost use Rattle.std.specs.Prelude.{◌≡◌, ◌++◌, IfErr, IfOk, None, OnOk};
 ghost use Rattle.item_schema.specs.Layout.{derived_layout};
 ghost use Rattle.rate_expr.specs.FirstLastFollow.{AreSetsOf};
 ghost use Rattle.query_model.specs.Queries.{compose, plain_of};
@@ -34,12 +34,12 @@ pub fn keep_words(
 ) -> Result<Positions, CheckStop>
     requires { CanBeAsked cells.now.value (plain_of query.now.shape) }
     ensures kept { OnOk result (FirstBroken
-        (nodes_in cells.now.value.layout.columns (standing_of standing) (plain_of query.now.shape))
-        (places_in query.now) None) }
+        (nodes_in cells.now.value.layout.columns (standing_of standing) (plain_of query.now.shape)
+        (places_in query.now)) None) }
     ensures positions { IfOk result (λ sets. AreSetsOf sets (rate_of (plain_of query.now.shape))) }
     ensures refused { IfErr result (IsBrokenBy
-        (nodes_in cells.now.value.layout.columns (standing_of standing) (plain_of query.now.shape))
-        (places_in query.now)) }
+        (nodes_in cells.now.value.layout.columns (standing_of standing) (plain_of query.now.shape)
+        (places_in query.now))) }
 {
     match &query.shape {
         Shape::Atom(pred, _) => one_item(alloc, cells, pred, query.span),
@@ -86,14 +86,16 @@ fn keep_both(
     requires second { CanBeAsked cells.now.value (plain_of second.now.shape) }
     ensures kept { OnOk result (FirstBroken
         (nodes_in cells.now.value.layout.columns bound (plain_of first.now.shape)
-        ++ nodes_in cells.now.value.layout.columns bound (plain_of second.now.shape))
-        (places_in first.now ++ places_in second.now) None) }
+        (places_in first.now)
+        ++ nodes_in cells.now.value.layout.columns bound (plain_of second.now.shape)
+        (places_in second.now)) None) }
     ensures automata { IfOk result
         (AreOperands cells.now.value (plain_of first.now.shape) (plain_of second.now.shape)) }
     ensures refused { IfErr result (IsBrokenBy
         (nodes_in cells.now.value.layout.columns bound (plain_of first.now.shape)
-        ++ nodes_in cells.now.value.layout.columns bound (plain_of second.now.shape))
-        (places_in first.now ++ places_in second.now)) }
+        (places_in first.now)
+        ++ nodes_in cells.now.value.layout.columns bound (plain_of second.now.shape)
+        (places_in second.now))) }
 {
     let left = keep_words(alloc, Standing::Bound, cells, first)?;
     let right = keep_words(alloc, Standing::Bound, cells, second)?;
@@ -117,12 +119,11 @@ fn keep_fed(
         (compose (plain_of first.now.shape) (plain_of second.now.shape)) }
     ensures kept { OnOk result (FirstBroken
         (nodes_behind cells.now.value.layout.columns (standing_of standing)
-        (plain_of first.now.shape) (plain_of second.now.shape))
-        (places_in second.now ++ span ∷ []) None) }
+        (plain_of first.now.shape) (plain_of second.now.shape) (places_in second.now) span)
+        None) }
     ensures refused { IfErr result (IsBrokenBy
         (nodes_behind cells.now.value.layout.columns (standing_of standing)
-        (plain_of first.now.shape) (plain_of second.now.shape))
-        (places_in second.now ++ span ∷ [])) }
+        (plain_of first.now.shape) (plain_of second.now.shape) (places_in second.now) span)) }
 {
     let values = cells_between(alloc, cells.as_ref(), first, second)?;
     let right = keep_words(alloc, standing, &values, second)?;

@@ -18,12 +18,12 @@ first_apart-first_apart-requires-in-Or t c =
     let is : IsBeside c.args.query.now c.in-Or.first.value c.in-Or.second.value =
     elim c.in-Or.is [
       | inl is ↦ beside c.args.query.now _ c.in-Or.first.value c.in-Or.second.value is
-          (λ columns kept. (kept.0, kept.1)) (λ columns standing. refl) (λ columns. refl) refl
+          (λ columns kept. (kept.0, kept.1)) (λ columns standing span. refl) (λ columns. refl)
       | inr others ↦ elim others [
         | inl (value, is) ↦ beside c.args.query.now _ c.in-Or.first.value c.in-Or.second.value is
-            (λ columns kept. (kept.0, kept.1)) (λ columns standing. refl) (λ columns. refl) refl
+            (λ columns kept. (kept.0, kept.1)) (λ columns standing span. refl) (λ columns. refl)
         | inr (value, is) ↦ beside c.args.query.now _ c.in-Or.first.value c.in-Or.second.value is
-            (λ columns kept. (kept.0, kept.1)) (λ columns standing. refl) (λ columns. refl) refl
+            (λ columns kept. (kept.0, kept.1)) (λ columns standing span. refl) (λ columns. refl)
       ]
     ] in
     (search (rules, the_lemmas), rw c.deref-in-Or.ensures (is.keeps c.args.schema.now.columns c.requires).0)
@@ -33,12 +33,12 @@ first_apart-first_apart-requires-in-Or-2 t c =
     let is : IsBeside c.args.query.now c.in-Or.first.value c.in-Or.second.value =
     elim c.in-Or.is [
       | inl is ↦ beside c.args.query.now _ c.in-Or.first.value c.in-Or.second.value is
-          (λ columns kept. (kept.0, kept.1)) (λ columns standing. refl) (λ columns. refl) refl
+          (λ columns kept. (kept.0, kept.1)) (λ columns standing span. refl) (λ columns. refl)
       | inr others ↦ elim others [
         | inl (value, is) ↦ beside c.args.query.now _ c.in-Or.first.value c.in-Or.second.value is
-            (λ columns kept. (kept.0, kept.1)) (λ columns standing. refl) (λ columns. refl) refl
+            (λ columns kept. (kept.0, kept.1)) (λ columns standing span. refl) (λ columns. refl)
         | inr (value, is) ↦ beside c.args.query.now _ c.in-Or.first.value c.in-Or.second.value is
-            (λ columns kept. (kept.0, kept.1)) (λ columns standing. refl) (λ columns. refl) refl
+            (λ columns kept. (kept.0, kept.1)) (λ columns standing span. refl) (λ columns. refl)
       ]
     ] in
     (search (rules, the_lemmas), rw c.deref-in-Or-2.ensures (is.keeps c.args.schema.now.columns c.requires).1)
@@ -48,12 +48,12 @@ first_apart-returns-in_ok-right-in-Or t c = λ standing.
     let is : IsBeside c.args.query.now c.in-Or.first.value c.in-Or.second.value =
     elim c.in-Or.is [
       | inl is ↦ beside c.args.query.now _ c.in-Or.first.value c.in-Or.second.value is
-          (λ columns kept. (kept.0, kept.1)) (λ columns standing. refl) (λ columns. refl) refl
+          (λ columns kept. (kept.0, kept.1)) (λ columns standing span. refl) (λ columns. refl)
       | inr others ↦ elim others [
         | inl (value, is) ↦ beside c.args.query.now _ c.in-Or.first.value c.in-Or.second.value is
-            (λ columns kept. (kept.0, kept.1)) (λ columns standing. refl) (λ columns. refl) refl
+            (λ columns kept. (kept.0, kept.1)) (λ columns standing span. refl) (λ columns. refl)
         | inr (value, is) ↦ beside c.args.query.now _ c.in-Or.first.value c.in-Or.second.value is
-            (λ columns kept. (kept.0, kept.1)) (λ columns standing. refl) (λ columns. refl) refl
+            (λ columns kept. (kept.0, kept.1)) (λ columns standing span. refl) (λ columns. refl)
       ]
     ] in
     let left = rw c.deref-in-Or.ensures at (c.in_ok-left-in-Or.ensures bound) in
@@ -65,12 +65,12 @@ first_apart-first_apart-requires-in-Iter t c =
     let is : IsAbove c.args.query.now c.in-Iter.inner.value =
     elim c.in-Iter.is [
       | inl (number, step, is) ↦ above c.args.query.now _ c.in-Iter.inner.value is
-          (λ columns kept. kept.0) (λ columns standing. refl) (λ columns. refl) refl
+          (λ columns kept. kept.0) (λ columns standing span. refl) (λ columns. refl)
       | inr others ↦ elim others [
         | inl (value, is) ↦ above c.args.query.now _ c.in-Iter.inner.value is
-            (λ columns kept. kept.0) (λ columns standing. refl) (λ columns. refl) refl
+            (λ columns kept. kept.0) (λ columns standing span. refl) (λ columns. refl)
         | inr (key, sync, rate, is) ↦ above c.args.query.now _ c.in-Iter.inner.value is
-            (λ columns kept. kept.0) (λ columns standing. refl) (λ columns. refl) refl
+            (λ columns kept. kept.0) (λ columns standing span. refl) (λ columns. refl)
       ]
     ] in
     (search (rules, the_lemmas), rw c.deref-in-Iter.ensures (is.keeps c.args.schema.now.columns c.requires))
@@ -80,12 +80,12 @@ first_apart-returns-in-Iter t c =
     let is : IsAbove c.args.query.now c.in-Iter.inner.value =
     elim c.in-Iter.is [
       | inl (number, step, is) ↦ above c.args.query.now _ c.in-Iter.inner.value is
-          (λ columns kept. kept.0) (λ columns standing. refl) (λ columns. refl) refl
+          (λ columns kept. kept.0) (λ columns standing span. refl) (λ columns. refl)
       | inr others ↦ elim others [
         | inl (value, is) ↦ above c.args.query.now _ c.in-Iter.inner.value is
-            (λ columns kept. kept.0) (λ columns standing. refl) (λ columns. refl) refl
+            (λ columns kept. kept.0) (λ columns standing span. refl) (λ columns. refl)
         | inr (key, sync, rate, is) ↦ above c.args.query.now _ c.in-Iter.inner.value is
-            (λ columns kept. kept.0) (λ columns standing. refl) (λ columns. refl) refl
+            (λ columns kept. kept.0) (λ columns standing span. refl) (λ columns. refl)
       ]
     ] in
     IfOk-weaker c.first_apart-in-Iter.result _ _ (λ found each standing.

@@ -1,9 +1,10 @@
 use Rattle.std.proofs.Common.{ap, refl}
 use Rattle.std.proofs.lemmas.Result.{err_from_is_err_and}
 use Rattle.predicate_cells.specs.Plain as predicates
-use Rattle.query_model.specs.Queries.{plain_of, spans_of}
+use Rattle.query_model.specs.Queries.{plain_of}
 use Rattle.query_model.specs.QueryTypes.{of_columns}
 use Rattle.query_syntax.specs.Plain.{plain_expression, plain_predicate}
+use Rattle.type_checker.specs.Findings.{places_at}
 use Rattle.type_checker.specs.Resolutions.{columns_of}
 use Rattle.value_ops.specs.Expressions as values
 use Rattle.type_checker.proofs.Atoms.{atom_made}
@@ -22,5 +23,5 @@ returns-clause-made c =
     (plain_expression c.args.value.now) c.args.span (predicates.plain_of c.in_ok-pred.pred) named.tested
     (values.plain_of c.in_ok-pred.value) named.named c.in_ok-pred.ensures.fits named.numbers (of_columns columns) refl
     c.in_ok-pred.ty _ c.in_ok-pred.ensures.typed
-    (ap plain_of c.in_ok-new.ensures.shape_is) (ap spans_of c.in_ok-new.ensures.shape_is)
+    (ap plain_of c.in_ok-new.ensures.shape_is) (ap places_at c.in_ok-new.ensures.shape_is)
     c.in_ok-new.ensures.span_is c.in_ok-new.ensures.type_is

@@ -4,19 +4,18 @@ use Rattle.predicate_cells.specs.Cells.{Partition}
 use Rattle.query_model.specs.Queries.{plain_of}
 use Rattle.query_model.specs.Rules.{free}
 use Rattle.query_model.specs.declared.query.Query.{Query}
-use Rattle.type_checker.specs.Findings.{CanBeAsked, IsBrokenBy, places_in}
-use Rattle.type_checker.specs.Nodes.{nodes_in}
+use Rattle.type_checker.specs.Findings.{CanBeAsked, IsBrokenBy}
 use Rattle.type_checker.specs.WordRules.{FirstBroken}
 use Rattle.type_checker.specs.declared.stop.CheckStop.{CheckStop}
+use Rattle.type_checker.proofs.Walked.{nodes_at}
 use Rattle.type_checker.proofs.checking.keep_words_over.Goals as goal
 
 -- what is broken over cells that are shared
 broken_on : (shared cells : Partition) → shared ≡ cells → (query : Query) (stop : CheckStop)
-    → IsBrokenBy (nodes_in shared.layout.columns free (plain_of query.shape)) (places_in query) stop
-    → IsBrokenBy (nodes_in cells.layout.columns free (plain_of query.shape)) (places_in query) stop
+    → IsBrokenBy (nodes_at shared.layout.columns free query) stop
+    → IsBrokenBy (nodes_at cells.layout.columns free query) stop
 broken_on shared cells same query stop broken =
-    subst (λ (p : Partition). IsBrokenBy (nodes_in p.layout.columns free (plain_of query.shape)) (places_in query) stop)
-    same broken
+    subst (λ (p : Partition). IsBrokenBy (nodes_at p.layout.columns free query) stop) same broken
 
 pub keep_words-requires : goal.keep_words-requires
 keep_words-requires c =
@@ -31,6 +30,5 @@ returns-in_err-keep_words-clause-refused c =
 
 pub returns-clause-kept : goal.returns-clause-kept
 returns-clause-kept c =
-    let query = plain_of c.args.query.now.shape in
-    subst (λ (p : Partition). FirstBroken (nodes_in p.layout.columns free query) (places_in c.args.query.now) None)
+    subst (λ (p : Partition). FirstBroken (nodes_at p.layout.columns free c.args.query.now) None)
     c.in_ok-cells.ensures c.in_ok-keep_words.ensures.kept

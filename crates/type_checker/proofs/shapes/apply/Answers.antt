@@ -1,8 +1,9 @@
 use Rattle.std.proofs.Common.{ap}
 use Rattle.std.proofs.lemmas.Result.{err_from_is_err_and}
-use Rattle.query_model.specs.Queries.{plain_of, spans_of}
+use Rattle.query_model.specs.Queries.{plain_of}
 use Rattle.query_syntax.specs.Plain.{plain_expression}
 use Rattle.value_ops.specs.Shown.{shown_types}
+use Rattle.type_checker.specs.Findings.{places_at}
 use Rattle.type_checker.proofs.Shaping.{apply_refused, apply_made}
 use Rattle.type_checker.proofs.shapes.apply.Goals as goal
 
@@ -20,5 +21,5 @@ returns-clause-made c =
     apply_made nesting columns f c.args.operand is (plain_expression c.args.value.now) c.args.span
     (shown_types c.of_one-types.result) c.of_one-types.ensures c.in_ok-value.value _ c.in_ok-value.ty
     c.in_ok-value.ensures.made
-    (ap plain_of c.in_ok-new.ensures.shape_is) (ap spans_of c.in_ok-new.ensures.shape_is)
+    (ap plain_of c.in_ok-new.ensures.shape_is) (ap places_at c.in_ok-new.ensures.shape_is)
     c.in_ok-new.ensures.span_is c.in_ok-new.ensures.type_is

@@ -1,5 +1,6 @@
 use Rattle.std.proofs.Common.{◌≡◌, false, true, ap, rules}
-use Rattle.query_model.specs.Queries.{plain_of, spans_of}
+use Rattle.query_model.specs.Queries.{plain_of}
+use Rattle.type_checker.specs.Findings.{places_at}
 use Rattle.type_checker.specs.Resolved.{same_type}
 use Rattle.type_checker.proofs.Shaping.{or_refused, or_made}
 use Rattle.type_checker.proofs.shapes.choice.Goals as goal
@@ -17,5 +18,5 @@ returns-clause-made c =
     let same : same_type c.args.right.ty c.args.left.ty ≡ true = first_of (cc, search rules) in
     λ nesting columns f g is_left is_right.
     or_made nesting columns f g c.args.left c.args.right is_left is_right c.args.span _ same
-    (ap plain_of c.in_ok-new.ensures.shape_is) (ap spans_of c.in_ok-new.ensures.shape_is)
+    (ap plain_of c.in_ok-new.ensures.shape_is) (ap places_at c.in_ok-new.ensures.shape_is)
     c.in_ok-new.ensures.span_is c.in_ok-new.ensures.type_is

@@ -1,8 +1,9 @@
 use Rattle.std.proofs.Common.{◌∙◌, ap, rules}
 use Rattle.std.proofs.lemmas.Result.{err_from_is_err_and}
-use Rattle.query_model.specs.Queries.{plain_of, spans_of}
+use Rattle.query_model.specs.Queries.{plain_of}
 use Rattle.query_syntax.specs.Plain.{plain_expression}
 use Rattle.value_ops.specs.Shown.{shown_types}
+use Rattle.type_checker.specs.Findings.{places_at}
 use Rattle.type_checker.proofs.Shaping.{iter_refused, iter_made}
 use Rattle.type_checker.proofs.shapes.iter.Goals as goal
 
@@ -21,5 +22,5 @@ returns-clause-made c =
     (shown_types c.of_two-types.result) c.args.first.now c.of_two-types.ensures c.in_ok-step.step _
     c.in_ok-step.ensures.made
     (search rules)
-    (ap plain_of c.in_ok-new.ensures.shape_is ∙ search rules) (ap spans_of c.in_ok-new.ensures.shape_is)
+    (ap plain_of c.in_ok-new.ensures.shape_is ∙ search rules) (ap places_at c.in_ok-new.ensures.shape_is)
     c.in_ok-new.ensures.span_is c.in_ok-new.ensures.type_is

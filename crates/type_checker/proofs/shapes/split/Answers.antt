@@ -1,8 +1,9 @@
 use Rattle.std.proofs.Common.{ap}
 use Rattle.std.proofs.lemmas.Result.{err_from_is_err_and}
-use Rattle.query_model.specs.Queries.{plain_of, spans_of}
+use Rattle.query_model.specs.Queries.{plain_of}
 use Rattle.query_syntax.specs.Plain.{plain_expression}
 use Rattle.value_ops.specs.Shown.{shown_types}
+use Rattle.type_checker.specs.Findings.{places_at}
 use Rattle.type_checker.proofs.Shaping.{split_refused, split_made}
 use Rattle.type_checker.proofs.shapes.split.Goals as goal
 
@@ -21,4 +22,4 @@ returns-clause-made c =
     split_made nesting columns f g c.args.left c.args.right is_left is_right c.args.span
     (plain_expression c.args.value.now) (shown_types c.of_two-types.result) c.of_two-types.ensures
     c.in_ok-value.value c.in_ok-value.ty c.in_ok-value.ensures.made _
-    (ap spans_of c.in_ok-new.ensures.shape_is) c.in_ok-new.ensures.span_is c.in_ok-new.ensures.type_is (ap plain_of c.in_ok-new.ensures.shape_is)
+    (ap places_at c.in_ok-new.ensures.shape_is) c.in_ok-new.ensures.span_is c.in_ok-new.ensures.type_is (ap plain_of c.in_ok-new.ensures.shape_is)

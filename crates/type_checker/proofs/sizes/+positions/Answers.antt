@@ -34,7 +34,7 @@ positions_of-returns-in_err-counts-in-Or-clause-first t c =
     c.from_residual.ensures.1 in
     let found = rw (c.deref.ensures, c.deref-in-Or.ensures) at c.in_err-counts-in-Or.ensures.first in
     rw (err.1, err.2, c.in-Or.is) (λ columns standing.
-    one_inside_both has_many_positions c.args.query.now.span _ columns bound c.in-Or.first.value
+    one_inside_both has_many_positions _ columns bound c.in-Or.first.value
     columns bound c.in-Or.second.value _ (found columns columns bound bound))
 
 pub positions_of-returns-in_ok-counts-in-Or-clause-none : goal.positions_of-returns-in_ok-counts-in-Or-clause-none
@@ -43,7 +43,7 @@ positions_of-returns-in_ok-counts-in-Or-clause-none t c =
     let left = rw c.deref.ensures at c.in_ok-counts-in-Or.ensures.left in
     let right = rw c.deref-in-Or.ensures at c.in_ok-counts-in-Or.ensures.right in
     rw c.in-Or.is (on_ok_weaker c.few_together.result (λ few columns standing.
-    few_over_both c.args.query.now.span _ columns bound c.in-Or.first.value (none columns bound).0
+    few_over_both _ columns bound c.in-Or.first.value (none columns bound).0
     columns bound c.in-Or.second.value (none columns bound).1 (omega (arith, few, left, right)))
     c.few_together.ensures.few)
 
@@ -53,7 +53,7 @@ positions_of-returns-in_ok-counts-in-Or-clause-first t c =
     let left = rw c.deref.ensures at c.in_ok-counts-in-Or.ensures.left in
     let right = rw c.deref-in-Or.ensures at c.in_ok-counts-in-Or.ensures.right in
     rw c.in-Or.is (IfErr-weaker c.few_together.result _ _ (λ place (is, many) columns standing.
-    rw is (many_over_both c.args.query.now.span _ columns bound c.in-Or.first.value (none columns bound).0
+    rw is (many_over_both _ columns bound c.in-Or.first.value (none columns bound).0
     columns bound c.in-Or.second.value (none columns bound).1 (omega (arith, many, left, right))))
     c.few_together.ensures.many)
 
@@ -64,7 +64,7 @@ positions_of-returns-in_err-counts-in-Split-clause-first t c =
     c.from_residual-in_err-counts-in-Split.ensures.1 in
     let found = rw (c.deref-in-Split.ensures, c.deref-in-Split-2.ensures) at c.in_err-counts-in-Split.ensures.first in
     rw (err.1, err.2, c.in-Split.is) (λ columns standing.
-    one_inside_both has_many_positions c.args.query.now.span _ columns bound c.in-Split.first.value
+    one_inside_both has_many_positions _ columns bound c.in-Split.first.value
     columns bound c.in-Split.second.value _ (found columns columns bound bound))
 
 pub positions_of-returns-in_ok-counts-in-Split-clause-none : goal.positions_of-returns-in_ok-counts-in-Split-clause-none
@@ -73,7 +73,7 @@ positions_of-returns-in_ok-counts-in-Split-clause-none t c =
     let left = rw c.deref-in-Split.ensures at c.in_ok-counts-in-Split.ensures.left in
     let right = rw c.deref-in-Split-2.ensures at c.in_ok-counts-in-Split.ensures.right in
     rw c.in-Split.is (on_ok_weaker c.few_together-in-Split.result (λ few columns standing.
-    few_over_both c.args.query.now.span _ columns bound c.in-Split.first.value (none columns bound).0
+    few_over_both _ columns bound c.in-Split.first.value (none columns bound).0
     columns bound c.in-Split.second.value (none columns bound).1 (omega (arith, few, left, right)))
     c.few_together-in-Split.ensures.few)
 
@@ -84,7 +84,7 @@ positions_of-returns-in_ok-counts-in-Split-clause-first t c =
     let left = rw c.deref-in-Split.ensures at c.in_ok-counts-in-Split.ensures.left in
     let right = rw c.deref-in-Split-2.ensures at c.in_ok-counts-in-Split.ensures.right in
     rw c.in-Split.is (IfErr-weaker c.few_together-in-Split.result _ _ (λ place (is, many) columns standing.
-    rw is (many_over_both c.args.query.now.span _ columns bound c.in-Split.first.value (none columns bound).0
+    rw is (many_over_both _ columns bound c.in-Split.first.value (none columns bound).0
     columns bound c.in-Split.second.value (none columns bound).1 (omega (arith, many, left, right))))
     c.few_together-in-Split.ensures.many)
 
@@ -96,7 +96,7 @@ positions_of-returns-in_err-counts-in-Combine-clause-first t c =
     let found = rw (c.deref-in-Combine.ensures, c.deref-in-Combine-2.ensures)
     at c.in_err-counts-in-Combine.ensures.first in
     rw (err.1, err.2, c.in-Combine.is) (λ columns standing.
-    one_inside_both has_many_positions c.args.query.now.span _ columns bound c.in-Combine.first.value
+    one_inside_both has_many_positions _ columns bound c.in-Combine.first.value
     columns bound c.in-Combine.second.value _ (found columns columns bound bound))
 
 pub positions_of-returns-in_ok-counts-in-Combine-clause-none :
@@ -107,7 +107,7 @@ positions_of-returns-in_ok-counts-in-Combine-clause-none t c =
     let left = rw c.deref-in-Combine.ensures at c.in_ok-counts-in-Combine.ensures.left in
     let small = c.in_ok-counts-in-Combine.ensures.small in
     rw c.in-Combine.is (λ columns standing.
-    few_over_both c.args.query.now.span _ columns bound c.in-Combine.first.value (none columns bound).0
+    few_over_both _ columns bound c.in-Combine.first.value (none columns bound).0
     columns bound c.in-Combine.second.value (none columns bound).1 (omega (arith, small.0, left)))
 
 pub positions_of-returns-in_err-counts-in-Compose-clause-first :
@@ -119,7 +119,7 @@ positions_of-returns-in_err-counts-in-Compose-clause-first t c =
     at c.in_err-counts-in-Compose.ensures.first in
     rw (err.1, err.2, c.in-Compose.is) (λ columns standing.
     let values = derived_columns (type_of columns (plain_of c.in-Compose.first.value.shape)) in
-    one_inside_both has_many_positions c.args.query.now.span _ columns standing c.in-Compose.first.value
+    one_inside_both has_many_positions _ columns standing c.in-Compose.first.value
     values standing c.in-Compose.second.value _ (found columns values standing standing))
 
 pub positions_of-returns-in_ok-counts-in-Compose-clause-none :
@@ -131,7 +131,7 @@ positions_of-returns-in_ok-counts-in-Compose-clause-none t c =
     let small = c.in_ok-counts-in-Compose.ensures.small in
     rw c.in-Compose.is (λ columns standing.
     let values = derived_columns (type_of columns (plain_of c.in-Compose.first.value.shape)) in
-    few_over_both c.args.query.now.span _ columns standing c.in-Compose.first.value (none columns standing).0
+    few_over_both _ columns standing c.in-Compose.first.value (none columns standing).0
     values standing c.in-Compose.second.value (none values standing).1 (omega (arith, small.0, left)))
 
 pub positions_of-returns-in-Iter-clause-none : goal.positions_of-returns-in-Iter-clause-none
@@ -139,13 +139,13 @@ positions_of-returns-in-Iter-clause-none t c =
     let kept = rw c.deref-in-Iter.ensures at c.positions_of.ensures.none in
     let small = rw c.deref-in-Iter.ensures at c.positions_of.ensures.few in
     rw c.in-Iter.is (on_ok_both c.positions_of.result (λ none few columns standing.
-    few_over c.args.query.now.span _ columns bound c.in-Iter.inner.value (none columns bound) few.1) kept small)
+    few_over _ columns bound c.in-Iter.inner.value (none columns bound) few.1) kept small)
 
 pub positions_of-returns-in-Iter-clause-first : goal.positions_of-returns-in-Iter-clause-first
 positions_of-returns-in-Iter-clause-first t c =
     let found = rw c.deref-in-Iter.ensures at c.positions_of.ensures.first in
     rw c.in-Iter.is (IfErr-weaker c.positions_of.result _ _ (λ place some columns standing.
-    one_inside has_many_positions c.args.query.now.span _ columns bound c.in-Iter.inner.value place
+    one_inside has_many_positions _ columns bound c.in-Iter.inner.value place
     (some columns bound)) found)
 
 pub positions_of-returns-in-Apply-clause-none : goal.positions_of-returns-in-Apply-clause-none
@@ -153,13 +153,13 @@ positions_of-returns-in-Apply-clause-none t c =
     let kept = rw c.deref-in-Apply.ensures at c.positions_of-in-Apply.ensures.none in
     let small = rw c.deref-in-Apply.ensures at c.positions_of-in-Apply.ensures.few in
     rw c.in-Apply.is (on_ok_both c.positions_of-in-Apply.result (λ none few columns standing.
-    few_over c.args.query.now.span _ columns bound c.in-Apply.inner.value (none columns bound) few.1) kept small)
+    few_over _ columns bound c.in-Apply.inner.value (none columns bound) few.1) kept small)
 
 pub positions_of-returns-in-Apply-clause-first : goal.positions_of-returns-in-Apply-clause-first
 positions_of-returns-in-Apply-clause-first t c =
     let found = rw c.deref-in-Apply.ensures at c.positions_of-in-Apply.ensures.first in
     rw c.in-Apply.is (IfErr-weaker c.positions_of-in-Apply.result _ _ (λ place some columns standing.
-    one_inside has_many_positions c.args.query.now.span _ columns bound c.in-Apply.inner.value place
+    one_inside has_many_positions _ columns bound c.in-Apply.inner.value place
     (some columns bound)) found)
 
 pub positions_of-returns-in_err-positions_of-in-Collect-clause-first :
@@ -169,7 +169,7 @@ positions_of-returns-in_err-positions_of-in-Collect-clause-first t c =
     c.from_residual-in_err-positions_of-in-Collect.ensures.1 in
     let found = rw c.deref-in-Collect.ensures at c.in_err-positions_of-in-Collect.ensures.first in
     rw (err.1, err.2, c.in-Collect.is) (λ columns standing.
-    one_inside has_many_positions c.args.query.now.span _ columns bound c.in-Collect.inner.value _
+    one_inside has_many_positions _ columns bound c.in-Collect.inner.value _
     (found columns bound))
 
 pub positions_of-returns-in_ok-positions_of-in-Collect-clause-none :
@@ -177,7 +177,7 @@ pub positions_of-returns-in_ok-positions_of-in-Collect-clause-none :
 positions_of-returns-in_ok-positions_of-in-Collect-clause-none t c =
     let none = rw c.deref-in-Collect.ensures at c.in_ok-positions_of-in-Collect.ensures.none in
     rw c.in-Collect.is (on_ok_weaker c.few_in.result (λ few columns standing.
-    few_over c.args.query.now.span _ columns bound c.in-Collect.inner.value (none columns bound) few)
+    few_over _ columns bound c.in-Collect.inner.value (none columns bound) few)
     c.few_in.ensures.few)
 
 pub positions_of-returns-in_ok-positions_of-in-Collect-clause-first :
@@ -185,5 +185,5 @@ pub positions_of-returns-in_ok-positions_of-in-Collect-clause-first :
 positions_of-returns-in_ok-positions_of-in-Collect-clause-first t c =
     let none = rw c.deref-in-Collect.ensures at c.in_ok-positions_of-in-Collect.ensures.none in
     rw c.in-Collect.is (IfErr-weaker c.few_in.result _ _ (λ place (is, many) columns standing.
-    rw is (many_over c.args.query.now.span _ columns bound c.in-Collect.inner.value (none columns bound) many))
+    rw is (many_over _ columns bound c.in-Collect.inner.value (none columns bound) many))
     c.few_in.ensures.many)

@@ -1,9 +1,10 @@
 use Rattle.std.proofs.Common.{ap}
 use Rattle.std.proofs.lemmas.Result.{err_from_is_err_and}
 use Rattle.predicate_cells.specs.Plain as predicates
-use Rattle.query_model.specs.Queries.{plain_of, spans_of}
+use Rattle.query_model.specs.Queries.{plain_of}
 use Rattle.query_syntax.specs.Plain.{plain_predicate, plain_rate}
 use Rattle.rate_expr.specs.Plain as rates
+use Rattle.type_checker.specs.Findings.{places_at}
 use Rattle.type_checker.specs.Nestings.{nesting_of}
 use Rattle.type_checker.specs.Resolutions.{columns_of}
 use Rattle.type_checker.proofs.Collecting.{collect_made}
@@ -23,5 +24,5 @@ returns-clause-made c =
     is parts.key named.keyed (predicates.plain_of parts.sync) named.tested
     (rates.plain_of parts.rate) named.rated c.in_ok-parts.ensures.stands c.in_ok-parts.ensures.fit _
     c.requires
-    (ap plain_of c.in_ok-new.ensures.shape_is) (ap spans_of c.in_ok-new.ensures.shape_is)
+    (ap plain_of c.in_ok-new.ensures.shape_is) (ap places_at c.in_ok-new.ensures.shape_is)
     c.in_ok-new.ensures.span_is c.in_ok-new.ensures.type_is

@@ -20,11 +20,11 @@ use Rattle.type_checker.proofs.OverOne.{apply_kept, apply_refused, apply_sets, i
 use Rattle.type_checker.proofs.OverOne.{one_stopped}
 use Rattle.type_checker.proofs.OverTwo.{broken_with, kept_with, two_few, two_kept}
 use Rattle.type_checker.proofs.OverTwo.{two_refused, two_sets, two_stopped}
+use Rattle.type_checker.proofs.Placed.{broken_behind}
 use Rattle.type_checker.proofs.Ruled.{automaton_of}
 use Rattle.type_checker.proofs.Shaped.{over_apply, over_choice, over_collect, over_combine, over_compose, over_iter, over_split}
 use Rattle.type_checker.proofs.Told.{told_err, told_ok}
-use Rattle.type_checker.proofs.Walked.{both_kept, kept_at, none_without, root_kept, root_refused}
-use Rattle.type_checker.proofs.Walked.{second_stopped, stops_before}
+use Rattle.type_checker.proofs.Walked.{kept_at, none_without, root_kept, root_refused, stops_before, stops_behind}
 use Rattle.type_checker.proofs.words.+words.Goals as goal
 
 -- both operands
@@ -41,19 +41,16 @@ keep_both-new-requires-2 t c =
 pub keep_both-returns-in_err-left-clause-refused : goal.keep_both-returns-in_err-left-clause-refused
 keep_both-returns-in_err-left-clause-refused t c =
     let err = err_from_is_err_and c.from_residual.result c.from_residual.ensures.1 in
-    rw (err.1, err.2) (stops_before _ _ _ _ _ c.in_err-left.ensures.refused)
+    rw (err.1, err.2) (stops_before _ _ _ c.in_err-left.ensures.refused)
 
 pub keep_both-returns-in_err-right-clause-refused : goal.keep_both-returns-in_err-right-clause-refused
 keep_both-returns-in_err-right-clause-refused t c =
     let err = err_from_is_err_and c.from_residual-in_err-right.result c.from_residual-in_err-right.ensures.1 in
-    rw (err.1, err.2)
-    (second_stopped c.args.cells.now.value.layout.columns c.args.first.now c.args.second.now
-    c.in_ok-left.ensures.kept _ c.in_err-right.ensures.refused)
+    rw (err.1, err.2) (stops_behind _ _ _ c.in_ok-left.ensures.kept c.in_err-right.ensures.refused)
 
 pub keep_both-returns-clause-kept : goal.keep_both-returns-clause-kept
 keep_both-returns-clause-kept t c =
-    both_kept c.args.cells.now.value.layout.columns c.args.first.now c.args.second.now
-    c.in_ok-left.ensures.kept c.in_ok-right.ensures.kept
+    broken_behind _ _ None c.in_ok-left.ensures.kept c.in_ok-right.ensures.kept
 
 pub keep_both-returns-clause-automata : goal.keep_both-returns-clause-automata
 keep_both-returns-clause-automata t c = record {
