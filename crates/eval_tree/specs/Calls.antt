@@ -1,5 +1,5 @@
 -- Statement. What a start and a step of a node promise: what stood for a word stands for the longer
--- one, what was sound stays sound, and a number query takes no memory.
+-- one, what was sound stays sound, and for a number query they are never out of memory.
 use Rattle.std.specs.Prelude.{ℕ, List, Option, Result, IfOk, IsOk}
 use Rattle.std.specs.declared.alloc.AllocError.{AllocError}
 use Rattle.value_ops.specs.declared.field.Field.{Field}

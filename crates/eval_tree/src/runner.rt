@@ -36,7 +36,7 @@ impl<'q> Runner<'q> {
         })
     }
 
-    /// Back before the first item, in place: this takes no memory.
+    /// Back before the first item, in place.
     pub(crate) fn begin_anew(&mut self, alloc: Global)
         requires sound { IsSoundly self.old }
         requires no_collect { HasNoCollect (query_of self.old) }

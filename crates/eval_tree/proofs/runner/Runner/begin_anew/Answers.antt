@@ -1,4 +1,4 @@
--- It takes no memory, so it begins anew.
+-- It is never out of memory, so it begins anew.
 use Rattle.std.proofs.Common.{◌∙◌, refl, subst, sym}
 use Rattle.query_model.specs.declared.query.Query.{Query}
 use Rattle.query_model.specs.Queries.{plain_of}
