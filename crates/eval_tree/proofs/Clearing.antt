@@ -9,10 +9,11 @@ use Rattle.value_ops.specs.Expressions.{Expression}
 use Rattle.value_ops.specs.Types.{IsValueOf}
 use Rattle.predicate_cells.specs.Predicates.{Predicate}
 use Rattle.item_schema.specs.declared.column.Column.{Column}
+use Rattle.rate_expr.specs.Rates as rates
 use Rattle.rate_expr.specs.Readings.{HasExtension}
 use Rattle.query_model.specs.Bounds.{places_of, slots_of}
 use Rattle.query_model.specs.Denotation.{Den}
-use Rattle.query_model.specs.Queries.{Qre, atom, choice, split, iter, combine, apply, compose}
+use Rattle.query_model.specs.Queries.{Qre, atom, eps, choice, split, iter, combine, apply, compose, collect}
 use Rattle.query_model.specs.QueryTypes.{derived_columns, type_of}
 use Rattle.query_model.specs.Rates.{rate_of}
 use Rattle.query_model.specs.Rules.{HasNoCollect}
@@ -23,7 +24,7 @@ use Rattle.compose_eval.specs.Followers.{Contents, live_instances, outers_of, re
 use Rattle.compose_eval.specs.declared.instance.Instance.{Instance}
 use Rattle.eval_tree.specs.Counts.{size_of_answer, stored_in}
 use Rattle.eval_tree.specs.Feeds.{AreCleared, IsCleared, IsClearedIn, IsSoundOf}
-use Rattle.eval_tree.specs.Holdings.{Holding, atom_held, choice_held, combine_held, apply_held, split_held, iter_held, compose_held, Seen}
+use Rattle.eval_tree.specs.Holdings.{Holding, atom_held, eps_held, choice_held, combine_held, apply_held, split_held, iter_held, compose_held, Seen}
 use Rattle.eval_tree.specs.Represents.{AreWaiting, KeepsFew}
 use Rattle.eval_tree.specs.Sound.{AreEntriesOf, IsSound, IsSoundWithin, IsTyped}
 use Rattle.eval_tree.specs.Starts.{AreDifferent}
@@ -51,6 +52,16 @@ module _ {R : Type 0} (seen : R → Seen R) where
     λ others start. (λ is. absurd (none-some start is), λ there. absurd (no_member start there.0)),
     λ now. tt,
   )
+
+  -- nothing is kept for the empty word
+  pub clear_eps : (number : ℤ) (held : Holding R) → IsCleared seen (eps number) held held
+  clear_eps number eps_held = λ no_collect columns position sound. (λ others. tt, λ now. tt)
+  clear_eps number held = λ no_collect columns position sound. absurd sound
+
+  -- no collect is cleared
+  pub clear_collect : (column : ℕ) (sync : Predicate) (rate : rates.Expression) (f : Qre) (held : Holding R)
+      → IsCleared seen (collect column sync rate f) held held
+  clear_collect column sync rate f held = λ no_collect columns position sound. absurd no_collect
 
   pub clear_choice : (f g : Qre) (a b a' b' : Holding R) → IsCleared seen f a a' → IsCleared seen g b b'
       → IsCleared seen (choice f g) (choice_held a b) (choice_held a' b')

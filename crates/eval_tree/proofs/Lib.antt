@@ -28,6 +28,7 @@ pub mod ComposeSteps
 pub mod Copied
 pub mod CopyParts
 pub mod Copying
+pub mod CountParts
 pub mod Elsewhere
 pub mod Ends
 pub mod Fed
@@ -57,7 +58,6 @@ pub mod NumberQueries
 pub mod NumberRunners
 pub mod NumbersAllowed
 pub mod NumbersTyped
-pub mod Others
 pub mod Outputs
 pub mod Pieces
 pub mod PlainArms
@@ -80,7 +80,6 @@ pub mod StoredTracks
 pub mod Totals
 pub mod Tracked
 pub mod Typed
-pub mod Unlike
 pub mod Unsound
 pub mod Waits
 pub mod Zips

@@ -1,10 +1,9 @@
 -- What a node in memory says of its starts.
-use Rattle.std.proofs.Common.{◌≡◌, ◌↔◌, ℕ, Bool, false, IsTrue, refl, sym, subst}
-use Rattle.query_model.specs.declared.query.Shape.{Shape}
-use Rattle.query_model.specs.declared.query.Shape.TheVariants.{Atom, Eps, Or', Split', Iter', Combine', Apply', Compose', Collect'}
-use Rattle.query_model.specs.Queries.{Qre, plain_of}
+use Rattle.std.proofs.Common.{◌≡◌, ◌∙◌, ◌↔◌, ℕ, Bool, false, IsTrue, ap, refl, sym, subst}
+use Rattle.std.specs.Prelude.{ℤ}
+use Rattle.query_model.specs.Queries.{Qre, eps}
 use Rattle.eval_tree.specs.declared.node.State.{State}
-use Rattle.eval_tree.specs.declared.node.State.TheVariants as variant
+use Rattle.eval_tree.specs.Holdings.{Holding, atom_held}
 use Rattle.eval_tree.specs.Live.{live_of}
 use Rattle.eval_tree.specs.Plain.{holding_of, seen_of}
 use Rattle.eval_tree.specs.Starts.{IsLive}
@@ -18,27 +17,13 @@ lives_read q state start live read = λ standing columns word starts clear is po
     (living seen_of standing columns q (holding_of state) word starts start
     clear is positions rep)
 
--- a shape whose starts are never live: the empty word
-abbrev pub IsOther : Shape → Type 0
-IsOther (Atom pred value) = ⊥
-IsOther (Eps number) = Unit {0}
-IsOther (Or' p f a q g b) = ⊥
-IsOther (Split' p f a q g b value) = ⊥
-IsOther (Iter' p f a number value) = ⊥
-IsOther (Combine' p f a q g b value) = ⊥
-IsOther (Apply' p f a value) = ⊥
-IsOther (Compose' p f a q g b) = ⊥
-IsOther (Collect' key sync rate p f a) = ⊥
+-- what is read for the query of the operands
+pub read_as : (q q' : Qre) (state : State) (start : ℕ) (live : Bool) → q' ≡ q
+    → live ≡ live_of q (holding_of state) start → live ≡ live_of q' (holding_of state) start
+read_as q q' state start live same read = read ∙ ap (λ (x : Qre). live_of x (holding_of state) start) (sym same)
 
-pub other_none : (shape : Shape) (state : State) (start : ℕ) → IsOther shape
-    → live_of (plain_of shape) (holding_of state) start ≡ false
-other_none (Atom pred value) state start other = absurd other
-other_none (Eps number) (variant.Atom found) start other = refl
-other_none (Eps number) state start other = refl
-other_none (Or' p f a q g b) state start other = absurd other
-other_none (Split' p f a q g b value) state start other = absurd other
-other_none (Iter' p f a number value) state start other = absurd other
-other_none (Combine' p f a q g b value) state start other = absurd other
-other_none (Apply' p f a value) state start other = absurd other
-other_none (Compose' p f a q g b) state start other = absurd other
-other_none (Collect' key sync rate p f a) state start other = absurd other
+-- nothing goes on for the empty word
+pub none_empty : {R : Type 0} (number : ℤ) (holding : Holding R) (start : ℕ)
+    → false ≡ live_of (eps number) holding start
+none_empty number (atom_held found) start = refl
+none_empty number holding start = refl

@@ -6,7 +6,11 @@ ghost use Rattle.query_model.specs.Queries.{plain_of};
 ghost use Rattle.eval_tree.specs.Counts.{size_of_answer, size_of_keys, size_of_runner, size_of_state, size_of_track, size_of_value, sizes_of, stored_in};
 ghost use Rattle.eval_tree.specs.Plain.{holding_of, seen_of};
 
-use crate::{Node, Progress, State};
+use crate::node_counts::{
+    size_of_apply, size_of_atom, size_of_choice, size_of_collect, size_of_combine, size_of_compose,
+    size_of_iter, size_of_split,
+};
+use crate::{Node, Progress};
 use compose_eval::Instances;
 use map_collect::{Keys, Tracks};
 use query_model::{Query, Shape};
@@ -19,28 +23,16 @@ pub fn stored(query: &Query, node: &Node) -> u64
     ensures { result ≡ min (stored_in seen_of (plain_of query.now.shape)
         (holding_of node.now.state)) (2 ^ 64 - 1) }
 {
-    match (&query.shape, &node.state) {
-        (Shape::Atom(..), State::Atom(Some(_))) => 1,
-        (Shape::Or(first, second), State::Or(a, b)) => {
-            stored(first, a).saturating_add(stored(second, b))
-        }
-        (Shape::Apply(inner, _), State::Apply(a)) => stored(inner, a),
-        (Shape::Split(first, second, _), State::Split(a, b, held)) => {
-            let operands = stored(first, a).saturating_add(stored(second, b));
-            operands.saturating_add(size_of_entries(held))
-        }
-        (Shape::Combine(first, second, _), State::Combine(a, b)) => {
-            stored(first, a).saturating_add(stored(second, b))
-        }
-        (Shape::Iter(inner, ..), State::Iter(a, so_far)) => {
-            stored(inner, a).saturating_add(size_of_entries(so_far.as_pending()))
-        }
-        (Shape::Compose(first, second), State::Compose(a, runners)) => {
-            let fed = stored(first, a).saturating_add(size_of_live(second, runners));
-            fed.saturating_add(size_of_idle(second, runners))
-        }
-        (Shape::Collect(_, _, _, inner), State::Collect(tracks)) => size_of_tracks(inner, tracks),
-        _ => 0,
+    match &query.shape {
+        Shape::Atom(..) => size_of_atom(node),
+        Shape::Eps(_) => 0,
+        Shape::Or(first, second) => size_of_choice(first, second, node),
+        Shape::Apply(inner, _) => size_of_apply(inner, node),
+        Shape::Split(first, second, _) => size_of_split(first, second, node),
+        Shape::Combine(first, second, _) => size_of_combine(first, second, node),
+        Shape::Iter(inner, ..) => size_of_iter(inner, node),
+        Shape::Compose(first, second) => size_of_compose(first, second, node),
+        Shape::Collect(_, _, _, inner) => size_of_collect(inner, node),
     }
 }
 
@@ -57,7 +49,7 @@ pub(crate) fn size_of_runner(query: &Query, runner: &Progress) -> u64
 }
 
 #[cycle(stored)]
-fn size_of_live(query: &Query, runners: &Instances<Progress>) -> u64
+pub(crate) fn size_of_live(query: &Query, runners: &Instances<Progress>) -> u64
     ensures { result ≡ min (sum_by (λ runner. 1 + size_of_runner seen_of
         (stored_in seen_of (plain_of query.now.shape)) runner)
         (followers_of runners.now.live)) (2 ^ 64 - 1) }
@@ -72,7 +64,7 @@ fn size_of_live(query: &Query, runners: &Instances<Progress>) -> u64
 }
 
 #[cycle(stored)]
-fn size_of_idle(query: &Query, runners: &Instances<Progress>) -> u64
+pub(crate) fn size_of_idle(query: &Query, runners: &Instances<Progress>) -> u64
     ensures { result ≡ min (sum_by (λ runner. 1 + size_of_runner seen_of
         (stored_in seen_of (plain_of query.now.shape)) runner) runners.now.idle) (2 ^ 64 - 1) }
 {
@@ -124,7 +116,7 @@ fn size_of_state(state: rate_expr::State) -> u64
     }
 }
 
-fn size_of_entries(held: &Pending<Value>) -> u64
+pub(crate) fn size_of_entries(held: &Pending<Value>) -> u64
     ensures { result ≡ min (sizes_of held.now.entries) (2 ^ 64 - 1) }
 {
     let mut sum: u64 = 0;

@@ -21,6 +21,7 @@ mod make;
 mod new_nodes;
 mod node;
 mod node_copies;
+mod node_counts;
 mod progress;
 mod runner;
 mod split;
