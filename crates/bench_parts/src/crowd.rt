@@ -11,56 +11,90 @@ use value_ops::Bytes;
 /// An automaton of so many positions, whose predicates ask whether one of two numbers is at least one of so many; or
 /// none, where these are too many.
 pub(crate) fn crowd(alloc: Global, size: u32, tests: u32) -> Result<Option<Nfa>, AllocError> {
-    let rate = rate(alloc, size, tests)?;
     let Some(cells) = cells(alloc, tests)? else {
         return Ok(None);
     };
-    if rate.positions() > MAX_POSITIONS {
+    let Some(positions) = positions(alloc, size, tests)? else {
+        return Ok(None);
+    };
+    if !Nfa::can_read(&positions, cells.as_ref()) {
         return Ok(None);
     }
-    let positions = Positions::of(alloc, &rate)?;
-    if !Nfa::can_read(&positions, &cells) {
-        return Ok(None);
-    }
-    let cells = Rc::new(alloc, cells)?;
     Ok(Some(Nfa::new(alloc, positions, &cells)?))
 }
 
-// Any of the tests again and again, and any item at the end.
-fn rate(alloc: Global, size: u32, tests: u32) -> Result<Rate, AllocError> {
-    let mut choice = Rate::Empty;
-    for at in 1..size {
-        let first = Box::new(alloc, choice)?;
-        choice = Rate::Alt(first, Box::new(alloc, Rate::One(test(at, tests)))?);
+fn positions(alloc: Global, size: u32, tests: u32) -> Result<Option<Positions>, AllocError> {
+    let rate = rate(alloc, size, tests)?;
+    if rate.positions() > MAX_POSITIONS {
+        return Ok(None);
     }
-    let again = Box::new(alloc, Rate::Star(Box::new(alloc, choice)?))?;
-    Ok(Rate::Seq(again, Box::new(alloc, Rate::One(Pred::Any))?))
+    Ok(Some(Positions::of(alloc, &rate)?))
+}
+
+fn boxed(alloc: Global, rate: Rate) -> Result<Box<Rate>, AllocError> {
+    Ok(Box::new(alloc, rate)?)
+}
+
+// Any of the tests again and again, and any item at the end.
+fn rate(alloc: Global, size: u32, tests: u32) -> Result<Box<Rate>, AllocError> {
+    let mut choice = boxed(alloc, Rate::Empty)?;
+    for at in 1..size {
+        let one = boxed(alloc, Rate::One(test(at, tests)))?;
+        choice = boxed(alloc, Rate::Alt(choice, one))?;
+    }
+    let again = boxed(alloc, Rate::Star(choice))?;
+    let any = boxed(alloc, Rate::One(Pred::Any))?;
+    boxed(alloc, Rate::Seq(again, any))
 }
 
 fn test(at: u32, tests: u32) -> Pred {
     Pred::Ge(at % 2, i64::from(at / 2 % tests.max(1)))
 }
 
-// The cells of items of two numbers under all tests.
-fn cells(alloc: Global, tests: u32) -> Result<Option<Cells>, AllocError> {
+// All tests, and the predicate that any item meets.
+fn preds(alloc: Global, tests: u32) -> Result<Preds, AllocError> {
     let mut preds = Preds::new(alloc);
-    preds.add(&Pred::Any)?;
+    add(&mut preds, Pred::Any)?;
     for at in 0..tests.saturating_mul(2) {
-        preds.add(&test(at, tests))?;
+        add(&mut preds, test(at, tests))?;
     }
+    Ok(preds)
+}
+
+fn add(preds: &mut Preds, pred: Pred) -> Result<(), AllocError> {
+    preds.add(&pred)
+}
+
+// The cells of items of two numbers under all tests.
+fn cells(alloc: Global, tests: u32) -> Result<Option<Rc<Cells>>, AllocError> {
+    let Some(schema) = schema(alloc)? else {
+        return Ok(None);
+    };
+    let preds = preds(alloc, tests)?;
+    cells_under(alloc, &schema, &preds)
+}
+
+fn cells_under(
+    alloc: Global,
+    schema: &Schema,
+    preds: &Preds,
+) -> Result<Option<Rc<Cells>>, AllocError> {
+    if !preds.fit(schema) {
+        return Ok(None);
+    }
+    match Cells::new(alloc, schema, preds) {
+        Ok(cells) => Ok(Some(Rc::new(alloc, cells)?)),
+        Err(CellStop::TooMany) => Ok(None),
+        Err(CellStop::Memory) => Err(AllocError),
+    }
+}
+
+fn schema(alloc: Global) -> Result<Option<Schema>, AllocError> {
     let columns = columns(alloc)?;
     if !are_columns(&columns) {
         return Ok(None);
     }
-    let schema = Schema::new(false, columns);
-    if !preds.fit(&schema) {
-        return Ok(None);
-    }
-    match Cells::new(alloc, &schema, &preds) {
-        Ok(cells) => Ok(Some(cells)),
-        Err(CellStop::TooMany) => Ok(None),
-        Err(CellStop::Memory) => Err(AllocError),
-    }
+    Ok(Some(Schema::new(false, columns)))
 }
 
 fn columns(alloc: Global) -> Result<Vec<Column>, AllocError> {

@@ -1,16 +1,28 @@
 //! Counts lines: what reading and splitting alone cost.
 
 use io_edge::{LazyFile, Line, LineStop, Lines, Source};
+use std::alloc::{AllocError, Global};
 use std::io;
 
 /// The word is the file, or `-` for standard input.
 pub(crate) fn count_lines(rt: HostRuntime, words: &[String]) -> io::Result<()> {
+    let file = words.get(0).map_or("-", |word| word.as_str());
+    let told = told_of(rt, file)?;
+    println!(rt; "{told}")
+}
+
+/// How many lines the file has, or why they are not counted.
+fn told_of(rt: HostRuntime, file: &str) -> Result<String, AllocError> {
     let alloc = rt.alloc();
-    let mut source = LazyFile::new(rt, alloc, words.get(0).map_or("-", |word| word.as_str()))?;
+    let mut source = LazyFile::new(rt, alloc, file)?;
+    told_of_source(alloc, &mut source)
+}
+
+fn told_of_source<S: Source>(alloc: Global, source: &mut S) -> Result<String, AllocError> {
     let mut lines = Lines::new(alloc)?;
-    match line_count(&mut lines, &mut source) {
-        Ok(count) => println!(rt; "{count}"),
-        Err(stop) => println!(rt; "{stop:?}"),
+    match line_count(&mut lines, source) {
+        Ok(count) => format!(in alloc; "{count}"),
+        Err(stop) => format!(in alloc; "{stop:?}"),
     }
 }
 

@@ -23,13 +23,18 @@ const SMALL: [&str; 3] = [
 ];
 
 fn main(rt: HostRuntime) -> io::Result<()> {
-    let alloc = rt.alloc();
-    let words: Vec<String> = env::args(&rt)?.skip(1).collect(alloc)?;
-    if !words.is_empty() {
-        return run(rt, &words);
+    let words: Vec<String> = env::args(&rt)?.skip(1).collect(rt.alloc())?;
+    if words.is_empty() {
+        run_small(rt)
+    } else {
+        run(rt, &words)
     }
+}
+
+fn run_small(rt: HostRuntime) -> io::Result<()> {
     for line in SMALL {
-        run(rt, &words_of(alloc, line)?)?;
+        let words = words_of(rt.alloc(), line)?;
+        run(rt, &words)?;
     }
     Ok(())
 }

@@ -5,25 +5,27 @@ use crate::work::Work;
 use rate_equal::EqualStop;
 use std::alloc::AllocError;
 use std::io;
+use symbolic_nfa::Nfa;
 
 /// The words are a kind of work, how many positions the automaton has, how many numbers each of its two columns is
 /// tested for, and how often the work is done.
 pub(crate) fn work_on_rates(rt: HostRuntime, words: &[String]) -> io::Result<()> {
-    let alloc = rt.alloc();
     let Some(work) = Work::named(words.get(0).map_or("", |word| word.as_str())) else {
         return println!(rt; "step, extends, disjoint, one_split, one_factoring or same");
     };
-    match crowd(alloc, number(words, 1), number(words, 2))? {
-        Some(nfa) => {
-            let (positions, cells) = (nfa.count(), nfa.cells().count());
-            print!(rt; "{positions} positions, {cells} cells: ")?;
-            match work.done(alloc, &nfa, number(words, 3)) {
-                Ok(answer) => println!(rt; "{answer}"),
-                Err(EqualStop::Reach) => println!(rt; "too many pairs of states"),
-                Err(EqualStop::Memory) => Err(AllocError.into()),
-            }
-        }
+    match crowd(rt.alloc(), number(words, 1), number(words, 2))? {
+        Some(nfa) => work_on(rt, &nfa, work, number(words, 3)),
         None => println!(rt; "too many positions or cells"),
+    }
+}
+
+fn work_on(rt: HostRuntime, nfa: &Nfa, work: Work, times: u32) -> io::Result<()> {
+    let (positions, cells) = (nfa.count(), nfa.cells().count());
+    print!(rt; "{positions} positions, {cells} cells: ")?;
+    match work.done(rt.alloc(), nfa, times) {
+        Ok(answer) => println!(rt; "{answer}"),
+        Err(EqualStop::Reach) => println!(rt; "too many pairs of states"),
+        Err(EqualStop::Memory) => Err(AllocError.into()),
     }
 }
 

@@ -14,17 +14,28 @@ pub(crate) fn sum_items(rt: HostRuntime, words: &[String]) -> io::Result<()> {
     let [file, kinds @ ..] = words else {
         return println!(rt; "the words are a file and kinds");
     };
-    let columns = columns_of(alloc, kinds)?;
-    if !are_columns(&columns) {
-        return println!(rt; "the kinds are those of 1 to 32 columns: int, text, hundredths");
+    match schema_of(alloc, kinds)? {
+        Some(schema) => Ok(sum_file(rt, &schema, file.as_str())?),
+        None => println!(rt; "the kinds are those of 1 to 32 columns: int, text, hundredths"),
     }
-    let schema = Schema::new(false, columns);
-    let mut source = LazyFile::new(rt, alloc, file.as_str())?;
+}
+
+fn sum_file(rt: HostRuntime, schema: &Schema, file: &str) -> Result<(), AllocError> {
+    let mut source = LazyFile::new(rt, rt.alloc(), file)?;
+    sum_source(rt, schema, &mut source)
+}
+
+fn sum_source<S: Source>(
+    rt: HostRuntime,
+    schema: &Schema,
+    source: &mut S,
+) -> Result<(), AllocError> {
+    let alloc = rt.alloc();
     let mut out = WriterSink::new(io::writer(&rt), alloc)?;
-    let ended = sum_lines(alloc, &schema, &mut source, &mut out);
+    let ended = sum_lines(alloc, schema, source, &mut out);
     // What was written goes out, whichever way it ended.
     let _at_end = out.flush();
-    Ok(ended?)
+    ended
 }
 
 /// Answers line by line. All answers are handed on before a read.
@@ -35,22 +46,63 @@ fn sum_lines<S: Source, W: Sink>(
     out: &mut W,
 ) -> Result<(), AllocError> {
     let mut lines = Lines::new(alloc)?;
-    let mut sum = Scalar::Number(0);
-    let mut text = Vec::new(alloc);
+    let mut reply = Reply {
+        sum: Scalar::Number(0),
+        text: Vec::new(alloc),
+    };
+    sum_each(alloc, schema, &mut lines, source, &mut reply, out)
+}
+
+/// The sum so far, and what is written for the last line.
+#[derive(Drop)]
+struct Reply {
+    sum: Scalar,
+    text: Vec<u8>,
+}
+
+/// Until a line or its reply is wanting.
+fn sum_each<S: Source, W: Sink>(
+    alloc: Global,
+    schema: &Schema,
+    lines: &mut Lines,
+    source: &mut S,
+    reply: &mut Reply,
+    out: &mut W,
+) -> Result<(), AllocError> {
     for _ in 0..u64::MAX {
-        if !lines.is_ready() && out.flush().is_err() {
-            return Ok(());
-        }
-        let Ok(Line::Whole(line)) = lines.next(source) else {
-            return Ok(());
-        };
-        text.clear();
-        push_reply(alloc, schema, line, &mut sum, &mut text)?;
-        if write_all(out, text.as_slice()).is_err() {
-            return Ok(());
+        if !sum_line(alloc, schema, lines, source, reply, out)? {
+            break;
         }
     }
     Ok(())
+}
+
+/// Whether there was one more line, and its reply is written.
+fn sum_line<S: Source, W: Sink>(
+    alloc: Global,
+    schema: &Schema,
+    lines: &mut Lines,
+    source: &mut S,
+    reply: &mut Reply,
+    out: &mut W,
+) -> Result<bool, AllocError> {
+    if !lines.is_ready() && out.flush().is_err() {
+        return Ok(false);
+    }
+    let Ok(Line::Whole(line)) = lines.next(source) else {
+        return Ok(false);
+    };
+    reply.text.clear();
+    push_reply(alloc, schema, line, reply)?;
+    Ok(write_all(out, reply.text.as_slice()).is_ok())
+}
+
+fn schema_of(alloc: Global, kinds: &[String]) -> Result<Option<Schema>, AllocError> {
+    let columns = columns_of(alloc, kinds)?;
+    if !are_columns(&columns) {
+        return Ok(None);
+    }
+    Ok(Some(Schema::new(false, columns)))
 }
 
 fn columns_of(alloc: Global, words: &[String]) -> Result<Vec<Column>, AllocError> {
@@ -78,15 +130,14 @@ fn push_reply(
     alloc: Global,
     schema: &Schema,
     line: &[u8],
-    sum: &mut Scalar,
-    text: &mut Vec<u8>,
+    reply: &mut Reply,
 ) -> Result<(), AllocError> {
     match read_item(alloc, schema, line) {
         Ok(item) => {
-            *sum = sum_with(*sum, &item);
-            push_answer(Some(&Value::Scalar(*sum)), text)
+            reply.sum = sum_with(reply.sum, &item);
+            push_answer(Some(&Value::Scalar(reply.sum)), &mut reply.text)
         }
-        Err(ItemStop::Skip(skip)) => push_skip(skip, text),
+        Err(ItemStop::Skip(skip)) => push_skip(skip, &mut reply.text),
         Err(ItemStop::Memory) => Err(AllocError),
     }
 }
