@@ -1,5 +1,5 @@
 -- A composition: its second operand on the values of the first, and its root.
-use Rattle.std.proofs.Common.{◌≡◌, inl, inr, List, [], ◌∷◌, ◌++◌, Option, Some, None, Result, Ok, Err, IfErr, OnOk, refl, sym, subst, ap, ap₂, append_assoc, ◌∙◌}
+use Rattle.std.proofs.Common.{◌≡◌, inl, inr, List, [], ◌∷◌, ◌++◌, Option, Some, None, Result, Ok, Err, IfErr, OnOk, refl, sym, subst, append_assoc}
 use Rattle.item_schema.specs.Layout.{Layout, derived_layout}
 use Rattle.item_schema.specs.declared.column.Column.{Column}
 use Rattle.language_base.specs.declared.refusal.Refusal.{Refusal}
@@ -9,9 +9,8 @@ use Rattle.query_model.specs.QueryTypes.{derived_columns, type_of}
 use Rattle.query_model.specs.Rates.{rate_of}
 use Rattle.query_model.specs.Rules.{Standing}
 use Rattle.query_model.specs.declared.query.Query.{Query}
-use Rattle.query_model.specs.declared.query.Shape.{Shape}
-use Rattle.type_checker.specs.Findings.{IsBrokenBy, IsUnfed, nodes_behind, places_at, places_in}
-use Rattle.type_checker.specs.Nodes.{Node, Places, nodes_in, with_two}
+use Rattle.type_checker.specs.Findings.{IsBrokenBy, IsUnfed, nodes_behind, places_in}
+use Rattle.type_checker.specs.Nodes.{Node, nodes_in, with_two}
 use Rattle.type_checker.specs.Steps.{refusal}
 use Rattle.type_checker.specs.WordRules.{BreaksFed, FirstBroken}
 use Rattle.type_checker.specs.declared.stop.CheckStop.{CheckStop}
@@ -77,53 +76,35 @@ module _ (columns : List Column) (standing : Standing) (f : Qre) (second : Query
     fed_refused (Ok done) broken = tt
     fed_refused (Err stop) broken = unfed_by stop broken
 
--- the query is a composition of two
-pub record IsComposition (query first second : Query) : Type 0 where
-  pub plain : plain_of query.shape ≡ compose (plain_of first.shape) (plain_of second.shape)
-  pub places : places_in query ≡ with_two (places_in first) (places_in second) query.span
+-- a composition at this place
+module _ (columns : List Column) (standing : Standing) (first second : Query) (span : Span) where
+  -- its nodes, and those behind the nodes of the first operand
+  abbrev all : List Node
+  all = nodes_in columns standing (compose (plain_of first.shape) (plain_of second.shape))
+      (with_two (places_in first) (places_in second) span)
 
--- by its shape
-pub composition : (query : Query) (shape : Shape) (f g first second : Query) → query.shape ≡ shape → first ≡ f
-    → second ≡ g → plain_of shape ≡ compose (plain_of f.shape) (plain_of g.shape)
-    → places_at shape ≡ with_two (places_in f) (places_in g) → IsComposition query first second
-composition query shape f g first second is left right plain places =
-    let here : IsComposition query f g = record {
-      plain = ap plain_of is ∙ plain;
-      places = ap (λ (s : Shape). places_at s query.span) is
-          ∙ ap (λ (placed : Span → Places). placed query.span) places;
-    } in
-    subst (λ (one : Query). IsComposition query one second) (sym left)
-    (subst (λ (other : Query). IsComposition query f other) (sym right) here)
-
-module _ (query first second : Query) (is : IsComposition query first second) (columns : List Column)
-    (standing : Standing) where
-  -- its nodes behind those of the first operand
   abbrev others : List Node
-  others =
-      nodes_behind columns standing (plain_of first.shape) (plain_of second.shape) (places_in second) query.span
+  others = nodes_behind columns standing (plain_of first.shape) (plain_of second.shape) (places_in second) span
 
-  nodes_are : nodes_at columns standing query ≡ nodes_at columns standing first ++ others
+  nodes_are : all ≡ nodes_at columns standing first ++ others
   nodes_are =
-      ap₂ (nodes_in columns standing) is.plain is.places
-      ∙ append_assoc (nodes_at columns standing first)
+      append_assoc (nodes_at columns standing first)
       (nodes_at (derived_columns (type_of columns (plain_of first.shape))) standing second) _
 
   -- a node of the first operand breaks a rule
-  pub composed_first : (stop : CheckStop) → IsBrokenBy (nodes_at columns standing first) stop
-      → IsBrokenBy (nodes_at columns standing query) stop
+  pub composed_first : (stop : CheckStop) → IsBrokenBy (nodes_at columns standing first) stop → IsBrokenBy all stop
   composed_first stop broken =
       subst (λ (nodes : List Node). IsBrokenBy nodes stop) (sym nodes_are)
       (stops_before (nodes_at columns standing first) others stop broken)
 
   -- none does
   module _ (kept : FirstBroken (nodes_at columns standing first) None) where
-    pub composed_second : (stop : CheckStop) → IsBrokenBy others stop
-        → IsBrokenBy (nodes_at columns standing query) stop
+    pub composed_second : (stop : CheckStop) → IsBrokenBy others stop → IsBrokenBy all stop
     composed_second stop broken =
         subst (λ (nodes : List Node). IsBrokenBy nodes stop) (sym nodes_are)
         (stops_behind (nodes_at columns standing first) others stop kept broken)
 
-    pub composed_kept : FirstBroken others None → FirstBroken (nodes_at columns standing query) None
+    pub composed_kept : FirstBroken others None → FirstBroken all None
     composed_kept later =
         subst (λ (nodes : List Node). FirstBroken nodes None) (sym nodes_are)
         (broken_behind (nodes_at columns standing first) others None kept later)

@@ -22,7 +22,6 @@ pub mod Repeats
 pub mod Rooted
 pub mod Ruled
 pub mod SamePaths
-pub mod Shaped
 mod Shaping
 pub mod SomeItem
 pub mod SomeMet

@@ -8,10 +8,10 @@ use Rattle.query_model.specs.Rates.{rate_of}
 use Rattle.query_model.specs.Rules.{Standing}
 use Rattle.query_model.specs.declared.query.Query.{Query}
 use Rattle.rate_expr.specs.Rates.{size_of}
-use Rattle.type_checker.specs.Findings.{first_in}
+use Rattle.type_checker.specs.Findings.{first_in, first_over, first_over_two}
 use Rattle.type_checker.specs.Nodes.{Node}
 use Rattle.type_checker.specs.Sizes.{has_many_positions}
-use Rattle.type_checker.proofs.OfOperands.{first_over, first_over_both, none_inside, none_inside_both}
+use Rattle.type_checker.proofs.OfOperands.{none_inside, none_inside_both}
 
 are_few : (count : ℕ) → count ≤ max_positions → not (nat_le count max_positions) ≡ false
 are_few count few = grind (arith, nat_tests, few)
@@ -45,13 +45,13 @@ module _ (node : Node) (columns : List Column) (standing : Standing) (f : Query)
       (neither : first_in has_many_positions others other g ≡ None) where
     -- the same over two
     pub few_over_both : size_of (rate_of node.query) ≤ max_positions
-        → first_over_both has_many_positions node columns standing f others other g ≡ None
+        → first_over_two has_many_positions node columns standing f others other g ≡ None
     few_over_both few =
         none_inside_both has_many_positions node columns standing f others other g none neither
         ∙ ap (λ (b : Bool). cond b (Some node.place) None) (are_few (size_of (rate_of node.query)) few)
 
     pub many_over_both : max_positions < size_of (rate_of node.query)
-        → first_over_both has_many_positions node columns standing f others other g ≡ Some node.place
+        → first_over_two has_many_positions node columns standing f others other g ≡ Some node.place
     many_over_both many =
         none_inside_both has_many_positions node columns standing f others other g none neither
         ∙ ap (λ (b : Bool). cond b (Some node.place) None) (are_many (size_of (rate_of node.query)) many)

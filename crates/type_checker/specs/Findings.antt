@@ -61,6 +61,17 @@ abbrev pub first_in : (Node → Bool) → List Column → Standing → Query →
 first_in is_so columns standing query =
     first_where is_so (nodes_in columns standing (plain_of query.shape) (places_in query))
 
+-- the same, of the nodes of an operand and a node behind them, and of two operands and such a node
+abbrev pub first_over : (Node → Bool) → Node → List Column → Standing → Query → Option Span
+first_over is_so node columns standing f = first_where is_so
+    (nodes_in columns standing (plain_of f.shape) (places_in f) ++ node ∷ [])
+
+abbrev pub first_over_two : (Node → Bool) → Node → List Column → Standing → Query → List Column
+    → Standing → Query → Option Span
+first_over_two is_so node columns standing f others other g = first_where is_so
+    (nodes_in columns standing (plain_of f.shape) (places_in f)
+    ++ nodes_in others other (plain_of g.shape) (places_in g) ++ node ∷ [])
+
 -- the node is a composition whose right operand tells too many values of the left one apart
 abbrev pub derives_many : Node → Bool
 derives_many node = derives_many_cells node.columns node.query

@@ -1,5 +1,6 @@
 //! The cells of the streams of values inside of a query.
 ghost use Rattle.std.specs.Prelude.{◌≡◌, Some, None, not, if◌then◌else◌, IfOk};
+ghost use Rattle.std.specs.Option.{option_or};
 ghost use Rattle.predicate_cells.specs.Cells.{AllFit};
 ghost use Rattle.query_model.specs.Queries.{plain_of};
 ghost use Rattle.query_model.specs.QueryTypes.{derived_columns, type_of};
@@ -31,20 +32,56 @@ pub fn first_apart(
         Shape::Atom(..) | Shape::Eps(_) => Ok(None),
         Shape::Or(first, second)
         | Shape::Split(first, second, _)
-        | Shape::Combine(first, second, _) => {
-            let left = first_apart(alloc, schema, first)?;
-            let right = first_apart(alloc, schema, second)?;
-            Ok(left.or(right))
-        }
+        | Shape::Combine(first, second, _) => first_of_two(alloc, schema, first, second),
         Shape::Iter(inner, ..) | Shape::Apply(inner, _) | Shape::Collect(_, _, _, inner) => {
             first_apart(alloc, schema, inner)
         }
         Shape::Compose(first, second) => {
-            let left = first_apart(alloc, schema, first)?;
-            let behind = first_behind(alloc, schema, first, second, query.span)?;
-            Ok(left.or(behind))
+            first_composed(alloc, schema, first, second, query.span)
         }
     }
+}
+
+// The same of two operands on one stream.
+#[cycle(apart)]
+fn first_of_two(
+    alloc: Global,
+    schema: &Schema,
+    first: &Query,
+    second: &Query,
+) -> Result<Option<Span>, AllocError>
+    requires first { KeepsTypes schema.now.columns (plain_of first.now.shape) }
+    requires second { KeepsTypes schema.now.columns (plain_of second.now.shape) }
+    ensures { IfOk result (λ found. (standing : Standing)
+        → option_or (first_in derives_many schema.now.columns standing first.now)
+        (first_in derives_many schema.now.columns standing second.now) ≡ found) }
+{
+    let left = first_apart(alloc, schema, first)?;
+    let right = first_apart(alloc, schema, second)?;
+    Ok(left.or(right))
+}
+
+// The same of a composition at the place, with its operands.
+#[cycle(apart)]
+fn first_composed(
+    alloc: Global,
+    schema: &Schema,
+    first: &Query,
+    second: &Query,
+    span: Span,
+) -> Result<Option<Span>, AllocError>
+    requires first { KeepsTypes schema.now.columns (plain_of first.now.shape) }
+    requires second { KeepsTypes
+        (derived_columns (type_of schema.now.columns (plain_of first.now.shape)))
+        (plain_of second.now.shape) }
+    ensures { IfOk result (λ found. (standing : Standing)
+        → option_or (first_in derives_many schema.now.columns standing first.now) (first_behind
+        (derived_columns (type_of schema.now.columns (plain_of first.now.shape))) standing
+        second.now span) ≡ found) }
+{
+    let left = first_apart(alloc, schema, first)?;
+    let behind = first_behind(alloc, schema, first, second, span)?;
+    Ok(left.or(behind))
 }
 
 // The same of the second operand of a composition, and of the composition itself.

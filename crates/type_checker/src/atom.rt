@@ -70,8 +70,14 @@ fn typed_atom(
         (q.atom (plain_predicate predicate.now) (plain_expression value.now) span) stop) }
 {
     let (pred, value) = named_atom(alloc, items.schema, predicate, value, span)?;
-    let ty = type_of_atom(items, &pred, &value, span)?;
-    Ok((pred, value, ty))
+    match type_of_atom(items, &pred, &value, span) {
+        Ok(ty) => Ok((pred, value, ty)),
+        Err(stop) => {
+            drop(pred);
+            drop(value);
+            Err(stop)
+        }
+    }
 }
 
 // The predicate and the value of an atom, whose names are resolved.

@@ -4,11 +4,13 @@ ghost use Rattle.query_syntax.specs.Plain.{plain_expression};
 ghost use Rattle.type_checker.specs.Expressions.{both_of, choice_of, expression_over, extremum_of};
 ghost use Rattle.type_checker.specs.Expressions.{named_in, summary_of, table_form};
 ghost use Rattle.type_checker.specs.Scopes.{HasFittingNumbers, plain_scope};
-ghost use Rattle.value_ops.specs.Expressions.{binary, choice, entry, plain_of};
+ghost use Rattle.value_ops.specs.Expressions.{binary, choice, entry, plain_of, unary};
 
 use crate::columns::column_named;
 use item_schema::Schema;
-use query_syntax::{BinaryOp, Comparison, Expression, Extremum, Name, Summary, Text};
+use query_syntax::{
+    BinaryOp, Compare, Comparison, Expression, Extremum, Name, Summary, Text, UnaryOp,
+};
 use std::alloc::{AllocError, Global};
 use value_ops::{Expr, Var};
 
@@ -45,10 +47,7 @@ pub fn expression_over(
             operator,
             operand,
             ..
-        } => match boxed_over(alloc, scope, operand)? {
-            Some(inner) => Ok(Some(Expr::Unary(*operator, inner))),
-            None => Ok(None),
-        },
+        } => unary_over(alloc, scope, *operator, operand),
         Expression::Binary {
             operator,
             left,
@@ -100,6 +99,25 @@ fn boxed_over(
 }
 
 #[cycle(resolve)]
+fn unary_over(
+    alloc: Global,
+    scope: Scope<'_>,
+    operator: UnaryOp,
+    operand: &Expression,
+) -> Result<Option<Expr>, AllocError>
+    ensures made { IfOk result (λ found. option_map plain_of found
+        ≡ option_map (unary operator)
+        (expression_over (plain_scope scope.entry) (plain_expression operand.now))) }
+    ensures numbers { IfOk result (λ found.
+        IfSome found (λ made. HasFittingNumbers (plain_of made))) }
+{
+    match boxed_over(alloc, scope, operand)? {
+        Some(inner) => Ok(Some(Expr::Unary(operator, inner))),
+        None => Ok(None),
+    }
+}
+
+#[cycle(resolve)]
 fn binary_over(
     alloc: Global,
     scope: Scope<'_>,
@@ -140,19 +158,11 @@ fn choice_over(
     ensures numbers { IfOk result (λ found.
         IfSome found (λ made. HasFittingNumbers (plain_of made))) }
 {
-    let Some(left) = boxed_over(alloc, scope, &test.left)? else {
-        return Ok(None);
-    };
-    let Some(right) = boxed_over(alloc, scope, &test.right)? else {
-        return Ok(None);
-    };
-    let Some(holds) = boxed_over(alloc, scope, holds)? else {
-        return Ok(None);
-    };
-    let Some(fails) = boxed_over(alloc, scope, fails)? else {
-        return Ok(None);
-    };
-    Ok(Some(Expr::If(test.compare, left, right, holds, fails)))
+    let left = boxed_over(alloc, scope, &test.left)?;
+    let right = boxed_over(alloc, scope, &test.right)?;
+    let holds = boxed_over(alloc, scope, holds)?;
+    let fails = boxed_over(alloc, scope, fails)?;
+    Ok(choice_of(test.compare, left, right, holds, fails))
 }
 
 #[cycle(resolve)]
@@ -201,6 +211,28 @@ fn entry_over(
     };
     let key = key.bytes.try_copy(alloc)?;
     Ok(Some(Expr::Get(table, key, absent)))
+}
+
+// The choice, where there are all four parts.
+fn choice_of(
+    compare: Compare,
+    left: Option<Box<Expr>>,
+    right: Option<Box<Expr>>,
+    holds: Option<Box<Expr>>,
+    fails: Option<Box<Expr>>,
+) -> Option<Expr>
+    requires left { IfSome left (λ made. HasFittingNumbers (plain_of made.value)) }
+    requires right { IfSome right (λ made. HasFittingNumbers (plain_of made.value)) }
+    requires holds { IfSome holds (λ made. HasFittingNumbers (plain_of made.value)) }
+    requires fails { IfSome fails (λ made. HasFittingNumbers (plain_of made.value)) }
+    ensures made { option_map plain_of result
+        ≡ choice_of (choice compare) (option_map (λ made. plain_of made.value) left)
+        (option_map (λ made. plain_of made.value) right)
+        (option_map (λ made. plain_of made.value) holds)
+        (option_map (λ made. plain_of made.value) fails) }
+    ensures numbers { IfSome result (λ made. HasFittingNumbers (plain_of made)) }
+{
+    Some(Expr::If(compare, left?, right?, holds?, fails?))
 }
 
 fn named_in(scope: Scope<'_>, name: &[u8]) -> Option<Var>

@@ -2,8 +2,10 @@
 ghost use Rattle.std.specs.Prelude.{◌≡◌, IfErr, IfOk, Some, option_map};
 ghost use Rattle.language_base.specs.declared.rule.Rule.TheVariants.{Name};
 ghost use Rattle.predicate_cells.specs.Plain.{plain_of};
+ghost use Rattle.predicate_cells.specs.Predicates.{negation};
 ghost use Rattle.query_syntax.specs.Plain.{plain_predicate};
 ghost use Rattle.type_checker.specs.Findings.{IsUnresolved};
+ghost use Rattle.type_checker.specs.Names.{column_named};
 ghost use Rattle.type_checker.specs.Steps.{found};
 ghost use Rattle.type_checker.specs.Tests.{both, equality_test, joined_by, order_test, resolved_over};
 
@@ -32,10 +34,7 @@ pub fn pred_over(
             column,
             literal,
             ..
-        } => match column_named(schema, column.bytes.as_slice()) {
-            Some(column) => Ok(Some(equality_test(alloc, *equality, literal, column)?)),
-            None => Ok(None),
-        },
+        } => equality_over(alloc, schema, *equality, column, literal),
         Predicate::Order {
             order,
             column,
@@ -64,10 +63,7 @@ pub fn pred_over(
             right,
             ..
         } => joined_over(alloc, schema, *connective, left, right),
-        Predicate::Not { operand, .. } => match boxed_over(alloc, schema, operand)? {
-            Some(inner) => Ok(Some(Pred::Not(inner))),
-            None => Ok(None),
-        },
+        Predicate::Not { operand, .. } => negated_over(alloc, schema, operand),
     }
 }
 
@@ -124,6 +120,38 @@ fn joined_over(
         return Ok(None);
     };
     Ok(Some(joined_by(connective, left, right)))
+}
+
+#[cycle(resolve)]
+fn negated_over(
+    alloc: Global,
+    schema: &Schema,
+    operand: &Predicate,
+) -> Result<Option<Pred>, AllocError>
+    ensures { IfOk result (λ found. option_map plain_of found
+        ≡ option_map negation (resolved_over schema.now.columns (plain_predicate operand.now))) }
+{
+    match boxed_over(alloc, schema, operand)? {
+        Some(inner) => Ok(Some(Pred::Not(inner))),
+        None => Ok(None),
+    }
+}
+
+fn equality_over(
+    alloc: Global,
+    schema: &Schema,
+    equality: Equality,
+    column: &query_syntax::Name,
+    literal: &Literal,
+) -> Result<Option<Pred>, AllocError>
+    ensures { IfOk result (λ found. option_map plain_of found
+        ≡ option_map (equality_test equality literal.now)
+        (column_named schema.now.columns column.now.bytes)) }
+{
+    match column_named(schema, column.bytes.as_slice()) {
+        Some(column) => Ok(Some(equality_test(alloc, equality, literal, column)?)),
+        None => Ok(None),
+    }
 }
 
 fn equality_test(

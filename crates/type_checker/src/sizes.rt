@@ -5,12 +5,12 @@ ghost use Rattle.item_schema.specs.declared.column.Column.{Column};
 ghost use Rattle.language_base.specs.Limits.{max_positions};
 ghost use Rattle.query_model.specs.Queries.{plain_of};
 ghost use Rattle.query_model.specs.Rates.{rate_of};
-ghost use Rattle.query_model.specs.Rules.{Standing};
+ghost use Rattle.query_model.specs.Rules.{Standing, bound};
 ghost use Rattle.query_model.specs.Sizes.{HasFewPositions};
 ghost use Rattle.rate_expr.specs.Plain as rates;
 ghost use Rattle.rate_expr.specs.Rates.{size_of};
-ghost use Rattle.type_checker.specs.Findings.{first_in, places_in};
-ghost use Rattle.type_checker.specs.Nodes.{first_where, nodes_in};
+ghost use Rattle.type_checker.specs.Findings.{first_in, first_over, first_over_two, places_in};
+ghost use Rattle.type_checker.specs.Nodes.{Node, first_where, nodes_in};
 ghost use Rattle.type_checker.specs.Sizes.{has_many_positions};
 
 use language_base::Span;
@@ -41,32 +41,80 @@ pub fn positions_of(query: &Query) -> Result<u32, Span>
     match &query.shape {
         Shape::Atom(..) => Ok(1),
         Shape::Eps(_) => Ok(0),
-        Shape::Or(first, second) => {
-            let counts = positions_of_two(first, second)?;
-            few_together(counts.left, counts.right, query.span)
-        }
-        Shape::Split(first, second, _) => {
-            let counts = positions_of_two(first, second)?;
-            few_together(counts.left, counts.right, query.span)
-        }
+        Shape::Or(first, second) => positions_of_both(first, second, query.span),
+        Shape::Split(first, second, _) => positions_of_both(first, second, query.span),
         Shape::Iter(inner, ..) => positions_of(inner),
-        Shape::Combine(first, second, _) => {
-            let counts = positions_of_two(first, second)?;
-            Ok(counts.left)
-        }
+        Shape::Combine(first, second, _) => positions_of_first(first, second),
         Shape::Apply(inner, _) => positions_of(inner),
-        Shape::Compose(first, second) => {
-            let counts = positions_of_two(first, second)?;
-            Ok(counts.left)
-        }
-        Shape::Collect(_, _, rate, inner) => {
-            positions_of(inner)?;
-            few_in(rate, query.span)
-        }
+        Shape::Compose(first, second) => positions_of_first(first, second),
+        Shape::Collect(_, _, rate, inner) => positions_of_rate(rate, inner, query.span),
     }
 }
 
-// The same of two operands.
+// The positions of a node at the place that has those of both operands, or the place of the first
+// node that has too many.
+#[cycle(positions)]
+fn positions_of_both(first: &Query, second: &Query, span: Span) -> Result<u32, Span>
+    ensures count { IfOk result (λ count. count ≡ size_of (rate_of (plain_of first.now.shape))
+        + size_of (rate_of (plain_of second.now.shape))) }
+    ensures few { OnOk result (HasFewPositions (plain_of first.now.shape)
+        × HasFewPositions (plain_of second.now.shape)
+        × (size_of (rate_of (plain_of first.now.shape))
+        + size_of (rate_of (plain_of second.now.shape)) ≤ max_positions)) }
+    ensures none { OnOk result ((columns : List Column) (node : Node)
+        → size_of (rate_of node.query) ≡ size_of (rate_of (plain_of first.now.shape))
+        + size_of (rate_of (plain_of second.now.shape))
+        → first_over_two has_many_positions node columns bound first.now columns bound second.now
+        ≡ None) }
+    ensures first { IfErr result (λ place. (columns : List Column) (node : Node)
+        → node.place ≡ span
+        → size_of (rate_of node.query) ≡ size_of (rate_of (plain_of first.now.shape))
+        + size_of (rate_of (plain_of second.now.shape))
+        → first_over_two has_many_positions node columns bound first.now columns bound second.now
+        ≡ Some place) }
+{
+    let counts = positions_of_two(first, second)?;
+    few_together(counts.left, counts.right, span)
+}
+
+// The same of a node that has the positions of its first operand.
+#[cycle(positions)]
+fn positions_of_first(first: &Query, second: &Query) -> Result<u32, Span>
+    ensures count { IfOk result (λ count. count ≡ size_of (rate_of (plain_of first.now.shape))) }
+    ensures few { OnOk result (HasFewPositions (plain_of first.now.shape)
+        × HasFewPositions (plain_of second.now.shape)
+        × (size_of (rate_of (plain_of first.now.shape)) ≤ max_positions)) }
+    ensures none { OnOk result ((columns others : List Column) (standing other : Standing)
+        (node : Node) → size_of (rate_of node.query) ≡ size_of (rate_of (plain_of first.now.shape))
+        → first_over_two has_many_positions node columns standing first.now others other second.now
+        ≡ None) }
+    ensures first { IfErr result (λ place. (columns others : List Column)
+        (standing other : Standing) (node : Node)
+        → first_over_two has_many_positions node columns standing first.now others other second.now
+        ≡ Some place) }
+{
+    let counts = positions_of_two(first, second)?;
+    Ok(counts.left)
+}
+
+// The same of a node at the place that has the positions of a written rate.
+#[cycle(positions)]
+fn positions_of_rate(rate: &Rate, operand: &Query, span: Span) -> Result<u32, Span>
+    ensures count { IfOk result (λ count. count ≡ size_of (rates.plain_of rate.now)) }
+    ensures few { OnOk result (HasFewPositions (plain_of operand.now.shape)
+        × (size_of (rates.plain_of rate.now) ≤ max_positions)) }
+    ensures none { OnOk result ((columns : List Column) (node : Node)
+        → size_of (rate_of node.query) ≡ size_of (rates.plain_of rate.now)
+        → first_over has_many_positions node columns bound operand.now ≡ None) }
+    ensures first { IfErr result (λ place. (columns : List Column) (node : Node)
+        → node.place ≡ span → size_of (rate_of node.query) ≡ size_of (rates.plain_of rate.now)
+        → first_over has_many_positions node columns bound operand.now ≡ Some place) }
+{
+    positions_of(operand)?;
+    few_in(rate, span)
+}
+
+// The positions of two operands, or the place of the first node of theirs that has too many.
 #[cycle(positions)]
 fn positions_of_two(first: &Query, second: &Query) -> Result<Counts, Span>
     ensures left { IfOk result (λ counts.

@@ -91,8 +91,13 @@ fn fitting_parts(
         (plain_rate written.now.rate.now) f span) operand stop) }
 {
     let parts = named_parts(alloc, schema, written, span)?;
-    keep_parts(nesting, schema, &parts, span)?;
-    Ok(parts)
+    match keep_parts(nesting, schema, &parts, span) {
+        Ok(()) => Ok(parts),
+        Err(stop) => {
+            drop(parts);
+            Err(stop)
+        }
+    }
 }
 
 // The parts of a collection, whose names are resolved.

@@ -1,15 +1,23 @@
 //! The rules of words, at each node of a query.
-ghost use Rattle.std.specs.Prelude.{◌≡◌, ◌++◌, IfErr, IfOk, None, OnOk};
+ghost use Rattle.std.specs.Prelude.{◌≡◌, ◌≤◌, ◌+◌, ◌++◌, ℕ, ℤ, IfErr, IfOk, None, OnOk};
 ghost use Rattle.item_schema.specs.Layout.{derived_layout};
+ghost use Rattle.language_base.specs.Limits.{max_positions};
+ghost use Rattle.predicate_cells.specs.Predicates.{Predicate};
 ghost use Rattle.rate_expr.specs.FirstLastFollow.{AreSetsOf};
-ghost use Rattle.query_model.specs.Queries.{compose, plain_of};
+ghost use Rattle.rate_expr.specs.Plain as rates;
+ghost use Rattle.rate_expr.specs.Rates.{preds_of, size_of};
+ghost use Rattle.query_model.specs.Queries.{choice, collect, combine, compose, iter, split};
+ghost use Rattle.query_model.specs.Queries.{plain_of};
 ghost use Rattle.query_model.specs.QueryTypes.{type_of};
 ghost use Rattle.query_model.specs.Rates.{rate_of};
+ghost use Rattle.query_model.specs.Rules as model;
 ghost use Rattle.query_model.specs.Rules.{bound};
-ghost use Rattle.type_checker.specs.Findings.{AreOperands, CanBeAsked, IsBrokenBy, nodes_behind, places_in};
-ghost use Rattle.type_checker.specs.Nodes.{nodes_in};
+ghost use Rattle.type_checker.specs.Findings.{AreAmong, AreOperands, CanBeAsked, IsBrokenBy};
+ghost use Rattle.type_checker.specs.Findings.{nodes_behind, places_in};
+ghost use Rattle.type_checker.specs.Nodes.{nodes_in, with_one, with_two};
 ghost use Rattle.type_checker.specs.Standings.{standing_of};
 ghost use Rattle.type_checker.specs.WordRules.{FirstBroken};
+ghost use Rattle.value_ops.specs.Expressions.{Expression};
 
 use crate::CheckStop;
 use crate::roots::{Operands, choice, collected, fed, iterated, one_item, side_by_side, split};
@@ -18,7 +26,7 @@ use crate::values::values_of;
 use language_base::Span;
 use predicate_cells::{CellStop, Cells};
 use query_model::{Query, Shape, cells_of};
-use rate_expr::Positions;
+use rate_expr::{Positions, Rate};
 use std::alloc::{AllocError, Global};
 use std::rc::Rc;
 use symbolic_nfa::Nfa;
@@ -44,34 +52,178 @@ pub fn keep_words(
     match &query.shape {
         Shape::Atom(pred, _) => one_item(alloc, cells, pred, query.span),
         Shape::Eps(_) => Ok(Positions::empty(alloc)),
-        Shape::Or(first, second) => {
-            let operands = keep_both(alloc, cells, first, second)?;
-            choice(alloc, operands, query.span)
-        }
-        Shape::Split(first, second, _) => {
-            let operands = keep_both(alloc, cells, first, second)?;
-            split(alloc, operands, query.span)
-        }
-        Shape::Iter(inner, _, _) => {
-            let positions = keep_words(alloc, Standing::Bound, cells, inner)?;
-            let operand = Nfa::new(alloc, positions, cells)?;
-            iterated(alloc, operand, query.span)
-        }
+        Shape::Or(first, second) => keep_choice(alloc, cells, first, second, query.span),
+        Shape::Split(first, second, _) => keep_split(alloc, cells, first, second, query.span),
+        Shape::Iter(inner, _, _) => keep_iteration(alloc, cells, inner, query.span),
         Shape::Combine(first, second, _) => {
-            let operands = keep_both(alloc, cells, first, second)?;
-            side_by_side(alloc, operands, query.span)
+            keep_combination(alloc, cells, first, second, query.span)
         }
         Shape::Apply(inner, _) => keep_words(alloc, Standing::Bound, cells, inner),
         Shape::Compose(first, second) => {
-            let left = keep_words(alloc, standing, cells, first)?;
-            keep_fed(alloc, standing, cells, first, second, query.span)?;
-            Ok(left)
+            keep_composition(alloc, standing, cells, first, second, query.span)
         }
-        Shape::Collect(_, _, rate, inner) => {
-            keep_words(alloc, Standing::Bound, cells, inner)?;
-            collected(alloc, cells, rate, query.span)
-        }
+        Shape::Collect(_, _, rate, inner) => keep_collection(alloc, cells, rate, inner, query.span),
     }
+}
+
+// The same of a choice at the place, with its operands.
+#[cycle(words)]
+fn keep_choice(
+    alloc: Global,
+    cells: &Rc<Cells>,
+    first: &Query,
+    second: &Query,
+    span: Span,
+) -> Result<Positions, CheckStop>
+    requires first { CanBeAsked cells.now.value (plain_of first.now.shape) }
+    requires second { CanBeAsked cells.now.value (plain_of second.now.shape) }
+    requires few { size_of (rate_of (plain_of first.now.shape))
+        + size_of (rate_of (plain_of second.now.shape)) ≤ max_positions }
+    ensures kept { (standing : model.Standing) → OnOk result (FirstBroken
+        (nodes_in cells.now.value.layout.columns standing
+        (choice (plain_of first.now.shape) (plain_of second.now.shape))
+        (with_two (places_in first.now) (places_in second.now) span)) None) }
+    ensures positions { IfOk result (λ sets. AreSetsOf sets
+        (rate_of (choice (plain_of first.now.shape) (plain_of second.now.shape)))) }
+    ensures refused { (standing : model.Standing) → IfErr result (IsBrokenBy
+        (nodes_in cells.now.value.layout.columns standing
+        (choice (plain_of first.now.shape) (plain_of second.now.shape))
+        (with_two (places_in first.now) (places_in second.now) span))) }
+{
+    let operands = keep_both(alloc, cells, first, second)?;
+    choice(alloc, operands, span)
+}
+
+// The same of a split at the place, with its operands.
+#[cycle(words)]
+fn keep_split(
+    alloc: Global,
+    cells: &Rc<Cells>,
+    first: &Query,
+    second: &Query,
+    span: Span,
+) -> Result<Positions, CheckStop>
+    requires first { CanBeAsked cells.now.value (plain_of first.now.shape) }
+    requires second { CanBeAsked cells.now.value (plain_of second.now.shape) }
+    requires few { size_of (rate_of (plain_of first.now.shape))
+        + size_of (rate_of (plain_of second.now.shape)) ≤ max_positions }
+    ensures kept { (standing : model.Standing) (value : Expression) → OnOk result (FirstBroken
+        (nodes_in cells.now.value.layout.columns standing
+        (split (plain_of first.now.shape) (plain_of second.now.shape) value)
+        (with_two (places_in first.now) (places_in second.now) span)) None) }
+    ensures positions { (value : Expression) → IfOk result (λ sets. AreSetsOf sets
+        (rate_of (split (plain_of first.now.shape) (plain_of second.now.shape) value))) }
+    ensures refused { (standing : model.Standing) (value : Expression) → IfErr result (IsBrokenBy
+        (nodes_in cells.now.value.layout.columns standing
+        (split (plain_of first.now.shape) (plain_of second.now.shape) value)
+        (with_two (places_in first.now) (places_in second.now) span))) }
+{
+    let operands = keep_both(alloc, cells, first, second)?;
+    split(alloc, operands, span)
+}
+
+// The same of a combination at the place, with its operands.
+#[cycle(words)]
+fn keep_combination(
+    alloc: Global,
+    cells: &Rc<Cells>,
+    first: &Query,
+    second: &Query,
+    span: Span,
+) -> Result<Positions, CheckStop>
+    requires first { CanBeAsked cells.now.value (plain_of first.now.shape) }
+    requires second { CanBeAsked cells.now.value (plain_of second.now.shape) }
+    ensures kept { (standing : model.Standing) (value : Expression) → OnOk result (FirstBroken
+        (nodes_in cells.now.value.layout.columns standing
+        (combine (plain_of first.now.shape) (plain_of second.now.shape) value)
+        (with_two (places_in first.now) (places_in second.now) span)) None) }
+    ensures positions { (value : Expression) → IfOk result (λ sets. AreSetsOf sets
+        (rate_of (combine (plain_of first.now.shape) (plain_of second.now.shape) value))) }
+    ensures refused { (standing : model.Standing) (value : Expression) → IfErr result (IsBrokenBy
+        (nodes_in cells.now.value.layout.columns standing
+        (combine (plain_of first.now.shape) (plain_of second.now.shape) value)
+        (with_two (places_in first.now) (places_in second.now) span))) }
+{
+    let operands = keep_both(alloc, cells, first, second)?;
+    side_by_side(alloc, operands, span)
+}
+
+// The same of an iteration at the place, with its operand.
+#[cycle(words)]
+fn keep_iteration(
+    alloc: Global,
+    cells: &Rc<Cells>,
+    operand: &Query,
+    span: Span,
+) -> Result<Positions, CheckStop>
+    requires { CanBeAsked cells.now.value (plain_of operand.now.shape) }
+    ensures kept { (standing : model.Standing) (number : ℤ) (step : Expression)
+        → OnOk result (FirstBroken (nodes_in cells.now.value.layout.columns standing
+        (iter (plain_of operand.now.shape) number step)
+        (with_one (places_in operand.now) span)) None) }
+    ensures positions { (number : ℤ) (step : Expression) → IfOk result (λ sets.
+        AreSetsOf sets (rate_of (iter (plain_of operand.now.shape) number step))) }
+    ensures refused { (standing : model.Standing) (number : ℤ) (step : Expression)
+        → IfErr result (IsBrokenBy (nodes_in cells.now.value.layout.columns standing
+        (iter (plain_of operand.now.shape) number step)
+        (with_one (places_in operand.now) span))) }
+{
+    let positions = keep_words(alloc, Standing::Bound, cells, operand)?;
+    let inner = Nfa::new(alloc, positions, cells)?;
+    iterated(alloc, inner, span)
+}
+
+// The same of a composition that stands so at the place, with its operands.
+#[cycle(words)]
+fn keep_composition(
+    alloc: Global,
+    standing: Standing,
+    cells: &Rc<Cells>,
+    first: &Query,
+    second: &Query,
+    span: Span,
+) -> Result<Positions, CheckStop>
+    requires { CanBeAsked cells.now.value
+        (compose (plain_of first.now.shape) (plain_of second.now.shape)) }
+    ensures kept { OnOk result (FirstBroken
+        (nodes_in cells.now.value.layout.columns (standing_of standing)
+        (compose (plain_of first.now.shape) (plain_of second.now.shape))
+        (with_two (places_in first.now) (places_in second.now) span)) None) }
+    ensures positions { IfOk result (λ sets. AreSetsOf sets (rate_of (plain_of first.now.shape))) }
+    ensures refused { IfErr result (IsBrokenBy
+        (nodes_in cells.now.value.layout.columns (standing_of standing)
+        (compose (plain_of first.now.shape) (plain_of second.now.shape))
+        (with_two (places_in first.now) (places_in second.now) span))) }
+{
+    let left = keep_words(alloc, standing, cells, first)?;
+    keep_fed(alloc, standing, cells, first, second, span)?;
+    Ok(left)
+}
+
+// The same of a collection at the place, with its operand and its written rate.
+#[cycle(words)]
+fn keep_collection(
+    alloc: Global,
+    cells: &Rc<Cells>,
+    rate: &Rate,
+    operand: &Query,
+    span: Span,
+) -> Result<Positions, CheckStop>
+    requires asked { CanBeAsked cells.now.value (plain_of operand.now.shape) }
+    requires few { size_of (rates.plain_of rate.now) ≤ max_positions }
+    requires members { AreAmong cells.now.value (preds_of (rates.plain_of rate.now)) }
+    ensures kept { (standing : model.Standing) (key : ℕ) (sync : Predicate)
+        → OnOk result (FirstBroken (nodes_in cells.now.value.layout.columns standing
+        (collect key sync (rates.plain_of rate.now) (plain_of operand.now.shape))
+        (with_one (places_in operand.now) span)) None) }
+    ensures positions { IfOk result (λ sets. AreSetsOf sets (rates.plain_of rate.now)) }
+    ensures refused { (standing : model.Standing) (key : ℕ) (sync : Predicate)
+        → IfErr result (IsBrokenBy (nodes_in cells.now.value.layout.columns standing
+        (collect key sync (rates.plain_of rate.now) (plain_of operand.now.shape))
+        (with_one (places_in operand.now) span))) }
+{
+    keep_words(alloc, Standing::Bound, cells, operand)?;
+    collected(alloc, cells, rate, span)
 }
 
 // The automata of two operands, of which no node breaks a rule of words.

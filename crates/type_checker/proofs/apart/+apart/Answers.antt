@@ -1,4 +1,5 @@
-use Rattle.std.proofs.Common.{◌≡◌, ◌∙◌, List, inl, inr, refl, rules}
+use Rattle.std.proofs.Common.{◌≡◌, ◌∙◌, List, ap₂, inl, inr, refl, rules, sym}
+use Rattle.std.specs.Option.{option_or}
 use Rattle.std.proofs.lemmas.Result.{IfOk-weaker}
 use Rattle.item_schema.specs.declared.column.Column.{Column}
 use Rattle.query_model.specs.Queries.{plain_of}
@@ -13,8 +14,8 @@ use Rattle.type_checker.proofs.Composing.{on_values}
 use Rattle.type_checker.proofs.Fitting.{all_fit}
 use Rattle.type_checker.proofs.apart.+apart.Goals as goal
 
-pub first_apart-first_apart-requires-in-Or : goal.first_apart-first_apart-requires-in-Or
-first_apart-first_apart-requires-in-Or t c =
+pub first_apart-first_of_two-requires : goal.first_apart-first_of_two-requires
+first_apart-first_of_two-requires t c =
     let is : IsBeside c.args.query.now c.in-Or.first.value c.in-Or.second.value =
     elim c.in-Or.is [
       | inl is ↦ beside c.args.query.now _ c.in-Or.first.value c.in-Or.second.value is
@@ -26,10 +27,11 @@ first_apart-first_apart-requires-in-Or t c =
             (λ columns kept. (kept.0, kept.1)) (λ columns standing span. refl) (λ columns. refl)
       ]
     ] in
-    (search (rules, the_lemmas), rw c.deref-in-Or.ensures (is.keeps c.args.schema.now.columns c.requires).0)
+    let keeps = is.keeps c.args.schema.now.columns c.requires in
+    (search (rules, the_lemmas), (rw c.deref-in-Or.ensures keeps.0, rw c.deref-in-Or-2.ensures keeps.1))
 
-pub first_apart-first_apart-requires-in-Or-2 : goal.first_apart-first_apart-requires-in-Or-2
-first_apart-first_apart-requires-in-Or-2 t c =
+pub first_apart-returns-in-Or : goal.first_apart-returns-in-Or
+first_apart-returns-in-Or t c =
     let is : IsBeside c.args.query.now c.in-Or.first.value c.in-Or.second.value =
     elim c.in-Or.is [
       | inl is ↦ beside c.args.query.now _ c.in-Or.first.value c.in-Or.second.value is
@@ -41,27 +43,13 @@ first_apart-first_apart-requires-in-Or-2 t c =
             (λ columns kept. (kept.0, kept.1)) (λ columns standing span. refl) (λ columns. refl)
       ]
     ] in
-    (search (rules, the_lemmas), rw c.deref-in-Or-2.ensures (is.keeps c.args.schema.now.columns c.requires).1)
+    IfOk-weaker c.first_of_two.result _ _ (λ found each standing.
+    is.first c.args.schema.now.columns standing _ _ refl refl
+    ∙ (rw (c.deref-in-Or.ensures, c.deref-in-Or-2.ensures) at (each bound)))
+    c.first_of_two.ensures
 
-pub first_apart-returns-in_ok-right-in-Or : goal.first_apart-returns-in_ok-right-in-Or
-first_apart-returns-in_ok-right-in-Or t c = λ standing.
-    let is : IsBeside c.args.query.now c.in-Or.first.value c.in-Or.second.value =
-    elim c.in-Or.is [
-      | inl is ↦ beside c.args.query.now _ c.in-Or.first.value c.in-Or.second.value is
-          (λ columns kept. (kept.0, kept.1)) (λ columns standing span. refl) (λ columns. refl)
-      | inr others ↦ elim others [
-        | inl (value, is) ↦ beside c.args.query.now _ c.in-Or.first.value c.in-Or.second.value is
-            (λ columns kept. (kept.0, kept.1)) (λ columns standing span. refl) (λ columns. refl)
-        | inr (value, is) ↦ beside c.args.query.now _ c.in-Or.first.value c.in-Or.second.value is
-            (λ columns kept. (kept.0, kept.1)) (λ columns standing span. refl) (λ columns. refl)
-      ]
-    ] in
-    let left = rw c.deref-in-Or.ensures at (c.in_ok-left-in-Or.ensures bound) in
-    let right = rw c.deref-in-Or-2.ensures at (c.in_ok-right-in-Or.ensures bound) in
-    rw c.or-in-Or.ensures (is.first c.args.schema.now.columns standing _ _ left right)
-
-pub first_apart-first_apart-requires-in-Iter : goal.first_apart-first_apart-requires-in-Iter
-first_apart-first_apart-requires-in-Iter t c =
+pub first_apart-first_apart-requires : goal.first_apart-first_apart-requires
+first_apart-first_apart-requires t c =
     let is : IsAbove c.args.query.now c.in-Iter.inner.value =
     elim c.in-Iter.is [
       | inl (number, step, is) ↦ above c.args.query.now _ c.in-Iter.inner.value is
@@ -88,30 +76,35 @@ first_apart-returns-in-Iter t c =
             (λ columns kept. kept.0) (λ columns standing span. refl) (λ columns. refl)
       ]
     ] in
-    IfOk-weaker c.first_apart-in-Iter.result _ _ (λ found each standing.
+    IfOk-weaker c.first_apart.result _ _ (λ found each standing.
     is.first c.args.schema.now.columns standing found (rw c.deref-in-Iter.ensures at (each bound)))
-    c.first_apart-in-Iter.ensures
+    c.first_apart.ensures
 
-pub first_apart-first_apart-requires : goal.first_apart-first_apart-requires
-first_apart-first_apart-requires t c =
+pub first_apart-first_composed-requires : goal.first_apart-first_composed-requires
+first_apart-first_composed-requires t c =
     let keeps = compose_keeps c.args.query.now _ c.in-Compose.first.value c.in-Compose.second.value c.in-Compose.is
-    refl refl c.args.schema.now.columns c.requires in
-    (search (rules, the_lemmas), rw c.deref.ensures keeps.0)
+    refl refl c.args.schema.now.columns c.requires in (
+      search (rules, the_lemmas),
+      (rw c.deref.ensures keeps.0, rw (c.deref.ensures, c.deref-in-Compose.ensures) keeps.1),
+    )
 
-pub first_apart-first_behind-requires : goal.first_apart-first_behind-requires
-first_apart-first_behind-requires t c =
-    let keeps = compose_keeps c.args.query.now _ c.in-Compose.first.value c.in-Compose.second.value c.in-Compose.is
-    refl refl c.args.schema.now.columns c.requires in
-    (search (rules, the_lemmas), rw (c.deref-in-Compose.ensures, c.deref-in-Compose-2.ensures) keeps.1)
-
-pub first_apart-returns-in_ok-behind-in-Compose : goal.first_apart-returns-in_ok-behind-in-Compose
-first_apart-returns-in_ok-behind-in-Compose t c = λ standing.
+pub first_apart-returns-in-Compose : goal.first_apart-returns-in-Compose
+first_apart-returns-in-Compose t c =
     let f = c.in-Compose.first.value in let g = c.in-Compose.second.value in
-    let left = rw c.deref.ensures at (c.in_ok-left-in-Compose.ensures standing) in
-    let behind = rw (c.deref-in-Compose.ensures, c.deref-in-Compose-2.ensures)
-    at (c.in_ok-behind-in-Compose.ensures standing) in
-    rw c.or.ensures
-    (compose_behind c.args.query.now _ f g c.in-Compose.is refl refl c.args.schema.now.columns standing _ _ left behind)
+    IfOk-weaker c.first_composed.result _ _ (λ found each standing.
+    compose_behind c.args.query.now _ f g c.in-Compose.is refl refl c.args.schema.now.columns standing _ _ refl refl
+    ∙ (rw (c.deref.ensures, c.deref-in-Compose.ensures) at (each standing)))
+    c.first_composed.ensures
+
+-- of two operands
+pub first_of_two-returns : goal.first_of_two-returns
+first_of_two-returns t c = λ standing.
+    ap₂ option_or (c.in_ok-left.ensures standing) (c.in_ok-right.ensures standing) ∙ sym c.or.ensures
+
+-- of a composition
+pub first_composed-returns : goal.first_composed-returns
+first_composed-returns t c = λ standing.
+    ap₂ option_or (c.in_ok-left.ensures standing) (sym (c.in_ok-behind.ensures standing)) ∙ sym c.or.ensures
 
 -- behind the first operand of a composition
 pub first_behind-first_apart-requires : goal.first_behind-first_apart-requires

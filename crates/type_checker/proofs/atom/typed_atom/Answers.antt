@@ -7,9 +7,7 @@ returns-in_err-pred-clause-refused c =
     let err = err_from_is_err_and c.from_residual.result c.from_residual.ensures.1 in
     rw (err.1, err.2) c.in_err-pred.ensures.refused
 
-pub returns-in_err-ty-clause-refused : goal.returns-in_err-ty-clause-refused
-returns-in_err-ty-clause-refused c =
-    let err = err_from_is_err_and c.from_residual-in_err-ty.result c.from_residual-in_err-ty.ensures.1 in
-    rw (err.1, err.2)
-    (λ nesting. c.in_err-ty.ensures.refused nesting (plain_predicate c.args.predicate.now)
-    (plain_expression c.args.value.now) c.in_ok-pred.ensures.made)
+pub returns-in-Err-clause-refused : goal.returns-in-Err-clause-refused
+returns-in-Err-clause-refused c = λ nesting.
+    c.in-Err.ensures.refused nesting (plain_predicate c.args.predicate.now) (plain_expression c.args.value.now)
+    c.in_ok-pred.ensures.made

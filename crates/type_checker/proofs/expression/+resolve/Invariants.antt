@@ -21,3 +21,6 @@ decreases-extremum_over l = 3 * size-Expression l.first.now + 2
 
 abbrev pub decreases-entry_over : goal.decreases-entry_over
 decreases-entry_over l = 3 * size-Expression l.absent.now + 2
+
+abbrev pub decreases-unary_over : goal.decreases-unary_over
+decreases-unary_over l = 3 * size-Expression l.operand.now + 2

@@ -10,3 +10,6 @@ decreases-boxed_over l = 3 * size-Predicate l.predicate.now + 1
 
 abbrev pub decreases-joined_over : goal.decreases-joined_over
 decreases-joined_over l = 3 * max (size-Predicate l.left.now) (size-Predicate l.right.now) + 2
+
+abbrev pub decreases-negated_over : goal.decreases-negated_over
+decreases-negated_over l = 3 * size-Predicate l.operand.now + 2
