@@ -1,9 +1,11 @@
 -- The shapes without lists of their own, in memory: atom, eps, or, apply and combine.
-use Rattle.std.proofs.Common.{◌≡◌, ℕ, true, false, List, Option, Some, None, Ok, refl}
+use Rattle.std.proofs.Common.{◌≡◌, ℕ, true, false, List, Option, Some, None, Ok, refl, w64}
 use Rattle.std.specs.Option.{option_or}
-use Rattle.std.specs.Prelude.{ℤ}
+use Rattle.std.specs.Prelude.{ℤ, FitsSigned}
 use Rattle.value_ops.specs.declared.field.Field.{Field}
+use Rattle.value_ops.specs.declared.scalar.Scalar.TheVariants.{Number}
 use Rattle.value_ops.specs.declared.value.Value.{Value}
+use Rattle.value_ops.specs.declared.value.Value.TheVariants as value
 use Rattle.value_ops.specs.Evaluation.{given, value_of}
 use Rattle.value_ops.specs.Expressions.{Expression}
 use Rattle.predicate_cells.specs.Predicates.{Predicate}
@@ -57,12 +59,32 @@ atom_steps_none pred e now item = record {
   no_memory = λ free. refl;
 }
 
--- the empty word
-pub eps_steps : (number : ℤ) (now : ℕ) (item : List Field)
-    → HasStepped seen_of (eps number) eps_held now item eps_held (Ok None)
-eps_steps number now item = record {
+-- the empty word, for which nothing else is kept
+pub eps_starts : (number : ℤ) → FitsSigned w64 number → (held : Holding Progress) (at : ℕ)
+    → HasStarted seen_of (eps number) held at held
+    (Ok (Some (record { start = at; value = value.Scalar (Number number) })))
+eps_starts number fits eps_held at = record {
+  word = λ standing columns word starts clear is positions rep fresh end apart.
+      record { after = tt; hit = (refl, (refl, refl)) };
+  sound = λ standing columns clear sound. record { node = tt; hit = (refl, fits) };
+  no_memory = λ free. refl;
+}
+eps_starts number fits held at = record {
+  word = λ standing columns word starts clear is positions rep fresh end apart. absurd rep;
+  sound = λ standing columns clear sound. absurd sound;
+  no_memory = λ free. refl;
+}
+
+pub eps_steps : (number : ℤ) (held : Holding Progress) (now : ℕ) (item : List Field)
+    → HasStepped seen_of (eps number) held now item held (Ok None)
+eps_steps number eps_held now item = record {
   word = step_eps seen_of number now item;
   sound = sound_step_eps seen_of number now item;
+  no_memory = λ free. refl;
+}
+eps_steps number held now item = record {
+  word = λ standing columns word starts clear is positions rep end apart. absurd rep;
+  sound = λ standing columns position behind clear is sound. absurd sound;
   no_memory = λ free. refl;
 }
 

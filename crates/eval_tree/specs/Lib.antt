@@ -11,6 +11,7 @@ pub mod Lefts
 pub mod Live
 pub mod NewNodes
 pub mod Numbers
+pub mod Operands
 pub mod OutOfMemory
 pub mod Plain
 pub mod Pushes

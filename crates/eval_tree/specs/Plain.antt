@@ -1,7 +1,5 @@
 -- Statement. What a node in memory holds.
 use Rattle.std.specs.Prelude.{false, []}
-use Rattle.value_ops.specs.declared.value.Value.{Value}
-use Rattle.split_eval.specs.Entries as entries
 use Rattle.compose_eval.specs.Followers.{Contents}
 use Rattle.map_collect.specs.Tracks as tracks
 use Rattle.eval_tree.specs.Holdings.{Holding, atom_held, eps_held, choice_held, combine_held, apply_held, split_held, iter_held, compose_held, collect_held, Seen}
@@ -47,11 +45,3 @@ seen_of progress = record {
   answer = progress.answer;
   node = holding_of progress.node.state;
 }
-
--- what is kept for a split whose operands and left values these are
-abbrev pub pending_of : Node → Node → entries.Contents Value → Holding Progress
-pending_of a b held = split_held (holding_of a.state) (holding_of b.state) held
-
--- what is kept for an iteration whose operand and values so far these are
-abbrev pub chained_of : Node → entries.Contents Value → Holding Progress
-chained_of a so_far = iter_held (holding_of a.state) so_far

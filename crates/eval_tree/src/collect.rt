@@ -1,25 +1,72 @@
-//! The starts of a collect.
-ghost use Rattle.std.specs.Prelude.{◌≡◌, ◌↔◌, IfOk, IsTrue};
+//! The calls of a collect, and its starts.
+ghost use Rattle.std.specs.Prelude.{◌≡◌, ◌↔◌, ℕ, IfOk, IsTrue};
 ghost use Rattle.predicate_cells.specs.Plain as predicates;
-ghost use Rattle.query_model.specs.Queries.{plain_of};
-ghost use Rattle.eval_tree.specs.Plain.{seen_of};
+ghost use Rattle.predicate_cells.specs.Predicates.{Predicate};
+ghost use Rattle.rate_expr.specs.Rates as rates;
+ghost use Rattle.query_model.specs.Queries.{collect, plain_of};
+ghost use Rattle.eval_tree.specs.Calls.{HasStarted, HasStepped};
+ghost use Rattle.eval_tree.specs.Plain.{holding_of, seen_of};
 ghost use Rattle.eval_tree.specs.Pushes.{AddsStart, ArePushed, BeginsAt, CanMake, CanPassBy, CanPushAll, CanTrack, IsNew, PassesBy};
+ghost use Rattle.eval_tree.specs.Steps.{CanStart, CanStep};
 
 use crate::keys::keys_push;
 use crate::progress::value_of;
 use crate::tables::{first_table, tabled};
-use crate::{Hit, Node, Progress, start};
+use crate::{Hit, Node, Progress, State, start};
 use item_schema::Item;
 use map_collect::{Keys, Tracks};
 use predicate_cells::Pred;
 use query_model::Query;
-use rate_expr::State;
+use rate_expr::State as RateState;
 use std::alloc::{AllocError, Global};
+
+#[cycle(step)]
+#[inline(always)]
+pub(crate) fn start_collect(
+    inner: &Query,
+    node: &mut Node,
+    alloc: Global,
+    at: u64,
+) -> Result<Option<Hit>, AllocError>
+    requires { (column : ℕ) × (sync : Predicate) × (rate : rates.Expression) × CanStart seen_of
+        (collect column sync rate (plain_of inner.now.shape)) (holding_of node.old.state) at }
+    ensures { (column : ℕ) (sync : Predicate) (rate : rates.Expression) → HasStarted seen_of
+        (collect column sync rate (plain_of inner.now.shape)) (holding_of node.old.state) at
+        (holding_of node.new.state) result }
+{
+    match &mut node.state {
+        State::Collect(tracks) => begin_at(inner, tracks, alloc, at),
+        _ => unreachable!(),
+    }
+}
+
+#[cycle(step)]
+#[inline(always)]
+pub(crate) fn step_collect(
+    inner: &Query,
+    column: u32,
+    sync: &Pred,
+    node: &mut Node,
+    alloc: Global,
+    item: &Item,
+) -> Result<Option<Hit>, AllocError>
+    requires { (rate : rates.Expression) × (now : ℕ) × CanStep seen_of
+        (collect column (predicates.plain_of sync.now) rate (plain_of inner.now.shape))
+        (holding_of node.old.state) now item.now }
+    ensures { (rate : rates.Expression) (now : ℕ) → HasStepped seen_of
+        (collect column (predicates.plain_of sync.now) rate (plain_of inner.now.shape))
+        (holding_of node.old.state) now item.now (holding_of node.new.state) result }
+{
+    match &mut node.state {
+        State::Collect(tracks) => pass_by(inner, tracks, alloc, column, sync, item),
+        _ => unreachable!(),
+    }
+}
 
 /// The item goes by at each start. The first from which the word is in the rate then has the table of
 /// its keys, and those from which it can go on stay.
 #[cycle(step)]
-pub(crate) fn pass_by(
+fn pass_by(
     query: &Query,
     tracks: &mut Tracks<Progress>,
     alloc: Global,
@@ -62,7 +109,7 @@ fn push_all(
 
 /// One more start. It has the empty table where the empty word is in the rate.
 #[cycle(step)]
-pub(crate) fn begin_at(
+fn begin_at(
     query: &Query,
     tracks: &mut Tracks<Progress>,
     alloc: Global,
@@ -92,7 +139,7 @@ fn track(
     }
     let fresh = new_runner(query, alloc)?;
     let keys = Keys::new(alloc, fresh);
-    tracks.put(at, State::Initial, keys)?;
+    tracks.put(at, RateState::Initial, keys)?;
     Ok(())
 }
 
@@ -100,7 +147,7 @@ fn track(
 fn can_track(tracks: &Tracks<Progress>, at: u64) -> bool
     ensures { IsTrue result ↔ CanTrack tracks.now at }
 {
-    tracks.nfa().extends(State::Initial) && tracks.place(at).is_none()
+    tracks.nfa().extends(RateState::Initial) && tracks.place(at).is_none()
 }
 
 #[cycle(step)]

@@ -1,50 +1,104 @@
-//! The step of an iteration: values so far wait for a further piece.
-ghost use Rattle.query_model.specs.Queries.{plain_of};
-ghost use Rattle.eval_tree.specs.Calls.{HasStepped};
-ghost use Rattle.eval_tree.specs.Plain.{chained_of, seen_of};
-ghost use Rattle.eval_tree.specs.Steps.{CanStep};
+//! The calls of an iteration: values so far wait for a further piece.
+ghost use Rattle.std.specs.Prelude.{◌≡◌, ℤ, None, IfOk, IsOk};
+ghost use Rattle.split_eval.specs.Entries.{entry_at};
+ghost use Rattle.value_ops.specs.Expressions as values;
+ghost use Rattle.value_ops.specs.Values.{IsNoTable};
+ghost use Rattle.query_model.specs.Queries.{iter, plain_of};
+ghost use Rattle.eval_tree.specs.Calls.{HasStarted, HasStepped};
+ghost use Rattle.eval_tree.specs.Numbers.{StartsNumbers};
+ghost use Rattle.eval_tree.specs.Operands.{GoesOn};
+ghost use Rattle.eval_tree.specs.Plain.{holding_of, seen_of};
+ghost use Rattle.eval_tree.specs.Steps.{CanStart, CanStep};
 
-use crate::folds::go_on;
-use crate::lefts::ended;
+use crate::folds::{go_on, go_on_if_new};
 use crate::live::is_live;
-use crate::{Hit, Node, start, step};
+use crate::operands::step_and_end;
+use crate::{Hit, Node, State, start};
 use item_schema::Item;
 use iter_eval::Chain;
-use query_model::{Query, Shape};
+use query_model::Query;
 use std::alloc::{AllocError, Global};
-use value_ops::Value;
+use value_ops::{Expr, Value};
+
+#[cycle(step)]
+#[inline(always)]
+pub(crate) fn start_iter(
+    inner: &Query,
+    number: i64,
+    node: &mut Node,
+    alloc: Global,
+    at: u64,
+) -> Result<Option<Hit>, AllocError>
+    requires { (fold : values.Expression) × CanStart seen_of
+        (iter (plain_of inner.now.shape) number fold) (holding_of node.old.state) at }
+    ensures { (fold : values.Expression) → HasStarted seen_of
+        (iter (plain_of inner.now.shape) number fold) (holding_of node.old.state) at
+        (holding_of node.new.state) result }
+{
+    match &mut node.state {
+        State::Iter(a, so_far) => {
+            // No piece is empty, so the operand has no hit here.
+            start(inner, a, alloc, at)?;
+            let hit = Hit::of_number(at, number);
+            go_on_if_new(alloc, so_far, is_live(inner, a, at), at, &hit)?;
+            Ok(Some(hit))
+        }
+        _ => unreachable!(),
+    }
+}
 
 #[cycle(step)]
 #[inline(always)]
 pub(crate) fn step_iter(
-    query: &Query,
-    a: &mut Node,
-    so_far: &mut Chain<Value>,
+    inner: &Query,
+    expression: &Expr,
+    node: &mut Node,
     alloc: Global,
     now: u64,
     item: &Item,
 ) -> Result<Option<Hit>, AllocError>
-    requires { CanStep seen_of (plain_of query.now.shape) (chained_of a.old so_far.old) now
-        item.now }
-    ensures { HasStepped seen_of (plain_of query.now.shape) (chained_of a.old so_far.old) now
-        item.now (chained_of a.new so_far.new) result }
+    requires { (number : ℤ) × CanStep seen_of
+        (iter (plain_of inner.now.shape) number (values.plain_of expression.now))
+        (holding_of node.old.state) now item.now }
+    ensures { (number : ℤ) → HasStepped seen_of
+        (iter (plain_of inner.now.shape) number (values.plain_of expression.now))
+        (holding_of node.old.state) now item.now (holding_of node.new.state) result }
 {
-    match &query.shape {
-        Shape::Iter(inner, _, expression) => {
-            let piece = step(inner, a, alloc, now, item)?;
+    match &mut node.state {
+        State::Iter(a, so_far) => {
             // The value before the piece is looked up before what can't go on is given up.
-            let hit = ended(alloc, expression, so_far.as_pending(), piece)?;
-            let node = &*a;
+            let held = so_far.as_pending();
+            let hit = step_and_end(inner, a, expression, held, alloc, now, item)?;
+            let node = &**a;
             so_far.keep(|start| start != now && is_live(inner, node, start));
             match hit {
-                Some(hit) => {
-                    start(inner, a, alloc, now)?;
-                    go_on(alloc, so_far, is_live(inner, a, now), now, &hit)?;
-                    Ok(Some(hit))
-                }
+                Some(hit) => next_piece(inner, a, so_far, alloc, now, hit),
                 None => Ok(None),
             }
         }
         _ => unreachable!(),
     }
+}
+
+/// A further piece begins behind the value so far, which waits for it where it can go on.
+#[cycle(step)]
+#[inline(always)]
+fn next_piece(
+    inner: &Query,
+    a: &mut Node,
+    so_far: &mut Chain<Value>,
+    alloc: Global,
+    at: u64,
+    hit: Hit,
+) -> Result<Option<Hit>, AllocError>
+    requires can { CanStart seen_of (plain_of inner.now.shape) (holding_of a.old.state) at }
+    requires fresh { entry_at so_far.old.entries at ≡ None }
+    ensures goes_on { IfOk result (GoesOn seen_of (plain_of inner.now.shape) hit
+        (holding_of a.old.state) so_far.old at (holding_of a.new.state) so_far.new) }
+    ensures no_memory { StartsNumbers seen_of (plain_of inner.now.shape) (holding_of a.old.state) at
+        → IsNoTable hit.value → IsOk result }
+{
+    start(inner, a, alloc, at)?;
+    go_on(alloc, so_far, is_live(inner, a, at), at, &hit)?;
+    Ok(Some(hit))
 }

@@ -2,9 +2,13 @@
 //! its readings.
 #![tactic(auto)]
 
+mod apply;
+mod atom;
 mod automaton;
+mod choice;
 mod clear;
 mod collect;
+mod combine;
 mod compose;
 mod copies;
 mod counts;
@@ -22,6 +26,7 @@ mod new_nodes;
 mod node;
 mod node_copies;
 mod node_counts;
+mod operands;
 mod progress;
 mod runner;
 mod split;

@@ -1,76 +1,76 @@
 //! The calls of a split: values of the left operand wait for those of the right one.
-ghost use Rattle.query_model.specs.Queries.{plain_of};
+ghost use Rattle.std.specs.Prelude.{◌≡◌, None, IfOk, IsOk};
+ghost use Rattle.split_eval.specs.Entries.{entry_at};
+ghost use Rattle.value_ops.specs.Expressions as values;
+ghost use Rattle.query_model.specs.Queries.{plain_of, split};
 ghost use Rattle.eval_tree.specs.Calls.{HasStarted, HasStepped};
-ghost use Rattle.eval_tree.specs.Plain.{pending_of, seen_of};
+ghost use Rattle.eval_tree.specs.Lefts.{IsPut};
+ghost use Rattle.eval_tree.specs.Live.{live_of};
+ghost use Rattle.eval_tree.specs.Operands.{CanEnd, CanJoin, EndsNumbers, HasEnded, HasJoined, JoinsNumbers, KeepsLive};
+ghost use Rattle.eval_tree.specs.Plain.{holding_of, seen_of};
 ghost use Rattle.eval_tree.specs.Steps.{CanStart, CanStep};
 
-use crate::lefts::{ended, joined, wait, wait_if_new};
+use crate::lefts::{wait, wait_if_new};
 use crate::live::is_live;
-use crate::{Hit, Node, start, step};
+use crate::operands::{start_and_join, step_and_end};
+use crate::{Hit, Node, State, start, step};
 use item_schema::Item;
-use query_model::{Query, Shape};
+use query_model::Query;
 use split_eval::Pending;
 use std::alloc::{AllocError, Global};
-use value_ops::Value;
+use value_ops::{Expr, Value};
 
 #[cycle(step)]
 pub(crate) fn start_split(
-    query: &Query,
-    a: &mut Node,
-    b: &mut Node,
-    held: &mut Pending<Value>,
+    first: &Query,
+    second: &Query,
+    expression: &Expr,
+    node: &mut Node,
     alloc: Global,
     at: u64,
 ) -> Result<Option<Hit>, AllocError>
-    requires { CanStart seen_of (plain_of query.now.shape) (pending_of a.old b.old held.old) at }
-    ensures { HasStarted seen_of (plain_of query.now.shape) (pending_of a.old b.old held.old) at
-        (pending_of a.new b.new held.new) result }
+    requires { CanStart seen_of (split (plain_of first.now.shape) (plain_of second.now.shape)
+        (values.plain_of expression.now)) (holding_of node.old.state) at }
+    ensures { HasStarted seen_of (split (plain_of first.now.shape) (plain_of second.now.shape)
+        (values.plain_of expression.now)) (holding_of node.old.state) at
+        (holding_of node.new.state) result }
 {
-    match &query.shape {
-        Shape::Split(first, second, expression) => {
-            match start(first, a, alloc, at)? {
-                Some(left) => {
-                    let right = start(second, b, alloc, at)?;
-                    let hit = joined(alloc, expression, &left, right)?;
-                    wait_if_new(held, is_live(second, b, at), at, left);
-                    Ok(hit)
-                }
-                None => Ok(None),
+    match &mut node.state {
+        State::Split(a, b, held) => match start(first, a, alloc, at)? {
+            Some(left) => {
+                let hit = start_and_join(second, b, expression, &left, alloc, at)?;
+                wait_if_new(held, is_live(second, b, at), at, left);
+                Ok(hit)
             }
-        }
+            None => Ok(None),
+        },
         _ => unreachable!(),
     }
 }
 
 #[cycle(step)]
 pub(crate) fn step_split(
-    query: &Query,
-    a: &mut Node,
-    b: &mut Node,
-    held: &mut Pending<Value>,
+    first: &Query,
+    second: &Query,
+    expression: &Expr,
+    node: &mut Node,
     alloc: Global,
     now: u64,
     item: &Item,
 ) -> Result<Option<Hit>, AllocError>
-    requires { CanStep seen_of (plain_of query.now.shape) (pending_of a.old b.old held.old) now
-        item.now }
-    ensures { HasStepped seen_of (plain_of query.now.shape) (pending_of a.old b.old held.old) now
-        item.now (pending_of a.new b.new held.new) result }
+    requires { CanStep seen_of (split (plain_of first.now.shape) (plain_of second.now.shape)
+        (values.plain_of expression.now)) (holding_of node.old.state) now item.now }
+    ensures { HasStepped seen_of (split (plain_of first.now.shape) (plain_of second.now.shape)
+        (values.plain_of expression.now)) (holding_of node.old.state) now item.now
+        (holding_of node.new.state) result }
 {
-    match &query.shape {
-        Shape::Split(first, second, expression) => {
+    match &mut node.state {
+        State::Split(a, b, held) => {
             let left = step(first, a, alloc, now, item)?;
-            let right = step(second, b, alloc, now, item)?;
-            // What waits for a right value is looked up before what can't go on is given up. None
-            // waits at the end yet, so what is put there needs no look.
-            let hit = ended(alloc, expression, held, right)?;
-            let node = &*b;
-            held.keep(|start| start != now && is_live(second, node, start));
+            let hit = end_right(second, b, expression, held, alloc, now, item)?;
             match left {
                 Some(left) => {
-                    let right = start(second, b, alloc, now)?;
-                    let begun = joined(alloc, expression, &left, right)?;
-                    wait(held, is_live(second, b, now), now, left);
+                    let begun = begin_right(second, b, expression, held, alloc, now, left)?;
                     Ok(hit.or(begun))
                 }
                 None => Ok(hit),
@@ -78,4 +78,65 @@ pub(crate) fn step_split(
         }
         _ => unreachable!(),
     }
+}
+
+/// The right operand ends wholes whose left values wait. A left value behind which no right piece
+/// can go on is given up.
+#[cycle(step)]
+#[inline(always)]
+fn end_right(
+    second: &Query,
+    b: &mut Node,
+    expression: &Expr,
+    held: &mut Pending<Value>,
+    alloc: Global,
+    now: u64,
+    item: &Item,
+) -> Result<Option<Hit>, AllocError>
+    requires { CanEnd seen_of (plain_of second.now.shape) (values.plain_of expression.now)
+        held.old.entries (holding_of b.old.state) now item.now }
+    ensures ended { IfOk result (HasEnded seen_of (plain_of second.now.shape)
+        (values.plain_of expression.now) held.old.entries (holding_of b.old.state) now item.now
+        (holding_of b.new.state)) }
+    ensures kept { IfOk result (λ hit. KeepsLive (live_of (plain_of second.now.shape)
+        (holding_of b.new.state)) now held.old held.new) }
+    ensures no_memory { EndsNumbers seen_of (plain_of second.now.shape)
+        (values.plain_of expression.now) held.old.entries (holding_of b.old.state) now item.now
+        → IsOk result }
+{
+    // What waits for a right value is looked up before what can't go on is given up. None waits at
+    // the end yet, so what is put there needs no look.
+    let hit = step_and_end(second, b, expression, held, alloc, now, item)?;
+    let node = &*b;
+    held.keep(|start| start != now && is_live(second, node, start));
+    Ok(hit)
+}
+
+/// A left value was just found: its right piece begins, and it waits where this can go on.
+#[cycle(step)]
+#[inline(always)]
+fn begin_right(
+    second: &Query,
+    b: &mut Node,
+    expression: &Expr,
+    held: &mut Pending<Value>,
+    alloc: Global,
+    at: u64,
+    left: Hit,
+) -> Result<Option<Hit>, AllocError>
+    requires can { CanJoin seen_of (plain_of second.now.shape) (values.plain_of expression.now)
+        left (holding_of b.old.state) at }
+    requires fresh { entry_at held.old.entries at ≡ None }
+    ensures joined { IfOk result (HasJoined seen_of (plain_of second.now.shape)
+        (values.plain_of expression.now) left (holding_of b.old.state) at
+        (holding_of b.new.state)) }
+    ensures waits { IfOk result (λ hit. IsPut (live_of (plain_of second.now.shape)
+        (holding_of b.new.state) at) held.old
+        (record { inner = at; outer = left.start; value = left.value }) held.new) }
+    ensures no_memory { JoinsNumbers seen_of (plain_of second.now.shape)
+        (values.plain_of expression.now) left (holding_of b.old.state) at → IsOk result }
+{
+    let hit = start_and_join(second, b, expression, &left, alloc, at)?;
+    wait(held, is_live(second, b, at), at, left);
+    Ok(hit)
 }

@@ -4,17 +4,16 @@ ghost use Rattle.eval_tree.specs.Calls.{HasStarted, HasStepped};
 ghost use Rattle.eval_tree.specs.Plain.{holding_of, seen_of};
 ghost use Rattle.eval_tree.specs.Steps.{CanStart, CanStep};
 
-use crate::collect::{begin_at, pass_by};
-use crate::compose::step_compose;
-use crate::feeds::feed;
-use crate::folds::go_on_if_new;
-use crate::iter::step_iter;
-use crate::lefts::{applied, combined};
-use crate::live::is_live;
+use crate::apply::{start_apply, step_apply};
+use crate::atom::{start_atom, step_atom};
+use crate::choice::{start_choice, step_choice};
+use crate::collect::{start_collect, step_collect};
+use crate::combine::{start_combine, step_combine};
+use crate::compose::{start_compose, step_compose};
+use crate::iter::{start_iter, step_iter};
 use crate::split::{start_split, step_split};
-use crate::{Hit, Node, State};
+use crate::{Hit, Node};
 use item_schema::Item;
-use predicate_cells::holds;
 use query_model::{Query, Shape};
 use std::alloc::{AllocError, Global};
 
@@ -30,44 +29,23 @@ pub fn start(
     ensures { HasStarted seen_of (plain_of query.now.shape) (holding_of node.old.state) at
         (holding_of node.new.state) result }
 {
-    match (&query.shape, &mut node.state) {
-        (Shape::Atom(..), State::Atom(found)) => {
-            *found = Some(at);
+    match &query.shape {
+        Shape::Atom(..) => {
+            start_atom(node, at);
             Ok(None)
         }
-        (Shape::Eps(number), State::Eps) => Ok(Some(Hit::of_number(at, *number))),
-        (Shape::Or(first, second), State::Or(a, b)) => {
-            let left = start(first, a, alloc, at)?;
-            let right = start(second, b, alloc, at)?;
-            Ok(left.or(right))
+        Shape::Eps(number) => Ok(Some(Hit::of_number(at, *number))),
+        Shape::Or(first, second) => start_choice(first, second, node, alloc, at),
+        Shape::Apply(inner, expression) => start_apply(inner, expression, node, alloc, at),
+        Shape::Split(first, second, expression) => {
+            start_split(first, second, expression, node, alloc, at)
         }
-        (Shape::Apply(inner, expression), State::Apply(a)) => {
-            let hit = start(inner, a, alloc, at)?;
-            applied(alloc, expression, hit)
+        Shape::Combine(first, second, expression) => {
+            start_combine(first, second, expression, node, alloc, at)
         }
-        (Shape::Split(..), State::Split(a, b, held)) => {
-            start_split(query, a, b, held, alloc, at)
-        }
-        (Shape::Combine(first, second, expression), State::Combine(a, b)) => {
-            let left = start(first, a, alloc, at)?;
-            let right = start(second, b, alloc, at)?;
-            combined(alloc, expression, left, right)
-        }
-        (Shape::Iter(inner, number, _), State::Iter(a, so_far)) => {
-            // No piece is empty, so the operand has no hit here.
-            start(inner, a, alloc, at)?;
-            let hit = Hit::of_number(at, *number);
-            go_on_if_new(alloc, so_far, is_live(inner, a, at), at, &hit)?;
-            Ok(Some(hit))
-        }
-        (Shape::Compose(first, second), State::Compose(a, runners)) => {
-            let left = start(first, a, alloc, at)?;
-            feed(second, runners, alloc, is_live(first, a, at), at, left)
-        }
-        (Shape::Collect(_, _, _, inner), State::Collect(tracks)) => {
-            begin_at(inner, tracks, alloc, at)
-        }
-        _ => unreachable!(),
+        Shape::Iter(inner, number, _) => start_iter(inner, *number, node, alloc, at),
+        Shape::Compose(first, second) => start_compose(first, second, node, alloc, at),
+        Shape::Collect(_, _, _, inner) => start_collect(inner, node, alloc, at),
     }
 }
 
@@ -84,41 +62,21 @@ pub fn step(
     ensures { HasStepped seen_of (plain_of query.now.shape) (holding_of node.old.state) now item.now
         (holding_of node.new.state) result }
 {
-    match (&query.shape, &mut node.state) {
-        (Shape::Atom(pred, expression), State::Atom(found)) => match found.take() {
-            Some(start) if holds(pred, item) => {
-                let value = expression.eval(alloc, item.fields(), None, None)?;
-                Ok(Some(Hit { start, value }))
-            }
-            _ => Ok(None),
-        },
-        (Shape::Eps(_), State::Eps) => Ok(None),
-        (Shape::Or(first, second), State::Or(a, b)) => {
-            let left = step(first, a, alloc, now, item)?;
-            let right = step(second, b, alloc, now, item)?;
-            Ok(left.or(right))
+    match &query.shape {
+        Shape::Atom(pred, expression) => step_atom(pred, expression, node, alloc, item),
+        Shape::Eps(_) => Ok(None),
+        Shape::Or(first, second) => step_choice(first, second, node, alloc, now, item),
+        Shape::Apply(inner, expression) => step_apply(inner, expression, node, alloc, now, item),
+        Shape::Split(first, second, expression) => {
+            step_split(first, second, expression, node, alloc, now, item)
         }
-        (Shape::Apply(inner, expression), State::Apply(a)) => {
-            let hit = step(inner, a, alloc, now, item)?;
-            applied(alloc, expression, hit)
+        Shape::Combine(first, second, expression) => {
+            step_combine(first, second, expression, node, alloc, now, item)
         }
-        (Shape::Split(..), State::Split(a, b, held)) => {
-            step_split(query, a, b, held, alloc, now, item)
+        Shape::Iter(inner, _, expression) => step_iter(inner, expression, node, alloc, now, item),
+        Shape::Compose(first, second) => step_compose(first, second, node, alloc, now, item),
+        Shape::Collect(column, sync, _, inner) => {
+            step_collect(inner, *column, sync, node, alloc, item)
         }
-        (Shape::Combine(first, second, expression), State::Combine(a, b)) => {
-            let left = step(first, a, alloc, now, item)?;
-            let right = step(second, b, alloc, now, item)?;
-            combined(alloc, expression, left, right)
-        }
-        (Shape::Iter(..), State::Iter(a, so_far)) => {
-            step_iter(query, a, so_far, alloc, now, item)
-        }
-        (Shape::Compose(..), State::Compose(a, runners)) => {
-            step_compose(query, a, runners, alloc, now, item)
-        }
-        (Shape::Collect(column, sync, _, inner), State::Collect(tracks)) => {
-            pass_by(inner, tracks, alloc, *column, sync, item)
-        }
-        _ => unreachable!(),
     }
 }

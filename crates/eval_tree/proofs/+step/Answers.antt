@@ -1,118 +1,249 @@
 mod Apply
-mod Atom
 mod Choice
 mod Collect
 mod Combine
 mod Compose
 mod Iter
 mod Keys
+mod Operands
 mod Runner
 mod Split
-mod Unlike
+mod Steps
 use Rattle.eval_tree.proofs.+step.Answers.Apply as apply
-use Rattle.eval_tree.proofs.+step.Answers.Atom as atom
 use Rattle.eval_tree.proofs.+step.Answers.Choice as choice
 use Rattle.eval_tree.proofs.+step.Answers.Collect as collect
 use Rattle.eval_tree.proofs.+step.Answers.Combine as combine
 use Rattle.eval_tree.proofs.+step.Answers.Compose as compose
 use Rattle.eval_tree.proofs.+step.Answers.Iter as iter
 use Rattle.eval_tree.proofs.+step.Answers.Keys as keys
+use Rattle.eval_tree.proofs.+step.Answers.Operands as operands
 use Rattle.eval_tree.proofs.+step.Answers.Runner as runner
 use Rattle.eval_tree.proofs.+step.Answers.Split as split
-use Rattle.eval_tree.proofs.+step.Answers.Unlike as unlike
+use Rattle.eval_tree.proofs.+step.Answers.Steps as steps
 use Rattle.eval_tree.proofs.+step.Goals as goal
 
--- an atom and the empty word
-pub steps::start-returns-in-Atom-Atom : goal.steps::start-returns-in-Atom-Atom
-steps::start-returns-in-Atom-Atom = atom.steps::start-returns-in-Atom-Atom
+-- the calls of the operands
+pub steps::start-start_atom-requires : goal.steps::start-start_atom-requires
+steps::start-start_atom-requires = steps.steps::start-start_atom-requires
 
-pub steps::step-eval-requires : goal.steps::step-eval-requires
-steps::step-eval-requires = atom.steps::step-eval-requires
+pub steps::start-returns-in-Atom : goal.steps::start-returns-in-Atom
+steps::start-returns-in-Atom = steps.steps::start-returns-in-Atom
 
-pub steps::step-returns-in_ok-value-in-Some : goal.steps::step-returns-in_ok-value-in-Some
-steps::step-returns-in_ok-value-in-Some = atom.steps::step-returns-in_ok-value-in-Some
+pub steps::start-returns-in-Eps : goal.steps::start-returns-in-Eps
+steps::start-returns-in-Eps = steps.steps::start-returns-in-Eps
 
-pub steps::step-returns-in_err-value-in-Some : goal.steps::step-returns-in_err-value-in-Some
-steps::step-returns-in_err-value-in-Some = atom.steps::step-returns-in_err-value-in-Some
+pub steps::start-start_choice-requires : goal.steps::start-start_choice-requires
+steps::start-start_choice-requires = steps.steps::start-start_choice-requires
 
-pub steps::step-returns-in_default-take : goal.steps::step-returns-in_default-take
-steps::step-returns-in_default-take = atom.steps::step-returns-in_default-take
+pub steps::start-returns-in-Or : goal.steps::start-returns-in-Or
+steps::start-returns-in-Or = steps.steps::start-returns-in-Or
 
-pub steps::step-returns-in-Eps-Eps : goal.steps::step-returns-in-Eps-Eps
-steps::step-returns-in-Eps-Eps = atom.steps::step-returns-in-Eps-Eps
+pub steps::start-start_apply-requires : goal.steps::start-start_apply-requires
+steps::start-start_apply-requires = steps.steps::start-start_apply-requires
 
--- either of two
-pub steps::start-returns-in_ok-right-in-Or-Or : goal.steps::start-returns-in_ok-right-in-Or-Or
-steps::start-returns-in_ok-right-in-Or-Or = choice.steps::start-returns-in_ok-right-in-Or-Or
+pub steps::start-returns-in-Apply : goal.steps::start-returns-in-Apply
+steps::start-returns-in-Apply = steps.steps::start-returns-in-Apply
 
-pub steps::start-returns-in_err-left-in-Or-Or : goal.steps::start-returns-in_err-left-in-Or-Or
-steps::start-returns-in_err-left-in-Or-Or = choice.steps::start-returns-in_err-left-in-Or-Or
-
-pub steps::start-returns-in_err-right-in-Or-Or : goal.steps::start-returns-in_err-right-in-Or-Or
-steps::start-returns-in_err-right-in-Or-Or = choice.steps::start-returns-in_err-right-in-Or-Or
-
-pub steps::step-returns-in_ok-right-in-Or-Or : goal.steps::step-returns-in_ok-right-in-Or-Or
-steps::step-returns-in_ok-right-in-Or-Or = choice.steps::step-returns-in_ok-right-in-Or-Or
-
-pub steps::step-returns-in_err-left-in-Or-Or : goal.steps::step-returns-in_err-left-in-Or-Or
-steps::step-returns-in_err-left-in-Or-Or = choice.steps::step-returns-in_err-left-in-Or-Or
-
-pub steps::step-returns-in_err-right-in-Or-Or : goal.steps::step-returns-in_err-right-in-Or-Or
-steps::step-returns-in_err-right-in-Or-Or = choice.steps::step-returns-in_err-right-in-Or-Or
-
--- an expression on a value
-pub steps::start-returns-in_ok-hit-in-Apply-Apply : goal.steps::start-returns-in_ok-hit-in-Apply-Apply
-steps::start-returns-in_ok-hit-in-Apply-Apply = apply.steps::start-returns-in_ok-hit-in-Apply-Apply
-
-pub steps::start-returns-in_err-hit-in-Apply-Apply : goal.steps::start-returns-in_err-hit-in-Apply-Apply
-steps::start-returns-in_err-hit-in-Apply-Apply = apply.steps::start-returns-in_err-hit-in-Apply-Apply
-
-pub steps::step-returns-in_ok-hit-in-Apply-Apply : goal.steps::step-returns-in_ok-hit-in-Apply-Apply
-steps::step-returns-in_ok-hit-in-Apply-Apply = apply.steps::step-returns-in_ok-hit-in-Apply-Apply
-
-pub steps::step-returns-in_err-hit-in-Apply-Apply : goal.steps::step-returns-in_err-hit-in-Apply-Apply
-steps::step-returns-in_err-hit-in-Apply-Apply = apply.steps::step-returns-in_err-hit-in-Apply-Apply
-
--- a combine
-pub steps::start-combined-requires : goal.steps::start-combined-requires
-steps::start-combined-requires = combine.steps::start-combined-requires
-
-pub steps::start-returns-in_ok-right-in-Combine-Combine : goal.steps::start-returns-in_ok-right-in-Combine-Combine
-steps::start-returns-in_ok-right-in-Combine-Combine = combine.steps::start-returns-in_ok-right-in-Combine-Combine
-
-pub steps::start-returns-in_err-left-in-Combine-Combine : goal.steps::start-returns-in_err-left-in-Combine-Combine
-steps::start-returns-in_err-left-in-Combine-Combine = combine.steps::start-returns-in_err-left-in-Combine-Combine
-
-pub steps::start-returns-in_err-right-in-Combine-Combine : goal.steps::start-returns-in_err-right-in-Combine-Combine
-steps::start-returns-in_err-right-in-Combine-Combine = combine.steps::start-returns-in_err-right-in-Combine-Combine
-
-pub steps::step-combined-requires : goal.steps::step-combined-requires
-steps::step-combined-requires = combine.steps::step-combined-requires
-
-pub steps::step-returns-in_ok-right-in-Combine-Combine : goal.steps::step-returns-in_ok-right-in-Combine-Combine
-steps::step-returns-in_ok-right-in-Combine-Combine = combine.steps::step-returns-in_ok-right-in-Combine-Combine
-
-pub steps::step-returns-in_err-left-in-Combine-Combine : goal.steps::step-returns-in_err-left-in-Combine-Combine
-steps::step-returns-in_err-left-in-Combine-Combine = combine.steps::step-returns-in_err-left-in-Combine-Combine
-
-pub steps::step-returns-in_err-right-in-Combine-Combine : goal.steps::step-returns-in_err-right-in-Combine-Combine
-steps::step-returns-in_err-right-in-Combine-Combine = combine.steps::step-returns-in_err-right-in-Combine-Combine
-
--- a split
 pub steps::start-start_split-requires : goal.steps::start-start_split-requires
-steps::start-start_split-requires = split.steps::start-start_split-requires
+steps::start-start_split-requires = steps.steps::start-start_split-requires
 
-pub steps::start-returns-in-Split-Split : goal.steps::start-returns-in-Split-Split
-steps::start-returns-in-Split-Split = split.steps::start-returns-in-Split-Split
+pub steps::start-returns-in-Split : goal.steps::start-returns-in-Split
+steps::start-returns-in-Split = steps.steps::start-returns-in-Split
+
+pub steps::start-start_combine-requires : goal.steps::start-start_combine-requires
+steps::start-start_combine-requires = steps.steps::start-start_combine-requires
+
+pub steps::start-returns-in-Combine : goal.steps::start-returns-in-Combine
+steps::start-returns-in-Combine = steps.steps::start-returns-in-Combine
+
+pub steps::start-start_iter-requires : goal.steps::start-start_iter-requires
+steps::start-start_iter-requires = steps.steps::start-start_iter-requires
+
+pub steps::start-returns-in-Iter : goal.steps::start-returns-in-Iter
+steps::start-returns-in-Iter = steps.steps::start-returns-in-Iter
+
+pub steps::start-start_compose-requires : goal.steps::start-start_compose-requires
+steps::start-start_compose-requires = steps.steps::start-start_compose-requires
+
+pub steps::start-returns-in-Compose : goal.steps::start-returns-in-Compose
+steps::start-returns-in-Compose = steps.steps::start-returns-in-Compose
+
+pub steps::start-start_collect-requires : goal.steps::start-start_collect-requires
+steps::start-start_collect-requires = steps.steps::start-start_collect-requires
+
+pub steps::start-returns-in-Collect : goal.steps::start-returns-in-Collect
+steps::start-returns-in-Collect = steps.steps::start-returns-in-Collect
+
+pub steps::step-step_atom-requires : goal.steps::step-step_atom-requires
+steps::step-step_atom-requires = steps.steps::step-step_atom-requires
+
+pub steps::step-returns-in-Atom : goal.steps::step-returns-in-Atom
+steps::step-returns-in-Atom = steps.steps::step-returns-in-Atom
+
+pub steps::step-returns-in-Eps : goal.steps::step-returns-in-Eps
+steps::step-returns-in-Eps = steps.steps::step-returns-in-Eps
+
+pub steps::step-step_choice-requires : goal.steps::step-step_choice-requires
+steps::step-step_choice-requires = steps.steps::step-step_choice-requires
+
+pub steps::step-returns-in-Or : goal.steps::step-returns-in-Or
+steps::step-returns-in-Or = steps.steps::step-returns-in-Or
+
+pub steps::step-step_apply-requires : goal.steps::step-step_apply-requires
+steps::step-step_apply-requires = steps.steps::step-step_apply-requires
+
+pub steps::step-returns-in-Apply : goal.steps::step-returns-in-Apply
+steps::step-returns-in-Apply = steps.steps::step-returns-in-Apply
 
 pub steps::step-step_split-requires : goal.steps::step-step_split-requires
-steps::step-step_split-requires = split.steps::step-step_split-requires
+steps::step-step_split-requires = steps.steps::step-step_split-requires
 
-pub steps::step-returns-in-Split-Split : goal.steps::step-returns-in-Split-Split
-steps::step-returns-in-Split-Split = split.steps::step-returns-in-Split-Split
+pub steps::step-returns-in-Split : goal.steps::step-returns-in-Split
+steps::step-returns-in-Split = steps.steps::step-returns-in-Split
 
-pub split::start_split-joined-requires : goal.split::start_split-joined-requires
-split::start_split-joined-requires = split.split::start_split-joined-requires
+pub steps::step-step_combine-requires : goal.steps::step-step_combine-requires
+steps::step-step_combine-requires = steps.steps::step-step_combine-requires
+
+pub steps::step-returns-in-Combine : goal.steps::step-returns-in-Combine
+steps::step-returns-in-Combine = steps.steps::step-returns-in-Combine
+
+pub steps::step-step_iter-requires : goal.steps::step-step_iter-requires
+steps::step-step_iter-requires = steps.steps::step-step_iter-requires
+
+pub steps::step-returns-in-Iter : goal.steps::step-returns-in-Iter
+steps::step-returns-in-Iter = steps.steps::step-returns-in-Iter
+
+pub steps::step-step_compose-requires : goal.steps::step-step_compose-requires
+steps::step-step_compose-requires = steps.steps::step-step_compose-requires
+
+pub steps::step-returns-in-Compose : goal.steps::step-returns-in-Compose
+steps::step-returns-in-Compose = steps.steps::step-returns-in-Compose
+
+pub steps::step-step_collect-requires : goal.steps::step-step_collect-requires
+steps::step-step_collect-requires = steps.steps::step-step_collect-requires
+
+pub steps::step-returns-in-Collect : goal.steps::step-returns-in-Collect
+steps::step-returns-in-Collect = steps.steps::step-returns-in-Collect
+
+-- either of two
+pub choice::start_choice-returns : goal.choice::start_choice-returns
+choice::start_choice-returns = choice.choice::start_choice-returns
+
+pub choice::start_choice-returns-in_err-left-in-Or : goal.choice::start_choice-returns-in_err-left-in-Or
+choice::start_choice-returns-in_err-left-in-Or = choice.choice::start_choice-returns-in_err-left-in-Or
+
+pub choice::start_choice-returns-in_err-right-in-Or : goal.choice::start_choice-returns-in_err-right-in-Or
+choice::start_choice-returns-in_err-right-in-Or = choice.choice::start_choice-returns-in_err-right-in-Or
+
+pub choice::step_choice-returns : goal.choice::step_choice-returns
+choice::step_choice-returns = choice.choice::step_choice-returns
+
+pub choice::step_choice-returns-in_err-left-in-Or : goal.choice::step_choice-returns-in_err-left-in-Or
+choice::step_choice-returns-in_err-left-in-Or = choice.choice::step_choice-returns-in_err-left-in-Or
+
+pub choice::step_choice-returns-in_err-right-in-Or : goal.choice::step_choice-returns-in_err-right-in-Or
+choice::step_choice-returns-in_err-right-in-Or = choice.choice::step_choice-returns-in_err-right-in-Or
+
+pub choice::start_choice-unreachable-requires : goal.choice::start_choice-unreachable-requires
+choice::start_choice-unreachable-requires = choice.choice::start_choice-unreachable-requires
+
+pub choice::step_choice-unreachable-requires : goal.choice::step_choice-unreachable-requires
+choice::step_choice-unreachable-requires = choice.choice::step_choice-unreachable-requires
+
+-- an expression on a value
+pub apply::start_apply-returns : goal.apply::start_apply-returns
+apply::start_apply-returns = apply.apply::start_apply-returns
+
+pub apply::start_apply-returns-in_err-hit-in-Apply : goal.apply::start_apply-returns-in_err-hit-in-Apply
+apply::start_apply-returns-in_err-hit-in-Apply = apply.apply::start_apply-returns-in_err-hit-in-Apply
+
+pub apply::step_apply-returns : goal.apply::step_apply-returns
+apply::step_apply-returns = apply.apply::step_apply-returns
+
+pub apply::step_apply-returns-in_err-hit-in-Apply : goal.apply::step_apply-returns-in_err-hit-in-Apply
+apply::step_apply-returns-in_err-hit-in-Apply = apply.apply::step_apply-returns-in_err-hit-in-Apply
+
+pub apply::start_apply-unreachable-requires : goal.apply::start_apply-unreachable-requires
+apply::start_apply-unreachable-requires = apply.apply::start_apply-unreachable-requires
+
+pub apply::step_apply-unreachable-requires : goal.apply::step_apply-unreachable-requires
+apply::step_apply-unreachable-requires = apply.apply::step_apply-unreachable-requires
+
+-- a combine
+pub combine::start_combine-combined-requires : goal.combine::start_combine-combined-requires
+combine::start_combine-combined-requires = combine.combine::start_combine-combined-requires
+
+pub combine::start_combine-returns : goal.combine::start_combine-returns
+combine::start_combine-returns = combine.combine::start_combine-returns
+
+pub combine::start_combine-returns-in_err-left-in-Combine :
+    goal.combine::start_combine-returns-in_err-left-in-Combine
+combine::start_combine-returns-in_err-left-in-Combine =
+    combine.combine::start_combine-returns-in_err-left-in-Combine
+
+pub combine::start_combine-returns-in_err-right-in-Combine :
+    goal.combine::start_combine-returns-in_err-right-in-Combine
+combine::start_combine-returns-in_err-right-in-Combine =
+    combine.combine::start_combine-returns-in_err-right-in-Combine
+
+pub combine::step_combine-combined-requires : goal.combine::step_combine-combined-requires
+combine::step_combine-combined-requires = combine.combine::step_combine-combined-requires
+
+pub combine::step_combine-returns : goal.combine::step_combine-returns
+combine::step_combine-returns = combine.combine::step_combine-returns
+
+pub combine::step_combine-returns-in_err-left-in-Combine : goal.combine::step_combine-returns-in_err-left-in-Combine
+combine::step_combine-returns-in_err-left-in-Combine = combine.combine::step_combine-returns-in_err-left-in-Combine
+
+pub combine::step_combine-returns-in_err-right-in-Combine :
+    goal.combine::step_combine-returns-in_err-right-in-Combine
+combine::step_combine-returns-in_err-right-in-Combine =
+    combine.combine::step_combine-returns-in_err-right-in-Combine
+
+pub combine::start_combine-unreachable-requires : goal.combine::start_combine-unreachable-requires
+combine::start_combine-unreachable-requires = combine.combine::start_combine-unreachable-requires
+
+pub combine::step_combine-unreachable-requires : goal.combine::step_combine-unreachable-requires
+combine::step_combine-unreachable-requires = combine.combine::step_combine-unreachable-requires
+
+-- an operand whose value is joined with a left value
+pub operands::step_and_end-step-requires : goal.operands::step_and_end-step-requires
+operands::step_and_end-step-requires = operands.operands::step_and_end-step-requires
+
+pub operands::step_and_end-ended-requires : goal.operands::step_and_end-ended-requires
+operands::step_and_end-ended-requires = operands.operands::step_and_end-ended-requires
+
+pub operands::step_and_end-returns-clause-ended : goal.operands::step_and_end-returns-clause-ended
+operands::step_and_end-returns-clause-ended = operands.operands::step_and_end-returns-clause-ended
+
+pub operands::step_and_end-returns-clause-no_memory : goal.operands::step_and_end-returns-clause-no_memory
+operands::step_and_end-returns-clause-no_memory = operands.operands::step_and_end-returns-clause-no_memory
+
+pub operands::step_and_end-returns-in_err-right-clause-no_memory :
+    goal.operands::step_and_end-returns-in_err-right-clause-no_memory
+operands::step_and_end-returns-in_err-right-clause-no_memory =
+    operands.operands::step_and_end-returns-in_err-right-clause-no_memory
+
+pub operands::start_and_join-start-requires : goal.operands::start_and_join-start-requires
+operands::start_and_join-start-requires = operands.operands::start_and_join-start-requires
+
+pub operands::start_and_join-joined-requires : goal.operands::start_and_join-joined-requires
+operands::start_and_join-joined-requires = operands.operands::start_and_join-joined-requires
+
+pub operands::start_and_join-returns-clause-joined : goal.operands::start_and_join-returns-clause-joined
+operands::start_and_join-returns-clause-joined = operands.operands::start_and_join-returns-clause-joined
+
+pub operands::start_and_join-returns-clause-no_memory : goal.operands::start_and_join-returns-clause-no_memory
+operands::start_and_join-returns-clause-no_memory = operands.operands::start_and_join-returns-clause-no_memory
+
+pub operands::start_and_join-returns-in_err-right-clause-no_memory :
+    goal.operands::start_and_join-returns-in_err-right-clause-no_memory
+operands::start_and_join-returns-in_err-right-clause-no_memory =
+    operands.operands::start_and_join-returns-in_err-right-clause-no_memory
+
+-- a split
+pub split::start_split-start_and_join-requires : goal.split::start_split-start_and_join-requires
+split::start_split-start_and_join-requires = split.split::start_split-start_and_join-requires
 
 pub split::start_split-returns-in_ok-hit-in-Some : goal.split::start_split-returns-in_ok-hit-in-Some
 split::start_split-returns-in_ok-hit-in-Some = split.split::start_split-returns-in_ok-hit-in-Some
@@ -123,20 +254,14 @@ split::start_split-returns-in-None = split.split::start_split-returns-in-None
 pub split::start_split-returns-in_err-left-in-Split : goal.split::start_split-returns-in_err-left-in-Split
 split::start_split-returns-in_err-left-in-Split = split.split::start_split-returns-in_err-left-in-Split
 
-pub split::start_split-returns-in_err-right-in-Some : goal.split::start_split-returns-in_err-right-in-Some
-split::start_split-returns-in_err-right-in-Some = split.split::start_split-returns-in_err-right-in-Some
-
 pub split::start_split-returns-in_err-hit-in-Some : goal.split::start_split-returns-in_err-hit-in-Some
 split::start_split-returns-in_err-hit-in-Some = split.split::start_split-returns-in_err-hit-in-Some
 
-pub split::step_split-ended-requires : goal.split::step_split-ended-requires
-split::step_split-ended-requires = split.split::step_split-ended-requires
+pub split::step_split-end_right-requires : goal.split::step_split-end_right-requires
+split::step_split-end_right-requires = split.split::step_split-end_right-requires
 
-pub split::step_split-joined-requires : goal.split::step_split-joined-requires
-split::step_split-joined-requires = split.split::step_split-joined-requires
-
-pub split::step_split-wait-requires : goal.split::step_split-wait-requires
-split::step_split-wait-requires = split.split::step_split-wait-requires
+pub split::step_split-begin_right-requires : goal.split::step_split-begin_right-requires
+split::step_split-begin_right-requires = split.split::step_split-begin_right-requires
 
 pub split::step_split-returns-in_ok-begun-in-Some : goal.split::step_split-returns-in_ok-begun-in-Some
 split::step_split-returns-in_ok-begun-in-Some = split.split::step_split-returns-in_ok-begun-in-Some
@@ -147,73 +272,95 @@ split::step_split-returns-in-None = split.split::step_split-returns-in-None
 pub split::step_split-returns-in_err-left-in-Split : goal.split::step_split-returns-in_err-left-in-Split
 split::step_split-returns-in_err-left-in-Split = split.split::step_split-returns-in_err-left-in-Split
 
-pub split::step_split-returns-in_err-right-in-Split : goal.split::step_split-returns-in_err-right-in-Split
-split::step_split-returns-in_err-right-in-Split = split.split::step_split-returns-in_err-right-in-Split
-
 pub split::step_split-returns-in_err-hit-in-Split : goal.split::step_split-returns-in_err-hit-in-Split
 split::step_split-returns-in_err-hit-in-Split = split.split::step_split-returns-in_err-hit-in-Split
-
-pub split::step_split-returns-in_err-right-in-Some : goal.split::step_split-returns-in_err-right-in-Some
-split::step_split-returns-in_err-right-in-Some = split.split::step_split-returns-in_err-right-in-Some
 
 pub split::step_split-returns-in_err-begun-in-Some : goal.split::step_split-returns-in_err-begun-in-Some
 split::step_split-returns-in_err-begun-in-Some = split.split::step_split-returns-in_err-begun-in-Some
 
+pub split::end_right-step_and_end-requires : goal.split::end_right-step_and_end-requires
+split::end_right-step_and_end-requires = split.split::end_right-step_and_end-requires
+
+pub split::end_right-returns-clause-kept : goal.split::end_right-returns-clause-kept
+split::end_right-returns-clause-kept = split.split::end_right-returns-clause-kept
+
+pub split::begin_right-start_and_join-requires : goal.split::begin_right-start_and_join-requires
+split::begin_right-start_and_join-requires = split.split::begin_right-start_and_join-requires
+
+pub split::begin_right-returns-clause-waits : goal.split::begin_right-returns-clause-waits
+split::begin_right-returns-clause-waits = split.split::begin_right-returns-clause-waits
+
+pub split::start_split-unreachable-requires : goal.split::start_split-unreachable-requires
+split::start_split-unreachable-requires = split.split::start_split-unreachable-requires
+
+pub split::step_split-unreachable-requires : goal.split::step_split-unreachable-requires
+split::step_split-unreachable-requires = split.split::step_split-unreachable-requires
+
 -- an iteration
-pub steps::start-returns-in_ok-go_on_if_new-in-Iter-Iter : goal.steps::start-returns-in_ok-go_on_if_new-in-Iter-Iter
-steps::start-returns-in_ok-go_on_if_new-in-Iter-Iter = iter.steps::start-returns-in_ok-go_on_if_new-in-Iter-Iter
+pub iter::start_iter-start-requires : goal.iter::start_iter-start-requires
+iter::start_iter-start-requires = iter.iter::start_iter-start-requires
 
-pub steps::start-returns-in_err-start-in-Iter-Iter : goal.steps::start-returns-in_err-start-in-Iter-Iter
-steps::start-returns-in_err-start-in-Iter-Iter = iter.steps::start-returns-in_err-start-in-Iter-Iter
+pub iter::start_iter-returns : goal.iter::start_iter-returns
+iter::start_iter-returns = iter.iter::start_iter-returns
 
-pub steps::start-returns-in_err-go_on_if_new-in-Iter-Iter : goal.steps::start-returns-in_err-go_on_if_new-in-Iter-Iter
-steps::start-returns-in_err-go_on_if_new-in-Iter-Iter = iter.steps::start-returns-in_err-go_on_if_new-in-Iter-Iter
+pub iter::start_iter-returns-in_err-start-in-Iter : goal.iter::start_iter-returns-in_err-start-in-Iter
+iter::start_iter-returns-in_err-start-in-Iter = iter.iter::start_iter-returns-in_err-start-in-Iter
 
-pub steps::step-step_iter-requires : goal.steps::step-step_iter-requires
-steps::step-step_iter-requires = iter.steps::step-step_iter-requires
+pub iter::start_iter-returns-in_err-go_on_if_new-in-Iter : goal.iter::start_iter-returns-in_err-go_on_if_new-in-Iter
+iter::start_iter-returns-in_err-go_on_if_new-in-Iter = iter.iter::start_iter-returns-in_err-go_on_if_new-in-Iter
 
-pub steps::step-returns-in-Iter-Iter : goal.steps::step-returns-in-Iter-Iter
-steps::step-returns-in-Iter-Iter = iter.steps::step-returns-in-Iter-Iter
+pub iter::step_iter-step_and_end-requires : goal.iter::step_iter-step_and_end-requires
+iter::step_iter-step_and_end-requires = iter.iter::step_iter-step_and_end-requires
 
-pub iter::step_iter-ended-requires : goal.iter::step_iter-ended-requires
-iter::step_iter-ended-requires = iter.iter::step_iter-ended-requires
+pub iter::step_iter-next_piece-requires : goal.iter::step_iter-next_piece-requires
+iter::step_iter-next_piece-requires = iter.iter::step_iter-next_piece-requires
 
-pub iter::step_iter-go_on-requires : goal.iter::step_iter-go_on-requires
-iter::step_iter-go_on-requires = iter.iter::step_iter-go_on-requires
-
-pub iter::step_iter-returns-in_ok-go_on-in-Some : goal.iter::step_iter-returns-in_ok-go_on-in-Some
-iter::step_iter-returns-in_ok-go_on-in-Some = iter.iter::step_iter-returns-in_ok-go_on-in-Some
+pub iter::step_iter-returns-in-Some : goal.iter::step_iter-returns-in-Some
+iter::step_iter-returns-in-Some = iter.iter::step_iter-returns-in-Some
 
 pub iter::step_iter-returns-in-None : goal.iter::step_iter-returns-in-None
 iter::step_iter-returns-in-None = iter.iter::step_iter-returns-in-None
 
-pub iter::step_iter-returns-in_err-piece-in-Iter : goal.iter::step_iter-returns-in_err-piece-in-Iter
-iter::step_iter-returns-in_err-piece-in-Iter = iter.iter::step_iter-returns-in_err-piece-in-Iter
-
 pub iter::step_iter-returns-in_err-hit-in-Iter : goal.iter::step_iter-returns-in_err-hit-in-Iter
 iter::step_iter-returns-in_err-hit-in-Iter = iter.iter::step_iter-returns-in_err-hit-in-Iter
 
-pub iter::step_iter-returns-in_err-start-in-Some : goal.iter::step_iter-returns-in_err-start-in-Some
-iter::step_iter-returns-in_err-start-in-Some = iter.iter::step_iter-returns-in_err-start-in-Some
+pub iter::next_piece-start-requires : goal.iter::next_piece-start-requires
+iter::next_piece-start-requires = iter.iter::next_piece-start-requires
 
-pub iter::step_iter-returns-in_err-go_on-in-Some : goal.iter::step_iter-returns-in_err-go_on-in-Some
-iter::step_iter-returns-in_err-go_on-in-Some = iter.iter::step_iter-returns-in_err-go_on-in-Some
+pub iter::next_piece-returns-clause-goes_on : goal.iter::next_piece-returns-clause-goes_on
+iter::next_piece-returns-clause-goes_on = iter.iter::next_piece-returns-clause-goes_on
+
+pub iter::next_piece-returns-in_err-start-clause-no_memory :
+    goal.iter::next_piece-returns-in_err-start-clause-no_memory
+iter::next_piece-returns-in_err-start-clause-no_memory = iter.iter::next_piece-returns-in_err-start-clause-no_memory
+
+pub iter::next_piece-returns-in_err-go_on-clause-no_memory :
+    goal.iter::next_piece-returns-in_err-go_on-clause-no_memory
+iter::next_piece-returns-in_err-go_on-clause-no_memory = iter.iter::next_piece-returns-in_err-go_on-clause-no_memory
+
+pub iter::start_iter-unreachable-requires : goal.iter::start_iter-unreachable-requires
+iter::start_iter-unreachable-requires = iter.iter::start_iter-unreachable-requires
+
+pub iter::step_iter-unreachable-requires : goal.iter::step_iter-unreachable-requires
+iter::step_iter-unreachable-requires = iter.iter::step_iter-unreachable-requires
 
 -- a compose
-pub steps::start-feed-requires : goal.steps::start-feed-requires
-steps::start-feed-requires = compose.steps::start-feed-requires
+pub compose::start_compose-start-requires : goal.compose::start_compose-start-requires
+compose::start_compose-start-requires = compose.compose::start_compose-start-requires
 
-pub steps::start-returns-in_ok-left-in-Compose-Compose : goal.steps::start-returns-in_ok-left-in-Compose-Compose
-steps::start-returns-in_ok-left-in-Compose-Compose = compose.steps::start-returns-in_ok-left-in-Compose-Compose
+pub compose::start_compose-feed-requires : goal.compose::start_compose-feed-requires
+compose::start_compose-feed-requires = compose.compose::start_compose-feed-requires
 
-pub steps::start-returns-in_err-left-in-Compose-Compose : goal.steps::start-returns-in_err-left-in-Compose-Compose
-steps::start-returns-in_err-left-in-Compose-Compose = compose.steps::start-returns-in_err-left-in-Compose-Compose
+pub compose::start_compose-returns : goal.compose::start_compose-returns
+compose::start_compose-returns = compose.compose::start_compose-returns
 
-pub steps::step-step_compose-requires : goal.steps::step-step_compose-requires
-steps::step-step_compose-requires = compose.steps::step-step_compose-requires
+pub compose::start_compose-returns-in_err-left-in-Compose :
+    goal.compose::start_compose-returns-in_err-left-in-Compose
+compose::start_compose-returns-in_err-left-in-Compose =
+    compose.compose::start_compose-returns-in_err-left-in-Compose
 
-pub steps::step-returns-in-Compose-Compose : goal.steps::step-returns-in-Compose-Compose
-steps::step-returns-in-Compose-Compose = compose.steps::step-returns-in-Compose-Compose
+pub compose::step_compose-step-requires : goal.compose::step_compose-step-requires
+compose::step_compose-step-requires = compose.compose::step_compose-step-requires
 
 pub compose::step_compose-pass_on-requires : goal.compose::step_compose-pass_on-requires
 compose::step_compose-pass_on-requires = compose.compose::step_compose-pass_on-requires
@@ -226,6 +373,12 @@ compose::step_compose-returns-in_err-left-in-Compose = compose.compose::step_com
 
 pub compose::step_compose-returns-in_err-hit-in-Compose : goal.compose::step_compose-returns-in_err-hit-in-Compose
 compose::step_compose-returns-in_err-hit-in-Compose = compose.compose::step_compose-returns-in_err-hit-in-Compose
+
+pub compose::start_compose-unreachable-requires : goal.compose::start_compose-unreachable-requires
+compose::start_compose-unreachable-requires = compose.compose::start_compose-unreachable-requires
+
+pub compose::step_compose-unreachable-requires : goal.compose::step_compose-unreachable-requires
+compose::step_compose-unreachable-requires = compose.compose::step_compose-unreachable-requires
 
 -- the runners of its right operand
 pub feeds::renew-start-requires : goal.feeds::renew-start-requires
@@ -296,18 +449,19 @@ feeds::begin-returns-in_err-renew-clause-no_memory = runner.feeds::begin-returns
 pub feeds::begin-returns-in-Some-clause-no_memory : goal.feeds::begin-returns-in-Some-clause-no_memory
 feeds::begin-returns-in-Some-clause-no_memory = runner.feeds::begin-returns-in-Some-clause-no_memory
 
-pub feeds::pass_on-returns-in-Some-place-clause-no_memory : goal.feeds::pass_on-returns-in-Some-place-clause-no_memory
+pub feeds::pass_on-returns-in-Some-place-clause-no_memory :
+    goal.feeds::pass_on-returns-in-Some-place-clause-no_memory
 feeds::pass_on-returns-in-Some-place-clause-no_memory = runner.feeds::pass_on-returns-in-Some-place-clause-no_memory
 
 pub feeds::feed-returns-in_err-hit-clause-no_memory : goal.feeds::feed-returns-in_err-hit-clause-no_memory
 feeds::feed-returns-in_err-hit-clause-no_memory = runner.feeds::feed-returns-in_err-hit-clause-no_memory
 
 -- a collect
-pub steps::start-begin_at-requires : goal.steps::start-begin_at-requires
-steps::start-begin_at-requires = collect.steps::start-begin_at-requires
+pub collect::start_collect-begin_at-requires : goal.collect::start_collect-begin_at-requires
+collect::start_collect-begin_at-requires = collect.collect::start_collect-begin_at-requires
 
-pub steps::start-returns-in-Collect-Collect : goal.steps::start-returns-in-Collect-Collect
-steps::start-returns-in-Collect-Collect = collect.steps::start-returns-in-Collect-Collect
+pub collect::start_collect-returns : goal.collect::start_collect-returns
+collect::start_collect-returns = collect.collect::start_collect-returns
 
 pub collect::begin_at-returns : goal.collect::begin_at-returns
 collect::begin_at-returns = collect.collect::begin_at-returns
@@ -327,11 +481,11 @@ collect::new_runner-start-requires = collect.collect::new_runner-start-requires
 pub collect::new_runner-returns-in-Ok : goal.collect::new_runner-returns-in-Ok
 collect::new_runner-returns-in-Ok = collect.collect::new_runner-returns-in-Ok
 
-pub steps::step-pass_by-requires : goal.steps::step-pass_by-requires
-steps::step-pass_by-requires = collect.steps::step-pass_by-requires
+pub collect::step_collect-pass_by-requires : goal.collect::step_collect-pass_by-requires
+collect::step_collect-pass_by-requires = collect.collect::step_collect-pass_by-requires
 
-pub steps::step-returns-in-Collect-Collect : goal.steps::step-returns-in-Collect-Collect
-steps::step-returns-in-Collect-Collect = collect.steps::step-returns-in-Collect-Collect
+pub collect::step_collect-returns : goal.collect::step_collect-returns
+collect::step_collect-returns = collect.collect::step_collect-returns
 
 pub collect::pass_by-push_all-requires : goal.collect::pass_by-push_all-requires
 collect::pass_by-push_all-requires = collect.collect::pass_by-push_all-requires
@@ -350,6 +504,12 @@ collect::push_all-returns-clause-pushed = collect.collect::push_all-returns-clau
 
 pub collect::pass_by-advance-requires : goal.collect::pass_by-advance-requires
 collect::pass_by-advance-requires = collect.collect::pass_by-advance-requires
+
+pub collect::start_collect-unreachable-requires : goal.collect::start_collect-unreachable-requires
+collect::start_collect-unreachable-requires = collect.collect::start_collect-unreachable-requires
+
+pub collect::step_collect-unreachable-requires : goal.collect::step_collect-unreachable-requires
+collect::step_collect-unreachable-requires = collect.collect::step_collect-unreachable-requires
 
 -- its runners for keys
 pub keys::keys_push-returns-then-holds-clause-pushed : goal.keys::keys_push-returns-then-holds-clause-pushed
@@ -381,10 +541,3 @@ keys::push_to_each-carry-requires-in-keys = keys.keys::push_to_each-carry-requir
 
 pub keys::push_to_each-keys-preserved : goal.keys::push_to_each-keys-preserved
 keys::push_to_each-keys-preserved = keys.keys::push_to_each-keys-preserved
-
--- a node has the shape of its query
-pub steps::start-unreachable-requires : goal.steps::start-unreachable-requires
-steps::start-unreachable-requires = unlike.steps::start-unreachable-requires
-
-pub steps::step-unreachable-requires : goal.steps::step-unreachable-requires
-steps::step-unreachable-requires = unlike.steps::step-unreachable-requires

@@ -1,5 +1,6 @@
-use Rattle.std.proofs.Common.{◌≡◌, length}
+use Rattle.std.proofs.Common.{◌≡◌, ◌+◌, ◌*◌, length, max}
 use Rattle.predicate_cells.specs.Plain as predicates
+use Rattle.query_model.specs.declared.query.Query.{size-Query}
 use Rattle.query_model.specs.Queries.{plain_of}
 use Rattle.map_collect.specs.Keys.{fallback_of, followers_of, names_of}
 use Rattle.eval_tree.specs.Feeds.{IsCarried}
@@ -22,3 +23,109 @@ invariant-collect::push_all-starts l =
     l.tracks.tracks
     × (l.tracks.nfa ≡ l.fn.tracks.nfa) × (l.i-end ≡ length l.fn.tracks.tracks)
     × (length l.tracks.tracks ≡ length l.fn.tracks.tracks)
+
+-- how deep the query is; at one query those that call others stand above them
+abbrev pub decreases-steps::start : goal.decreases-steps::start
+decreases-steps::start l = 8 * size-Query l.query.now
+
+abbrev pub decreases-steps::step : goal.decreases-steps::step
+decreases-steps::step l = 8 * size-Query l.query.now
+
+abbrev pub decreases-operands::step_and_end : goal.decreases-operands::step_and_end
+decreases-operands::step_and_end l = 8 * size-Query l.operand.now + 1
+
+abbrev pub decreases-operands::start_and_join : goal.decreases-operands::start_and_join
+decreases-operands::start_and_join l = 8 * size-Query l.operand.now + 1
+
+abbrev pub decreases-feeds::carry : goal.decreases-feeds::carry
+decreases-feeds::carry l = 8 * size-Query l.query.now + 1
+
+abbrev pub decreases-feeds::renew : goal.decreases-feeds::renew
+decreases-feeds::renew l = 8 * size-Query l.query.now + 1
+
+abbrev pub decreases-feeds::tell : goal.decreases-feeds::tell
+decreases-feeds::tell l = 8 * size-Query l.query.now + 2
+
+abbrev pub decreases-feeds::begin : goal.decreases-feeds::begin
+decreases-feeds::begin l = 8 * size-Query l.query.now + 3
+
+abbrev pub decreases-feeds::pass_on : goal.decreases-feeds::pass_on
+decreases-feeds::pass_on l = 8 * size-Query l.query.now + 3
+
+abbrev pub decreases-feeds::feed : goal.decreases-feeds::feed
+decreases-feeds::feed l = 8 * size-Query l.query.now + 4
+
+abbrev pub decreases-keys::push_to_key : goal.decreases-keys::push_to_key
+decreases-keys::push_to_key l = 8 * size-Query l.query.now + 2
+
+abbrev pub decreases-keys::push_to_each : goal.decreases-keys::push_to_each
+decreases-keys::push_to_each l = 8 * size-Query l.query.now + 2
+
+abbrev pub decreases-keys::keys_push : goal.decreases-keys::keys_push
+decreases-keys::keys_push l = 8 * size-Query l.query.now + 3
+
+abbrev pub decreases-collect::push_all : goal.decreases-collect::push_all
+decreases-collect::push_all l = 8 * size-Query l.query.now + 4
+
+abbrev pub decreases-collect::pass_by : goal.decreases-collect::pass_by
+decreases-collect::pass_by l = 8 * size-Query l.query.now + 5
+
+abbrev pub decreases-collect::new_runner : goal.decreases-collect::new_runner
+decreases-collect::new_runner l = 8 * size-Query l.query.now + 1
+
+abbrev pub decreases-collect::track : goal.decreases-collect::track
+decreases-collect::track l = 8 * size-Query l.query.now + 2
+
+abbrev pub decreases-collect::begin_at : goal.decreases-collect::begin_at
+decreases-collect::begin_at l = 8 * size-Query l.query.now + 3
+
+abbrev pub decreases-choice::start_choice : goal.decreases-choice::start_choice
+decreases-choice::start_choice l = 8 * max (size-Query l.first.now) (size-Query l.second.now) + 7
+
+abbrev pub decreases-choice::step_choice : goal.decreases-choice::step_choice
+decreases-choice::step_choice l = 8 * max (size-Query l.first.now) (size-Query l.second.now) + 7
+
+abbrev pub decreases-combine::start_combine : goal.decreases-combine::start_combine
+decreases-combine::start_combine l = 8 * max (size-Query l.first.now) (size-Query l.second.now) + 7
+
+abbrev pub decreases-combine::step_combine : goal.decreases-combine::step_combine
+decreases-combine::step_combine l = 8 * max (size-Query l.first.now) (size-Query l.second.now) + 7
+
+abbrev pub decreases-apply::start_apply : goal.decreases-apply::start_apply
+decreases-apply::start_apply l = 8 * size-Query l.inner.now + 7
+
+abbrev pub decreases-apply::step_apply : goal.decreases-apply::step_apply
+decreases-apply::step_apply l = 8 * size-Query l.inner.now + 7
+
+abbrev pub decreases-split::start_split : goal.decreases-split::start_split
+decreases-split::start_split l = 8 * max (size-Query l.first.now) (size-Query l.second.now) + 7
+
+abbrev pub decreases-split::step_split : goal.decreases-split::step_split
+decreases-split::step_split l = 8 * max (size-Query l.first.now) (size-Query l.second.now) + 7
+
+abbrev pub decreases-iter::start_iter : goal.decreases-iter::start_iter
+decreases-iter::start_iter l = 8 * size-Query l.inner.now + 7
+
+abbrev pub decreases-iter::step_iter : goal.decreases-iter::step_iter
+decreases-iter::step_iter l = 8 * size-Query l.inner.now + 7
+
+abbrev pub decreases-compose::start_compose : goal.decreases-compose::start_compose
+decreases-compose::start_compose l = 8 * max (size-Query l.first.now) (size-Query l.second.now) + 7
+
+abbrev pub decreases-compose::step_compose : goal.decreases-compose::step_compose
+decreases-compose::step_compose l = 8 * max (size-Query l.first.now) (size-Query l.second.now) + 7
+
+abbrev pub decreases-collect::start_collect : goal.decreases-collect::start_collect
+decreases-collect::start_collect l = 8 * size-Query l.inner.now + 7
+
+abbrev pub decreases-collect::step_collect : goal.decreases-collect::step_collect
+decreases-collect::step_collect l = 8 * size-Query l.inner.now + 7
+
+abbrev pub decreases-iter::next_piece : goal.decreases-iter::next_piece
+decreases-iter::next_piece l = 8 * size-Query l.inner.now + 1
+
+abbrev pub decreases-split::end_right : goal.decreases-split::end_right
+decreases-split::end_right l = 8 * size-Query l.second.now + 2
+
+abbrev pub decreases-split::begin_right : goal.decreases-split::begin_right
+decreases-split::begin_right l = 8 * size-Query l.second.now + 2

@@ -6,68 +6,81 @@ use Rattle.query_model.specs.Queries.{plain_of}
 use Rattle.eval_tree.specs.Holdings.{apply_held}
 use Rattle.eval_tree.specs.Plain.{holding_of, seen_of}
 use Rattle.eval_tree.specs.declared.node.State.TheViews.{out-State, roll-State}
-use Rattle.eval_tree.proofs.Arms.{numbers_start_as, numbers_step_as, same_query, start_fails, started_as, started_from, step_fails, stepped_as, stepped_from, when_started, when_stepped}
+use Rattle.eval_tree.proofs.Arms.{numbers_start_as, numbers_step_as, start_fails, started_as, started_from, step_fails, stepped_as, stepped_from, when_started, when_stepped}
 use Rattle.eval_tree.proofs.NumbersAllowed.{operand_starts, operand_steps}
 use Rattle.eval_tree.proofs.NumbersTyped.{applied_started, applied_stepped}
 use Rattle.eval_tree.proofs.PlainArms.{apply_starts, apply_steps}
+use Rattle.eval_tree.proofs.Unsound.{unsound_apply}
 use Rattle.eval_tree.proofs.+step.Goals as goal
 
-pub steps::start-returns-in_ok-hit-in-Apply-Apply : goal.steps::start-returns-in_ok-hit-in-Apply-Apply
+pub apply::start_apply-returns : goal.apply::start_apply-returns
 unfolding roll-State out-State denote.Hole.Carrier.roll denote.Hole.Carrier.out
-steps::start-returns-in_ok-hit-in-Apply-Apply t c =
-    let s = c.in-Apply-Apply in
-    let f = plain_of s.inner.value.shape in
+apply::start_apply-returns t c =
+    let s = c.in-Apply in
+    let f = plain_of c.args.inner.now.shape in
     let a = holding_of s.a.value.state in
-    let first = started_from _ _ (holding_of c.deref_mut-in-Apply-Apply.result.now.state) a
-    (holding_of c.start-in-Apply-Apply.new.node.state) c.args.at _
-    (same_query _ _ c.deref-in-Apply-Apply.ensures) (search rules) c.in_ok-hit-in-Apply-Apply.ensures in
+    let first = started_from _ _ (holding_of c.deref_mut.result.now.state) a
+    (holding_of c.start.new.node.state) c.args.at _
+    refl (search rules) c.in_ok-hit-in-Apply.ensures in
     when_started _ _ _ c.args.at c.applied.result _ (λ hit applied. started_as _ _ _ _
-    (apply_held (holding_of c.start-in-Apply-Apply.new.node.state)) _ c.args.at _ _ (ap plain_of s.is-0)
-    (ap holding_of s.is-1) (rw s.is-1 refl) refl
-    (apply_starts f (values.plain_of s.expression) a (holding_of c.start-in-Apply-Apply.new.node.state) c.args.at
-    c.in_ok-hit-in-Apply-Apply.hit hit first applied)) c.applied.ensures.applied
-    (λ free. c.applied.ensures.no_memory (applied_started seen_of f (values.plain_of s.expression) a
-    (holding_of c.start-in-Apply-Apply.new.node.state) c.args.at c.in_ok-hit-in-Apply-Apply.hit
-    (numbers_start_as _ _ _ _ c.args.at (sym (ap plain_of s.is-0)) (sym (ap holding_of s.is-1)) free) first.sound))
+    (apply_held (holding_of c.start.new.node.state)) _ c.args.at _ _ refl
+    (ap holding_of s.is) (rw s.is refl) refl
+    (apply_starts f (values.plain_of c.args.expression.now) a (holding_of c.start.new.node.state) c.args.at
+    c.in_ok-hit-in-Apply.hit hit first applied)) c.applied.ensures.applied
+    (λ free. c.applied.ensures.no_memory (applied_started seen_of f (values.plain_of c.args.expression.now) a
+    (holding_of c.start.new.node.state) c.args.at c.in_ok-hit-in-Apply.hit
+    (numbers_start_as _ _ _ _ c.args.at refl (sym (ap holding_of s.is)) free) first.sound))
 
-pub steps::start-returns-in_err-hit-in-Apply-Apply : goal.steps::start-returns-in_err-hit-in-Apply-Apply
-steps::start-returns-in_err-hit-in-Apply-Apply t c =
-    let s = c.in-Apply-Apply in
-    let same : holding_of s.a.value.state ≡ holding_of c.deref_mut-in-Apply-Apply.result.now.state = search rules
+pub apply::start_apply-returns-in_err-hit-in-Apply : goal.apply::start_apply-returns-in_err-hit-in-Apply
+apply::start_apply-returns-in_err-hit-in-Apply t c =
+    let s = c.in-Apply in
+    let same : holding_of s.a.value.state ≡ holding_of c.deref_mut.result.now.state = search rules
     in
-    start_fails _ _ _ _ _ c.args.at _ (search rules) (ap plain_of s.is-0) (ap holding_of s.is-1)
-    (λ free. false≢true (c.in_err-hit-in-Apply-Apply.ensures.no_memory
-    (numbers_start_as _ _ _ _ c.args.at (sym (same_query _ _ c.deref-in-Apply-Apply.ensures)) (sym same)
-    (operand_starts seen_of (plain_of s.inner.value.shape) (values.plain_of s.expression)
+    start_fails _ _ _ _ _ c.args.at _ (search rules) refl (ap holding_of s.is)
+    (λ free. false≢true (c.in_err-hit-in-Apply.ensures.no_memory
+    (numbers_start_as _ _ _ _ c.args.at refl (sym same)
+    (operand_starts seen_of (plain_of c.args.inner.now.shape) (values.plain_of c.args.expression.now)
     (holding_of s.a.value.state) c.args.at free))))
 
-pub steps::step-returns-in_ok-hit-in-Apply-Apply : goal.steps::step-returns-in_ok-hit-in-Apply-Apply
+pub apply::step_apply-returns : goal.apply::step_apply-returns
 unfolding roll-State out-State denote.Hole.Carrier.roll denote.Hole.Carrier.out
-steps::step-returns-in_ok-hit-in-Apply-Apply t c =
-    let s = c.in-Apply-Apply in
-    let f = plain_of s.inner.value.shape in
+apply::step_apply-returns t c =
+    let s = c.in-Apply in
+    let f = plain_of c.args.inner.now.shape in
     let a = holding_of s.a.value.state in
-    let first = stepped_from _ _ (holding_of c.deref_mut-in-Apply-Apply.result.now.state) a
-    (holding_of c.step-in-Apply-Apply.new.node.state) c.args.now c.args.item.now _
-    (same_query _ _ c.deref-in-Apply-Apply.ensures) (search rules) c.in_ok-hit-in-Apply-Apply.ensures in
+    let first = stepped_from _ _ (holding_of c.deref_mut.result.now.state) a
+    (holding_of c.step.new.node.state) c.args.now c.args.item.now _
+    refl (search rules) c.in_ok-hit-in-Apply.ensures in
     when_stepped _ _ _ c.args.now c.args.item.now c.applied.result _ (λ hit applied. stepped_as _ _ _ _
-    (apply_held (holding_of c.step-in-Apply-Apply.new.node.state)) _ c.args.now c.args.item.now _ _
-    (ap plain_of s.is-0) (ap holding_of s.is-1) (rw s.is-1 refl) refl
-    (apply_steps f (values.plain_of s.expression) a (holding_of c.step-in-Apply-Apply.new.node.state) c.args.now
-    c.args.item.now c.in_ok-hit-in-Apply-Apply.hit hit first applied)) c.applied.ensures.applied
-    (λ free. c.applied.ensures.no_memory (applied_stepped seen_of f (values.plain_of s.expression) a
-    (holding_of c.step-in-Apply-Apply.new.node.state) c.args.now c.args.item.now c.in_ok-hit-in-Apply-Apply.hit
-    (numbers_step_as _ _ _ _ c.args.now c.args.item.now (sym (ap plain_of s.is-0)) (sym (ap holding_of s.is-1))
+    (apply_held (holding_of c.step.new.node.state)) _ c.args.now c.args.item.now _ _
+    refl (ap holding_of s.is) (rw s.is refl) refl
+    (apply_steps f (values.plain_of c.args.expression.now) a (holding_of c.step.new.node.state) c.args.now
+    c.args.item.now c.in_ok-hit-in-Apply.hit hit first applied)) c.applied.ensures.applied
+    (λ free. c.applied.ensures.no_memory (applied_stepped seen_of f (values.plain_of c.args.expression.now) a
+    (holding_of c.step.new.node.state) c.args.now c.args.item.now c.in_ok-hit-in-Apply.hit
+    (numbers_step_as _ _ _ _ c.args.now c.args.item.now refl (sym (ap holding_of s.is))
     free) first.sound))
 
-pub steps::step-returns-in_err-hit-in-Apply-Apply : goal.steps::step-returns-in_err-hit-in-Apply-Apply
-steps::step-returns-in_err-hit-in-Apply-Apply t c =
-    let s = c.in-Apply-Apply in
-    let same : holding_of s.a.value.state ≡ holding_of c.deref_mut-in-Apply-Apply.result.now.state = search rules
+pub apply::step_apply-returns-in_err-hit-in-Apply : goal.apply::step_apply-returns-in_err-hit-in-Apply
+apply::step_apply-returns-in_err-hit-in-Apply t c =
+    let s = c.in-Apply in
+    let same : holding_of s.a.value.state ≡ holding_of c.deref_mut.result.now.state = search rules
     in
-    step_fails _ _ _ _ _ c.args.now c.args.item.now _ (search rules) (ap plain_of s.is-0) (ap holding_of s.is-1)
-    (λ free. false≢true (c.in_err-hit-in-Apply-Apply.ensures.no_memory
-    (numbers_step_as _ _ _ _ c.args.now c.args.item.now (sym (same_query _ _ c.deref-in-Apply-Apply.ensures))
+    step_fails _ _ _ _ _ c.args.now c.args.item.now _ (search rules) refl (ap holding_of s.is)
+    (λ free. false≢true (c.in_err-hit-in-Apply.ensures.no_memory
+    (numbers_step_as _ _ _ _ c.args.now c.args.item.now refl
     (sym same)
-    (operand_steps seen_of (plain_of s.inner.value.shape) (values.plain_of s.expression)
+    (operand_steps seen_of (plain_of c.args.inner.now.shape) (values.plain_of c.args.expression.now)
     (holding_of s.a.value.state) c.args.now c.args.item.now free))))
+
+pub apply::start_apply-unreachable-requires : goal.apply::start_apply-unreachable-requires
+apply::start_apply-unreachable-requires t c =
+    unsound_apply c.requires.columns c.args.at _ c.args.node.now.state _ (values.plain_of c.args.expression.now)
+    refl c.in_default.not-Apply
+    c.requires.sound
+
+pub apply::step_apply-unreachable-requires : goal.apply::step_apply-unreachable-requires
+apply::step_apply-unreachable-requires t c =
+    unsound_apply c.requires.columns c.requires.position _ c.args.node.now.state _ (values.plain_of c.args.expression.now)
+    refl c.in_default.not-Apply
+    c.requires.sound

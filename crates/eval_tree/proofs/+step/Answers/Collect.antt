@@ -1,9 +1,8 @@
 -- A collect.
 use Rattle.std.proofs.Common.{ap, arith, inl, refl, rules, subst, sym, ◌∙◌, inr}
-use Rattle.query_model.specs.declared.query.Shape.TheViews.{the_lemmas}
-use Rattle.query_model.specs.Queries.{Qre, plain_of}
+use Rattle.query_model.specs.Queries.{plain_of}
 use Rattle.eval_tree.specs.Plain.{holding_of, seen_of, tracks_of}
-use Rattle.eval_tree.proofs.Arms.{can_start_as, can_step_as, same_query, started_as, stepped_as, when_started, when_stepped}
+use Rattle.eval_tree.proofs.Arms.{can_start_as, can_step_as, started_as, stepped_as, when_started, when_stepped}
 use Rattle.predicate_cells.specs.Plain as predicates
 use Rattle.eval_tree.specs.Holdings.{collect_held}
 use Rattle.eval_tree.specs.declared.node.State.TheVariants.{Collect}
@@ -17,38 +16,33 @@ use Rattle.eval_tree.proofs.CollectArms.{collect_starts, collect_steps, tracked_
 use Rattle.eval_tree.proofs.CollectBegun.{made_new, start_made}
 use Rattle.eval_tree.proofs.Served.{without_collect}
 use Rattle.map_collect.specs.Tracks.{KeepsExtending}
-use Rattle.query_model.specs.Rules.{HasNoCollect}
+use Rattle.eval_tree.proofs.Unsound.{unsound_collect}
 use Rattle.eval_tree.proofs.+step.Goals as goal
 
 abbrev Tracks : Type 0
 Tracks = tracks.Contents Progress
 
-pub steps::start-begin_at-requires : goal.steps::start-begin_at-requires
+pub collect::start_collect-begin_at-requires : goal.collect::start_collect-begin_at-requires
 unfolding roll-State out-State denote.Hole.Carrier.roll denote.Hole.Carrier.out
-steps::start-begin_at-requires t c =
-    let s = c.in-Collect-Collect in (
-      search (rules, the_lemmas),
-      subst CanMake (same_query _ _ c.deref-in-Collect-Collect.ensures)
-          (make_allowed seen_of _ _ _ (plain_of s.inner.value.shape) s.tracks c.args.at
-          (can_start_as _ _ _ _ c.args.at (sym (ap plain_of s.is-0)) (sym (ap holding_of s.is-1 ∙ tracked_is s.tracks))
-          c.requires)),
+collect::start_collect-begin_at-requires t c =
+    let s = c.in-Collect in (
+      search rules,
+      make_allowed seen_of _ _ _ (plain_of c.args.inner.now.shape) s.tracks c.args.at
+          (can_start_as _ _ _ _ c.args.at refl (sym (ap holding_of s.is ∙ tracked_is s.tracks)) c.requires.3),
     )
 
-pub steps::start-returns-in-Collect-Collect : goal.steps::start-returns-in-Collect-Collect
+pub collect::start_collect-returns : goal.collect::start_collect-returns
 unfolding roll-State out-State denote.Hole.Carrier.roll denote.Hole.Carrier.out
-steps::start-returns-in-Collect-Collect t c =
-    let s = c.in-Collect-Collect in
-    let same = same_query _ _ c.deref-in-Collect-Collect.ensures in
+collect::start_collect-returns t c = λ column sync rate.
+    let s = c.in-Collect in
+    let f = plain_of c.args.inner.now.shape in
     when_started _ _ _ c.args.at c.begin_at.result
-    (BeginsAt seen_of (plain_of c.deref-in-Collect-Collect.result.now.shape) (tracks_of (out-State (Collect s.tracks)))
-    c.args.at c.begin_at.new.tracks)
-    (λ hit begins. started_as _ _ _ _ (collect_held c.begin_at.new.tracks) _ c.args.at _ _ (ap plain_of s.is-0)
-    (ap holding_of s.is-1 ∙ tracked_is s.tracks) (rw s.is-1 (tracked_is c.begin_at.new.tracks)) refl
-    (collect_starts _ _ _ (plain_of s.inner.value.shape) s.tracks c.begin_at.new.tracks c.args.at hit
-    (subst (λ (q : Qre). BeginsAt seen_of q s.tracks c.args.at c.begin_at.new.tracks hit) (sym same)
-    (subst (λ (all : Tracks). BeginsAt seen_of (plain_of c.deref-in-Collect-Collect.result.now.shape) all
-    c.args.at c.begin_at.new.tracks hit) (tracks_are s.tracks) begins)))) (rw s.is-1 at c.begin_at.ensures)
-    (λ free. absurd (subst HasNoCollect (ap plain_of s.is-0) free.1.no_collect))
+    (BeginsAt seen_of f (tracks_of (out-State (Collect s.tracks))) c.args.at c.begin_at.new.tracks)
+    (λ hit begins. started_as _ _ _ _ (collect_held c.begin_at.new.tracks) _ c.args.at _ _ refl
+    (ap holding_of s.is ∙ tracked_is s.tracks) (rw s.is (tracked_is c.begin_at.new.tracks)) refl
+    (collect_starts column sync rate f s.tracks c.begin_at.new.tracks c.args.at hit
+    (subst (λ (all : Tracks). BeginsAt seen_of f all c.args.at c.begin_at.new.tracks hit) (tracks_are s.tracks)
+    begins))) (rw s.is at c.begin_at.ensures) (λ free. absurd free.1.no_collect)
 
 pub collect::begin_at-returns : goal.collect::begin_at-returns
 collect::begin_at-returns t c = record {
@@ -95,39 +89,32 @@ collect::new_runner-returns-in-Ok t c =
     (λ columns. c.in_ok-node.ensures.word columns tt) (λ columns. c.in_ok-node.ensures.sound columns tt)
     c.in-Ok.ensures.word c.in-Ok.ensures.sound refl c.value_of.ensures
 
-pub steps::step-pass_by-requires : goal.steps::step-pass_by-requires
+pub collect::step_collect-pass_by-requires : goal.collect::step_collect-pass_by-requires
 unfolding roll-State out-State denote.Hole.Carrier.roll denote.Hole.Carrier.out
-steps::step-pass_by-requires t c =
-    let s = c.in-Collect-Collect in
-    let can = can_step_as _ _ _ _ c.args.now c.args.item.now (sym (ap plain_of s.is-0))
-    (sym (ap holding_of s.is-1 ∙ tracked_is s.tracks)) c.requires in (
-      search (rules, the_lemmas),
-      rw s.is-1 (subst (λ (all : Tracks).
-          CanPassBy seen_of (plain_of c.deref-in-Collect-Collect.result.now.shape) all c.args.item.now)
-          (sym (tracks_are s.tracks))
-          (subst (λ (q : Qre). CanPassBy seen_of q s.tracks c.args.item.now)
-          (same_query _ _ c.deref-in-Collect-Collect.ensures)
-          (pass_allowed seen_of _ _ _ (plain_of s.inner.value.shape) s.tracks c.args.now c.args.item.now can))),
+collect::step_collect-pass_by-requires t c =
+    let s = c.in-Collect in
+    let f = plain_of c.args.inner.now.shape in
+    let now = c.requires.1 in (
+      search rules,
+      rw s.is (subst (λ (all : Tracks). CanPassBy seen_of f all c.args.item.now) (sym (tracks_are s.tracks))
+          (pass_allowed seen_of _ _ _ f s.tracks now c.args.item.now
+          (can_step_as _ _ _ _ now c.args.item.now refl (sym (ap holding_of s.is ∙ tracked_is s.tracks)) c.requires.2))),
     )
 
-pub steps::step-returns-in-Collect-Collect : goal.steps::step-returns-in-Collect-Collect
+pub collect::step_collect-returns : goal.collect::step_collect-returns
 unfolding roll-State out-State denote.Hole.Carrier.roll denote.Hole.Carrier.out
-steps::step-returns-in-Collect-Collect t c =
-    let s = c.in-Collect-Collect in
-    let sync = predicates.plain_of s.sync in
-    let same = same_query _ _ c.deref-in-Collect-Collect.ensures in
-    when_stepped _ _ _ c.args.now c.args.item.now c.pass_by.result
-    (PassesBy seen_of (plain_of c.deref-in-Collect-Collect.result.now.shape) s.column sync c.args.item.now
-    (tracks_of (out-State (Collect s.tracks))) c.pass_by.new.tracks)
-    (λ hit passes. stepped_as _ _ _ _ (collect_held c.pass_by.new.tracks) _ c.args.now c.args.item.now _ _
-    (ap plain_of s.is-0) (ap holding_of s.is-1 ∙ tracked_is s.tracks)
-    (rw s.is-1 (tracked_is c.pass_by.new.tracks)) refl
-    (collect_steps s.column sync _ (plain_of s.inner.value.shape) s.tracks c.pass_by.new.tracks c.args.now
-    c.args.item.now hit
-    (subst (λ (q : Qre). PassesBy seen_of q s.column sync c.args.item.now s.tracks c.pass_by.new.tracks hit) (sym same)
-    (subst (λ (all : Tracks). PassesBy seen_of (plain_of c.deref-in-Collect-Collect.result.now.shape) s.column
-    sync c.args.item.now all c.pass_by.new.tracks hit) (tracks_are s.tracks) passes)))) (rw s.is-1 at c.pass_by.ensures)
-    (λ free. absurd (subst HasNoCollect (ap plain_of s.is-0) free.1.no_collect))
+collect::step_collect-returns t c = λ rate now.
+    let s = c.in-Collect in
+    let f = plain_of c.args.inner.now.shape in
+    let sync = predicates.plain_of c.args.sync.now in
+    when_stepped _ _ _ now c.args.item.now c.pass_by.result
+    (PassesBy seen_of f c.args.column sync c.args.item.now (tracks_of (out-State (Collect s.tracks)))
+    c.pass_by.new.tracks)
+    (λ hit passes. stepped_as _ _ _ _ (collect_held c.pass_by.new.tracks) _ now c.args.item.now _ _ refl
+    (ap holding_of s.is ∙ tracked_is s.tracks) (rw s.is (tracked_is c.pass_by.new.tracks)) refl
+    (collect_steps c.args.column sync rate f s.tracks c.pass_by.new.tracks now c.args.item.now hit
+    (subst (λ (all : Tracks). PassesBy seen_of f c.args.column sync c.args.item.now all c.pass_by.new.tracks hit)
+    (tracks_are s.tracks) passes))) (rw s.is at c.pass_by.ensures) (λ free. absurd free.1.no_collect)
 
 pub collect::pass_by-push_all-requires : goal.collect::pass_by-push_all-requires
 collect::pass_by-push_all-requires t c = (
@@ -181,3 +168,15 @@ collect::push_all-returns-clause-pushed t c =
 
 pub collect::pass_by-advance-requires : goal.collect::pass_by-advance-requires
 collect::pass_by-advance-requires t c = c.requires.is_item
+
+pub collect::start_collect-unreachable-requires : goal.collect::start_collect-unreachable-requires
+collect::start_collect-unreachable-requires t c =
+    let can = c.requires.3 in
+    unsound_collect can.columns c.args.at _ c.args.node.now.state c.requires.0 c.requires.1 c.requires.2
+    (plain_of c.args.inner.now.shape) refl c.in_default.not-Collect can.sound
+
+pub collect::step_collect-unreachable-requires : goal.collect::step_collect-unreachable-requires
+collect::step_collect-unreachable-requires t c =
+    let can = c.requires.2 in
+    unsound_collect can.columns can.position _ c.args.node.now.state c.args.column (predicates.plain_of c.args.sync.now)
+    c.requires.0 (plain_of c.args.inner.now.shape) refl c.in_default.not-Collect can.sound

@@ -1,186 +1,228 @@
 -- An iteration.
-use Rattle.std.proofs.Common.{Ok, Some, ap, refl, rules, subst, sym, w64, ℕ, ◌≡◌}
-use Rattle.std.specs.Prelude.{FitsSigned}
+use Rattle.std.proofs.Common.{Bool, Ok, Some, ap, refl, rules, subst, sym, ℕ, ◌≡◌}
 use Rattle.std.proofs.lemmas.Bool.{false≢true}
 use Rattle.split_eval.specs.Entries.{Contents, live_entries}
 use Rattle.value_ops.specs.declared.value.Value.{Value}
 use Rattle.value_ops.specs.Expressions as values
 use Rattle.value_ops.specs.Values.{IsNoTable}
-use Rattle.query_model.specs.Queries.{plain_of}
+use Rattle.query_model.specs.Queries.{iter, plain_of}
 use Rattle.eval_tree.specs.declared.hit.Hit.{Hit}
-use Rattle.eval_tree.specs.Lefts.{AreNumbersWith, AreTypedWith, IsPut}
+use Rattle.eval_tree.specs.Holdings.{iter_held}
+use Rattle.eval_tree.specs.Lefts.{IsPut}
 use Rattle.eval_tree.specs.Live.{live_of}
+use Rattle.eval_tree.specs.Operands.{CanEnd, EndsNumbers, GoesOn, HasEnded}
 use Rattle.eval_tree.specs.Plain.{holding_of, seen_of}
 use Rattle.eval_tree.specs.declared.node.State.TheViews.{out-State, roll-State}
-use Rattle.eval_tree.proofs.Arms.{can_step_as, ended_as, live_as, number_hit, numbers_start_as, numbers_step_as, same_query, soundly_stepped_as, start_fails, started_as, started_from, step_fails, stepped_as, stepped_from}
+use Rattle.eval_tree.proofs.Arms.{can_start_as, can_step_as, ended_as, live_as, number_hit, numbers_start_as, numbers_step_as, soundly_stepped_as, start_fails, started_as, started_from, step_fails, stepped_as, stepped_from, when_stepped}
 use Rattle.eval_tree.proofs.Elsewhere.{elsewhere, fresh_elsewhere}
-use Rattle.eval_tree.proofs.FoldsAllowed.{stepped_iter}
+use Rattle.eval_tree.proofs.FoldsAllowed.{start_next, start_piece, step_piece, stepped_iter}
 use Rattle.eval_tree.proofs.IterArms.{iter_starts, iter_steps_none, iter_steps_some}
 use Rattle.eval_tree.proofs.NumbersAllowed.{piece_begins, piece_starts, piece_steps}
 use Rattle.eval_tree.proofs.NumbersTyped.{ended_no_table, ended_piece}
+use Rattle.eval_tree.proofs.Unsound.{unsound_iter}
 use Rattle.eval_tree.proofs.+step.Goals as goal
-use Rattle.eval_tree.proofs.+step.Goals.{iter::step_iter-After-keep, steps::start-In-Iter-Iter}
+use Rattle.eval_tree.proofs.+step.Goals.{iter::step_iter-After-keep}
 
--- the number of no piece
-number_fits : (t : ℕ) (c : steps::start-In-Iter-Iter t) → FitsSigned w64 c.in-Iter-Iter.number
-number_fits t c = search rules
+pub iter::start_iter-start-requires : goal.iter::start_iter-start-requires
+iter::start_iter-start-requires t c =
+    let s = c.in-Iter in
+    let f = plain_of c.args.inner.now.shape in
+    let e = c.requires.0 in
+    let a = holding_of s.a.value.state in (
+      search rules,
+      can_start_as _ _ _ _ c.args.at refl (search rules) (start_piece seen_of f c.args.number e a s.so_far c.args.at
+          (can_start_as _ _ _ _ c.args.at refl (sym (ap holding_of s.is)) c.requires.1)),
+    )
 
-pub steps::start-returns-in_ok-go_on_if_new-in-Iter-Iter :
-    goal.steps::start-returns-in_ok-go_on_if_new-in-Iter-Iter
+pub iter::start_iter-returns : goal.iter::start_iter-returns
 unfolding roll-State out-State denote.Hole.Carrier.roll denote.Hole.Carrier.out
-steps::start-returns-in_ok-go_on_if_new-in-Iter-Iter t c =
-    let s = c.in-Iter-Iter in
-    let first = number_hit _ _ _
-    (number_fits t (goal.at.steps::start-returns-in_ok-go_on_if_new-in-Iter-Iter t c).In-Iter-Iter)
-    c.of_number-hit.ensures in
+iter::start_iter-returns t c =
+    let s = c.in-Iter in
+    let first = number_hit _ _ _ c.ranges.number c.of_number-hit.ensures in
     let put = subst (λ (hit : Hit). IsPut c.is_live.result s.so_far
     (record { inner = c.args.at; outer = hit.start; value = hit.value }) c.go_on_if_new.new.so_far)
-    first (rw s.is-1 at c.in_ok-go_on_if_new-in-Iter-Iter.ensures.put) in
-    started_as _ _ _ _ _ _ c.args.at _ _ (ap plain_of s.is-0) (ap holding_of s.is-1) refl
+    first (rw s.is at c.in_ok-go_on_if_new-in-Iter.ensures.put) in
+    λ fold. started_as _ _ _ _ _ _ c.args.at _ _ refl (ap holding_of s.is) refl
     (ap (λ (hit : Hit). Ok (Some hit)) first)
-    (iter_starts (plain_of s.inner.value.shape) s.number _ (holding_of s.a.value.state)
-    (holding_of c.start-in-Iter-Iter.new.node.state) s.so_far c.go_on_if_new.new.so_far c.args.at _
-    c.is_live.result
-    (started_from _ _ (holding_of c.deref_mut-in-Iter-Iter.result.now.state) (holding_of s.a.value.state) _ c.args.at _
-    (same_query _ _ c.deref-in-Iter-Iter.ensures) (search rules)
-    c.in_ok-start-in-Iter-Iter.ensures)
-    (live_as _ _ _ _ c.args.at c.is_live.result c.deref-in-Iter-Iter-2.ensures
-    c.deref-in-Iter-Iter-3.ensures c.is_live.ensures.read)
-    put)
+    (iter_starts (plain_of c.args.inner.now.shape) c.args.number fold (holding_of s.a.value.state)
+    (holding_of c.start.new.node.state) s.so_far c.go_on_if_new.new.so_far c.args.at _ c.is_live.result
+    (started_from _ _ (holding_of c.deref_mut.result.now.state) (holding_of s.a.value.state) _ c.args.at _ refl
+    (search rules) c.in_ok-start-in-Iter.ensures)
+    (live_as c.args.inner.now c.args.inner.now _ _ c.args.at c.is_live.result refl c.deref.ensures c.is_live.ensures.read) put)
 
-pub steps::start-returns-in_err-start-in-Iter-Iter : goal.steps::start-returns-in_err-start-in-Iter-Iter
-steps::start-returns-in_err-start-in-Iter-Iter t c =
-    let s = c.in-Iter-Iter in
-    let same : holding_of s.a.value.state ≡ holding_of c.deref_mut-in-Iter-Iter.result.now.state = search rules
-    in
-    start_fails _ _ _ _ _ c.args.at _ (search rules) (ap plain_of s.is-0) (ap holding_of s.is-1)
-    (λ free. false≢true (c.in_err-start-in-Iter-Iter.ensures.no_memory
-    (numbers_start_as _ _ _ _ c.args.at (sym (same_query _ _ c.deref-in-Iter-Iter.ensures)) (sym same)
-    (piece_starts seen_of (plain_of s.inner.value.shape) _ _ (holding_of s.a.value.state) s.so_far c.args.at free))))
+pub iter::start_iter-returns-in_err-start-in-Iter : goal.iter::start_iter-returns-in_err-start-in-Iter
+iter::start_iter-returns-in_err-start-in-Iter t c =
+    let s = c.in-Iter in
+    let same : holding_of s.a.value.state ≡ holding_of c.deref_mut.result.now.state = search rules in
+    λ fold. start_fails _ _ _ _ _ c.args.at _ (search rules) refl (ap holding_of s.is)
+    (λ free. false≢true (c.in_err-start-in-Iter.ensures.no_memory (numbers_start_as _ _ _ _ c.args.at refl (sym same)
+    (piece_starts seen_of (plain_of c.args.inner.now.shape) c.args.number fold (holding_of s.a.value.state) s.so_far
+    c.args.at free))))
 
-pub steps::start-returns-in_err-go_on_if_new-in-Iter-Iter :
-    goal.steps::start-returns-in_err-go_on_if_new-in-Iter-Iter
-steps::start-returns-in_err-go_on_if_new-in-Iter-Iter t c =
+pub iter::start_iter-returns-in_err-go_on_if_new-in-Iter : goal.iter::start_iter-returns-in_err-go_on_if_new-in-Iter
+iter::start_iter-returns-in_err-go_on_if_new-in-Iter t c = λ fold.
     start_fails _ _ _ _ _ c.args.at _ (search rules) refl refl
-    (λ free. false≢true (c.in_err-go_on_if_new-in-Iter-Iter.ensures.no_memory
+    (λ free. false≢true (c.in_err-go_on_if_new-in-Iter.ensures.no_memory
     (subst (λ (hit : Hit). IsNoTable hit.value) (sym c.of_number-hit.ensures) tt)))
 
-pub steps::step-step_iter-requires : goal.steps::step-step_iter-requires
-unfolding roll-State out-State denote.Hole.Carrier.roll denote.Hole.Carrier.out
-steps::step-step_iter-requires t c =
-    let s = c.in-Iter-Iter in
-    (search rules, can_step_as _ _ _ _ c.args.now c.args.item.now refl (search rules) c.requires)
+pub iter::step_iter-step_and_end-requires : goal.iter::step_iter-step_and_end-requires
+unfolding out-State denote.Hole.Carrier.out
+iter::step_iter-step_and_end-requires t c =
+    let s = c.in-Iter in
+    let f = plain_of c.args.inner.now.shape in
+    let e = values.plain_of c.args.expression.now in
+    let number = c.requires.0 in
+    let a = holding_of s.a.value.state in
+    let can = can_step_as _ (iter f number e) _ (iter_held a s.so_far) c.args.now c.args.item.now refl
+    (sym (ap holding_of s.is)) c.requires.1 in
+    let same : a ≡ holding_of c.deref_mut.result.now.state = search rules in (
+      search rules,
+      subst (λ (held : Contents Value). CanEnd seen_of f e held.entries (holding_of c.deref_mut.result.now.state)
+          c.args.now c.args.item.now) (sym (rw s.is at c.as_pending-held.ensures))
+          (record {
+            can = can_step_as _ _ _ _ c.args.now c.args.item.now refl (sym same)
+                (step_piece seen_of f number e a s.so_far c.args.now c.args.item.now can);
+            typed = λ new piece first. stepped_iter seen_of f number e a new s.so_far c.args.now c.args.item.now piece can
+                (soundly_stepped_as _ _ _ a _ _ c.args.now c.args.item.now _ _ refl same refl refl first);
+          }),
+    )
 
-pub steps::step-returns-in-Iter-Iter : goal.steps::step-returns-in-Iter-Iter
-steps::step-returns-in-Iter-Iter t c =
-    stepped_as _ _ _ _ _ _ c.args.now c.args.item.now _ _ refl (search rules) refl refl c.step_iter.ensures
+-- the piece with the value so far that it goes on from
+piece_ended : (t : ℕ) (c : iter::step_iter-After-keep t)
+    → HasEnded seen_of (plain_of c.args.inner.now.shape) (values.plain_of c.args.expression.now) c.in-Iter.so_far.entries
+    (holding_of c.in-Iter.a.value.state) c.args.now c.args.item.now (holding_of c.step_and_end.new.node.state)
+    c.in_ok-hit-in-Iter.hit
+unfolding roll-State out-State denote.Hole.Carrier.roll denote.Hole.Carrier.out
+piece_ended t c =
+    let s = c.in-Iter in
+    let ended = c.in_ok-hit-in-Iter.ensures.ended in
+    record {
+      right = ended.right;
+      stepped = stepped_from _ _ (holding_of c.deref_mut.result.now.state) (holding_of s.a.value.state) _ c.args.now
+          c.args.item.now _ refl (search rules) ended.stepped;
+      ended = ended_as (values.plain_of c.args.expression.now) _ s.so_far ended.right _ _
+          (rw s.is at c.as_pending-held.ensures) refl ended.ended;
+    }
 
 -- the values so far that are kept
 chain_kept : (t : ℕ) (c : iter::step_iter-After-keep t)
     → c.keep.new.self.entries
-    ≡ live_entries (elsewhere c.args.now (live_of (plain_of c.in-Iter.inner.value.shape)
-    (holding_of c.step.new.node.state))) c.args.so_far.now.entries
+    ≡ live_entries (elsewhere c.args.now (live_of (plain_of c.args.inner.now.shape)
+    (holding_of c.step_and_end.new.node.state))) c.in-Iter.so_far.entries
+unfolding roll-State out-State denote.Hole.Carrier.roll denote.Hole.Carrier.out
 chain_kept t c =
-    c.keep.ensures.entries
+    (rw c.in-Iter.is at c.keep.ensures.entries)
     (elsewhere c.args.now
-    (live_of (plain_of c.in-Iter.inner.value.shape) (holding_of c.step.new.node.state)))
+    (live_of (plain_of c.args.inner.now.shape) (holding_of c.step_and_end.new.node.state)))
     (λ start answer is. search rules)
 
-pub iter::step_iter-ended-requires : goal.iter::step_iter-ended-requires
-iter::step_iter-ended-requires t c =
+pub iter::step_iter-next_piece-requires : goal.iter::step_iter-next_piece-requires
+iter::step_iter-next_piece-requires t c =
     let s = c.in-Iter in
-    let typed = stepped_iter seen_of (plain_of s.inner.value.shape) _ (values.plain_of s.expression)
-    (holding_of c.args.a.now.state) (holding_of c.step.new.node.state) c.args.so_far.now c.args.now
-    c.args.item.now c.in_ok-piece-in-Iter.piece
-    (can_step_as _ _ _ _ c.args.now c.args.item.now (sym (ap plain_of s.is)) refl c.requires)
-    (soundly_stepped_as _ _ _ _ _ _ c.args.now c.args.item.now _ _ (same_query _ _ c.deref.ensures)
-    refl refl refl c.in_ok-piece-in-Iter.ensures.sound) in
-    subst (λ (held : Contents Value). AreTypedWith (values.plain_of s.expression) held.entries
-    c.in_ok-piece-in-Iter.piece)
-    (sym c.as_pending.ensures) typed
+    let f = plain_of c.args.inner.now.shape in
+    let e = values.plain_of c.args.expression.now in
+    let a = holding_of s.a.value.state in
+    let next = holding_of c.step_and_end.new.node.state in
+    let after = (goal.at.iter::step_iter-next_piece-requires t c).After-keep in
+    let piece = piece_ended t after in (
+      search rules,
+      (
+        can_start_as _ _ _ _ c.args.now refl (search rules)
+            (start_next seen_of f c.requires.0 e a next s.so_far c.args.now c.args.item.now piece.right
+            (can_step_as _ _ _ _ c.args.now c.args.item.now refl (sym (ap holding_of s.is)) c.requires.1)
+            piece.stepped.sound),
+        fresh_elsewhere c.args.now (live_of f next) s.so_far c.keep.new.self (chain_kept t after),
+      ),
+    )
 
-pub iter::step_iter-go_on-requires : goal.iter::step_iter-go_on-requires
-iter::step_iter-go_on-requires t c =
+pub iter::step_iter-returns-in-Some : goal.iter::step_iter-returns-in-Some
+unfolding roll-State out-State denote.Hole.Carrier.roll denote.Hole.Carrier.out
+iter::step_iter-returns-in-Some t c = λ number.
     let s = c.in-Iter in
-    let live = live_of (plain_of s.inner.value.shape) (holding_of c.step.new.node.state) in
-    fresh_elsewhere c.args.now live c.args.so_far.now c.keep.new.self
-    (chain_kept t (goal.at.iter::step_iter-go_on-requires t c).After-keep)
-
-pub iter::step_iter-returns-in_ok-go_on-in-Some : goal.iter::step_iter-returns-in_ok-go_on-in-Some
-iter::step_iter-returns-in_ok-go_on-in-Some t c =
-    let s = c.in-Iter in
-    stepped_as _ _ _ _ _ _ c.args.now c.args.item.now _ _ (ap plain_of s.is) refl refl refl
-    (iter_steps_some (plain_of s.inner.value.shape) _ (values.plain_of s.expression) (holding_of c.args.a.now.state)
-    (holding_of c.step.new.node.state) (holding_of c.start.new.node.state) c.args.so_far.now
-    c.keep.new.self c.go_on.new.so_far c.args.now c.args.item.now c.in_ok-piece-in-Iter.piece _ c.in-Some.hit
-    c.is_live.result
-    (stepped_from _ _ _ _ _ c.args.now c.args.item.now _ (same_query _ _ c.deref.ensures) refl
-    c.in_ok-piece-in-Iter.ensures)
-    (ended_as (values.plain_of s.expression) _ _ c.in_ok-piece-in-Iter.piece _ _ c.as_pending.ensures c.in-Some.is
-    c.in_ok-hit-in-Iter.ensures.ended)
-    (chain_kept t (goal.at.iter::step_iter-returns-in_ok-go_on-in-Some t c).After-keep) c.keep.ensures.room
-    (started_from _ _ _ _ _ c.args.now _ (same_query _ _ c.deref-in-Some.ensures) refl
-    c.in_ok-start-in-Some.ensures)
-    (live_as _ _ _ _ c.args.now c.is_live.result c.deref-in-Some-2.ensures refl c.is_live.ensures.read)
-    c.in_ok-go_on-in-Some.ensures.put)
+    let f = plain_of c.args.inner.now.shape in
+    let e = values.plain_of c.args.expression.now in
+    let a = holding_of s.a.value.state in
+    let node = holding_of c.deref_mut-in-Some.result.now.state in
+    let next = holding_of c.step_and_end.new.node.state in
+    let last = holding_of c.next_piece.new.a.state in
+    let after = (goal.at.iter::step_iter-returns-in-Some t c).After-keep in
+    let piece = piece_ended t after in
+    let same : next ≡ node = search rules in
+    let ends = ended_as e s.so_far s.so_far piece.right _ _ refl c.in-Some.is piece.ended in
+    when_stepped _ _ _ c.args.now c.args.item.now c.next_piece.result
+    (GoesOn seen_of f c.in-Some.hit node c.keep.new.self c.args.now last c.next_piece.new.so_far)
+    (λ hit on. stepped_as _ _ _ _ _ _ c.args.now c.args.item.now _ _ refl (ap holding_of s.is) refl (ap Ok on.same)
+    (iter_steps_some f number e a next last s.so_far c.keep.new.self c.next_piece.new.so_far c.args.now c.args.item.now
+    piece.right on.begun c.in-Some.hit _ piece.stepped ends (chain_kept t after) (rw s.is at c.keep.ensures.room)
+    (started_from _ _ node next _ c.args.now _ refl same on.started) refl on.put))
+    c.next_piece.ensures.goes_on
+    (λ free. let numbers = numbers_step_as _ _ _ _ c.args.now c.args.item.now refl (sym (ap holding_of s.is)) free in
+    c.next_piece.ensures.no_memory (numbers_start_as _ _ _ _ c.args.now refl (sym same)
+    (piece_begins seen_of f number e a next s.so_far c.args.now c.args.item.now piece.right numbers piece.stepped.sound))
+    (ended_no_table seen_of f number e a next s.so_far c.args.now c.args.item.now piece.right c.in-Some.hit numbers
+    piece.stepped.sound ends))
 
 pub iter::step_iter-returns-in-None : goal.iter::step_iter-returns-in-None
+unfolding roll-State out-State denote.Hole.Carrier.roll denote.Hole.Carrier.out
 iter::step_iter-returns-in-None t c =
     let s = c.in-Iter in
-    stepped_as _ _ _ _ _ _ c.args.now c.args.item.now _ _ (ap plain_of s.is) refl refl refl
-    (iter_steps_none (plain_of s.inner.value.shape) _ (values.plain_of s.expression) (holding_of c.args.a.now.state)
-    (holding_of c.step.new.node.state) c.args.so_far.now c.keep.new.self c.args.now c.args.item.now
-    c.in_ok-piece-in-Iter.piece
-    (stepped_from _ _ _ _ _ c.args.now c.args.item.now _ (same_query _ _ c.deref.ensures) refl
-    c.in_ok-piece-in-Iter.ensures)
-    (ended_as (values.plain_of s.expression) _ _ c.in_ok-piece-in-Iter.piece _ _ c.as_pending.ensures c.in-None.is
-    c.in_ok-hit-in-Iter.ensures.ended)
-    (chain_kept t (goal.at.iter::step_iter-returns-in-None t c).After-keep) c.keep.ensures.room)
-
-pub iter::step_iter-returns-in_err-piece-in-Iter : goal.iter::step_iter-returns-in_err-piece-in-Iter
-iter::step_iter-returns-in_err-piece-in-Iter t c =
-    let s = c.in-Iter in
-    step_fails _ _ _ _ _ c.args.now c.args.item.now _ (search rules) (ap plain_of s.is) refl
-    (λ free. false≢true (c.in_err-piece-in-Iter.ensures.no_memory
-    (numbers_step_as _ _ _ _ c.args.now c.args.item.now (sym (same_query _ _ c.deref.ensures)) refl
-    (piece_steps seen_of (plain_of s.inner.value.shape) _ (values.plain_of s.expression)
-    (holding_of c.args.a.now.state) c.args.so_far.now c.args.now c.args.item.now free))))
+    let after = (goal.at.iter::step_iter-returns-in-None t c).After-keep in
+    let e = values.plain_of c.args.expression.now in
+    let piece = piece_ended t after in
+    λ number. stepped_as _ _ _ _ _ _ c.args.now c.args.item.now _ _ refl (ap holding_of s.is) refl refl
+    (iter_steps_none (plain_of c.args.inner.now.shape) number e (holding_of s.a.value.state)
+    (holding_of c.step_and_end.new.node.state) s.so_far c.keep.new.self c.args.now c.args.item.now piece.right
+    piece.stepped (ended_as e s.so_far s.so_far piece.right _ _ refl c.in-None.is piece.ended)
+    (chain_kept t after) (rw s.is at c.keep.ensures.room))
 
 pub iter::step_iter-returns-in_err-hit-in-Iter : goal.iter::step_iter-returns-in_err-hit-in-Iter
+unfolding out-State denote.Hole.Carrier.out
 iter::step_iter-returns-in_err-hit-in-Iter t c =
     let s = c.in-Iter in
-    step_fails _ _ _ _ _ c.args.now c.args.item.now _ (search rules) (ap plain_of s.is) refl
+    let f = plain_of c.args.inner.now.shape in
+    let e = values.plain_of c.args.expression.now in
+    let a = holding_of s.a.value.state in
+    let same : a ≡ holding_of c.deref_mut.result.now.state = search rules in
+    λ number. step_fails _ _ _ _ _ c.args.now c.args.item.now _ (search rules) refl (ap holding_of s.is)
     (λ free. false≢true (c.in_err-hit-in-Iter.ensures.no_memory
-    (subst (λ (held : Contents Value). AreNumbersWith (values.plain_of s.expression) held.entries
-    c.in_ok-piece-in-Iter.piece)
-    (sym c.as_pending.ensures)
-    (ended_piece seen_of (plain_of s.inner.value.shape) _ (values.plain_of s.expression)
-    (holding_of c.args.a.now.state) (holding_of c.step.new.node.state) c.args.so_far.now c.args.now c.args.item.now
-    c.in_ok-piece-in-Iter.piece free
-    (soundly_stepped_as _ _ _ _ _ _ c.args.now c.args.item.now _ _ (same_query _ _ c.deref.ensures) refl refl refl
-    c.in_ok-piece-in-Iter.ensures.sound)))))
+    (subst (λ (held : Contents Value). EndsNumbers seen_of f e held.entries (holding_of c.deref_mut.result.now.state)
+    c.args.now c.args.item.now) (sym (rw s.is at c.as_pending-held.ensures))
+    (record {
+      steps = numbers_step_as _ _ _ _ c.args.now c.args.item.now refl (sym same)
+          (piece_steps seen_of f number e a s.so_far c.args.now c.args.item.now free);
+      ends = λ new piece first. ended_piece seen_of f number e a new s.so_far c.args.now c.args.item.now piece free
+          (soundly_stepped_as _ _ _ a _ _ c.args.now c.args.item.now _ _ refl same refl refl first);
+    }))))
 
-pub iter::step_iter-returns-in_err-start-in-Some : goal.iter::step_iter-returns-in_err-start-in-Some
-iter::step_iter-returns-in_err-start-in-Some t c =
-    let s = c.in-Iter in
-    step_fails _ _ _ _ _ c.args.now c.args.item.now _ (search rules) (ap plain_of s.is) refl
-    (λ free. false≢true (c.in_err-start-in-Some.ensures.no_memory (numbers_start_as _ _ _ _ c.args.now
-    (sym (same_query _ _ c.deref-in-Some.ensures)) refl
-    (piece_begins seen_of (plain_of s.inner.value.shape) _ (values.plain_of s.expression)
-    (holding_of c.args.a.now.state) (holding_of c.step.new.node.state) c.args.so_far.now c.args.now c.args.item.now
-    c.in_ok-piece-in-Iter.piece free
-    (soundly_stepped_as _ _ _ _ _ _ c.args.now c.args.item.now _ _ (same_query _ _ c.deref.ensures) refl refl refl
-    c.in_ok-piece-in-Iter.ensures.sound)))))
+pub iter::next_piece-start-requires : goal.iter::next_piece-start-requires
+iter::next_piece-start-requires t c = (search rules, c.requires.can)
 
-pub iter::step_iter-returns-in_err-go_on-in-Some : goal.iter::step_iter-returns-in_err-go_on-in-Some
-iter::step_iter-returns-in_err-go_on-in-Some t c =
-    let s = c.in-Iter in
-    step_fails _ _ _ _ _ c.args.now c.args.item.now _ (search rules) (ap plain_of s.is) refl
-    (λ free. false≢true (c.in_err-go_on-in-Some.ensures.no_memory
-    (ended_no_table seen_of (plain_of s.inner.value.shape) _ (values.plain_of s.expression)
-    (holding_of c.args.a.now.state) (holding_of c.step.new.node.state) c.args.so_far.now c.args.now c.args.item.now
-    c.in_ok-piece-in-Iter.piece c.in-Some.hit free
-    (soundly_stepped_as _ _ _ _ _ _ c.args.now c.args.item.now _ _ (same_query _ _ c.deref.ensures) refl refl refl
-    c.in_ok-piece-in-Iter.ensures.sound)
-    (ended_as (values.plain_of s.expression) _ _ c.in_ok-piece-in-Iter.piece _ _ c.as_pending.ensures c.in-Some.is
-    c.in_ok-hit-in-Iter.ensures.ended))))
+pub iter::next_piece-returns-clause-goes_on : goal.iter::next_piece-returns-clause-goes_on
+iter::next_piece-returns-clause-goes_on t c = record {
+  begun = c.in_ok-start.field-0;
+  started = c.in_ok-start.ensures;
+  put = subst (λ (live : Bool). IsPut live c.args.so_far.now
+      (record { inner = c.args.at; outer = c.args.hit.start; value = c.args.hit.value }) c.go_on.new.so_far)
+      c.is_live.ensures.read c.in_ok-go_on.ensures.put;
+  same = refl;
+}
+
+pub iter::next_piece-returns-in_err-start-clause-no_memory : goal.iter::next_piece-returns-in_err-start-clause-no_memory
+iter::next_piece-returns-in_err-start-clause-no_memory t c = λ free none.
+    absurd (false≢true (c.in_err-start.ensures.no_memory free))
+
+pub iter::next_piece-returns-in_err-go_on-clause-no_memory : goal.iter::next_piece-returns-in_err-go_on-clause-no_memory
+iter::next_piece-returns-in_err-go_on-clause-no_memory t c = λ free none.
+    absurd (false≢true (c.in_err-go_on.ensures.no_memory none))
+
+pub iter::start_iter-unreachable-requires : goal.iter::start_iter-unreachable-requires
+iter::start_iter-unreachable-requires t c =
+    let can = c.requires.1 in
+    unsound_iter can.columns c.args.at _ c.args.node.now.state _ c.args.number c.requires.0 refl c.in_default.not-Iter
+    can.sound
+
+pub iter::step_iter-unreachable-requires : goal.iter::step_iter-unreachable-requires
+iter::step_iter-unreachable-requires t c =
+    let can = c.requires.1 in
+    unsound_iter can.columns can.position _ c.args.node.now.state _ c.requires.0 (values.plain_of c.args.expression.now)
+    refl c.in_default.not-Iter can.sound

@@ -1,0 +1,59 @@
+//! The calls of an atom: it keeps the start at the end of the word.
+ghost use Rattle.std.specs.Prelude.{ℕ, None, Ok};
+ghost use Rattle.predicate_cells.specs.Plain as predicates;
+ghost use Rattle.predicate_cells.specs.Predicates.{Predicate};
+ghost use Rattle.value_ops.specs.Expressions as values;
+ghost use Rattle.query_model.specs.Queries.{atom};
+ghost use Rattle.eval_tree.specs.Calls.{HasStarted, HasStepped};
+ghost use Rattle.eval_tree.specs.Plain.{holding_of, seen_of};
+ghost use Rattle.eval_tree.specs.Steps.{CanStart, CanStep};
+
+use crate::{Hit, Node, State};
+use item_schema::Item;
+use predicate_cells::{Pred, holds};
+use std::alloc::{AllocError, Global};
+use value_ops::Expr;
+
+/// It has no value on the empty word.
+#[inline(always)]
+pub(crate) fn start_atom(node: &mut Node, at: u64)
+    requires { (pred : Predicate) × (expression : values.Expression)
+        × CanStart seen_of (atom pred expression) (holding_of node.old.state) at }
+    ensures { (pred : Predicate) (expression : values.Expression)
+        → HasStarted seen_of (atom pred expression) (holding_of node.old.state) at
+        (holding_of node.new.state) (Ok None) }
+{
+    match &mut node.state {
+        State::Atom(found) => {
+            *found = Some(at);
+        }
+        _ => unreachable!(),
+    }
+}
+
+#[inline(always)]
+pub(crate) fn step_atom(
+    pred: &Pred,
+    expression: &Expr,
+    node: &mut Node,
+    alloc: Global,
+    item: &Item,
+) -> Result<Option<Hit>, AllocError>
+    requires { (now : ℕ) × CanStep seen_of
+        (atom (predicates.plain_of pred.now) (values.plain_of expression.now))
+        (holding_of node.old.state) now item.now }
+    ensures { (now : ℕ) → HasStepped seen_of
+        (atom (predicates.plain_of pred.now) (values.plain_of expression.now))
+        (holding_of node.old.state) now item.now (holding_of node.new.state) result }
+{
+    match &mut node.state {
+        State::Atom(found) => match found.take() {
+            Some(start) if holds(pred, item) => {
+                let value = expression.eval(alloc, item.fields(), None, None)?;
+                Ok(Some(Hit { start, value }))
+            }
+            _ => Ok(None),
+        },
+        _ => unreachable!(),
+    }
+}
