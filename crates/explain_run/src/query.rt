@@ -1,8 +1,9 @@
 //! The query: compiled, and explained if it is refused.
-ghost use Rattle.std.specs.Prelude.{IfOk, MatchOption};
+ghost use Rattle.std.specs.Prelude.{◌≡◌, ◌++◌, IfOk, MatchOption};
 ghost use Rattle.query_parser.specs.Reading.{IsFileOf};
 ghost use Rattle.query_syntax.specs.Files.{program_terms};
 ghost use Rattle.query_syntax.specs.Plain.{plain_program};
+ghost use Rattle.explain_run.specs.Apart.{found_text};
 ghost use Rattle.explain_run.specs.Explained.{Explains, ExplainsProgram, IsAccepted};
 
 use crate::apart::{found_apart, push_found};
@@ -10,6 +11,7 @@ use explanation::{program_explanation, text_explanation};
 use language_base::{Bytes, Refusal};
 use query_parser::ReadStop;
 use query_syntax::{Program, read_syntax};
+use separating_word::Separation;
 use std::alloc::{AllocError, Global};
 use type_checker::{CheckStop, check};
 
@@ -60,6 +62,17 @@ fn explained(
 {
     let explanation = program_explanation(alloc, name, text, program, refusal)?;
     let found = found_apart(alloc, text, program, refusal)?;
+    with_found(alloc, &explanation, found)
+}
+
+// The explanation, and after it the lines, where some are found.
+fn with_found(
+    alloc: Global,
+    explanation: &Bytes,
+    found: Option<Separation>,
+) -> Result<Bytes, AllocError>
+    ensures { IfOk result (λ shown. shown ≡ explanation.now ++ found_text found) }
+{
     let mut shown = Vec::from_slice(alloc, explanation.as_slice())?;
     push_found(found, &mut shown)?;
     Ok(Bytes::from_vec(shown))
