@@ -14,6 +14,7 @@ pub struct Hit {
 
 // Written out, so that letting go of a hit is one call.
 impl Drop for Hit {
+    #[inline(always)]
     fn drop(self) {
         let Hit {
             start: _,
@@ -23,6 +24,7 @@ impl Drop for Hit {
 }
 
 impl Hit {
+    #[inline(always)]
     pub(crate) fn into_parts(self) -> (u64, Value)
         ensures start { result.0 ≡ self.start }
         ensures value { result.1 ≡ self.value }
