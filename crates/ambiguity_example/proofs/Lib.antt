@@ -1,0 +1,4 @@
+pub mod Deciding
+pub mod Halves
+pub mod Parting
+pub mod Readable

@@ -1,0 +1,4 @@
+pub mod Asks
+pub mod Cuts
+pub mod Parts
+pub mod Shows

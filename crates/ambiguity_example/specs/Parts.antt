@@ -1,0 +1,11 @@
+-- For the prover. Whether cuts part a word into words of a rate, told from the first piece on.
+use Rattle.std.specs.Prelude.{◌≡◌, ◌≤◌, ◌-◌, ℕ, List, [], ◌∷◌, length, take, drop}
+use Rattle.rate_expr.specs.Language.{In}
+use Rattle.rate_expr.specs.Rates.{Expression}
+use Rattle.rate_expr.specs.Words.{Word}
+
+-- from the place on, the word has a piece up to each cut, all in the rate, and no more
+abbrev pub PartsFrom : Expression → ℕ → Word → List ℕ → Type 0
+PartsFrom rate at word [] = word ≡ []
+PartsFrom rate at word (cut ∷ cuts) = (at ≤ cut) × (cut - at ≤ length word)
+    × In rate (take (cut - at) word) × PartsFrom rate cut (drop (cut - at) word) cuts

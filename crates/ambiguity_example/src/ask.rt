@@ -1,0 +1,14 @@
+//! The rules that forbid a word with two readings.
+
+use symbolic_nfa::Nfa;
+
+/// A rule, with the automata of the rates that it asks about.
+#[derive(Clone, Copy)]
+pub enum Ask<'a> {
+    /// No word is in both.
+    Choice(&'a Nfa, &'a Nfa),
+    /// No word splits in two ways into a word of the first and then one of the second.
+    Split(&'a Nfa, &'a Nfa),
+    /// No word factors in two ways.
+    Iter(&'a Nfa),
+}

@@ -1,0 +1,36 @@
+//! Where the pieces of a word begin and end.
+ghost use Rattle.std.specs.Prelude.{◌≡◌, IfOk};
+
+use std::alloc::{AllocError, Global};
+use std::marker::Model;
+
+/// The places in a word between its pieces, counted in items: where the first one begins, and where
+/// each one ends.
+#[derive(Drop)]
+pub struct Cuts {
+    at: Vec<u32>,
+}
+
+impl Model for Cuts {
+    ghost use Rattle.std.specs.Prelude.{List, ℕ};
+
+    ghost Value = { List ℕ };
+
+    ghost view = { λ c. c.at.items };
+}
+
+impl Cuts {
+    pub fn new(alloc: Global, at: &[u32]) -> Result<Cuts, AllocError>
+        ensures { IfOk result (λ cuts. cuts ≡ at.now) }
+    {
+        Ok(Cuts {
+            at: Vec::from_slice(alloc, at)?,
+        })
+    }
+
+    pub fn as_slice(&self) -> &[u32]
+        ensures { result.now ≡ self.now }
+    {
+        &self.at
+    }
+}
