@@ -6,7 +6,7 @@ ghost use Rattle.ambiguity_check.specs.Walks.{IsIn, rank};
 ghost use Rattle.rate_expr.specs.Sets.{Has};
 
 /// How far two readings have gone apart.
-#[derive(Clone, Copy)]
+#[derive(Clone, Copy, PartialEq, Eq)]
 pub enum Phase {
     /// Both have ended the same parts of the word.
     Together,

@@ -67,7 +67,7 @@ impl Marks {
     }
 
     /// A number above the places on the left of all these nodes.
-    pub(crate) fn end(&self) -> u32
+    pub fn end(&self) -> u32
         ensures { (node : Node) → IsMarked self.now node → node.left < result }
     {
         (self.rows.len() / PHASES) as u32
