@@ -173,7 +173,7 @@ module _ (columns : List Column) (sets : Sets) (rows : List ℕ)
       part_walk u rest (some, few, end) = (some, omega (arith, length-append u rest), end)
 
       -- two factorings of a word are one, or a walk of at most as many items leads to an end
-      same_factors : (us vs : List Word) → IsWordOf columns (join us) → AllByRecursion (Spells sets) us
+      pub same_factors : (us vs : List Word) → IsWordOf columns (join us) → AllByRecursion (Spells sets) us
           → AllByRecursion (Spells sets) vs
           → join us ≡ join vs → (us ≡ vs) ⊎ ShortWalk (length (join us))
       same_factors [] [] is all all' same = inl refl

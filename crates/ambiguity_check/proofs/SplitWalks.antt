@@ -146,7 +146,7 @@ module _ (columns : List Column) (first second : Sets) (together parted rejoined
         (rw rest at ((of_s v).0 in_s)) ((of_r (u ++ item ∷ t)).0 in_r') ((of_s v').0 in_s')))
 
     -- two splits of a word are one, or a walk of as many items leads to an end
-    same_split : (u v u' v' : Word) → IsWordOf columns (u ++ v) → In r u → In s v → In r u' → In s v'
+    pub same_split : (u v u' v' : Word) → IsWordOf columns (u ++ v) → In r u → In s v → In r u' → In s v'
         → u ++ v ≡ u' ++ v' → (u ≡ u') ⊎ EndWalk (length (u ++ v))
     same_split u v u' v' is in_r in_s in_r' in_s' same = elim (comparable u v u' v' same) [
       | inl more ↦ ⊎_elim (λ t. inl (sym (more.1 ∙ ap (λ w. u ++ w) t ∙ append-nil u))) (λ walk. inr walk)
