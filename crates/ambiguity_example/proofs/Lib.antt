@@ -1,4 +1,16 @@
+pub mod Added
+pub mod Asked
+pub mod Counted
 pub mod Deciding
+pub mod Factored
+pub mod Halved
 pub mod Halves
+pub mod Leading
+pub mod Lefts
+pub mod Levels
+pub mod MetItems
 pub mod Parting
 pub mod Readable
+pub mod Shared
+pub mod Turned
+pub mod WalkBack

@@ -1,4 +1,9 @@
 pub mod Asks
+pub mod Counts
 pub mod Cuts
+pub mod Known
+pub mod Met
 pub mod Parts
 pub mod Shows
+pub mod TurnLists
+pub mod WalkLists

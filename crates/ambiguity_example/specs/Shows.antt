@@ -66,3 +66,9 @@ HasReadings (iter r) shown = ShowsFactorings r shown
 -- and its word is one of items of these columns
 abbrev pub Shows : List Column → Question → Shown → Type 0
 Shows columns question shown = IsWordOf columns shown.items × HasReadings question shown
+
+-- it has them, and none of fewer items does
+pub record IsShortestShown (columns : List Column) (question : Question) (shown : Shown) : Type 0 where
+  pub shows : Shows columns question shown
+  pub none : (other : Shown) → length other.items < length shown.items
+      → Shows columns question other → ⊥

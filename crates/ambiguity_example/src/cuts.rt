@@ -28,6 +28,12 @@ impl Cuts {
         })
     }
 
+    pub(crate) fn from_vec(at: Vec<u32>) -> Cuts
+        ensures { result ≡ at.items }
+    {
+        Cuts { at }
+    }
+
     pub fn as_slice(&self) -> &[u32]
         ensures { result.now ≡ self.now }
     {

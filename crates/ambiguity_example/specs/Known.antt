@@ -1,0 +1,29 @@
+-- For the prover. The nodes that a search has come to, in the order of the levels.
+use Rattle.std.specs.Prelude.{◌≡◌, ◌<◌, ◌≤◌, ◌++◌, ℕ, List, [], ◌∷◌}
+use Rattle.std.specs.List.{Contains}
+use Rattle.ambiguity_check.specs.declared.graph.Node.{Node}
+use Rattle.ambiguity_check.specs.Levels.{IsShortest}
+use Rattle.ambiguity_example.specs.declared.reached.Reached.{Reached}
+
+-- the nodes of a set go behind the others, each with so many items
+pub record Adds (nodes : Node → Type 0) (items : ℕ) (old new : List Reached) : Type 0 where
+  pub more : List Reached
+  pub whole : new ≡ old ++ more
+  pub only : (one : Reached) → Contains more one
+      → nodes one.node × (one.items ≡ items) × (one.node.right < 128)
+  pub each : (node : Node) → nodes node → Contains more (record { node = node; items = items })
+
+-- none has more items than a later one
+abbrev pub Rises : List Reached → Type 0
+Rises [] = Unit {0}
+Rises (one ∷ others) =
+    ((other : Reached) → Contains others other → one.items ≤ other.items) × Rises others
+
+-- these are the nodes of the levels below one, level by level
+pub record AreKnown (begins : Node → Type 0) (goes_on : Node → Node → Type 0) (meet : Node → Type 0)
+    (level : ℕ) (reached : List Reached) : Type 0 where
+  pub only : (one : Reached) → Contains reached one → IsShortest begins goes_on meet one.items one.node
+      × (one.items < level) × (one.node.right < 128)
+  pub each : (node : Node) (fewer : ℕ) → fewer < level → IsShortest begins goes_on meet fewer node
+      → Contains reached (record { node = node; items = fewer })
+  pub rises : Rises reached

@@ -1,0 +1,69 @@
+//! A shortest word that factors in two ways.
+ghost use Rattle.std.specs.Prelude.{◌≡◌, ◌↔◌, [], ◌∷◌, IfOk, MatchOption};
+ghost use Rattle.rate_expr.specs.Paths.{AreOf};
+ghost use Rattle.rate_expr.specs.Rates.{Expression};
+ghost use Rattle.rate_expr.specs.Readings.{HasOneFactoring};
+ghost use Rattle.ambiguity_check.specs.declared.graph.Node.{Node};
+ghost use Rattle.ambiguity_check.specs.Factorings.{EndsFactors};
+ghost use Rattle.ambiguity_check.specs.Walks.{IsIn};
+ghost use Rattle.ambiguity_example.specs.Shows.{IsShortestShown, iter};
+
+use crate::cuts::Cuts;
+use crate::meeting::shared_items;
+use crate::shown::Example;
+use crate::turns::{Side, cuts_of};
+use crate::walk::shortest_walk;
+use ambiguity_check::{Factorings, Move, Moves, Phase};
+use rate_expr::Positions;
+use std::alloc::{AllocError, Global};
+use symbolic_nfa::Nfa;
+
+/// A shortest word that factors in two ways into words of the rate, if some does.
+pub(crate) fn word_of_two_factorings(
+    alloc: Global,
+    nfa: &Nfa,
+) -> Result<Option<Example>, AllocError>
+    ensures { IfOk result (λ found. (r : Expression) → AreOf nfa.now.sets r → MatchOption found
+        (HasOneFactoring nfa.now.cells.layout.columns r)
+        (IsShortestShown nfa.now.cells.layout.columns (iter r))) }
+{
+    let positions = nfa.positions();
+    if positions.nullable() {
+        return Ok(Some(of_no_items(alloc)?));
+    }
+    let factorings = Factorings::new(alloc, nfa)?;
+    let Some(walk) = shortest_walk(alloc, &factorings, ends_of(positions))? else {
+        return Ok(None);
+    };
+    let first = cuts_of(alloc, positions, Side::Left, &walk)?;
+    let second = cuts_of(alloc, positions, Side::Right, &walk)?;
+    let word = shared_items(alloc, nfa, nfa, &walk)?;
+    Ok(Some(Example::new(word, first, second)))
+}
+
+// Where both factorings end.
+fn ends_of(positions: &Positions) -> Moves
+    ensures { (node : Node) → IsIn result node ↔ EndsFactors positions.now node }
+{
+    Moves {
+        stay: Move {
+            phase: Phase::Parted,
+            left: positions.last(),
+            right: positions.last(),
+        },
+        turn: None,
+    }
+}
+
+// The empty word, in no pieces and in an empty one.
+fn of_no_items(alloc: Global) -> Result<Example, AllocError>
+    ensures { IfOk result (λ example. example ≡ record {
+      items = [];
+      first = 0 ∷ [];
+      second = 0 ∷ 0 ∷ [];
+    }) }
+{
+    let first = Cuts::new(alloc, &[0])?;
+    let second = Cuts::new(alloc, &[0, 0])?;
+    Ok(Example::new(Vec::new(alloc), first, second))
+}

@@ -1,0 +1,71 @@
+//! A shortest word that two rates share.
+ghost use Rattle.std.specs.Prelude.{◌≡◌, ◌<◌, ◌↔◌, ◌^◌, [], ◌∷◌, IfOk, MatchOption, length};
+ghost use Rattle.rate_expr.specs.Paths.{AreOf};
+ghost use Rattle.rate_expr.specs.Rates.{Expression};
+ghost use Rattle.rate_expr.specs.Readings.{AreDisjoint};
+ghost use Rattle.ambiguity_check.specs.declared.graph.Node.{Node};
+ghost use Rattle.ambiguity_check.specs.Overlaps.{EndsBoth};
+ghost use Rattle.ambiguity_check.specs.Walks.{IsIn};
+ghost use Rattle.ambiguity_example.specs.Shows.{IsShortestShown, choice};
+
+use crate::cuts::Cuts;
+use crate::meeting::shared_items;
+use crate::shown::Example;
+use crate::walk::shortest_walk;
+use ambiguity_check::{Move, Moves, Pairs, Phase};
+use item_schema::Item;
+use rate_expr::Positions;
+use std::alloc::{AllocError, Global};
+use symbolic_nfa::Nfa;
+
+/// A shortest word of both rates, if they share one.
+pub(crate) fn shared_word(
+    alloc: Global,
+    first: &Nfa,
+    second: &Nfa,
+) -> Result<Option<Example>, AllocError>
+    requires { first.now.cells ≡ second.now.cells }
+    ensures { IfOk result (λ found. (r s : Expression)
+        → AreOf first.now.sets r → AreOf second.now.sets s → MatchOption found
+        (AreDisjoint first.now.cells.layout.columns r s)
+        (IsShortestShown first.now.cells.layout.columns (choice r s))) }
+{
+    let (left, right) = (first.positions(), second.positions());
+    if left.nullable() && right.nullable() {
+        return Ok(Some(in_one_piece(alloc, Vec::new(alloc))?));
+    }
+    let pairs = Pairs::new(alloc, first, second)?;
+    let Some(walk) = shortest_walk(alloc, &pairs, ends_of(left, right))? else {
+        return Ok(None);
+    };
+    let items = shared_items(alloc, first, second, &walk)?;
+    Ok(Some(in_one_piece(alloc, items)?))
+}
+
+// Where both end.
+fn ends_of(first: &Positions, second: &Positions) -> Moves
+    ensures { (node : Node) → IsIn result node ↔ EndsBoth first.now second.now node }
+{
+    Moves {
+        stay: Move {
+            phase: Phase::Together,
+            left: first.last(),
+            right: second.last(),
+        },
+        turn: None,
+    }
+}
+
+fn in_one_piece(alloc: Global, items: Vec<Item>) -> Result<Example, AllocError>
+    requires { length items.items < 2 ^ 32 }
+    ensures { IfOk result (λ example. example ≡ record {
+      items = items.items;
+      first = 0 ∷ length items.items ∷ [];
+      second = 0 ∷ length items.items ∷ [];
+    }) }
+{
+    let whole = [0, items.len() as u32];
+    let first = Cuts::new(alloc, &whole)?;
+    let second = Cuts::new(alloc, &whole)?;
+    Ok(Example::new(items, first, second))
+}

@@ -1,0 +1,79 @@
+//! A shortest word that splits in two ways.
+ghost use Rattle.std.specs.Prelude.{◌≡◌, ◌<◌, ◌↔◌, ◌^◌, IfOk, MatchOption, length};
+ghost use Rattle.rate_expr.specs.Paths.{AreOf};
+ghost use Rattle.rate_expr.specs.Rates.{Expression};
+ghost use Rattle.rate_expr.specs.Readings.{HaveOneSplit};
+ghost use Rattle.ambiguity_check.specs.declared.graph.Node.{Node};
+ghost use Rattle.ambiguity_check.specs.Splits.{EndsSplits};
+ghost use Rattle.ambiguity_check.specs.Walks.{IsIn};
+ghost use Rattle.ambiguity_example.specs.Counts.{count_in};
+ghost use Rattle.ambiguity_example.specs.Shows.{IsShortestShown, split};
+
+use crate::cuts::Cuts;
+use crate::meeting::split_items;
+use crate::shown::Example;
+use crate::walk::shortest_walk;
+use ambiguity_check::{Move, Moves, Node, Phase, Splits};
+use rate_expr::Positions;
+use std::alloc::{AllocError, Global};
+use symbolic_nfa::Nfa;
+
+/// A shortest word that splits in two ways into a word of the first rate and one of the second, if
+/// some does.
+pub(crate) fn word_of_two_splits(
+    alloc: Global,
+    first: &Nfa,
+    second: &Nfa,
+) -> Result<Option<Example>, AllocError>
+    requires { first.now.cells ≡ second.now.cells }
+    ensures { IfOk result (λ found. (r s : Expression)
+        → AreOf first.now.sets r → AreOf second.now.sets s → MatchOption found
+        (HaveOneSplit first.now.cells.layout.columns r s)
+        (IsShortestShown first.now.cells.layout.columns (split r s))) }
+{
+    let splits = Splits::new(alloc, first, second)?;
+    let ends = ends_of(first.positions(), second.positions());
+    let Some(walk) = shortest_walk(alloc, &splits, ends)? else {
+        return Ok(None);
+    };
+    let shorter = count_of(&walk, Phase::Together);
+    let longer = shorter + count_of(&walk, Phase::Parted);
+    let items = walk.len() as u32;
+    let first_cuts = Cuts::new(alloc, &[0, shorter, items])?;
+    let second_cuts = Cuts::new(alloc, &[0, longer, items])?;
+    let word = split_items(alloc, first, second, &walk)?;
+    Ok(Some(Example::new(word, first_cuts, second_cuts)))
+}
+
+// Where both splits end.
+fn ends_of(first: &Positions, second: &Positions) -> Moves
+    ensures { (node : Node) → IsIn result node ↔ EndsSplits first.now second.now node }
+{
+    let last = second.last();
+    Moves {
+        stay: Move {
+            phase: Phase::Rejoined,
+            left: last,
+            right: last,
+        },
+        turn: second.nullable().then_some(Move {
+            phase: Phase::Parted,
+            left: last,
+            right: first.last(),
+        }),
+    }
+}
+
+// How many of the nodes have the phase.
+fn count_of(nodes: &[Node], phase: Phase) -> u32
+    requires { length nodes.now < 2 ^ 32 }
+    ensures { result ≡ count_in phase nodes.now }
+{
+    let mut count = 0;
+    'nodes: for node in nodes {
+        if node.phase == phase {
+            count += 1;
+        }
+    }
+    count
+}

@@ -1,0 +1,94 @@
+//! A shortest walk of a graph to an end.
+ghost use Rattle.std.specs.Prelude.{◌≡◌, ◌<◌, ◌↔◌, ◌^◌, ℕ, IfOk, IsTrue, MatchOption, length};
+ghost use Rattle.ambiguity_check.specs.Lengths.{EndsBehind};
+ghost use Rattle.ambiguity_check.specs.Levels.{IsShortest};
+ghost use Rattle.ambiguity_check.specs.Walks.{IsIn, IsOf};
+ghost use Rattle.ambiguity_example.specs.Known.{AreKnown};
+ghost use Rattle.ambiguity_example.specs.WalkLists.{IsWalkOf, IsShortestWalk};
+
+use crate::ending::end_in;
+use crate::reached::{Reached, add_level};
+use ambiguity_check::{Graph, Move, Moves, Node, Search};
+use rate_expr::masks::{has, only};
+use std::alloc::{AllocError, Global};
+
+/// The nodes of a shortest walk to one of the ends, where some walk leads there.
+pub(crate) fn shortest_walk<G: Graph>(
+    alloc: Global,
+    graph: &G,
+    ends: Moves,
+) -> Result<Option<Vec<Node>>, AllocError>
+    ensures { IfOk result (λ found. MatchOption found
+        ((items : ℕ) → EndsBehind (G.begins graph.now) (G.goes_on graph.now) (G.meet graph.now)
+        (IsIn ends) items → ⊥)
+        (λ walk. IsShortestWalk (G.begins graph.now) (G.goes_on graph.now) (G.meet graph.now)
+        (IsIn ends) walk.items)) }
+{
+    let mut search = Search::begin(alloc, graph)?;
+    let mut reached = Vec::new(alloc);
+    let mut items = 1u32;
+    'levels: while !search.is_over() {
+        if let Some(end) = end_in(search.latest(), ends) {
+            return Ok(Some(walk_to(alloc, graph, &reached, end, items)?));
+        }
+        add_level(&mut reached, search.latest(), items)?;
+        let Some(next) = items.checked_add(1) else {
+            return Err(AllocError);
+        };
+        items = next;
+        search.advance(graph);
+    }
+    Ok(None)
+}
+
+// The nodes of a shortest walk to a node, found backwards among those of the levels below its own.
+fn walk_to<G: Graph>(
+    alloc: Global,
+    graph: &G,
+    reached: &[Reached],
+    end: Node,
+    items: u32,
+) -> Result<Vec<Node>, AllocError>
+    requires known { AreKnown (G.begins graph.now) (G.goes_on graph.now) (G.meet graph.now)
+        items reached.now }
+    requires end { IsShortest (G.begins graph.now) (G.goes_on graph.now) (G.meet graph.now)
+        items end }
+    ensures walk { IfOk result (λ walk. IsWalkOf (G.begins graph.now) (G.goes_on graph.now)
+        (G.meet graph.now) (λ node. node ≡ end) walk.items) }
+    ensures length { IfOk result (λ walk. length walk.items ≡ items) }
+    ensures few { IfOk result (λ walk. length walk.items < 2 ^ 32) }
+{
+    let mut walk = Vec::new(alloc);
+    walk.push(end)?;
+    let mut first = Reached { node: end, items };
+    'back: for at in (0..reached.len()).rev() {
+        let before = reached[at];
+        if before.items + 1 == first.items && leads(graph, before.node, first.node) {
+            walk.push(before.node)?;
+            first = before;
+        }
+    }
+    walk.reverse();
+    Ok(walk)
+}
+
+// Whether one more item may lead from a node to another.
+fn leads<G: Graph>(graph: &G, before: Node, node: Node) -> bool
+    requires { before.right < 128 }
+    ensures { IsTrue result ↔ G.goes_on graph.now before node }
+{
+    let moves = graph.moves(before.phase, before.left, only(before.right));
+    if is_of(moves.stay, node) {
+        return true;
+    }
+    match moves.turn {
+        Some(turn) => is_of(turn, node),
+        None => false,
+    }
+}
+
+fn is_of(nodes: Move, node: Node) -> bool
+    ensures { IsTrue result ↔ IsOf nodes node }
+{
+    node.phase == nodes.phase && has(nodes.left, node.left) && has(nodes.right, node.right)
+}
