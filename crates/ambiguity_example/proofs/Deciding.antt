@@ -1,7 +1,7 @@
 -- Tests that decide facts.
 use Rattle.std.proofs.Common.{◌≡◌, ◌≢◌, ◌↔◌, ℕ, List, Bool, true, false, not, refl, sym, ap, ◌∙◌}
 use Rattle.std.proofs.lemmas.Slice.Eq.{bytes_eq-Decides}
-use Rattle.std.specs.Prelude.{IsTrue, MatchBool}
+use Rattle.std.specs.Prelude.{IsTrue, MatchBool, Result, Ok, Err, IfOk}
 use Rattle.std.specs.Str.{bytes_eq}
 
 -- a test of a fact decides another one that is the same
@@ -36,3 +36,9 @@ told_same xs ys test is none = (bytes_eq-Decides xs ys).0 (turned (bytes_eq xs y
     turned : (equal : Bool) → not equal ≡ false → equal ≡ true
     turned true e = refl
     turned false e = absurd (not_both true refl e)
+
+-- what follows from a fact of a result
+pub ok_as : {T E : Type 0} (result : Result T E) (P Q : T → Type 0) → ((x : T) → P x → Q x)
+    → IfOk result P → IfOk result Q
+ok_as (Ok x) P Q is p = is x p
+ok_as (Err e) P Q is p = tt

@@ -16,7 +16,7 @@ use Rattle.ambiguity_check.specs.Overlaps.{BeginsBoth, FollowsBoth, IsInRows, En
 use Rattle.ambiguity_example.proofs.MetItems.{all_meet_long, all_meet_word}
 use Rattle.ambiguity_example.specs.Cuts.{ArePieces}
 use Rattle.ambiguity_example.specs.Met.{AllMeet}
-use Rattle.ambiguity_example.specs.Shows.{Shown, ShowsOverlap, IsShortestShown, choice}
+use Rattle.ambiguity_example.specs.Shows.{ShowsOverlap, IsShortestShown, choice, twice_whole}
 use Rattle.ambiguity_example.specs.WalkLists.{GoesAlong, IsWalkOf, IsShortestWalk}
 
 -- the cuts of a word in one piece
@@ -26,17 +26,9 @@ one_piece word = record {
   at = let long : 0 + length word ≡ length word = omega arith in ap (λ (n : ℕ). 0 ∷ n ∷ []) long;
 }
 
--- a word in one piece, twice
-abbrev pub in_one_piece : Word → Shown
-in_one_piece word = record {
-  items = word;
-  first = 0 ∷ length word ∷ [];
-  second = 0 ∷ length word ∷ [];
-}
-
 -- a shared word is shown
 pub shown_overlap : (r s : Expression) (word : Word) → In r word → In s word
-    → ShowsOverlap r s (in_one_piece word)
+    → ShowsOverlap r s (twice_whole word)
 shown_overlap r s word in_r in_s = record {
   first = one_piece word;
   second = one_piece word;
@@ -48,7 +40,7 @@ module _ (columns : List Column) (first second : Sets) (r s : Expression) (of_r 
     (of_s : AreOf second s) where
   -- where both have the empty word, that is shown
   pub empty_shared : first.nullable ≡ true → second.nullable ≡ true
-      → IsShortestShown columns (choice r s) (in_one_piece [])
+      → IsShortestShown columns (choice r s) (twice_whole [])
   empty_shared empty empty' = record {
     shows = (tt, shown_overlap r s [] ((of_r []).1 empty) ((of_s []).1 empty'));
     none = λ other fewer shows. absurd (omega arith);
@@ -109,7 +101,7 @@ module _ (columns : List Column) (first second : Sets) (r s : Expression) (of_r 
     pub walk_shared : (nodes : List Node) (word : Word)
         → IsShortestWalk (BeginsBoth first second) (FollowsBoth first second) (IsInRows rows) ends nodes
         → AllMeet columns (λ _. first) (λ _. second) nodes word
-        → IsShortestShown columns (choice r s) (in_one_piece word)
+        → IsShortestShown columns (choice r s) (twice_whole word)
     walk_shared nodes word shortest meet =
         let both = in_both nodes word shortest.walk meet in record {
           shows = (

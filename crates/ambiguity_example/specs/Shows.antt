@@ -39,6 +39,14 @@ pub record ShowsOverlap (r s : Expression) (shown : Shown) : Type 0 where
   pub in_first : In r shown.items
   pub in_second : In s shown.items
 
+-- a word in one piece, twice
+abbrev pub twice_whole : Word → Shown
+twice_whole word = record {
+  items = word;
+  first = 0 ∷ length word ∷ [];
+  second = 0 ∷ length word ∷ [];
+}
+
 -- the word splits in two ways, the first part of the first one being the shorter
 pub record ShowsSplits (r s : Expression) (shown : Shown) : Type 0 where
   pub u : Word

@@ -1,19 +1,22 @@
 //! A shortest word that factors in two ways.
-ghost use Rattle.std.specs.Prelude.{◌≡◌, ◌↔◌, [], ◌∷◌, IfOk, MatchOption};
+ghost use Rattle.std.specs.Prelude.{◌≡◌, ◌<◌, ◌↔◌, ◌^◌, [], ◌∷◌, IfOk, MatchOption, length};
 ghost use Rattle.rate_expr.specs.Paths.{AreOf};
 ghost use Rattle.rate_expr.specs.Rates.{Expression};
 ghost use Rattle.rate_expr.specs.Readings.{HasOneFactoring};
 ghost use Rattle.ambiguity_check.specs.declared.graph.Node.{Node};
 ghost use Rattle.ambiguity_check.specs.Factorings.{EndsFactors};
 ghost use Rattle.ambiguity_check.specs.Walks.{IsIn};
+ghost use Rattle.ambiguity_example.specs.declared.turns.Side.TheVariants.{Left, Right};
+ghost use Rattle.ambiguity_example.specs.Met.{AllMeet, HaveItems};
 ghost use Rattle.ambiguity_example.specs.Shows.{IsShortestShown, iter};
+ghost use Rattle.ambiguity_example.specs.TurnLists.{AreTurns};
 
 use crate::cuts::Cuts;
 use crate::meeting::shared_items;
 use crate::shown::Example;
 use crate::turns::{Side, cuts_of};
 use crate::walk::shortest_walk;
-use ambiguity_check::{Factorings, Move, Moves, Phase};
+use ambiguity_check::{Factorings, Move, Moves, Node, Phase};
 use rate_expr::Positions;
 use std::alloc::{AllocError, Global};
 use symbolic_nfa::Nfa;
@@ -35,10 +38,26 @@ pub(crate) fn word_of_two_factorings(
     let Some(walk) = shortest_walk(alloc, &factorings, ends_of(positions))? else {
         return Ok(None);
     };
-    let first = cuts_of(alloc, positions, Side::Left, &walk)?;
-    let second = cuts_of(alloc, positions, Side::Right, &walk)?;
-    let word = shared_items(alloc, nfa, nfa, &walk)?;
-    Ok(Some(Example::new(word, first, second)))
+    Ok(Some(example_of(alloc, nfa, &walk)?))
+}
+
+// The word of a walk, and its two factorings.
+fn example_of(alloc: Global, nfa: &Nfa, walk: &[Node]) -> Result<Example, AllocError>
+    requires meet { HaveItems nfa.now.cells.layout.columns (λ _. nfa.now.sets)
+        (λ _. nfa.now.sets) walk.now }
+    requires some { 0 < length walk.now }
+    requires few { length walk.now < 2 ^ 32 }
+    ensures meet { IfOk result (λ example. AllMeet nfa.now.cells.layout.columns
+        (λ _. nfa.now.sets) (λ _. nfa.now.sets) walk.now example.items) }
+    ensures first { IfOk result (λ example. AreTurns nfa.now.sets Left walk.now example.first) }
+    ensures second { IfOk result (λ example.
+        AreTurns nfa.now.sets Right walk.now example.second) }
+{
+    let positions = nfa.positions();
+    let first = cuts_of(alloc, positions, Side::Left, walk)?;
+    let second = cuts_of(alloc, positions, Side::Right, walk)?;
+    let word = shared_items(alloc, nfa, nfa, walk)?;
+    Ok(Example::new(word, first, second))
 }
 
 // Where both factorings end.

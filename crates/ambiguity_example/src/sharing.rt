@@ -1,18 +1,20 @@
 //! A shortest word that two rates share.
-ghost use Rattle.std.specs.Prelude.{◌≡◌, ◌<◌, ◌↔◌, ◌^◌, [], ◌∷◌, IfOk, MatchOption, length};
+ghost use Rattle.std.specs.Prelude.{◌≡◌, ◌<◌, ◌↔◌, ◌^◌, IfOk, MatchOption, length};
 ghost use Rattle.rate_expr.specs.Paths.{AreOf};
 ghost use Rattle.rate_expr.specs.Rates.{Expression};
 ghost use Rattle.rate_expr.specs.Readings.{AreDisjoint};
+ghost use Rattle.rate_expr.specs.Words.{Word};
 ghost use Rattle.ambiguity_check.specs.declared.graph.Node.{Node};
 ghost use Rattle.ambiguity_check.specs.Overlaps.{EndsBoth};
 ghost use Rattle.ambiguity_check.specs.Walks.{IsIn};
-ghost use Rattle.ambiguity_example.specs.Shows.{IsShortestShown, choice};
+ghost use Rattle.ambiguity_example.specs.Met.{AllMeet, HaveItems};
+ghost use Rattle.ambiguity_example.specs.Shows.{IsShortestShown, choice, twice_whole};
 
 use crate::cuts::Cuts;
 use crate::meeting::shared_items;
 use crate::shown::Example;
 use crate::walk::shortest_walk;
-use ambiguity_check::{Move, Moves, Pairs, Phase};
+use ambiguity_check::{Move, Moves, Node, Pairs, Phase};
 use item_schema::Item;
 use rate_expr::Positions;
 use std::alloc::{AllocError, Global};
@@ -38,8 +40,26 @@ pub(crate) fn shared_word(
     let Some(walk) = shortest_walk(alloc, &pairs, ends_of(left, right))? else {
         return Ok(None);
     };
-    let items = shared_items(alloc, first, second, &walk)?;
-    Ok(Some(in_one_piece(alloc, items)?))
+    Ok(Some(example_of(alloc, first, second, &walk)?))
+}
+
+// The word of a walk, twice in one piece.
+fn example_of(
+    alloc: Global,
+    first: &Nfa,
+    second: &Nfa,
+    walk: &[Node],
+) -> Result<Example, AllocError>
+    requires cells { first.now.cells ≡ second.now.cells }
+    requires meet { HaveItems first.now.cells.layout.columns (λ _. first.now.sets)
+        (λ _. second.now.sets) walk.now }
+    requires few { length walk.now < 2 ^ 32 }
+    ensures { IfOk result (λ example. (word : Word) × AllMeet first.now.cells.layout.columns
+        (λ _. first.now.sets) (λ _. second.now.sets) walk.now word
+        × (example ≡ twice_whole word)) }
+{
+    let items = shared_items(alloc, first, second, walk)?;
+    in_one_piece(alloc, items)
 }
 
 // Where both end.
@@ -58,11 +78,7 @@ fn ends_of(first: &Positions, second: &Positions) -> Moves
 
 fn in_one_piece(alloc: Global, items: Vec<Item>) -> Result<Example, AllocError>
     requires { length items.items < 2 ^ 32 }
-    ensures { IfOk result (λ example. example ≡ record {
-      items = items.items;
-      first = 0 ∷ length items.items ∷ [];
-      second = 0 ∷ length items.items ∷ [];
-    }) }
+    ensures { IfOk result (λ example. example ≡ twice_whole items.items) }
 {
     let whole = [0, items.len() as u32];
     let first = Cuts::new(alloc, &whole)?;

@@ -1,12 +1,14 @@
 //! A shortest word that splits in two ways.
-ghost use Rattle.std.specs.Prelude.{◌≡◌, ◌<◌, ◌↔◌, ◌^◌, IfOk, MatchOption, length};
+ghost use Rattle.std.specs.Prelude.{◌≡◌, ◌<◌, ◌↔◌, ◌+◌, ◌^◌, [], ◌∷◌, IfOk, MatchOption, length};
 ghost use Rattle.rate_expr.specs.Paths.{AreOf};
 ghost use Rattle.rate_expr.specs.Rates.{Expression};
 ghost use Rattle.rate_expr.specs.Readings.{HaveOneSplit};
 ghost use Rattle.ambiguity_check.specs.declared.graph.Node.{Node};
-ghost use Rattle.ambiguity_check.specs.Splits.{EndsSplits};
+ghost use Rattle.ambiguity_check.specs.declared.graph.Phase.TheVariants.{Together, Parted};
+ghost use Rattle.ambiguity_check.specs.Splits.{left_of, right_of, EndsSplits};
 ghost use Rattle.ambiguity_check.specs.Walks.{IsIn};
 ghost use Rattle.ambiguity_example.specs.Counts.{count_in};
+ghost use Rattle.ambiguity_example.specs.Met.{AllMeet, HaveItems};
 ghost use Rattle.ambiguity_example.specs.Shows.{IsShortestShown, split};
 
 use crate::cuts::Cuts;
@@ -36,13 +38,36 @@ pub(crate) fn word_of_two_splits(
     let Some(walk) = shortest_walk(alloc, &splits, ends)? else {
         return Ok(None);
     };
-    let shorter = count_of(&walk, Phase::Together);
-    let longer = shorter + count_of(&walk, Phase::Parted);
+    Ok(Some(example_of(alloc, first, second, &walk)?))
+}
+
+// The word of a walk, and its two splits.
+fn example_of(
+    alloc: Global,
+    first: &Nfa,
+    second: &Nfa,
+    walk: &[Node],
+) -> Result<Example, AllocError>
+    requires cells { first.now.cells ≡ second.now.cells }
+    requires meet { HaveItems first.now.cells.layout.columns
+        (left_of first.now.sets second.now.sets) (right_of first.now.sets second.now.sets)
+        walk.now }
+    requires few { length walk.now < 2 ^ 32 }
+    ensures meet { IfOk result (λ example. AllMeet first.now.cells.layout.columns
+        (left_of first.now.sets second.now.sets) (right_of first.now.sets second.now.sets)
+        walk.now example.items) }
+    ensures first { IfOk result (λ example.
+        example.first ≡ 0 ∷ count_in Together walk.now ∷ length walk.now ∷ []) }
+    ensures second { IfOk result (λ example. example.second
+        ≡ 0 ∷ (count_in Together walk.now + count_in Parted walk.now) ∷ length walk.now ∷ []) }
+{
+    let shorter = count_of(walk, Phase::Together);
+    let longer = shorter + count_of(walk, Phase::Parted);
     let items = walk.len() as u32;
     let first_cuts = Cuts::new(alloc, &[0, shorter, items])?;
     let second_cuts = Cuts::new(alloc, &[0, longer, items])?;
-    let word = split_items(alloc, first, second, &walk)?;
-    Ok(Some(Example::new(word, first_cuts, second_cuts)))
+    let word = split_items(alloc, first, second, walk)?;
+    Ok(Example::new(word, first_cuts, second_cuts))
 }
 
 // Where both splits end.

@@ -26,10 +26,10 @@ returns-in_default c = λ r of_r.
     ∙ ap (λ (sets : Sets). sets.nullable) c.positions-positions.ensures ∙ empty) c.if-nullable.false)
     none
 
-pub shared_items-requires-clause-meet : goal.shared_items-requires-clause-meet
-shared_items-requires-clause-meet c =
+pub example_of-requires-clause-meet : goal.example_of-requires-clause-meet
+example_of-requires-clause-meet c =
     let shortest = rw c.in_ok-factorings.ensures.sets at (rw c.in-Some.is at c.in_ok-walk.ensures) in
-    rw c.deref-3.ensures.value (walk_meet (BeginsFactors c.args.nfa.now.sets)
+    rw c.deref.ensures.value (walk_meet (BeginsFactors c.args.nfa.now.sets)
     (Factors c.args.nfa.now.sets) (IsInRows c.in_ok-factorings.factorings.rows.items)
     (IsIn c.ends_of.result)
     (HasItem c.args.nfa.now.cells.layout.columns (λ _. c.args.nfa.now.sets) (λ _. c.args.nfa.now.sets))
@@ -40,10 +40,10 @@ pub returns : goal.returns
 returns c = λ r of_r.
     let ended = rw c.positions-positions.ensures at c.ends_of.ensures in
     let shortest = rw c.in_ok-factorings.ensures.sets at (rw c.in-Some.is at c.in_ok-walk.ensures) in
-    rw c.new-2.ensures (walk_factored c.args.nfa.now.cells.layout.columns c.args.nfa.now.sets _
+    walk_factored c.args.nfa.now.cells.layout.columns c.args.nfa.now.sets _
     (IsIn c.ends_of.result) ended r of_r c.in_ok-factorings.ensures.rows
     (λ empty. not_both c.nullable.result (c.nullable.ensures
     ∙ ap (λ (sets : Sets). sets.nullable) c.positions-positions.ensures ∙ empty) c.if-nullable.false)
-    c.in-Some.walk.items _ shortest (rw c.deref-3.ensures.value at c.in_ok-word.ensures)
-    (rw (c.deref.ensures.value, c.positions-positions.ensures) at c.in_ok-first.ensures)
-    (rw (c.deref-2.ensures.value, c.positions-positions.ensures) at c.in_ok-second.ensures))
+    c.in-Some.walk.items _ shortest (rw c.deref.ensures.value at c.in_ok-example_of.ensures.meet)
+    (rw c.deref.ensures.value at c.in_ok-example_of.ensures.first)
+    (rw c.deref.ensures.value at c.in_ok-example_of.ensures.second)

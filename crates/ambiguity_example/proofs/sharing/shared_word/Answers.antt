@@ -1,11 +1,12 @@
-use Rattle.std.proofs.Common.{ap, ◌∙◌, arith}
+use Rattle.std.proofs.Common.{ap, ◌∙◌, subst, sym}
 use Rattle.rate_expr.specs.Sets.{Sets}
 use Rattle.ambiguity_check.specs.Overlaps.{BeginsBoth, FollowsBoth, IsInRows}
 use Rattle.ambiguity_check.specs.Walks.{IsIn}
 use Rattle.ambiguity_example.proofs.Deciding.{not_both}
-use Rattle.ambiguity_example.proofs.MetItems.{all_meet_long, walk_meet}
+use Rattle.ambiguity_example.proofs.MetItems.{walk_meet}
 use Rattle.ambiguity_example.proofs.Shared.{none_shared, walk_shared}
 use Rattle.ambiguity_example.specs.Met.{HasItem}
+use Rattle.ambiguity_example.specs.Shows.{IsShortestShown, choice}
 use Rattle.ambiguity_example.proofs.sharing.shared_word.Goals as goal
 use Rattle.ambiguity_example.proofs.sharing.shared_word.Goals.{else-nullable-via-then-nullable+else-nullable-2, else-nullable-via-else-nullable}
 
@@ -24,8 +25,8 @@ returns-in_default c = λ r s of_r of_s.
           w.if-nullable.false
     ]) _ c.in_ok-pairs.ensures.rows (IsIn c.ends_of.result) ended none
 
-pub shared_items-requires-clause-meet : goal.shared_items-requires-clause-meet
-shared_items-requires-clause-meet c =
+pub example_of-requires-clause-meet : goal.example_of-requires-clause-meet
+example_of-requires-clause-meet c =
     let shortest = rw (c.in_ok-pairs.ensures.first, c.in_ok-pairs.ensures.second) at
     (rw c.in-Some.is at c.in_ok-walk.ensures) in
     rw c.deref.ensures.value (walk_meet (BeginsBoth c.args.first.now.sets c.args.second.now.sets)
@@ -35,22 +36,19 @@ shared_items-requires-clause-meet c =
     (λ node met. (c.in_ok-pairs.ensures.rows node.left node.right).0 met) c.in-Some.walk.items
     shortest.walk)
 
-pub in_one_piece-requires-2 : goal.in_one_piece-requires-2
-in_one_piece-requires-2 c =
+pub example_of-requires-clause-few : goal.example_of-requires-clause-few
+example_of-requires-clause-few c =
     let shortest = rw (c.in_ok-pairs.ensures.first, c.in_ok-pairs.ensures.second) at
     (rw c.in-Some.is at c.in_ok-walk.ensures) in
-    let few = shortest.few in
-    let long = all_meet_long c.args.first.now.cells.layout.columns (λ _. c.args.first.now.sets)
-    (λ _. c.args.second.now.sets) c.in-Some.walk.items c.in_ok-items.items.items
-    (rw c.deref.ensures.value at c.in_ok-items.ensures) in
-    omega (arith, few, long)
+    rw c.deref.ensures.value shortest.few
 
 pub returns : goal.returns
 returns c = λ r s of_r of_s.
     let ended = rw (c.positions-left.ensures, c.positions-right.ensures) at c.ends_of.ensures in
     let shortest = rw (c.in_ok-pairs.ensures.first, c.in_ok-pairs.ensures.second) at
     (rw c.in-Some.is at c.in_ok-walk.ensures) in
-    rw c.in_ok-in_one_piece-2.ensures (walk_shared c.args.first.now.cells.layout.columns
+    let found = c.in_ok-example_of.ensures in
+    subst (IsShortestShown c.args.first.now.cells.layout.columns (choice r s)) (sym found.2) (walk_shared c.args.first.now.cells.layout.columns
     c.args.first.now.sets c.args.second.now.sets
     r s of_r of_s (λ left right. elim c.else-nullable.branch [
       | else-nullable-via-then-nullable+else-nullable-2 w ↦ not_both w.nullable-then-nullable.result
@@ -60,4 +58,4 @@ returns c = λ r s of_r of_s.
           (c.nullable.ensures ∙ ap (λ (sets : Sets). sets.nullable) c.positions-left.ensures ∙ left)
           w.if-nullable.false
     ]) _ c.in_ok-pairs.ensures.rows (IsIn c.ends_of.result) ended c.in-Some.walk.items
-    c.in_ok-items.items.items shortest (rw c.deref.ensures.value at c.in_ok-items.ensures))
+    found.0 shortest (rw c.deref.ensures.value at found.1))

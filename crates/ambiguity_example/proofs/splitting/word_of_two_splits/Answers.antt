@@ -1,8 +1,7 @@
-use Rattle.std.proofs.Common.{◌≡◌, ℕ, ◌+◌, [], ◌∷◌, length, ap, ◌∙◌, arith}
+use Rattle.std.proofs.Common.{ℕ, ◌+◌, [], ◌∷◌, ap, sym, ◌∙◌}
 use Rattle.ambiguity_check.specs.declared.graph.Phase.TheVariants.{Together, Parted}
 use Rattle.ambiguity_check.specs.Splits.{left_of, right_of, BeginsSplits, GoesOn, MeetIn}
 use Rattle.ambiguity_check.specs.Walks.{IsIn}
-use Rattle.ambiguity_example.proofs.Counted.{counts_few}
 use Rattle.ambiguity_example.proofs.Halved.{none_halved, walk_halved}
 use Rattle.ambiguity_example.proofs.MetItems.{all_meet_long, walk_meet}
 use Rattle.ambiguity_example.specs.Counts.{count_in}
@@ -17,20 +16,11 @@ returns-in_default c = λ r s of_r of_s.
     none_halved c.args.first.now.cells.layout.columns c.args.first.now.sets c.args.second.now.sets _ _ _
     (IsIn c.ends_of-ends.result) ended r s of_r of_s c.in_ok-splits.ensures.rows none
 
-pub overflow_add-longer : goal.overflow_add-longer
-overflow_add-longer c =
+pub example_of-requires-clause-meet : goal.example_of-requires-clause-meet
+example_of-requires-clause-meet c =
     let shortest = rw (c.in_ok-splits.ensures.first, c.in_ok-splits.ensures.second) at
     (rw c.in-Some.is at c.in_ok-walk.ensures) in
-    let few = shortest.few in
-    let one = rw c.deref.ensures.value at c.count_of-shorter.ensures in
-    let other = rw c.deref-2.ensures.value at c.count_of.ensures in
-    omega (arith, few, one, other, counts_few c.in-Some.walk.items)
-
-pub split_items-requires-clause-meet : goal.split_items-requires-clause-meet
-split_items-requires-clause-meet c =
-    let shortest = rw (c.in_ok-splits.ensures.first, c.in_ok-splits.ensures.second) at
-    (rw c.in-Some.is at c.in_ok-walk.ensures) in
-    rw c.deref-3.ensures.value (walk_meet
+    rw c.deref.ensures.value (walk_meet
     (BeginsSplits c.args.first.now.sets c.args.second.now.sets)
     (GoesOn c.args.first.now.sets c.args.second.now.sets)
     (MeetIn c.in_ok-splits.splits.together.items c.in_ok-splits.splits.parted.items
@@ -46,20 +36,15 @@ returns c = λ r s of_r of_s.
     let ended = rw (c.positions.ensures, c.positions-2.ensures) at c.ends_of-ends.ensures in
     let shortest = rw (c.in_ok-splits.ensures.first, c.in_ok-splits.ensures.second) at
     (rw c.in-Some.is at c.in_ok-walk.ensures) in
-    let meet = rw c.deref-3.ensures.value at c.in_ok-word.ensures in
-    let one = rw c.deref.ensures.value at c.count_of-shorter.ensures in
-    let other = rw c.deref-2.ensures.value at c.count_of.ensures in
-    let both : c.count_of-shorter.result + c.count_of.result
-    ≡ count_in Together nodes + count_in Parted nodes = omega (arith, one, other) in
+    let meet = rw c.deref.ensures.value at c.in_ok-example_of.ensures.meet in
     let as_many = all_meet_long c.args.first.now.cells.layout.columns
     (left_of c.args.first.now.sets c.args.second.now.sets)
-    (right_of c.args.first.now.sets c.args.second.now.sets) nodes c.in_ok-word.word.items meet in
-    let long : c.len-items.result ≡ length c.in_ok-word.word.items =
-    omega (arith, c.len-items.ensures, as_many, c.in-Some.walk.ok.0) in
-    rw c.new-4.ensures (walk_halved c.args.first.now.cells.layout.columns c.args.first.now.sets
+    (right_of c.args.first.now.sets c.args.second.now.sets) nodes
+    c.in_ok-example_of.field-0.items meet in
+    walk_halved c.args.first.now.cells.layout.columns c.args.first.now.sets
     c.args.second.now.sets _ _ _ (IsIn c.ends_of-ends.result) ended r s of_r of_s
-    c.in_ok-splits.ensures.rows nodes _ shortest meet
-    (c.in_ok-first_cuts.ensures ∙ ap (λ (n : ℕ). 0 ∷ n ∷ c.len-items.result ∷ []) one
-    ∙ ap (λ (n : ℕ). 0 ∷ count_in Together nodes ∷ n ∷ []) long)
-    (c.in_ok-second_cuts.ensures ∙ ap (λ (n : ℕ). 0 ∷ n ∷ c.len-items.result ∷ []) both
-    ∙ ap (λ (n : ℕ). 0 ∷ (count_in Together nodes + count_in Parted nodes) ∷ n ∷ []) long))
+    c.in_ok-splits.ensures.rows nodes c.in_ok-example_of.field-0 shortest meet
+    ((rw c.deref.ensures.value at c.in_ok-example_of.ensures.first)
+    ∙ ap (λ (n : ℕ). 0 ∷ count_in Together nodes ∷ n ∷ []) (sym as_many))
+    ((rw c.deref.ensures.value at c.in_ok-example_of.ensures.second)
+    ∙ ap (λ (n : ℕ). 0 ∷ (count_in Together nodes + count_in Parted nodes) ∷ n ∷ []) (sym as_many))
