@@ -2,6 +2,7 @@ pub mod Asked
 mod Atoms
 pub mod Behind
 pub mod Clear
+mod Chosen
 mod Collecting
 mod Composing
 mod Counted

@@ -4,13 +4,11 @@ ghost use Rattle.query_syntax.specs.Plain.{plain_expression};
 ghost use Rattle.type_checker.specs.Expressions.{both_of, choice_of, expression_over, extremum_of};
 ghost use Rattle.type_checker.specs.Expressions.{named_in, summary_of, table_form};
 ghost use Rattle.type_checker.specs.Scopes.{HasFittingNumbers, plain_scope};
-ghost use Rattle.value_ops.specs.Expressions.{binary, choice, entry, plain_of, unary};
+ghost use Rattle.value_ops.specs.Expressions.{binary, choice, entry, plain_of, read, unary};
 
 use crate::columns::column_named;
 use item_schema::Schema;
-use query_syntax::{
-    BinaryOp, Compare, Comparison, Expression, Extremum, Name, Summary, Text, UnaryOp,
-};
+use query_syntax::{BinaryOp, Comparison, Expression, Extremum, Name, Summary, Text, UnaryOp};
 use std::alloc::{AllocError, Global};
 use value_ops::{Expr, Var};
 
@@ -23,6 +21,13 @@ pub enum Scope<'s> {
     One,
     /// Two values, `x` and `y`.
     Two,
+}
+
+// Two expressions, each in memory of its own.
+#[derive(Drop)]
+struct Both {
+    left: Box<Expr>,
+    right: Box<Expr>,
 }
 
 /// The expression, if each name in it stands for something.
@@ -39,10 +44,7 @@ pub fn expression_over(
 {
     match expression {
         Expression::Number(number) => Ok(Some(Expr::Literal(number.value))),
-        Expression::Name(name) => match named_in(scope, name.bytes.as_slice()) {
-            Some(name) => Ok(Some(Expr::Read(name))),
-            None => Ok(None),
-        },
+        Expression::Name(name) => Ok(read_over(scope, name)),
         Expression::Unary {
             operator,
             operand,
@@ -60,12 +62,7 @@ pub fn expression_over(
             fails,
             ..
         } => choice_over(alloc, scope, test, holds, fails),
-        Expression::Summary { summary, table, .. } => {
-            match named_in(scope, table.bytes.as_slice()) {
-                Some(table) => Ok(Some(summary_of(*summary, table))),
-                None => Ok(None),
-            }
-        }
+        Expression::Summary { summary, table, .. } => Ok(summary_over(scope, *summary, table)),
         Expression::Extremum {
             extremum,
             table,
@@ -132,13 +129,36 @@ fn binary_over(
     ensures numbers { IfOk result (λ found.
         IfSome found (λ made. HasFittingNumbers (plain_of made))) }
 {
+    match both_over(alloc, scope, left, right)? {
+        Some(both) => Ok(Some(Expr::Binary(operator, both.left, both.right))),
+        None => Ok(None),
+    }
+}
+
+// Both expressions, if each name in them stands for something.
+#[cycle(resolve)]
+fn both_over(
+    alloc: Global,
+    scope: Scope<'_>,
+    left: &Expression,
+    right: &Expression,
+) -> Result<Option<Both>, AllocError>
+    ensures made { IfOk result (λ found. (node : _)
+        → option_map (λ both. node (plain_of both.left.value) (plain_of both.right.value)) found
+        ≡ both_of node (expression_over (plain_scope scope.entry) (plain_expression left.now))
+        (expression_over (plain_scope scope.entry) (plain_expression right.now))) }
+    ensures left { IfOk result (λ found.
+        IfSome found (λ both. HasFittingNumbers (plain_of both.left.value))) }
+    ensures right { IfOk result (λ found.
+        IfSome found (λ both. HasFittingNumbers (plain_of both.right.value))) }
+{
     let Some(left) = boxed_over(alloc, scope, left)? else {
         return Ok(None);
     };
     let Some(right) = boxed_over(alloc, scope, right)? else {
         return Ok(None);
     };
-    Ok(Some(Expr::Binary(operator, left, right)))
+    Ok(Some(Both { left, right }))
 }
 
 #[cycle(resolve)]
@@ -158,11 +178,19 @@ fn choice_over(
     ensures numbers { IfOk result (λ found.
         IfSome found (λ made. HasFittingNumbers (plain_of made))) }
 {
-    let left = boxed_over(alloc, scope, &test.left)?;
-    let right = boxed_over(alloc, scope, &test.right)?;
-    let holds = boxed_over(alloc, scope, holds)?;
-    let fails = boxed_over(alloc, scope, fails)?;
-    Ok(choice_of(test.compare, left, right, holds, fails))
+    let Some(sides) = both_over(alloc, scope, &test.left, &test.right)? else {
+        return Ok(None);
+    };
+    let Some(branches) = both_over(alloc, scope, holds, fails)? else {
+        return Ok(None);
+    };
+    Ok(Some(Expr::If(
+        test.compare,
+        sides.left,
+        sides.right,
+        branches.left,
+        branches.right,
+    )))
 }
 
 #[cycle(resolve)]
@@ -213,26 +241,26 @@ fn entry_over(
     Ok(Some(Expr::Get(table, key, absent)))
 }
 
-// The choice, where there are all four parts.
-fn choice_of(
-    compare: Compare,
-    left: Option<Box<Expr>>,
-    right: Option<Box<Expr>>,
-    holds: Option<Box<Expr>>,
-    fails: Option<Box<Expr>>,
-) -> Option<Expr>
-    requires left { IfSome left (λ made. HasFittingNumbers (plain_of made.value)) }
-    requires right { IfSome right (λ made. HasFittingNumbers (plain_of made.value)) }
-    requires holds { IfSome holds (λ made. HasFittingNumbers (plain_of made.value)) }
-    requires fails { IfSome fails (λ made. HasFittingNumbers (plain_of made.value)) }
+fn read_over(scope: Scope<'_>, name: &Name) -> Option<Expr>
     ensures made { option_map plain_of result
-        ≡ choice_of (choice compare) (option_map (λ made. plain_of made.value) left)
-        (option_map (λ made. plain_of made.value) right)
-        (option_map (λ made. plain_of made.value) holds)
-        (option_map (λ made. plain_of made.value) fails) }
+        ≡ option_map read (named_in (plain_scope scope.entry) name.now.bytes) }
     ensures numbers { IfSome result (λ made. HasFittingNumbers (plain_of made)) }
 {
-    Some(Expr::If(compare, left?, right?, holds?, fails?))
+    match named_in(scope, name.bytes.as_slice()) {
+        Some(name) => Some(Expr::Read(name)),
+        None => None,
+    }
+}
+
+fn summary_over(scope: Scope<'_>, summary: Summary, table: &Name) -> Option<Expr>
+    ensures made { option_map plain_of result
+        ≡ option_map (summary_of summary) (named_in (plain_scope scope.entry) table.now.bytes) }
+    ensures numbers { IfSome result (λ made. HasFittingNumbers (plain_of made)) }
+{
+    match named_in(scope, table.bytes.as_slice()) {
+        Some(table) => Some(summary_of(summary, table)),
+        None => None,
+    }
 }
 
 fn named_in(scope: Scope<'_>, name: &[u8]) -> Option<Var>
