@@ -17,6 +17,7 @@ pub mod OfOperands
 mod Operands
 pub mod OverOne
 pub mod OverTwo
+mod Paired
 pub mod Parted
 pub mod Placed
 pub mod Repeats

@@ -1,5 +1,6 @@
 pub mod Expressions
 pub mod Findings
+pub mod Forms
 pub mod Joints
 pub mod Judged
 pub mod Layouts

@@ -1,11 +1,8 @@
 //! Queries whose names are resolved and whose types fit.
 ghost use Rattle.std.specs.Prelude.{IfErr, IfOk};
-ghost use Rattle.query_lets.specs.Places.{IsPlaced, IsRoot, unfolded_at, unfolded_of};
+ghost use Rattle.query_lets.specs.Places.{IsPlaced, IsRoot, query_of, unfolded_of};
 ghost use Rattle.query_model.specs.QueryTypes.{derived_columns};
-ghost use Rattle.query_syntax.specs.Plain.{plain_expression, plain_predicate, plain_query};
-ghost use Rattle.query_syntax.specs.Plain.{plain_rate};
-ghost use Rattle.query_syntax.specs.Queries as q;
-ghost use Rattle.type_checker.specs.Joints.{joint_node};
+ghost use Rattle.type_checker.specs.Forms.{IsApply, IsCollect, IsCompose, IsIter, IsPair};
 ghost use Rattle.type_checker.specs.Nestings.{MayStand, nesting_of};
 ghost use Rattle.type_checker.specs.Resolutions.{HasTypes, IsMade, IsRefused, columns_of};
 ghost use Rattle.type_checker.specs.Resolved.{inside};
@@ -14,12 +11,12 @@ use crate::CheckStop;
 use crate::atom::atom;
 use crate::naming::{Typed, types_of};
 use crate::nesting::Nesting;
-use crate::shapes::{Items, Joint, apply, eps, iter, joined};
+use crate::shapes::{Items, apply, eps, iter, joined, pair_of};
 use crate::streams::{Collection, collect, compose};
 use item_schema::Schema;
-use language_base::{Rule, Span};
+use language_base::Rule;
 use query_lets::Scope;
-use query_syntax::{Expression, Number, Query};
+use query_syntax::Query;
 use std::alloc::Global;
 use value_ops::ValueType;
 
@@ -88,129 +85,46 @@ fn resolve_root(
             value,
             span,
         } => atom(alloc, items, predicate, value, *span),
-        Query::Eps { value, span } => Ok(eps(alloc, value, *span)?),
-        Query::Or { left, right, span } => {
-            let first = Scope {
-                query: left,
-                ..scope
-            };
-            resolve_two(alloc, nesting, items, Joint::Choice, first, right, *span)
+        Query::Eps { value, span } => eps(alloc, value, *span),
+        Query::Or { .. } | Query::Split { .. } | Query::Combine { .. } => {
+            resolve_pair(alloc, nesting, items, scope)
         }
-        Query::Split {
-            left,
-            right,
-            value,
-            span,
-        } => {
-            let first = Scope {
-                query: left,
-                ..scope
-            };
-            resolve_two(
-                alloc,
-                nesting,
-                items,
-                Joint::Split(value),
-                first,
-                right,
-                *span,
-            )
-        }
-        Query::Iter {
-            operand,
-            first,
-            step,
-            span,
-        } => {
-            let inner = Scope {
-                query: operand,
-                ..scope
-            };
-            resolve_iter(alloc, nesting, items, inner, first, step, *span)
-        }
-        Query::Combine {
-            left,
-            right,
-            value,
-            span,
-        } => {
-            let first = Scope {
-                query: left,
-                ..scope
-            };
-            resolve_two(
-                alloc,
-                nesting,
-                items,
-                Joint::Combine(value),
-                first,
-                right,
-                *span,
-            )
-        }
-        Query::Apply {
-            operand,
-            value,
-            span,
-        } => {
-            let inner = Scope {
-                query: operand,
-                ..scope
-            };
-            resolve_apply(alloc, nesting, items, inner, value, *span)
-        }
-        Query::Compose { left, right, span } => {
-            let first = Scope {
-                query: left,
-                ..scope
-            };
-            resolve_fed(alloc, nesting, items, first, right, *span)
-        }
-        Query::Collect {
-            key,
-            sync,
-            rate,
-            body,
-            span,
-        } => {
-            let written = Collection { key, sync, rate };
-            let inner = Scope {
-                query: body,
-                ..scope
-            };
-            resolve_collection(alloc, nesting, items, &written, inner, *span)
-        }
+        Query::Iter { .. } => resolve_iter(alloc, nesting, items, scope),
+        Query::Apply { .. } => resolve_apply(alloc, nesting, items, scope),
+        Query::Compose { .. } => resolve_fed(alloc, nesting, items, scope),
+        Query::Collect { .. } => resolve_collection(alloc, nesting, items, scope),
     }
 }
 
 // The node of two operands on one stream.
 #[cycle(resolve)]
-fn resolve_two(
+fn resolve_pair(
     alloc: Global,
     nesting: Nesting,
     items: &Items<'_>,
-    joint: Joint<'_>,
-    left: Scope<'_, '_>,
-    right: &Query,
-    span: Span,
+    scope: Scope<'_, '_>,
 ) -> Result<Typed, CheckStop>
     requires types { HasTypes items.now }
     requires stands { MayStand (nesting_of nesting) (columns_of items.now) }
-    requires placed { IsPlaced left }
-    ensures made { IfOk result (IsMade (nesting_of nesting) (columns_of items.now)
-        (joint_node joint.entry span (unfolded_of left.entry)
-        (unfolded_at left.entry (plain_query right.now)))) }
-    ensures refused { IfErr result (IsRefused (nesting_of nesting) (columns_of items.now)
-        (joint_node joint.entry span (unfolded_of left.entry)
-        (unfolded_at left.entry (plain_query right.now)))) }
+    requires placed { IsPlaced scope }
+    requires form { IsPair (query_of scope) }
+    ensures made { IfOk result
+        (IsMade (nesting_of nesting) (columns_of items.now) (unfolded_of scope.entry)) }
+    ensures refused { IfErr result
+        (IsRefused (nesting_of nesting) (columns_of items.now) (unfolded_of scope.entry)) }
 {
-    let other = Scope {
-        query: right,
-        ..left
+    let pair = pair_of(scope.query);
+    let one = Scope {
+        query: pair.left,
+        ..scope
     };
-    let first = resolve_over(alloc, nesting, items, left)?;
+    let other = Scope {
+        query: pair.right,
+        ..scope
+    };
+    let first = resolve_over(alloc, nesting, items, one)?;
     let second = resolve_over(alloc, nesting, items, other)?;
-    joined(alloc, joint, first, second, span)
+    joined(alloc, pair.joint, first, second, pair.span)
 }
 
 #[cycle(resolve)]
@@ -218,21 +132,32 @@ fn resolve_iter(
     alloc: Global,
     nesting: Nesting,
     items: &Items<'_>,
-    operand: Scope<'_, '_>,
-    first: &Number,
-    step: &Expression,
-    span: Span,
+    scope: Scope<'_, '_>,
 ) -> Result<Typed, CheckStop>
     requires types { HasTypes items.now }
     requires stands { MayStand (nesting_of nesting) (columns_of items.now) }
-    requires placed { IsPlaced operand }
-    ensures made { IfOk result (IsMade (nesting_of nesting) (columns_of items.now)
-        (q.iter (unfolded_of operand.entry) first.now (plain_expression step.now) span)) }
-    ensures refused { IfErr result (IsRefused (nesting_of nesting) (columns_of items.now)
-        (q.iter (unfolded_of operand.entry) first.now (plain_expression step.now) span)) }
+    requires placed { IsPlaced scope }
+    requires form { IsIter (query_of scope) }
+    ensures made { IfOk result
+        (IsMade (nesting_of nesting) (columns_of items.now) (unfolded_of scope.entry)) }
+    ensures refused { IfErr result
+        (IsRefused (nesting_of nesting) (columns_of items.now) (unfolded_of scope.entry)) }
 {
-    let inner = resolve_over(alloc, nesting, items, operand)?;
-    iter(alloc, inner, first, step, span)
+    let Query::Iter {
+        operand,
+        first,
+        step,
+        span,
+    } = scope.query
+    else {
+        unreachable!()
+    };
+    let inside = Scope {
+        query: operand,
+        ..scope
+    };
+    let inner = resolve_over(alloc, nesting, items, inside)?;
+    iter(alloc, inner, first, step, *span)
 }
 
 #[cycle(resolve)]
@@ -240,20 +165,31 @@ fn resolve_apply(
     alloc: Global,
     nesting: Nesting,
     items: &Items<'_>,
-    operand: Scope<'_, '_>,
-    value: &Expression,
-    span: Span,
+    scope: Scope<'_, '_>,
 ) -> Result<Typed, CheckStop>
     requires types { HasTypes items.now }
     requires stands { MayStand (nesting_of nesting) (columns_of items.now) }
-    requires placed { IsPlaced operand }
-    ensures made { IfOk result (IsMade (nesting_of nesting) (columns_of items.now)
-        (q.apply (unfolded_of operand.entry) (plain_expression value.now) span)) }
-    ensures refused { IfErr result (IsRefused (nesting_of nesting) (columns_of items.now)
-        (q.apply (unfolded_of operand.entry) (plain_expression value.now) span)) }
+    requires placed { IsPlaced scope }
+    requires form { IsApply (query_of scope) }
+    ensures made { IfOk result
+        (IsMade (nesting_of nesting) (columns_of items.now) (unfolded_of scope.entry)) }
+    ensures refused { IfErr result
+        (IsRefused (nesting_of nesting) (columns_of items.now) (unfolded_of scope.entry)) }
 {
-    let inner = resolve_over(alloc, nesting, items, operand)?;
-    apply(alloc, inner, value, span)
+    let Query::Apply {
+        operand,
+        value,
+        span,
+    } = scope.query
+    else {
+        unreachable!()
+    };
+    let inside = Scope {
+        query: operand,
+        ..scope
+    };
+    let inner = resolve_over(alloc, nesting, items, inside)?;
+    apply(alloc, inner, value, *span)
 }
 
 #[cycle(resolve)]
@@ -261,22 +197,34 @@ fn resolve_collection(
     alloc: Global,
     nesting: Nesting,
     items: &Items<'_>,
-    written: &Collection<'_>,
-    operand: Scope<'_, '_>,
-    span: Span,
+    scope: Scope<'_, '_>,
 ) -> Result<Typed, CheckStop>
     requires types { HasTypes items.now }
     requires stands { MayStand (nesting_of nesting) (columns_of items.now) }
-    requires placed { IsPlaced operand }
-    ensures made { IfOk result (IsMade (nesting_of nesting) (columns_of items.now)
-        (q.collect written.now.key.now (plain_predicate written.now.sync.now)
-        (plain_rate written.now.rate.now) (unfolded_of operand.entry) span)) }
-    ensures refused { IfErr result (IsRefused (nesting_of nesting) (columns_of items.now)
-        (q.collect written.now.key.now (plain_predicate written.now.sync.now)
-        (plain_rate written.now.rate.now) (unfolded_of operand.entry) span)) }
+    requires placed { IsPlaced scope }
+    requires form { IsCollect (query_of scope) }
+    ensures made { IfOk result
+        (IsMade (nesting_of nesting) (columns_of items.now) (unfolded_of scope.entry)) }
+    ensures refused { IfErr result
+        (IsRefused (nesting_of nesting) (columns_of items.now) (unfolded_of scope.entry)) }
 {
-    let inner = resolve_over(alloc, Nesting::Inside, items, operand)?;
-    collect(alloc, nesting, items, written, inner, span)
+    let Query::Collect {
+        key,
+        sync,
+        rate,
+        body,
+        span,
+    } = scope.query
+    else {
+        unreachable!()
+    };
+    let inside = Scope {
+        query: body,
+        ..scope
+    };
+    let inner = resolve_over(alloc, Nesting::Inside, items, inside)?;
+    let written = Collection { key, sync, rate };
+    collect(alloc, nesting, items, &written, inner, *span)
 }
 
 // The second operand on the stream of the values of the first.
@@ -285,27 +233,31 @@ fn resolve_fed(
     alloc: Global,
     nesting: Nesting,
     items: &Items<'_>,
-    left: Scope<'_, '_>,
-    right: &Query,
-    span: Span,
+    scope: Scope<'_, '_>,
 ) -> Result<Typed, CheckStop>
     requires types { HasTypes items.now }
     requires stands { MayStand (nesting_of nesting) (columns_of items.now) }
-    requires placed { IsPlaced left }
-    ensures made { IfOk result (IsMade (nesting_of nesting) (columns_of items.now)
-        (q.compose (unfolded_of left.entry)
-        (unfolded_at left.entry (plain_query right.now)) span)) }
-    ensures refused { IfErr result (IsRefused (nesting_of nesting) (columns_of items.now)
-        (q.compose (unfolded_of left.entry)
-        (unfolded_at left.entry (plain_query right.now)) span)) }
+    requires placed { IsPlaced scope }
+    requires form { IsCompose (query_of scope) }
+    ensures made { IfOk result
+        (IsMade (nesting_of nesting) (columns_of items.now) (unfolded_of scope.entry)) }
+    ensures refused { IfErr result
+        (IsRefused (nesting_of nesting) (columns_of items.now) (unfolded_of scope.entry)) }
 {
+    let Query::Compose { left, right, span } = scope.query else {
+        unreachable!()
+    };
+    let one = Scope {
+        query: left,
+        ..scope
+    };
     let other = Scope {
         query: right,
-        ..left
+        ..scope
     };
-    let first = resolve_over(alloc, nesting, items, left)?;
+    let first = resolve_over(alloc, nesting, items, one)?;
     let second = resolve_on_values(alloc, first.ty, other)?;
-    Ok(compose(alloc, first, second, span)?)
+    Ok(compose(alloc, first, second, *span)?)
 }
 
 // The query on the stream of values of a type.

@@ -1,11 +1,12 @@
 //! Nodes of queries, over operands that are resolved.
 ghost use Rattle.std.specs.Prelude.{◌≡◌, IfErr, IfOk, List};
 ghost use Rattle.item_schema.specs.declared.column.Column.{Column};
-ghost use Rattle.query_syntax.specs.Plain.{plain_expression};
+ghost use Rattle.query_syntax.specs.Plain.{plain_expression, plain_query};
 ghost use Rattle.query_syntax.specs.Queries as q;
-ghost use Rattle.type_checker.specs.Joints.{joint_node};
+ghost use Rattle.type_checker.specs.Forms.{IsPair};
+ghost use Rattle.type_checker.specs.Joints.{joint_node, pair_node};
 ghost use Rattle.type_checker.specs.Resolutions.{IsMade, IsMadeOfOne, IsMadeOfTwo};
-ghost use Rattle.type_checker.specs.Resolutions.{IsRefusedOverOne, IsRefusedOverTwo};
+ghost use Rattle.type_checker.specs.Resolutions.{IsRefused, IsRefusedOverOne, IsRefusedOverTwo};
 ghost use Rattle.type_checker.specs.Resolved.{Nesting, same_type};
 ghost use Rattle.query_model.specs.QueryTypes.{of_one, of_two};
 ghost use Rattle.value_ops.specs.Shown.{shown_types};
@@ -17,8 +18,8 @@ use crate::typed::{number_over, value_over};
 use item_schema::Schema;
 use language_base::{Rule, Span};
 use query_model::Shape;
-use query_syntax::{Expression, Number};
-use std::alloc::{AllocError, Global};
+use query_syntax::{Expression, Number, Query};
+use std::alloc::Global;
 use value_ops::{Types, ValueType};
 
 /// The columns of a stream, and the types of the fields in them.
@@ -34,6 +35,53 @@ pub enum Joint<'t> {
     Choice,
     Split(&'t Expression),
     Combine(&'t Expression),
+}
+
+/// A node of two operands on one stream, as it is written.
+#[derive(Clone, Copy)]
+pub struct Pair<'t> {
+    pub joint: Joint<'t>,
+    pub left: &'t Query,
+    pub right: &'t Query,
+    pub span: Span,
+}
+
+/// The query by its parts.
+pub fn pair_of(query: &Query) -> Pair<'_>
+    requires { IsPair (plain_query query.now) }
+    ensures { plain_query query.now ≡ pair_node result }
+{
+    match query {
+        Query::Or { left, right, span } => Pair {
+            joint: Joint::Choice,
+            left,
+            right,
+            span: *span,
+        },
+        Query::Split {
+            left,
+            right,
+            value,
+            span,
+        } => Pair {
+            joint: Joint::Split(value),
+            left,
+            right,
+            span: *span,
+        },
+        Query::Combine {
+            left,
+            right,
+            value,
+            span,
+        } => Pair {
+            joint: Joint::Combine(value),
+            left,
+            right,
+            span: *span,
+        },
+        _ => unreachable!(),
+    }
 }
 
 /// The node of two operands on one stream.
@@ -54,11 +102,14 @@ pub fn joined(
     }
 }
 
-pub fn eps(alloc: Global, number: &Number, span: Span) -> Result<Typed, AllocError>
-    ensures { IfOk result (λ made. (nesting : Nesting) (columns : List Column)
+pub fn eps(alloc: Global, number: &Number, span: Span) -> Result<Typed, CheckStop>
+    ensures made { IfOk result (λ made. (nesting : Nesting) (columns : List Column)
         → IsMade nesting columns (q.eps number.now span) made) }
+    ensures refused { IfErr result (λ stop. (nesting : Nesting) (columns : List Column)
+        → IsRefused nesting columns (q.eps number.now span) stop) }
 {
-    Typed::new(alloc, Shape::Eps(number.value), span, ValueType::Number)
+    let shape = Shape::Eps(number.value);
+    Ok(Typed::new(alloc, shape, span, ValueType::Number)?)
 }
 
 fn choice(alloc: Global, left: Typed, right: Typed, span: Span) -> Result<Typed, CheckStop>
