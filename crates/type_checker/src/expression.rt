@@ -2,15 +2,15 @@
 ghost use Rattle.std.specs.Prelude.{◌≡◌, IfOk, IfSome, option_map};
 ghost use Rattle.query_syntax.specs.Plain.{plain_expression};
 ghost use Rattle.type_checker.specs.Expressions.{both_of, choice_of, expression_over, extremum_of};
-ghost use Rattle.type_checker.specs.Expressions.{named_in, summary_of, table_form};
+ghost use Rattle.type_checker.specs.Expressions.{named_in, table_form};
 ghost use Rattle.type_checker.specs.Scopes.{HasFittingNumbers, plain_scope};
-ghost use Rattle.value_ops.specs.Expressions.{binary, choice, entry, plain_of, read, unary};
+ghost use Rattle.value_ops.specs.Expressions.{binary, choice, entry, plain_of, unary};
 
-use crate::columns::column_named;
+use crate::named::{extremum_with, named_in, read_over, summary_over};
 use item_schema::Schema;
-use query_syntax::{BinaryOp, Comparison, Expression, Extremum, Name, Summary, Text, UnaryOp};
+use query_syntax::{BinaryOp, Comparison, Expression, Extremum, Name, Text, UnaryOp};
 use std::alloc::{AllocError, Global};
-use value_ops::{Expr, Var};
+use value_ops::Expr;
 
 /// What the names of an expression stand for.
 #[derive(Clone, Copy)]
@@ -239,74 +239,4 @@ fn entry_over(
     };
     let key = key.bytes.try_copy(alloc)?;
     Ok(Some(Expr::Get(table, key, absent)))
-}
-
-fn read_over(scope: Scope<'_>, name: &Name) -> Option<Expr>
-    ensures made { option_map plain_of result
-        ≡ option_map read (named_in (plain_scope scope.entry) name.now.bytes) }
-    ensures numbers { IfSome result (λ made. HasFittingNumbers (plain_of made)) }
-{
-    match named_in(scope, name.bytes.as_slice()) {
-        Some(name) => Some(Expr::Read(name)),
-        None => None,
-    }
-}
-
-fn summary_over(scope: Scope<'_>, summary: Summary, table: &Name) -> Option<Expr>
-    ensures made { option_map plain_of result
-        ≡ option_map (summary_of summary) (named_in (plain_scope scope.entry) table.now.bytes) }
-    ensures numbers { IfSome result (λ made. HasFittingNumbers (plain_of made)) }
-{
-    match named_in(scope, table.bytes.as_slice()) {
-        Some(table) => Some(summary_of(summary, table)),
-        None => None,
-    }
-}
-
-fn named_in(scope: Scope<'_>, name: &[u8]) -> Option<Var>
-    ensures { result ≡ named_in (plain_scope scope.entry) name.now }
-{
-    match scope {
-        Scope::Item(schema) => match column_named(schema, name) {
-            Some(column) => Some(Var::Field(column)),
-            None => None,
-        },
-        Scope::One => {
-            if name == b"x".as_slice() {
-                Some(Var::Left)
-            } else {
-                None
-            }
-        }
-        Scope::Two => {
-            if name == b"x".as_slice() {
-                Some(Var::Left)
-            } else if name == b"y".as_slice() {
-                Some(Var::Right)
-            } else {
-                None
-            }
-        }
-    }
-}
-
-fn summary_of(summary: Summary, table: Var) -> Expr
-    ensures made { plain_of result ≡ summary_of summary table }
-    ensures numbers { HasFittingNumbers (plain_of result) }
-{
-    match summary {
-        Summary::Sum => Expr::Sum(table),
-        Summary::Count => Expr::Count(table),
-    }
-}
-
-fn extremum_with(extremum: Extremum, table: Var, first: Box<Expr>) -> Expr
-    ensures made { plain_of result ≡ extremum_of extremum table (plain_of first.value) }
-    ensures numbers { HasFittingNumbers (plain_of first.value)
-        → HasFittingNumbers (plain_of result) }
-{
-    match extremum {
-        Extremum::Max => Expr::Most(table, first),
-        Extremum::Min => Expr::Least(table, first),
-    }
 }

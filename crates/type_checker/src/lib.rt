@@ -9,6 +9,7 @@ mod columns;
 mod expression;
 mod laws;
 mod measured;
+mod named;
 mod naming;
 mod nesting;
 mod predicate;

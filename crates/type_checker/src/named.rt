@@ -1,0 +1,84 @@
+//! Names in expressions, and what is made of them.
+ghost use Rattle.std.specs.Prelude.{◌≡◌, IfSome, option_map};
+ghost use Rattle.type_checker.specs.Expressions.{extremum_of, named_in, summary_of};
+ghost use Rattle.type_checker.specs.Scopes.{HasFittingNumbers, plain_scope};
+ghost use Rattle.value_ops.specs.Expressions.{plain_of, read};
+
+use crate::columns::column_named;
+use crate::expression::Scope;
+use query_syntax::{Extremum, Name, Summary};
+use value_ops::{Expr, Var};
+
+/// The name itself.
+pub fn read_over(scope: Scope<'_>, name: &Name) -> Option<Expr>
+    ensures made { option_map plain_of result
+        ≡ option_map read (named_in (plain_scope scope.entry) name.now.bytes) }
+    ensures numbers { IfSome result (λ made. HasFittingNumbers (plain_of made)) }
+{
+    match named_in(scope, name.bytes.as_slice()) {
+        Some(name) => Some(Expr::Read(name)),
+        None => None,
+    }
+}
+
+/// A number of the table that it names.
+pub fn summary_over(scope: Scope<'_>, summary: Summary, table: &Name) -> Option<Expr>
+    ensures made { option_map plain_of result
+        ≡ option_map (summary_of summary) (named_in (plain_scope scope.entry) table.now.bytes) }
+    ensures numbers { IfSome result (λ made. HasFittingNumbers (plain_of made)) }
+{
+    match named_in(scope, table.bytes.as_slice()) {
+        Some(table) => Some(summary_of(summary, table)),
+        None => None,
+    }
+}
+
+/// What the name stands for.
+pub fn named_in(scope: Scope<'_>, name: &[u8]) -> Option<Var>
+    ensures { result ≡ named_in (plain_scope scope.entry) name.now }
+{
+    match scope {
+        Scope::Item(schema) => match column_named(schema, name) {
+            Some(column) => Some(Var::Field(column)),
+            None => None,
+        },
+        Scope::One => {
+            if name == b"x".as_slice() {
+                Some(Var::Left)
+            } else {
+                None
+            }
+        }
+        Scope::Two => {
+            if name == b"x".as_slice() {
+                Some(Var::Left)
+            } else if name == b"y".as_slice() {
+                Some(Var::Right)
+            } else {
+                None
+            }
+        }
+    }
+}
+
+fn summary_of(summary: Summary, table: Var) -> Expr
+    ensures made { plain_of result ≡ summary_of summary table }
+    ensures numbers { HasFittingNumbers (plain_of result) }
+{
+    match summary {
+        Summary::Sum => Expr::Sum(table),
+        Summary::Count => Expr::Count(table),
+    }
+}
+
+/// The greatest or the least in a table, where a first number is one of them.
+pub fn extremum_with(extremum: Extremum, table: Var, first: Box<Expr>) -> Expr
+    ensures made { plain_of result ≡ extremum_of extremum table (plain_of first.value) }
+    ensures numbers { HasFittingNumbers (plain_of first.value)
+        → HasFittingNumbers (plain_of result) }
+{
+    match extremum {
+        Extremum::Max => Expr::Most(table, first),
+        Extremum::Min => Expr::Least(table, first),
+    }
+}
