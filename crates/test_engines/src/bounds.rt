@@ -1,5 +1,6 @@
 // What no clause says: that a bound is found as it was by hand. The program cases_rates goes through a table of queries
 // and their bounds.
+use crate::assertions::same;
 use memory_bound::{places, slots};
 use predicate_cells::Pred;
 use query_model::{Query, Shape, Span};
@@ -16,14 +17,15 @@ fn atom(alloc: Global) -> Result<Box<Query>, AllocError> {
     query(alloc, Shape::Atom(Pred::Any, Expr::Read(Var::Left)))
 }
 
+fn split(alloc: Global) -> Result<Box<Query>, AllocError> {
+    let (left, right) = (atom(alloc)?, atom(alloc)?);
+    query(alloc, Shape::Split(left, right, Expr::Read(Var::Right)))
+}
+
 // Of 1 + 1 places, 1 + 1 + 3 * 1 slots for both operands, and 2 more.
 #[test]
 fn a_split_waits_for_its_right_operand(rt: HostRuntime) -> Result<(), Fail> {
-    let (left, right) = (atom(rt.alloc())?, atom(rt.alloc())?);
-    let split = query(
-        rt.alloc(),
-        Shape::Split(left, right, Expr::Read(Var::Right)),
-    )?;
-    assert_eq!(rt; (places(&split), slots(&split)), (2, 7));
+    let split = split(rt.alloc())?;
+    same(&rt, (places(&split), slots(&split)), (2, 7));
     Ok(())
 }

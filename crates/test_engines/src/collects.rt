@@ -68,13 +68,14 @@ fn totals_by_key(alloc: Global) -> Result<Box<Query>, AllocError>
     query(alloc, Shape::Collect(0, sync, rate, inner))
 }
 
-fn checked(alloc: Global) -> Result<Checked, AllocError>
-    ensures stream { IfOk result (λ checked. checked.layout.columns ≡ tested.keyed) }
-    ensures query { IfOk result (λ checked. plain_of checked.main.shape ≡ tested.totals_by_key) }
+fn checked(alloc: Global) -> Result<Box<Checked>, AllocError>
+    ensures stream { IfOk result (λ checked. checked.value.layout.columns ≡ tested.keyed) }
+    ensures query { IfOk result (λ checked.
+        plain_of checked.value.main.shape ≡ tested.totals_by_key) }
 {
     let columns = schema(alloc)?;
     let main = totals_by_key(alloc)?;
-    Ok(Checked::new(columns, main))
+    Ok(Box::new(alloc, Checked::new(columns, main))?)
 }
 
 fn item(alloc: Global, key: &[u8], number: i64) -> Result<Item, AllocError>
@@ -112,21 +113,23 @@ fn feed(alloc: Global, runner: &mut Runner<'_>, key: &[u8], number: i64) -> Resu
     runner.step(alloc, &item)
 }
 
-fn begun(alloc: Global, checked: &Checked) -> Result<Runner<'_>, AllocError>
+fn begun(alloc: Global, checked: &Checked) -> Result<Box<Runner<'_>>, AllocError>
     requires stream { checked.now.layout.columns ≡ tested.keyed }
     requires query { plain_of checked.now.main.shape ≡ tested.totals_by_key }
-    ensures fed { IfOk result (TakesItems tested.keyed) }
-    ensures position { IfOk result (λ runner. position_of runner ≡ 0) }
+    ensures fed { IfOk result (λ runner. TakesItems tested.keyed runner.value) }
+    ensures position { IfOk result (λ runner. position_of runner.value ≡ 0) }
 {
-    Runner::new(alloc, checked)
+    let runner = Runner::new(alloc, checked)?;
+    Ok(Box::new(alloc, runner)?)
 }
 
-fn copy_of<'q>(alloc: Global, runner: &Runner<'q>) -> Result<Runner<'q>, AllocError>
+fn copy_of<'q>(alloc: Global, runner: &Runner<'q>) -> Result<Box<Runner<'q>>, AllocError>
     requires { TakesItems tested.keyed runner.now }
-    ensures fed { IfOk result (TakesItems tested.keyed) }
-    ensures position { IfOk result (λ copy. position_of copy ≡ position_of runner.now) }
+    ensures fed { IfOk result (λ copy. TakesItems tested.keyed copy.value) }
+    ensures position { IfOk result (λ copy. position_of copy.value ≡ position_of runner.now) }
 {
-    runner.try_copy(alloc)
+    let copy = runner.try_copy(alloc)?;
+    Ok(Box::new(alloc, copy)?)
 }
 
 // Takes a 1 under A, a 2 under B and a tick.

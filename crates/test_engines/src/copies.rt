@@ -13,12 +13,13 @@ use query_model::{Checked, Follower};
 use std::alloc::{AllocError, Global};
 use std::test::Fail;
 
-fn copy_of<'q>(alloc: Global, runner: &Runner<'q>) -> Result<Runner<'q>, AllocError>
+fn copy_of<'q>(alloc: Global, runner: &Runner<'q>) -> Result<Box<Runner<'q>>, AllocError>
     requires { TakesItems tested.numbers runner.now }
-    ensures fed { IfOk result (TakesItems tested.numbers) }
-    ensures position { IfOk result (λ copy. position_of copy ≡ position_of runner.now) }
+    ensures fed { IfOk result (λ copy. TakesItems tested.numbers copy.value) }
+    ensures position { IfOk result (λ copy. position_of copy.value ≡ position_of runner.now) }
 {
-    runner.try_copy(alloc)
+    let copy = runner.try_copy(alloc)?;
+    Ok(Box::new(alloc, copy)?)
 }
 
 // A runner goes on with a 4, and its copy with a 9.

@@ -1,7 +1,8 @@
 // The keys and followers after each call, with ample memory. A follower is a number here.
-use crate::assertions::same;
+use crate::assertions::{same, same_at};
 use map_collect::Keys;
 use std::alloc::{AllocError, Global};
+use std::process::Abort;
 use std::test::Fail;
 
 // Adds ten to the follower of the key, which begins as the default one.
@@ -32,6 +33,30 @@ fn three(alloc: Global) -> Result<Keys<u64>, AllocError> {
     Ok(keys)
 }
 
+// The same and c, which begins as 100.
+fn four(alloc: Global) -> Result<Keys<u64>, AllocError> {
+    let mut keys = three(alloc)?;
+    *keys.fallback_mut() = 100;
+    push(&mut keys, b"c")?;
+    Ok(keys)
+}
+
+// The keys in their order, each with its follower.
+fn same_keys(rt: &impl Abort, keys: &Keys<u64>, wanted: &[(&[u8], u64)]) {
+    same(rt, keys.len(), wanted.len());
+    for i in 0..keys.len() {
+        let found = (keys.key(i), *keys.follower(i));
+        same_at(rt, i, Some(found), wanted.get(i).copied());
+    }
+}
+
+// Where each key stands.
+fn same_places(rt: &impl Abort, keys: &Keys<u64>, wanted: &[(&[u8], Option<usize>)]) {
+    for &(key, place) in wanted {
+        same_at(rt, key, keys.place(key), place);
+    }
+}
+
 #[test]
 fn there_are_no_keys_at_first(rt: HostRuntime) -> Result<(), Fail> {
     let keys: Keys<u64> = Keys::new(rt.alloc(), 7);
@@ -44,49 +69,57 @@ fn there_are_no_keys_at_first(rt: HostRuntime) -> Result<(), Fail> {
 #[test]
 fn keys_stand_in_the_order_in_which_they_came_first(rt: HostRuntime) -> Result<(), Fail> {
     let keys = three(rt.alloc())?;
-    assert!(rt; keys.len() == 3);
-    same(&rt, keys.key(0), b"b".as_slice());
-    same(&rt, keys.key(1), b"a".as_slice());
-    same(&rt, keys.key(2), b"".as_slice());
-    same(&rt, *keys.follower(0), 11);
-    same(&rt, *keys.follower(1), 21);
-    same(&rt, *keys.follower(2), 11);
+    same_keys(&rt, &keys, &[(b"b", 11), (b"a", 21), (b"", 11)]);
     Ok(())
 }
 
 #[test]
 fn a_key_is_found_by_all_its_bytes(rt: HostRuntime) -> Result<(), Fail> {
     let keys = three(rt.alloc())?;
-    same(&rt, keys.place(b"a"), Some(1));
-    same(&rt, keys.place(b""), Some(2));
-    same(&rt, keys.place(b"ab"), None);
-    same(&rt, keys.place(b"A"), None);
+    same_places(
+        &rt,
+        &keys,
+        &[(b"a", Some(1)), (b"", Some(2)), (b"ab", None), (b"A", None)],
+    );
     Ok(())
 }
 
 #[test]
 fn the_default_is_for_later_keys_alone(rt: HostRuntime) -> Result<(), Fail> {
-    let mut keys = three(rt.alloc())?;
-    *keys.fallback_mut() = 100;
-    push(&mut keys, b"c")?;
-    assert!(rt; keys.len() == 4);
-    same(&rt, *keys.follower(0), 11);
-    same(&rt, *keys.follower(3), 110);
+    let keys = four(rt.alloc())?;
+    same_keys(
+        &rt,
+        &keys,
+        &[(b"b", 11), (b"a", 21), (b"", 11), (b"c", 110)],
+    );
     Ok(())
+}
+
+// Four keys for each of 50 first bytes.
+fn push_many(keys: &mut Keys<u64>) -> Result<(), AllocError> {
+    for first in 0..50u8 {
+        for second in 0..4u8 {
+            push(keys, [first, second].as_slice())?;
+        }
+    }
+    Ok(())
+}
+
+fn many(alloc: Global) -> Result<Keys<u64>, AllocError> {
+    let mut keys = Keys::new(alloc, 0);
+    push_many(&mut keys)?;
+    Ok(keys)
 }
 
 #[test]
 fn many_keys_are_found(rt: HostRuntime) -> Result<(), Fail> {
-    let mut keys = Keys::new(rt.alloc(), 0);
-    for first in 0..50u8 {
-        for second in 0..4u8 {
-            push(&mut keys, [first, second].as_slice())?;
-        }
-    }
+    let keys = many(rt.alloc())?;
     same(&rt, keys.len(), 200);
-    same(&rt, keys.place([49u8, 3].as_slice()), Some(199));
-    same(&rt, keys.place([7u8, 1].as_slice()), Some(29));
-    same(&rt, keys.place([50u8, 0].as_slice()), None);
+    same_places(
+        &rt,
+        &keys,
+        &[(&[49, 3], Some(199)), (&[7, 1], Some(29)), (&[50, 0], None)],
+    );
     Ok(())
 }
 

@@ -32,13 +32,13 @@ fn number_of(hit: &Option<Hit>) -> Found {
 }
 
 // The node without a start.
-fn resting(alloc: Global, query: &Query) -> Result<Node, AllocError>
+fn resting(alloc: Global, query: &Query) -> Result<Box<Node>, AllocError>
     requires { plain_of query.now.shape ≡ tested.difference }
     ensures { IfOk result (λ node.
-        IsSound seen_of tested.numbers (plain_of query.now.shape) 0 (holding_of node.state)) }
+        IsSound seen_of tested.numbers (plain_of query.now.shape) 0 (holding_of node.value.state)) }
 {
     let node = Node::new(alloc, query, None)?;
-    Ok(node)
+    Ok(Box::new(alloc, node)?)
 }
 
 // What a start at 0 gives.
@@ -148,7 +148,7 @@ fn stored_in_both(alloc: Global, query: &Query, node: &mut Node) -> Result<(u64,
 {
     hit_at_first(alloc, query, node)?;
     hit_after(alloc, query, node, 1, 9)?;
-    let other = copy(query, node, alloc)?;
+    let other = Box::new(alloc, copy(query, node, alloc)?)?;
     Ok((stored(query, node), stored(query, &other)))
 }
 

@@ -128,15 +128,30 @@ fn a_split_has_one_rate_behind_the_other(rt: HostRuntime) -> Result<(), Fail> {
     Ok(())
 }
 
+fn combination(alloc: Global) -> Result<Shape, AllocError> {
+    let (first, second) = two_items(alloc, 1, 2)?;
+    Ok(Shape::Combine(first, second, left_value()))
+}
+
+fn composition(alloc: Global) -> Result<Shape, AllocError> {
+    let (first, second) = two_items(alloc, 6, 2)?;
+    Ok(Shape::Compose(first, second))
+}
+
 #[test]
 fn two_that_follow_one_word_have_the_first_rate(rt: HostRuntime) -> Result<(), Fail> {
-    let (first, second) = two_items(rt.alloc(), 1, 2)?;
-    let shape = Shape::Combine(first, second, left_value());
-    assert!(rt; has_rate_of_item(rt.alloc(), shape, 1)?);
-    let (first, second) = two_items(rt.alloc(), 6, 2)?;
-    let shape = Shape::Compose(first, second);
-    assert!(rt; has_rate_of_item(rt.alloc(), shape, 6)?);
+    let combination = combination(rt.alloc())?;
+    assert!(rt; has_rate_of_item(rt.alloc(), combination, 1)?);
+    let composition = composition(rt.alloc())?;
+    assert!(rt; has_rate_of_item(rt.alloc(), composition, 6)?);
     Ok(())
+}
+
+fn call_laws() {
+    a_word_has_at_most_one_value();
+    each_word_has_a_value_or_none();
+    queries_have_values_on_their_rates();
+    values_have_the_types_of_their_queries();
 }
 
 #[test]
@@ -148,9 +163,6 @@ fn a_copy_has_the_places_of_the_query(rt: HostRuntime) -> Result<(), Fail> {
         return Err(Fail::from("no sum"));
     };
     same(&rt, (item.span.from, *first), (37, 0));
-    a_word_has_at_most_one_value();
-    each_word_has_a_value_or_none();
-    queries_have_values_on_their_rates();
-    values_have_the_types_of_their_queries();
+    call_laws();
     Ok(())
 }

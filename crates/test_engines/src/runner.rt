@@ -14,41 +14,43 @@ use std::alloc::{AllocError, Global};
 use std::test::Fail;
 use value_ops::{Scalar, Value};
 
-pub fn checked_difference(alloc: Global) -> Result<Checked, AllocError>
-    ensures stream { IfOk result (λ checked. checked.layout.columns ≡ tested.numbers) }
-    ensures query { IfOk result (λ checked. plain_of checked.main.shape ≡ tested.difference) }
+pub fn checked_difference(alloc: Global) -> Result<Box<Checked>, AllocError>
+    ensures stream { IfOk result (λ checked. checked.value.layout.columns ≡ tested.numbers) }
+    ensures query { IfOk result (λ checked. plain_of checked.value.main.shape ≡ tested.difference) }
 {
     let columns = numbers(alloc)?;
     let main = difference(alloc)?;
-    Ok(Checked::new(columns, main))
+    Ok(Box::new(alloc, Checked::new(columns, main))?)
 }
 
-pub fn checked_excess(alloc: Global) -> Result<Checked, AllocError>
-    ensures stream { IfOk result (λ checked. checked.layout.columns ≡ tested.numbers) }
-    ensures query { IfOk result (λ checked. plain_of checked.main.shape ≡ tested.excess) }
+pub fn checked_excess(alloc: Global) -> Result<Box<Checked>, AllocError>
+    ensures stream { IfOk result (λ checked. checked.value.layout.columns ≡ tested.numbers) }
+    ensures query { IfOk result (λ checked. plain_of checked.value.main.shape ≡ tested.excess) }
 {
     let columns = numbers(alloc)?;
     let main = excess(alloc)?;
-    Ok(Checked::new(columns, main))
+    Ok(Box::new(alloc, Checked::new(columns, main))?)
 }
 
-pub fn checked_total(alloc: Global) -> Result<Checked, AllocError>
-    ensures stream { IfOk result (λ checked. checked.layout.columns ≡ tested.numbers) }
-    ensures query { IfOk result (λ checked. plain_of checked.main.shape ≡ tested.total_of_totals) }
+pub fn checked_total(alloc: Global) -> Result<Box<Checked>, AllocError>
+    ensures stream { IfOk result (λ checked. checked.value.layout.columns ≡ tested.numbers) }
+    ensures query { IfOk result (λ checked.
+        plain_of checked.value.main.shape ≡ tested.total_of_totals) }
 {
     let columns = numbers(alloc)?;
     let main = total_of_totals(alloc)?;
-    Ok(Checked::new(columns, main))
+    Ok(Box::new(alloc, Checked::new(columns, main))?)
 }
 
 // The runner before the first number.
-pub fn begun(alloc: Global, checked: &Checked) -> Result<Runner<'_>, AllocError>
+pub fn begun(alloc: Global, checked: &Checked) -> Result<Box<Runner<'_>>, AllocError>
     requires stream { checked.now.layout.columns ≡ tested.numbers }
     requires composes { composes_of (plain_of checked.now.main.shape) ≤ 1 }
-    ensures fed { IfOk result (TakesItems tested.numbers) }
-    ensures position { IfOk result (λ runner. position_of runner ≡ 0) }
+    ensures fed { IfOk result (λ runner. TakesItems tested.numbers runner.value) }
+    ensures position { IfOk result (λ runner. position_of runner.value ≡ 0) }
 {
-    Runner::new(alloc, checked)
+    let runner = Runner::new(alloc, checked)?;
+    Ok(Box::new(alloc, runner)?)
 }
 
 pub fn value(runner: &Runner<'_>) -> Option<i64> {

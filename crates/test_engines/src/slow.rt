@@ -1,9 +1,10 @@
 // Values by the rules of the language, on words so short that these can be asked here.
-ghost use Rattle.std.specs.Prelude.{◌≡◌, [], ◌∷◌, pos, IfOk};
+ghost use Rattle.std.specs.Prelude.{◌≡◌, [], ◌∷◌, codes, pos, IfOk};
 ghost use Rattle.value_ops.specs.Expressions.{binary, literal, read};
 ghost use Rattle.predicate_cells.specs.Predicates.{any, eq_text};
 ghost use Rattle.rate_expr.specs.Rates.{one, star};
 ghost use Rattle.query_model.specs.Queries.{atom, collect, compose, eps, plain_of, split};
+ghost use Rattle.slow_eval.specs.Answers.{CanBeRead};
 
 use crate::assertions::same;
 use crate::given::{both, each, query};
@@ -13,6 +14,7 @@ use query_model::{Query, Shape};
 use rate_expr::Rate;
 use slow_eval::{answer_on, answers_on_fronts};
 use std::alloc::{AllocError, Global};
+use std::process::Abort;
 use std::test::Fail;
 use value_ops::{BinaryOp, Bytes, Expr, Field, Scalar, Value, Var};
 
@@ -34,14 +36,29 @@ fn number_in(answer: &Option<Value>) -> Option<i64> {
     }
 }
 
+// The number that the query gives on the one front of the empty word.
+fn number_on_front(rt: &impl Abort, alloc: Global, query: &Query) -> Result<Option<i64>, AllocError>
+    requires { CanBeRead (plain_of query.now.shape) [] }
+{
+    let answers = answers_on_fronts(alloc, query, &[])?;
+    assert!(rt; answers.len() == 1);
+    Ok(number_in(&answers[0]))
+}
+
+// The number that the query gives on the empty word.
+fn number_on_empty(alloc: Global, query: &Query) -> Result<Option<i64>, AllocError>
+    requires { CanBeRead (plain_of query.now.shape) [] }
+{
+    let answer = answer_on(alloc, query, &[])?;
+    Ok(number_in(&answer))
+}
+
 #[test]
 fn a_split_of_the_empty_word_has_both_values(rt: HostRuntime) -> Result<(), Fail> {
     let alloc = rt.alloc();
     let query = difference(alloc)?;
-    let answers = answers_on_fronts(alloc, &query, &[])?;
-    assert!(rt; answers.len() == 1);
-    same(&rt, number_in(&answers[0]), Some(-1));
-    same(&rt, number_in(&answer_on(alloc, &query, &[])?), Some(-1));
+    same(&rt, number_on_front(&rt, alloc, &query)?, Some(-1));
+    same(&rt, number_on_empty(alloc, &query)?, Some(-1));
     Ok(())
 }
 
@@ -59,7 +76,7 @@ fn composition(alloc: Global) -> Result<Box<Query>, AllocError>
 fn the_value_of_the_empty_word_comes_out(rt: HostRuntime) -> Result<(), Fail> {
     let alloc = rt.alloc();
     let query = composition(alloc)?;
-    same(&rt, number_in(&answer_on(alloc, &query, &[])?), Some(3));
+    same(&rt, number_on_empty(alloc, &query)?, Some(3));
     Ok(())
 }
 
@@ -82,6 +99,16 @@ fn item(alloc: Global, name: &[u8]) -> Result<Item, AllocError>
     Ok(Item::from_fields(fields))
 }
 
+fn two_items(alloc: Global) -> Result<Vec<Item>, AllocError>
+    ensures { IfOk result (λ items. items.items
+        ≡ (Field.Text (codes "b") ∷ []) ∷ (Field.Text (codes "a") ∷ []) ∷ []) }
+{
+    let mut items = Vec::new(alloc);
+    items.push(item(alloc, b"b")?)?;
+    items.push(item(alloc, b"a")?)?;
+    Ok(items)
+}
+
 fn keys_in(answer: &Option<Value>) -> Option<(&[u8], &[u8])> {
     match answer {
         Some(Value::Table(table)) if table.len() == 2 => Some((table.key(0), table.key(1))),
@@ -89,17 +116,26 @@ fn keys_in(answer: &Option<Value>) -> Option<(&[u8], &[u8])> {
     }
 }
 
+// The query gives a table of these two keys on the items.
+fn has_keys(
+    rt: &impl Abort,
+    alloc: Global,
+    query: &Query,
+    items: &[Item],
+    keys: (&[u8], &[u8]),
+) -> Result<(), AllocError>
+    requires { CanBeRead (plain_of query.now.shape) items.now }
+{
+    let answer = answer_on(alloc, query, items)?;
+    same(rt, keys_in(&answer), Some(keys));
+    Ok(())
+}
+
 #[test]
 fn keys_stand_in_the_order_in_which_they_appear(rt: HostRuntime) -> Result<(), Fail> {
     let alloc = rt.alloc();
     let query = collection(alloc)?;
-    let first = item(alloc, b"b")?;
-    let second = item(alloc, b"a")?;
-    let answer = answer_on(alloc, &query, &[first, second])?;
-    same(
-        &rt,
-        keys_in(&answer),
-        Some((b"b".as_slice(), b"a".as_slice())),
-    );
+    let items = two_items(alloc)?;
+    has_keys(&rt, alloc, &query, &items, (b"b", b"a"))?;
     Ok(())
 }

@@ -31,14 +31,34 @@ fn shared(alloc: Global, cells: Cells) -> Result<Rc<Cells>, AllocError> {
     Ok(Rc::new(alloc, cells)?)
 }
 
+fn add_test(preds: &mut Preds, number: i64) -> Result<(), AllocError> {
+    let test = Pred::Eq(0, number);
+    preds.add(&test)
+}
+
+// Whether it is 1, and whether it is 2.
+fn preds(alloc: Global) -> Result<Preds, AllocError> {
+    let mut preds = Preds::new(alloc);
+    add_test(&mut preds, 1)?;
+    add_test(&mut preds, 2)?;
+    Ok(preds)
+}
+
+fn cells_under(
+    rt: &impl Abort,
+    alloc: Global,
+    schema: &Schema,
+    preds: &Preds,
+) -> Result<Rc<Cells>, CellStop> {
+    assert!(rt; preds.fit(schema));
+    Ok(shared(alloc, Cells::new(alloc, schema, preds)?)?)
+}
+
 // The cells by which 1 and 2 are told from all other numbers.
 fn cells(rt: &impl Abort, alloc: Global) -> Result<Rc<Cells>, CellStop> {
     let schema = numbers(alloc)?;
-    let mut preds = Preds::new(alloc);
-    preds.add(&Pred::Eq(0, 1))?;
-    preds.add(&Pred::Eq(0, 2))?;
-    assert!(rt; preds.fit(&schema));
-    Ok(shared(alloc, Cells::new(alloc, &schema, &preds)?)?)
+    let preds = preds(alloc)?;
+    cells_under(rt, alloc, &schema, &preds)
 }
 
 fn pair(alloc: Global) -> Result<Box<Rate>, AllocError> {
@@ -81,11 +101,15 @@ fn none(rt: &impl Abort, alloc: Global) -> Result<Box<Tracks<u64>>, Fail> {
 // The starts 30, 20, 10 and 40, whose words are 1, 1 and 2, the empty one and 2.
 fn four(rt: &impl Abort, alloc: Global) -> Result<Box<Tracks<u64>>, Fail> {
     let mut tracks = none(rt, alloc)?;
-    put(alloc, &mut tracks, 30, BEHIND_ONE)?;
-    put(alloc, &mut tracks, 20, BEHIND_BOTH)?;
-    put(alloc, &mut tracks, 10, State::Initial)?;
-    put(alloc, &mut tracks, 40, NOWHERE)?;
-    put(alloc, &mut tracks, 10, NOWHERE)?;
+    for (start, state) in [
+        (30, BEHIND_ONE),
+        (20, BEHIND_BOTH),
+        (10, State::Initial),
+        (40, NOWHERE),
+        (10, NOWHERE),
+    ] {
+        put(alloc, &mut tracks, start, state)?;
+    }
     Ok(tracks)
 }
 
@@ -104,6 +128,14 @@ fn same_starts(rt: &impl Abort, tracks: &Tracks<u64>, wanted: &[u64]) {
     same(rt, tracks.len(), wanted.len());
     for i in 0..tracks.len() {
         same_at(rt, i, Some(tracks.start(i)), wanted.get(i).copied());
+    }
+}
+
+fn same_fallbacks(rt: &impl Abort, tracks: &Tracks<u64>, wanted: &[u64]) {
+    same(rt, tracks.len(), wanted.len());
+    for i in 0..tracks.len() {
+        let found = *tracks.keys(i).fallback();
+        same_at(rt, i, Some(found), wanted.get(i).copied());
     }
 }
 
@@ -168,8 +200,7 @@ fn keys_are_written_to_at_their_start(rt: HostRuntime) -> Result<(), Fail> {
     let mut tracks = four(&rt, rt.alloc())?;
     assert!(rt; tracks.len() == 4);
     *tracks.keys_mut(1).fallback_mut() = 5;
-    assert!(rt; tracks.len() == 4 && *tracks.keys(0).fallback() == 30);
-    assert!(rt; tracks.len() == 4 && *tracks.keys(1).fallback() == 5);
+    same_fallbacks(&rt, &tracks, &[30, 5, 10, 40]);
     Ok(())
 }
 
@@ -180,17 +211,32 @@ struct Nest {
     inner: Tracks<Nest>,
 }
 
+// Keys without one, whose default follower has no start.
+fn deepest(rt: &impl Abort, alloc: Global) -> Result<Keys<Nest>, CellStop> {
+    let inner = Tracks::new(alloc, nfa(rt, alloc)?);
+    Ok(Keys::new(alloc, Nest { depth: 2, inner }))
+}
+
+// One start, with the keys.
+fn one(alloc: Global, nfa: Nfa, keys: Keys<Nest>) -> Result<Tracks<Nest>, AllocError> {
+    let mut tracks = Tracks::new(alloc, nfa);
+    tracks.put(5, State::Initial, keys)?;
+    Ok(tracks)
+}
+
+// A follower with one start, from which there is another follower.
+fn nested(rt: &impl Abort, alloc: Global) -> Result<Box<Nest>, Fail> {
+    let nfa = nfa(rt, alloc)?;
+    let keys = deepest(rt, alloc)?;
+    let inner = one(alloc, nfa, keys)?;
+    Ok(Box::new(alloc, Nest { depth: 1, inner })?)
+}
+
 #[test]
 fn a_follower_may_have_tracks(rt: HostRuntime) -> Result<(), Fail> {
-    let alloc = rt.alloc();
-    let deepest = Nest {
-        depth: 2,
-        inner: Tracks::new(alloc, nfa(&rt, alloc)?),
-    };
-    let mut inner = Tracks::new(alloc, nfa(&rt, alloc)?);
-    inner.put(5, State::Initial, Keys::new(alloc, deepest))?;
-    let nest = Nest { depth: 1, inner };
+    let nest = nested(&rt, rt.alloc())?;
     same(&rt, (nest.depth, nest.inner.len()), (1, 1));
+    assert!(rt; nest.inner.len() == 1);
     same(&rt, nest.inner.keys(0).fallback().depth, 2);
     Ok(())
 }

@@ -25,12 +25,12 @@ can = record {
   positions = (tt, tt, omega arith);
 }
 
-pub answers_on_fronts-requires : goal.answers_on_fronts-requires
-answers_on_fronts-requires g c =
+pub number_on_front-requires : goal.number_on_front-requires
+number_on_front-requires g c =
     subst (λ (query : Query). CanBeRead (plain_of query.shape) []) (sym c.deref.ensures)
     (subst (λ query. CanBeRead query []) (sym c.in_ok-query.ensures) can)
 
-pub answer_on-requires : goal.answer_on-requires
-answer_on-requires g c =
+pub number_on_empty-requires : goal.number_on_empty-requires
+number_on_empty-requires g c =
     subst (λ (query : Query). CanBeRead (plain_of query.shape) []) (sym c.deref-2.ensures)
     (subst (λ query. CanBeRead query []) (sym c.in_ok-query.ensures) can)

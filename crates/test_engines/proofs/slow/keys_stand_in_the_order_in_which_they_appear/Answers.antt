@@ -36,14 +36,13 @@ can = record {
   positions = (tt, omega arith);
 }
 
-pub answer_on-requires : goal.answer_on-requires
-answer_on-requires g c =
+pub has_keys-requires : goal.has_keys-requires
+has_keys-requires g c =
     let query = collect 0 (eq_text 0 []) (star (one any)) (atom any (literal (pos 1))) in
-    let second : CanBeRead query (item_of (codes "b") ∷ c.in_ok-second.second ∷ []) =
-    subst (λ item. CanBeRead query (item_of (codes "b") ∷ item ∷ [])) (sym c.in_ok-second.ensures) can in
-    let first : CanBeRead query (c.in_ok-first.first ∷ c.in_ok-second.second ∷ []) =
-    subst (λ item. CanBeRead query (item ∷ c.in_ok-second.second ∷ [])) (sym c.in_ok-first.ensures) second in
-    let plain : CanBeRead (plain_of c.in_ok-query.query.value.shape) (c.in_ok-first.first ∷ c.in_ok-second.second ∷ []) =
-    subst (λ q. CanBeRead q (c.in_ok-first.first ∷ c.in_ok-second.second ∷ [])) (sym c.in_ok-query.ensures) first in
-    subst (λ (q : Query). CanBeRead (plain_of q.shape) (c.in_ok-first.first ∷ c.in_ok-second.second ∷ []))
-    (sym c.deref.ensures) plain
+    let read : CanBeRead query c.in_ok-items.items.items =
+    subst (CanBeRead query) (sym c.in_ok-items.ensures) can in
+    let on_items : CanBeRead query c.deref-2.result.now =
+    subst (CanBeRead query) (sym c.deref-2.ensures.value) read in
+    let plain : CanBeRead (plain_of c.in_ok-query.query.value.shape) c.deref-2.result.now =
+    subst (λ q. CanBeRead q c.deref-2.result.now) (sym c.in_ok-query.ensures) on_items in
+    subst (λ (q : Query). CanBeRead (plain_of q.shape) c.deref-2.result.now) (sym c.deref.ensures) plain

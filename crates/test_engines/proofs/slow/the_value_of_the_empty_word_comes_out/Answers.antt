@@ -35,7 +35,7 @@ can = record {
   positions = (tt, tt);
 }
 
-pub answer_on-requires : goal.answer_on-requires
-answer_on-requires g c =
+pub number_on_empty-requires : goal.number_on_empty-requires
+number_on_empty-requires g c =
     subst (λ (query : Query). CanBeRead (plain_of query.shape) []) (sym c.deref.ensures)
     (subst (λ query. CanBeRead query []) (sym c.in_ok-query.ensures) can)
