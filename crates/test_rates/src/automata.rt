@@ -1,6 +1,7 @@
 // What no clause says: that automata and copies are made at all, and what they answer behind a word. The program
 // cases_rates goes through a table of rates and words.
-use crate::one_number::{numbers, shared};
+use crate::given::{boxed, item, items};
+use crate::one_number::{cells_under, numbers};
 use item_schema::Item;
 use predicate_cells::{CellStop, Cells, Pred, Preds};
 use rate_expr::{MAX_POSITIONS, Positions, Rate};
@@ -19,24 +20,33 @@ fn cells_with(rt: &impl Abort, alloc: Global, pred: &Pred) -> Result<Rc<Cells>, 
     let mut preds = Preds::new(alloc);
     preds.add(&Pred::Any)?;
     preds.add(pred)?;
-    assert!(rt; preds.fit(&schema));
-    Ok(shared(alloc, Cells::new(alloc, &schema, &preds)?)?)
+    cells_under(rt, alloc, &schema, &preds)
 }
 
 // The positions of words that end with 1.
 fn positions(rt: &impl Abort, alloc: Global) -> Result<Positions, AllocError> {
-    let items = Rate::Star(Box::new(alloc, Rate::One(Pred::Any))?);
-    let one = Rate::One(Pred::Eq(0, 1));
-    let rate = Rate::Seq(Box::new(alloc, items)?, Box::new(alloc, one)?);
+    let items = items(alloc)?;
+    let one = item(alloc, Pred::Eq(0, 1))?;
+    let rate = boxed(alloc, Rate::Seq(items, one))?;
     assert!(rt; rate.positions() <= MAX_POSITIONS);
     Positions::of(alloc, &rate)
 }
 
-fn nfa(rt: &impl Abort, alloc: Global) -> Result<Nfa, CellStop> {
+fn held(alloc: Global, nfa: Nfa) -> Result<Box<Nfa>, AllocError> {
+    Ok(Box::new(alloc, nfa)?)
+}
+
+fn nfa(rt: &impl Abort, alloc: Global) -> Result<Box<Nfa>, CellStop> {
     let cells = cells_with(rt, alloc, &Pred::Eq(0, 1))?;
     let positions = positions(rt, alloc)?;
     assert!(rt; Nfa::can_read(&positions, cells.as_ref()));
-    Ok(Nfa::new(alloc, positions, &cells)?)
+    Ok(held(alloc, Nfa::new(alloc, positions, &cells)?)?)
+}
+
+// A copy of the automaton, which is gone by then.
+fn copied(rt: &impl Abort, alloc: Global) -> Result<Box<Nfa>, CellStop> {
+    let nfa = nfa(rt, alloc)?;
+    Ok(held(alloc, nfa.try_copy(alloc)?)?)
 }
 
 // The cell of items of the number.
@@ -78,7 +88,7 @@ fn ways_on_are_found_once_for_all_items(rt: HostRuntime) -> Result<(), Fail> {
 
 #[test]
 fn a_copy_has_the_same_positions_and_cells(rt: HostRuntime) -> Result<(), Fail> {
-    let copy = nfa(&rt, rt.alloc())?.try_copy(rt.alloc())?;
+    let copy = copied(&rt, rt.alloc())?;
     let cell = cell_of(rt.alloc(), &copy, 1)?;
     assert!(rt; cell < copy.cells().count() && copy.met_by(cell) == 0b_11);
     assert!(rt; copy.has_state(State::At(0b_11)) && !copy.has_state(State::At(0b_100)));
@@ -88,7 +98,7 @@ fn a_copy_has_the_same_positions_and_cells(rt: HostRuntime) -> Result<(), Fail> 
 
 #[test]
 fn an_automaton_gives_its_positions_back(rt: HostRuntime) -> Result<(), Fail> {
-    let positions = nfa(&rt, rt.alloc())?.into_positions();
+    let positions = Box::into_inner(nfa(&rt, rt.alloc())?).into_positions();
     assert_eq!(rt; (positions.first(), positions.last()), (0b_11, 0b_10));
     Ok(())
 }

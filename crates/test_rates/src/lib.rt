@@ -7,6 +7,8 @@ mod automata;
 #[cfg(test)]
 mod equality;
 #[cfg(test)]
+mod given;
+#[cfg(test)]
 mod many_cells;
 #[cfg(test)]
 mod one_number;

@@ -1,8 +1,9 @@
 // Cells that no position tells apart: searches over what the items of cells meet see them as one.
-use crate::one_number::shared;
+use crate::given::item;
+use crate::one_number::{cells_under, nfa_of};
 use item_schema::{Column, Kind, Schema, are_columns};
 use predicate_cells::{CellStop, Cells, Pred, Preds};
-use rate_expr::{MAX_POSITIONS, Positions, Rate};
+use rate_expr::Rate;
 use std::alloc::{AllocError, Global};
 use std::process::Abort;
 use std::rc::Rc;
@@ -26,39 +27,57 @@ fn texts(rt: &impl Abort, alloc: Global) -> Result<Schema, AllocError> {
     Ok(Schema::new(false, columns))
 }
 
+fn boxed(alloc: Global, pred: Pred) -> Result<Box<Pred>, AllocError> {
+    Ok(Box::new(alloc, pred)?)
+}
+
 // Whether each of the fields is v.
-fn all_are_v(alloc: Global) -> Result<Pred, AllocError> {
-    let mut all = Pred::Any;
+fn all_are_v(alloc: Global) -> Result<Box<Pred>, AllocError> {
+    let mut all = boxed(alloc, Pred::Any)?;
     for column in 0..COLUMNS {
-        let is_v = Pred::EqText(column, Bytes::from_slice(alloc, b"v")?);
-        all = Pred::And(Box::new(alloc, all)?, Box::new(alloc, is_v)?);
+        let v = Bytes::from_slice(alloc, b"v")?;
+        let is_v = boxed(alloc, Pred::EqText(column, v))?;
+        all = boxed(alloc, Pred::And(all, is_v))?;
     }
     Ok(all)
+}
+
+// A word of one item, whose fields are all v.
+fn rate(alloc: Global) -> Result<Box<Rate>, AllocError> {
+    let pred = Box::into_inner(all_are_v(alloc)?);
+    item(alloc, pred)
 }
 
 fn cells(rt: &impl Abort, alloc: Global) -> Result<Rc<Cells>, CellStop> {
     let schema = texts(rt, alloc)?;
     let mut preds = Preds::new(alloc);
-    preds.add(&all_are_v(alloc)?)?;
-    assert!(rt; preds.fit(&schema));
-    Ok(shared(alloc, Cells::new(alloc, &schema, &preds)?)?)
+    let test = all_are_v(alloc)?;
+    preds.add(&test)?;
+    cells_under(rt, alloc, &schema, &preds)
 }
 
-#[test]
-fn the_cells_of_a_test_of_twelve_columns_meet_two_sets(rt: HostRuntime) -> Result<(), Fail> {
-    let cells = cells(&rt, rt.alloc())?;
-    let rate = Rate::One(all_are_v(rt.alloc())?);
-    assert!(rt; rate.positions() <= MAX_POSITIONS);
-    let positions = Positions::of(rt.alloc(), &rate)?;
-    assert!(rt; Nfa::can_read(&positions, cells.as_ref()));
-    let nfa = Nfa::new(rt.alloc(), positions, &cells)?;
-    let mut met = Vec::new(rt.alloc());
+fn nfa(rt: &impl Abort, alloc: Global) -> Result<Nfa, CellStop> {
+    let cells = cells(rt, alloc)?;
+    let rate = rate(alloc)?;
+    Ok(nfa_of(rt, alloc, &cells, &rate)?)
+}
+
+// The different sets of positions that the items of cells meet.
+fn met_by_cells(alloc: Global, nfa: &Nfa) -> Result<Vec<u128>, AllocError> {
+    let mut met = Vec::new(alloc);
     for cell in 0..nfa.cells().count() {
         let mask = nfa.met_by(cell);
         if !met.contains(&mask) {
             met.push(mask)?;
         }
     }
+    Ok(met)
+}
+
+#[test]
+fn the_cells_of_a_test_of_twelve_columns_meet_two_sets(rt: HostRuntime) -> Result<(), Fail> {
+    let nfa = nfa(&rt, rt.alloc())?;
+    let met = met_by_cells(rt.alloc(), &nfa)?;
     assert_eq!(rt; (nfa.cells().count(), met.len()), (4_096, 2));
     Ok(())
 }

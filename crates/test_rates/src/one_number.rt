@@ -20,8 +20,18 @@ pub(crate) fn numbers(alloc: Global) -> Result<Schema, AllocError> {
     Ok(Schema::new(false, columns))
 }
 
-pub(crate) fn shared(alloc: Global, cells: Cells) -> Result<Rc<Cells>, AllocError> {
+fn shared(alloc: Global, cells: Cells) -> Result<Rc<Cells>, AllocError> {
     Ok(Rc::new(alloc, cells)?)
+}
+
+pub(crate) fn cells_under(
+    rt: &impl Abort,
+    alloc: Global,
+    schema: &Schema,
+    preds: &Preds,
+) -> Result<Rc<Cells>, CellStop> {
+    assert!(rt; preds.fit(schema));
+    Ok(shared(alloc, Cells::new(alloc, schema, preds)?)?)
 }
 
 // One cell of all items.
@@ -29,8 +39,7 @@ pub(crate) fn cells(rt: &impl Abort, alloc: Global) -> Result<Rc<Cells>, CellSto
     let schema = numbers(alloc)?;
     let mut preds = Preds::new(alloc);
     preds.add(&Pred::Any)?;
-    assert!(rt; preds.fit(&schema));
-    Ok(shared(alloc, Cells::new(alloc, &schema, &preds)?)?)
+    cells_under(rt, alloc, &schema, &preds)
 }
 
 pub(crate) fn nfa_of(

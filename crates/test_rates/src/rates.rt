@@ -1,5 +1,6 @@
 // What no clause says: that positions, masks and copies are made at all. The masks were found by hand. The program
 // cases_rates goes through a table of rates and their sets.
+use crate::given::{boxed, item};
 use predicate_cells::Pred;
 use rate_expr::masks::{end_of, has, lowest, only, overlap, without_lowest};
 use rate_expr::{
@@ -10,14 +11,11 @@ use std::alloc::{AllocError, Global};
 use std::process::Abort;
 use std::test::Fail;
 
-fn seq(alloc: Global, first: Rate, second: Rate) -> Result<Rate, AllocError> {
-    let first = Box::new(alloc, first)?;
-    Ok(Rate::Seq(first, Box::new(alloc, second)?))
-}
-
 // A small number, and then one in another column.
-fn two_items(alloc: Global) -> Result<Rate, AllocError> {
-    seq(alloc, Rate::One(Pred::Lt(0, 5)), Rate::One(Pred::IsNum(3)))
+fn two_items(alloc: Global) -> Result<Box<Rate>, AllocError> {
+    let first = item(alloc, Pred::Lt(0, 5))?;
+    let second = item(alloc, Pred::IsNum(3))?;
+    boxed(alloc, Rate::Seq(first, second))
 }
 
 #[test]
@@ -53,25 +51,36 @@ fn parts_make_the_positions_of_a_rate(rt: HostRuntime) -> Result<(), Fail> {
     Ok(())
 }
 
+// 300 items in sequence.
+fn many_items(alloc: Global) -> Result<Box<Rate>, AllocError> {
+    let mut rate = boxed(alloc, Rate::Empty)?;
+    for _ in 0..300 {
+        let next = item(alloc, Pred::Any)?;
+        rate = boxed(alloc, Rate::Seq(rate, next))?;
+    }
+    Ok(rate)
+}
+
 #[test]
 fn positions_are_counted_in_a_copy_too(rt: HostRuntime) -> Result<(), Fail> {
     let alloc = rt.alloc();
-    let mut rate = Rate::Empty;
-    for _ in 0..300 {
-        rate = seq(alloc, rate, Rate::One(Pred::Any))?;
-    }
-    let both = seq(alloc, rate.try_copy(alloc)?, rate)?;
+    let rate = many_items(alloc)?;
+    let copy = boxed(alloc, rate.try_copy(alloc)?)?;
+    let both = boxed(alloc, Rate::Seq(copy, rate))?;
     assert_eq!(rt; both.positions(), 600);
     Ok(())
 }
 
+// The first predicate again after both.
+fn three_items(alloc: Global) -> Result<Box<Rate>, AllocError> {
+    let both = two_items(alloc)?;
+    let third = item(alloc, Pred::Lt(0, 5))?;
+    boxed(alloc, Rate::Seq(both, third))
+}
+
 #[test]
 fn two_equal_predicates_are_kept_once(rt: HostRuntime) -> Result<(), Fail> {
-    let rate = seq(
-        rt.alloc(),
-        two_items(rt.alloc())?,
-        Rate::One(Pred::Lt(0, 5)),
-    )?;
+    let rate = three_items(rt.alloc())?;
     assert!(rt; rate.positions() <= MAX_POSITIONS);
     let sets = Positions::of(rt.alloc(), &rate)?.try_copy(rt.alloc())?;
     let preds = sets.preds();

@@ -1,17 +1,13 @@
 // What no clause says: that answers and levels are found at all. The program cases_rates goes through tables of rates and
 // the answers on them.
+use crate::given::{boxed, item, items};
 use crate::one_number::{cells, nfa_of};
 use ambiguity_check::{Pairs, Phase, Search, Splits, disjoint, one_factoring, one_split};
 use predicate_cells::{CellStop, Pred};
 use rate_expr::Rate;
-use std::alloc::{AllocError, Global};
+use std::alloc::Global;
 use std::process::Abort;
 use std::test::Fail;
-
-// An item, again and again.
-fn items(alloc: Global) -> Result<Rate, AllocError> {
-    Ok(Rate::Star(Box::new(alloc, Rate::One(Pred::Any))?))
-}
 
 fn have_none_in_common(
     rt: &impl Abort,
@@ -45,9 +41,10 @@ fn factor_in_one_way(rt: &impl Abort, alloc: Global, rate: &Rate) -> Result<bool
 
 #[test]
 fn rates_have_words_in_common_or_none(rt: HostRuntime) -> Result<(), Fail> {
+    let empty = boxed(rt.alloc(), Rate::Empty)?;
     let items = items(rt.alloc())?;
-    let item = Rate::One(Pred::Any);
-    assert!(rt; have_none_in_common(&rt, rt.alloc(), &Rate::Empty, &item)?);
+    let item = item(rt.alloc(), Pred::Any)?;
+    assert!(rt; have_none_in_common(&rt, rt.alloc(), &empty, &item)?);
     assert!(rt; !have_none_in_common(&rt, rt.alloc(), &items, &item)?);
     Ok(())
 }
@@ -55,7 +52,7 @@ fn rates_have_words_in_common_or_none(rt: HostRuntime) -> Result<(), Fail> {
 #[test]
 fn words_split_in_one_way_or_more(rt: HostRuntime) -> Result<(), Fail> {
     let items = items(rt.alloc())?;
-    let item = Rate::One(Pred::Any);
+    let item = item(rt.alloc(), Pred::Any)?;
     assert!(rt; split_in_one_way(&rt, rt.alloc(), &items, &item)?);
     assert!(rt; !split_in_one_way(&rt, rt.alloc(), &items, &items)?);
     Ok(())
@@ -64,7 +61,8 @@ fn words_split_in_one_way_or_more(rt: HostRuntime) -> Result<(), Fail> {
 #[test]
 fn words_factor_in_one_way_or_more(rt: HostRuntime) -> Result<(), Fail> {
     let items = items(rt.alloc())?;
-    assert!(rt; factor_in_one_way(&rt, rt.alloc(), &Rate::One(Pred::Any))?);
+    let item = item(rt.alloc(), Pred::Any)?;
+    assert!(rt; factor_in_one_way(&rt, rt.alloc(), &item)?);
     assert!(rt; !factor_in_one_way(&rt, rt.alloc(), &items)?);
     Ok(())
 }
@@ -73,7 +71,8 @@ fn words_factor_in_one_way_or_more(rt: HostRuntime) -> Result<(), Fail> {
 #[test]
 fn a_search_is_over_where_nothing_is_new(rt: HostRuntime) -> Result<(), Fail> {
     let cells = cells(&rt, rt.alloc())?;
-    let item = nfa_of(&rt, rt.alloc(), &cells, &Rate::One(Pred::Any))?;
+    let rate = item(rt.alloc(), Pred::Any)?;
+    let item = nfa_of(&rt, rt.alloc(), &cells, &rate)?;
     let pairs = Pairs::new(rt.alloc(), &item, &item)?;
     let mut search = Search::begin(rt.alloc(), &pairs)?;
     assert_eq!(rt; search.latest().row(Phase::Together, 0), 1);
@@ -87,7 +86,8 @@ fn a_search_is_over_where_nothing_is_new(rt: HostRuntime) -> Result<(), Fail> {
 #[test]
 fn a_level_has_the_nodes_that_no_shorter_walk_leads_to(rt: HostRuntime) -> Result<(), Fail> {
     let cells = cells(&rt, rt.alloc())?;
-    let items = nfa_of(&rt, rt.alloc(), &cells, &items(rt.alloc())?)?;
+    let rate = items(rt.alloc())?;
+    let items = nfa_of(&rt, rt.alloc(), &cells, &rate)?;
     let splits = Splits::new(rt.alloc(), &items, &items)?;
     let mut search = Search::begin(rt.alloc(), &splits)?;
     assert_eq!(rt; search.latest().row(Phase::Parted, 0), 1);
