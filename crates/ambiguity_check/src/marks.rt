@@ -68,7 +68,8 @@ impl Marks {
 
     /// A number above the places on the left of all these nodes.
     pub fn end(&self) -> u32
-        ensures { (node : Node) → IsMarked self.now node → node.left < result }
+        ensures end { result ≡ max_positions }
+        ensures below { (node : Node) → IsMarked self.now node → node.left < result }
     {
         (self.rows.len() / PHASES) as u32
     }

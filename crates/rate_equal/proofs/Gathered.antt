@@ -86,11 +86,6 @@ module _ (first second : Automaton) where
         );
   }
 
--- with one more letter there are at most as many as with one more cell
-pub few_more : (letters : List Letter) (letter : Letter) (cell : ℕ) → length letters ≤ cell
-    → length (letters ++ letter ∷ []) ≤ cell + 1
-few_more letters letter cell few = omega (arith, length-append letters (letter ∷ []), few)
-
 -- in whatever order
 pub letters_moved : (first second : Automaton) (letters letters' : List Letter) → IsPermutation letters letters'
     → AreLetters first second letters → AreLetters first second letters'

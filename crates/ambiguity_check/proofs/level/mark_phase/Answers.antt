@@ -18,5 +18,5 @@ lefts-preserved g c = elim c.if-rights-ne0.branch [
 pub returns : goal.returns
 returns g c = rows_all (g.G.Graph.goes_on c.args.graph.now) (g.G.Graph.meet c.args.graph.now)
     c.args.level.now c.args.phase _ _ _ _ _
-    (λ node is. omega (arith, c.end-left-end.ensures node is, c.lefts-test.false))
+    (λ node is. omega (arith, c.end-left-end.ensures.below node is, c.lefts-test.false))
     c.lefts.invariant

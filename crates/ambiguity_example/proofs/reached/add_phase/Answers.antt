@@ -13,5 +13,5 @@ returns c = adds_as
     (λ node. (node.phase ≡ c.args.phase) × IsMarked c.args.level.now node × (node.left < c.lefts.left))
     (λ node. (node.phase ≡ c.args.phase) × IsMarked c.args.level.now node) _ _ _
     (λ node is. (is.0, is.1))
-    (λ node is. (is.0, is.1, (let below = c.end-left-end.ensures node is.1 in omega arith)))
+    (λ node is. (is.0, is.1, (let below = c.end-left-end.ensures.below node is.1 in omega arith)))
     c.lefts.invariant
