@@ -73,7 +73,7 @@ echo "begin \$1 \$crate \$\$" >>"$RT_LOG"
 sleep "\${RT_TAKES:-0}"
 [ "\$crate" != "\${RT_FAILS-}" ] || { echo "rt wrote this of \$crate"; exit 1; }
 echo "end \$1 \$crate" >>"$RT_LOG"
-[ "\$1" = run ] || exit 0
+[ "\$1" = run ] || { mkdir -p out/rlib && echo "\$crate" >out/rlib/stamp; exit; }
 mkdir -p out && cp "$room/kit/\$crate" out/ && chmod +x "out/\$crate" && exit 2
 END
     chmod +x "$room/kit/rt"
@@ -154,6 +154,7 @@ status 0' "$(answer with_rt "$top/sqre" which)"
     same 'first build: what rt was asked' 'lib low;run sqre;lib low;lib aside;run explain;' "$(asked)"
     has 'first build: progress' 'proving low (0 of 2 are proved)' "$(cat "$room/errors")"
     has 'first build: its end' 'proved and built in' "$(cat "$room/errors")"
+    holds 'first build: a library is there where the program is built' [ -e "$top/crates/low/out/rlib/stamp" ]
     holds 'first build: no lock is left' [ ! -e "$top/crates/sqre/out/lock" ]
     holds 'first build: no lanes are left' [ ! -e "$HOME/.cache/sqre$top/lanes" ]
     forget
