@@ -1,10 +1,9 @@
--- Nodes that go behind others, set by set.
+-- Nodes added after others, set by set.
 use Rattle.std.proofs.Common.{◌≡◌, ℕ, zero, suc, ◌+◌, ◌<◌, ◌⊎◌, inl, inr, List, [], ◌∷◌, ◌++◌, refl, sym, ap, ◌∙◌, subst, arith, append_assoc}
 use Rattle.std.proofs.lemmas.Bool.{cases_lt}
 use Rattle.std.proofs.lemmas.List.{append-nil}
 use Rattle.std.proofs.lemmas.List.Elements.{Contains-append_left, Contains-append_right, Contains-append_cases}
 use Rattle.std.specs.List.{Contains}
-use Rattle.std.specs.Prelude.{Result, Ok, Err, OnOk}
 use Rattle.rate_expr.specs.Sets.{Has}
 use Rattle.ambiguity_check.proofs.Marking.{node_at, same_parts}
 use Rattle.ambiguity_check.specs.declared.graph.Node.{Node}
@@ -170,12 +169,3 @@ adds_phases P items a b c d first second third =
     on node (inl (inl p)) = p.1
     on node (inl (inr p)) = p.1
     on node (inr p) = p.1
-
--- the same where the last may fail
-pub adds_phases_then : {T E : Type 0} (P : Node → Type 0) (items : ℕ) (a b c d : List Reached)
-    (result : Result T E) → Adds (λ node. (node.phase ≡ Together) × P node) items a b
-    → Adds (λ node. (node.phase ≡ Parted) × P node) items b c
-    → OnOk result (Adds (λ node. (node.phase ≡ Rejoined) × P node) items c d)
-    → OnOk result (Adds P items a d)
-adds_phases_then P items a b c d (Ok x) first second third = adds_phases P items a b c d first second third
-adds_phases_then P items a b c d (Err e) first second third = tt

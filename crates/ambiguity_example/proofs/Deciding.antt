@@ -25,13 +25,13 @@ decides_both false A B C none on back = λ c. none (back c).0 (back c).1
 pub not_both : (test : Bool) → test ≡ true → test ≡ false → ⊥
 not_both test is none = let never : true ≡ false = sym is ∙ none in cc
 
--- lists of numbers that a test tells apart differ, and others are the same
-pub told_apart : (xs ys : List ℕ) (test : Bool) → test ≡ not (bytes_eq xs ys) → test ≡ true → xs ≢ ys
-told_apart xs ys test is differ same =
+-- lists of numbers that a test finds different differ, and others are the same
+pub found_different : (xs ys : List ℕ) (test : Bool) → test ≡ not (bytes_eq xs ys) → test ≡ true → xs ≢ ys
+found_different xs ys test is differ same =
     not_both test differ (is ∙ ap not ((bytes_eq-Decides xs ys).1 same))
 
-pub told_same : (xs ys : List ℕ) (test : Bool) → test ≡ not (bytes_eq xs ys) → test ≡ false → xs ≡ ys
-told_same xs ys test is none = (bytes_eq-Decides xs ys).0 (turned (bytes_eq xs ys) (sym is ∙ none))
+pub found_same : (xs ys : List ℕ) (test : Bool) → test ≡ not (bytes_eq xs ys) → test ≡ false → xs ≡ ys
+found_same xs ys test is none = (bytes_eq-Decides xs ys).0 (turned (bytes_eq xs ys) (sym is ∙ none))
   where
     turned : (equal : Bool) → not equal ≡ false → equal ≡ true
     turned true e = refl

@@ -32,7 +32,7 @@ use Rattle.ambiguity_example.specs.declared.turns.Side.TheVariants.{Left, Right}
 abbrev pub Turns : Sets → ℕ → ℕ → Type 0
 Turns sets before next = Has sets.last before × Has sets.first next
 
--- places of factorings behind a phase
+-- places of factorings after a phase
 stay_or_turn : (sets : Sets) (side : Side) (phase : Phase) (left right : ℕ) (next : Node)
     → FactorsOn sets phase left right next
     → (Stays sets side (node_at phase left right) next → ⊥)
@@ -63,7 +63,7 @@ stays_follows sets Right before next stays = stays
 
 module _ (columns : List Column) (sets : Sets) (rows : List ℕ) (ends : Node → Type 0)
     (exact : (node : Node) → ends node ↔ EndsFactors sets node) where
-  -- the walk goes on from a node along others
+  -- the walk leads from a node along others
   abbrev Along : Node → List Node → Type 0
   Along node nodes = GoesAlong (Factors sets) (IsInRows rows) ends node nodes
 
@@ -87,7 +87,7 @@ module _ (columns : List Column) (sets : Sets) (rows : List ℕ) (ends : Node �
   side_meets Left node item meets = meets.1
   side_meets Right node item meets = meets.2
 
-  -- what is left of a piece, and the pieces behind it
+  -- what is left of a piece, and the pieces after it
   record Reads (place at : ℕ) (word : Word) (cuts : List ℕ) : Type 0 where
     head : Word
     pieces : List Word

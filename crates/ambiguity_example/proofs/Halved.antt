@@ -26,7 +26,7 @@ use Rattle.ambiguity_example.specs.WalkLists.{GoesAlong, IsWalkOf, IsShortestWal
 
 module _ (columns : List Column) (first second : Sets) (together parted rejoined : List ℕ)
     (ends : Node → Type 0) (exact : (node : Node) → ends node ↔ EndsSplits first second node) where
-  -- the walk goes on from a node along others
+  -- the walk leads from a node along others
   abbrev Along : Node → List Node → Type 0
   Along node nodes = GoesAlong (GoesOn first second) (MeetIn together parted rejoined) ends node nodes
 
@@ -55,7 +55,7 @@ module _ (columns : List Column) (first second : Sets) (together parted rejoined
       → count_in phase (node ∷ nodes) ≡ is_same phase of + count_in phase nodes
   counts phase of node nodes is = ap (λ p. is_same phase p + count_in phase nodes) is
 
-  -- both go on in their second parts
+  -- both stay in their second parts
   record Rejoins (left right : ℕ) (nodes : List Node) (word : Word) : Type 0 where
     no_together : count_in Together nodes ≡ 0
     no_parted : count_in Parted nodes ≡ 0
@@ -98,7 +98,7 @@ module _ (columns : List Column) (first second : Sets) (together parted rejoined
         last' = rest.last';
       }
 
-  -- the left one goes on in its second part, the right one in its first and then in its second
+  -- the left one stays in its second part, the right one in its first and then in its second
   record Parts (left right : ℕ) (nodes : List Node) (word : Word) : Type 0 where
     t : Word
     v : Word
@@ -168,7 +168,7 @@ module _ (columns : List Column) (first second : Sets) (together parted rejoined
         spells = (rest.end', (next.right, begins, meets.2, rest.on'), rest.last');
       }
 
-  -- both go on in their first parts, and then the left one is in its second
+  -- both stay in their first parts, and then the left one is in its second
   record Joins (left right : ℕ) (nodes : List Node) (word : Word) : Type 0 where
     x : Word
     t : Word

@@ -10,7 +10,7 @@ use Rattle.ambiguity_example.specs.Shows.{Shown, ShowsSplits}
 
 module _ (word : Word) (cuts : List ℕ) (middle : ℕ)
     (are : cuts ≡ 0 ∷ middle ∷ length word ∷ []) where
-  -- the pieces up to the middle and behind it
+  -- the pieces up to the middle and after it
   pub halves : middle ≤ length word → ArePieces word cuts (take middle word ∷ drop middle word ∷ [])
   halves within =
       let long : length (take middle word) ≡ middle = length-take-le middle word within in
@@ -38,7 +38,7 @@ module _ (word : Word) (cuts : List ℕ) (middle : ℕ)
             (subst (λ w. drop (length u) w ≡ v) whole (drop-append_seam u v)),
       )
 
--- a rate has a word up to a place, and another one behind it
+-- a rate has a word up to a place, and another one after it
 abbrev pub InBoth : Expression → Expression → Word → ℕ → Type 0
 InBoth r s word middle = In r (take middle word) × In s (drop middle word)
 

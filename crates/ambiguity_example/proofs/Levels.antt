@@ -31,7 +31,7 @@ one_level (x ∷ xs) items all = (
   one_level xs items (λ one in'. all one (rest_in x xs one in')),
 )
 
--- and so do those of one level behind those of lower ones
+-- and so do those of one level after those of lower ones
 rises_on : (xs ys : List Reached) (items : ℕ) → Rises xs
     → ((one : Reached) → Contains xs one → one.items < items)
     → ((one : Reached) → Contains ys one → one.items ≡ items) → Rises (xs ++ ys)
@@ -109,7 +109,7 @@ module _ (begins : Node → Type 0) (goes_on : Node → Node → Type 0) (meet :
       none = λ fewer less walk'. none fewer less (node, walk', ended);
     })
 
-    -- where no end is in a level, none is behind as many items
+    -- where no end is in a level, none is after as many items
     pub none_next : (items : ℕ) (search : Searched) → IsLevel begins goes_on meet items search
         → NoneBelow items → ((node : Node) → IsMarked search.latest node → ends node → ⊥)
         → NoneBelow (items + 1)

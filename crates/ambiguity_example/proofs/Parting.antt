@@ -1,4 +1,4 @@
--- Cuts that part a word into words of a rate, told from the first piece on.
+-- Cuts that part a word into words of a rate, piece by piece.
 use Rattle.std.proofs.Common.{◌≡◌, ℕ, ◌+◌, ◌-◌, ◌<◌, ◌≤◌, get_or, List, [], ◌∷◌, ◌++◌, length, take, drop, refl, sym, ap, ◌∙◌, subst, arith, length-append}
 use Rattle.std.proofs.lemmas.List.{take-append-drop, length-take, length-drop}
 use Rattle.std.proofs.Math.Seq.{take-append_seam, drop-append_seam, take-length}
@@ -9,7 +9,7 @@ use Rattle.rate_expr.specs.Words.{Word, join}
 use Rattle.ambiguity_example.specs.Cuts.{cuts_from, PartsInto}
 use Rattle.ambiguity_example.specs.Parts.{PartsFrom}
 
--- the cuts behind the place where the pieces begin
+-- the cuts after the place where the pieces begin
 abbrev pub ends_from : ℕ → List Word → List ℕ
 ends_from at [] = []
 ends_from at (piece ∷ pieces) = cuts_from (at + length piece) pieces
@@ -19,9 +19,9 @@ pub begins_there : (at : ℕ) (pieces : List Word) → cuts_from at pieces ≡ a
 begins_there at [] = refl
 begins_there at (piece ∷ pieces) = refl
 
--- the numbers behind the first
-pub behind_first : (cuts : List ℕ) → take (length cuts - 1) (drop 1 cuts) ≡ drop 1 cuts
-behind_first cuts = ap (λ (n : ℕ). take n (drop 1 cuts)) (sym (length-drop 1 cuts))
+-- the numbers after the first
+pub after_first : (cuts : List ℕ) → take (length cuts - 1) (drop 1 cuts) ≡ drop 1 cuts
+after_first cuts = ap (λ (n : ℕ). take n (drop 1 cuts)) (sym (length-drop 1 cuts))
     ∙ take-length (drop 1 cuts)
 
 module _ (rate : Expression) where
@@ -30,7 +30,7 @@ module _ (rate : Expression) where
   Pieces at word cuts = (pieces : List Word) × (join pieces ≡ word)
       × (cuts_from at pieces ≡ at ∷ cuts) × AllByRecursion (In rate) pieces
 
-  -- what is told from the first piece on are pieces
+  -- what is parted piece by piece has pieces
   pub pieces_of : (at : ℕ) (word : Word) (cuts : List ℕ) → PartsFrom rate at word cuts
       → Pieces at word cuts
   pieces_of at word [] none = ([], sym none, refl, tt)
@@ -44,7 +44,7 @@ module _ (rate : Expression) where
         (in_rate, more.3),
       )
 
-  -- pieces are told from the first one on
+  -- what has pieces is parted piece by piece
   pub from_pieces : (at : ℕ) (pieces : List Word) → AllByRecursion (In rate) pieces
       → PartsFrom rate at (join pieces) (ends_from at pieces)
   from_pieces at [] all = refl
@@ -70,7 +70,7 @@ module _ (rate : Expression) where
       let pieces = pieces_of 0 word cuts from in
       (pieces.0, record { whole = pieces.1; at = pieces.2 }, pieces.3)
 
-  -- cuts that part the word begin with 0 and go on from there
+  -- cuts that part the word begin with 0, and the others part it from there
   pub parted_from : (word : Word) (first : ℕ) (cuts : List ℕ) → PartsInto rate word (first ∷ cuts)
       → (first ≡ 0) × PartsFrom rate 0 word cuts
   parted_from word first cuts (pieces, are, all) =
@@ -87,7 +87,7 @@ module _ (rate : Expression) where
   none_parted word (pieces, are, all) =
       let same : 0 ∷ ends_from 0 pieces ≡ [] = sym (begins_there 0 pieces) ∙ are.at in cc
 
-  -- the pieces in front of the first cut are the one up to it and those behind it
+  -- the pieces are the one up to the first cut and those after it
   pub piece_on : (at : ℕ) (word : Word) (cut : ℕ) (cuts : List ℕ) (front rest : Word)
       → front ≡ take (cut - at) word → rest ≡ drop (cut - at) word
       → PartsFrom rate at word (cut ∷ cuts) → PartsFrom rate cut rest cuts

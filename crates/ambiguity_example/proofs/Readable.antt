@@ -38,7 +38,7 @@ pub word_rest : (columns : List Column) (word : Word) (count : ℕ) → IsWordOf
 word_rest columns word count is = (word_parts columns (take count word) (drop count word)
     (subst (IsWordOf columns) (sym (take-append-drop count word)) is)).1
 
--- the state behind one more item
+-- the state after one more item
 pub read_on : (nfa : Automaton) (items : Word) (at : ℕ) (item : List Field) (cell : ℕ) (state next : State)
     → IsWordOf nfa.cells.layout.columns items → at < length items → item ≡ get_or items at item
     → cell ≡ cell_of nfa.cells item → IsBehind nfa.sets (take at items) state
@@ -53,7 +53,7 @@ read_on nfa items at item cell state next is below here in_cell behind steps =
     subst (λ w. IsBehind nfa.sets w next) (sym more)
     (is_behind-step nfa.sets (take at items) state next item behind (steps item (one, sym in_cell)))
 
--- the state behind all items decides whether they are a word of the rate
+-- the state after all items decides whether they are a word of the rate
 pub read_all : (nfa : Automaton) (items : Word) (at : ℕ) (state : State) (accepted : Bool) (rate : Expression)
     → at ≤ length items → length items ≤ at → IsBehind nfa.sets (take at items) state
     → AreOf nfa.sets rate → IsTrue accepted ↔ IsAccepted nfa.sets state

@@ -41,7 +41,7 @@ module _ (sets : Sets) (side : Side) (walk : List Node) where
       let same : (at + 1) - 1 ≡ at = omega arith in
       is' ∙ ap (λ (n : ℕ). get_or walk n b) same ∙ same_at walk at b a below ∙ sym is
 
-  -- the reading goes on in its piece
+  -- the reading stays in its piece
   pub turns_stay : (at : ℕ) (cuts : List ℕ) (before node a b : Node) → at < length walk
       → before ≡ get_or walk (at - 1) a → node ≡ get_or walk at b → Stays sets side before node
       → GoesOnFrom at cuts → GoesOnFrom (at + 1) cuts
@@ -94,7 +94,7 @@ pub left_ends : (sets : Sets) (before node : Node) → before.phase ≡ Together
 left_ends sets before node together apart =
     (λ f. absurd (not_both false f refl), λ stays. absurd (apart (stays.1 together)))
 
--- and elsewhere where no path goes on
+-- and elsewhere where no path leads on
 pub left_goes : (sets : Sets) (before node : Node) (test : Bool)
     → (before.phase ≡ Together → node.phase ≡ Together)
     → IsTrue test ↔ Follows sets before.left node.left → IsTrue test ↔ Stays sets Left before node

@@ -13,10 +13,10 @@ use Rattle.ambiguity_example.specs.Known.{AreKnown, Rises}
 use Rattle.ambiguity_example.specs.WalkLists.{GoesAlong, IsWalkOf}
 use Rattle.ambiguity_example.specs.declared.reached.Reached.{Reached}
 
--- of those that rise to one and then go on, each with fewer items is in front of it
-rises_behind : (xs ys : List Reached) → Rises (xs ++ ys) → Rises ys
-rises_behind [] ys rises = rises
-rises_behind (x ∷ xs) ys rises = rises_behind xs ys rises.1
+-- of those that rise, each with fewer items than one is in front of it
+rises_after : (xs ys : List Reached) → Rises (xs ++ ys) → Rises ys
+rises_after [] ys rises = rises
+rises_after (x ∷ xs) ys rises = rises_after xs ys rises.1
 
 in_front : (xs ys : List Reached) (one other : Reached) → Rises (xs ++ one ∷ ys)
     → Contains (xs ++ one ∷ ys) other → other.items < one.items → Contains xs other
@@ -24,8 +24,8 @@ in_front xs ys one other rises in' less = elim (Contains-append_cases xs (one �
   | inl there ↦ there
   | inr there ↦ elim (Contains-append_cases (one ∷ []) ys other there) [
     | inl here ↦ let same = ap (λ r. r.items) (only_in one other here) in absurd (omega arith)
-    | inr behind ↦
-        let most = (rises_behind xs (one ∷ ys) rises).0 other behind in absurd (omega arith)
+    | inr among ↦
+        let most = (rises_after xs (one ∷ ys) rises).0 other among in absurd (omega arith)
   ]
 ]
 
@@ -38,7 +38,7 @@ around xs at one other below is = sym (take-append-drop at xs)
 
 module _ (begins : Node → Type 0) (goes_on : Node → Node → Type 0) (meet : Node → Type 0)
     (ends : Node → Type 0) where
-  -- the walk goes on from a node to the end, and each node of a shortest walk that leads to it is among
+  -- the walk leads from a node to the end, and each node of a shortest walk that leads to it is among
   -- those in front
   pub record IsBack (items : ℕ) (front : List Reached) (first : Reached) (walk : List Node)
       : Type 0 where

@@ -2,10 +2,11 @@
 use Rattle.std.specs.Prelude.{◌≡◌, ◌<◌, ◌≤◌, ◌++◌, ℕ, List, [], ◌∷◌}
 use Rattle.std.specs.List.{Contains}
 use Rattle.ambiguity_check.specs.declared.graph.Node.{Node}
+use Rattle.ambiguity_check.specs.Lengths.{EndsBehind}
 use Rattle.ambiguity_check.specs.Levels.{IsShortest}
 use Rattle.ambiguity_example.specs.declared.reached.Reached.{Reached}
 
--- the nodes of a set go behind the others, each with so many items
+-- the nodes of a set come after the others, each with so many items
 pub record Adds (nodes : Node → Type 0) (items : ℕ) (old new : List Reached) : Type 0 where
   pub more : List Reached
   pub whole : new ≡ old ++ more
@@ -27,3 +28,11 @@ pub record AreKnown (begins : Node → Type 0) (goes_on : Node → Node → Type
   pub each : (node : Node) (fewer : ℕ) → fewer < level → IsShortest begins goes_on meet fewer node
       → Contains reached (record { node = node; items = fewer })
   pub rises : Rises reached
+
+-- the node is an end that no walk of fewer items leads to, and the nodes of the levels below are known
+pub record IsFirstEnd (begins : Node → Type 0) (goes_on : Node → Node → Type 0) (meet : Node → Type 0)
+    (ends : Node → Type 0) (reached : List Reached) (end : Reached) : Type 0 where
+  pub ended : ends end.node
+  pub shortest : IsShortest begins goes_on meet end.items end.node
+  pub none : (fewer : ℕ) → fewer < end.items → EndsBehind begins goes_on meet ends fewer → ⊥
+  pub known : AreKnown begins goes_on meet end.items reached

@@ -1,4 +1,4 @@
--- For the prover. Whether cuts part a word into words of a rate, told from the first piece on.
+-- For the prover. Whether cuts part a word into words of a rate, asked piece by piece.
 use Rattle.std.specs.Prelude.{◌≡◌, ◌≤◌, ◌-◌, ℕ, List, [], ◌∷◌, length, take, drop}
 use Rattle.rate_expr.specs.Language.{In}
 use Rattle.rate_expr.specs.Rates.{Expression}

@@ -12,13 +12,13 @@ abbrev pub place_of : Side → Node → ℕ
 place_of Left node = node.left
 place_of Right node = node.right
 
--- a reading goes on in its piece; the left one does not where the readings part
+-- a reading stays in its piece; the left one does not where the readings part
 abbrev pub Stays : Sets → Side → Node → Node → Type 0
 Stays sets Left before node = Follows sets before.left node.left
     × (before.phase ≡ Together → node.phase ≡ Together)
 Stays sets Right before node = Follows sets before.right node.right
 
--- where the pieces end from a node on, behind so many items
+-- where the pieces end from a node on, after so many items
 abbrev pub EndsFrom : Sets → Side → ℕ → Node → List Node → List ℕ → Type 0
 EndsFrom sets side at node [] cuts = cuts ≡ at ∷ []
 EndsFrom sets side at node (next ∷ nodes) cuts =

@@ -3,7 +3,7 @@ use Rattle.std.specs.Prelude.{◌<◌, ◌^◌, ℕ, List, [], ◌∷◌, length
 use Rattle.ambiguity_check.specs.declared.graph.Node.{Node}
 use Rattle.ambiguity_check.specs.Lengths.{EndsBehind}
 
--- a walk goes on from the node along the others, to an end
+-- a walk leads from the node along the others, to an end
 abbrev pub GoesAlong : (Node → Node → Type 0) → (Node → Type 0) → (Node → Type 0) → Node
     → List Node → Type 0
 GoesAlong goes_on meet ends node [] = ends node

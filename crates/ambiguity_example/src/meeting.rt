@@ -6,6 +6,7 @@ ghost use Rattle.ambiguity_example.specs.Met.{MeetsBoth, AllMeet, HasItem, HaveI
 
 use ambiguity_check::{Node, Phase};
 use item_schema::Item;
+use plain_items::plain_item;
 use rate_expr::masks::has;
 use std::alloc::{AllocError, Global};
 use symbolic_nfa::Nfa;
@@ -67,7 +68,7 @@ fn split_item(alloc: Global, first: &Nfa, second: &Nfa, node: Node) -> Result<It
     }
 }
 
-// An item that meets a place of each automaton.
+// An item that meets a place of each automaton, the plainest of the first cell that has one.
 fn shared_item(
     alloc: Global,
     first: &Nfa,
@@ -83,7 +84,7 @@ fn shared_item(
 {
     'tried: for cell in 0..first.cells().count() {
         if has(first.met_by(cell), left) && has(second.met_by(cell), right) {
-            return first.cells().sample(alloc, cell);
+            return plain_item(alloc, first.cells(), cell);
         }
     }
     unreachable!()

@@ -1,5 +1,5 @@
 //! The nodes that a search has come to, in the order of the levels.
-ghost use Rattle.std.specs.Prelude.{◌≡◌, OnOk};
+ghost use Rattle.std.specs.Prelude.{◌≡◌, ◌+◌, IfOk, OnOk};
 ghost use Rattle.ambiguity_check.specs.Marked.{IsMarked, IsInRow};
 ghost use Rattle.ambiguity_example.specs.Known.{Adds};
 
@@ -14,17 +14,24 @@ pub(crate) struct Reached {
     pub(crate) items: u32,
 }
 
-/// The nodes of a level go behind those of the levels before.
+/// Adds the nodes of a level after those of the levels before. Walks to the next level have so many
+/// items as the result says.
 pub(crate) fn add_level(
     reached: &mut Vec<Reached>,
     level: &Marks,
     items: u32,
-) -> Result<(), AllocError>
-    ensures { OnOk result (Adds (IsMarked level.now) items reached.old.items reached.new.items) }
+) -> Result<u32, AllocError>
+    ensures adds { OnOk result
+        (Adds (IsMarked level.now) items reached.old.items reached.new.items) }
+    ensures next { IfOk result (λ next. next ≡ items + 1) }
 {
     add_phase(reached, level, Phase::Together, items)?;
     add_phase(reached, level, Phase::Parted, items)?;
-    add_phase(reached, level, Phase::Rejoined, items)
+    add_phase(reached, level, Phase::Rejoined, items)?;
+    match items.checked_add(1) {
+        Some(next) => Ok(next),
+        None => Err(AllocError),
+    }
 }
 
 fn add_phase(

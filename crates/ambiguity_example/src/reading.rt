@@ -23,7 +23,7 @@ pub(crate) fn reads(nfa: &Nfa, items: &[Item]) -> bool
     nfa.accepts(state)
 }
 
-/// Whether the items are a word of the first rate up to a place, and one of the second behind it.
+/// Whether the items are a word of the first rate up to a place, and one of the second after it.
 pub(crate) fn reads_both(first: &Nfa, second: &Nfa, items: &[Item], middle: usize) -> bool
     requires cells { first.now.cells ≡ second.now.cells }
     requires items { IsWordOf first.now.cells.layout.columns items.now }

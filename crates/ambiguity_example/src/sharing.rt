@@ -1,5 +1,5 @@
 //! A shortest word that two rates share.
-ghost use Rattle.std.specs.Prelude.{◌≡◌, ◌<◌, ◌↔◌, ◌^◌, IfOk, MatchOption, length};
+ghost use Rattle.std.specs.Prelude.{◌≡◌, ◌<◌, ◌↔◌, ◌^◌, true, IfOk, MatchOption, length};
 ghost use Rattle.rate_expr.specs.Paths.{AreOf};
 ghost use Rattle.rate_expr.specs.Rates.{Expression};
 ghost use Rattle.rate_expr.specs.Readings.{AreDisjoint};
@@ -36,8 +36,25 @@ pub(crate) fn shared_word(
     if left.nullable() && right.nullable() {
         return Ok(Some(in_one_piece(alloc, Vec::new(alloc))?));
     }
+    shared_nonempty_word(alloc, first, second)
+}
+
+// The same where the empty word is not in both.
+fn shared_nonempty_word(
+    alloc: Global,
+    first: &Nfa,
+    second: &Nfa,
+) -> Result<Option<Example>, AllocError>
+    requires cells { first.now.cells ≡ second.now.cells }
+    requires nonempty { first.now.sets.nullable ≡ true → second.now.sets.nullable ≡ true → ⊥ }
+    ensures { IfOk result (λ found. (r s : Expression)
+        → AreOf first.now.sets r → AreOf second.now.sets s → MatchOption found
+        (AreDisjoint first.now.cells.layout.columns r s)
+        (IsShortestShown first.now.cells.layout.columns (choice r s))) }
+{
+    let ends = ends_of(first.positions(), second.positions());
     let pairs = Pairs::new(alloc, first, second)?;
-    let Some(walk) = shortest_walk(alloc, &pairs, ends_of(left, right))? else {
+    let Some(walk) = shortest_walk(alloc, &pairs, ends)? else {
         return Ok(None);
     };
     Ok(Some(example_of(alloc, first, second, &walk)?))

@@ -1,9 +1,9 @@
 //! A shortest walk of a graph to an end.
-ghost use Rattle.std.specs.Prelude.{◌≡◌, ◌<◌, ◌↔◌, ◌^◌, ℕ, IfOk, IsTrue, MatchOption, length};
+ghost use Rattle.std.specs.Prelude.{◌≡◌, ◌<◌, ◌↔◌, ◌^◌, ℕ, [], IfOk, IsTrue, MatchOption, length};
 ghost use Rattle.ambiguity_check.specs.Lengths.{EndsBehind};
-ghost use Rattle.ambiguity_check.specs.Levels.{IsShortest};
+ghost use Rattle.ambiguity_check.specs.Levels.{IsLevel, IsShortest};
 ghost use Rattle.ambiguity_check.specs.Walks.{IsIn, IsOf};
-ghost use Rattle.ambiguity_example.specs.Known.{AreKnown};
+ghost use Rattle.ambiguity_example.specs.Known.{AreKnown, IsFirstEnd};
 ghost use Rattle.ambiguity_example.specs.WalkLists.{IsWalkOf, IsShortestWalk};
 
 use crate::ending::end_in;
@@ -24,21 +24,46 @@ pub(crate) fn shortest_walk<G: Graph>(
         (λ walk. IsShortestWalk (G.begins graph.now) (G.goes_on graph.now) (G.meet graph.now)
         (IsIn ends) walk.items)) }
 {
-    let mut search = Search::begin(alloc, graph)?;
     let mut reached = Vec::new(alloc);
+    match first_end(alloc, graph, ends, &mut reached)? {
+        Some(end) => Ok(Some(walk_to(alloc, graph, &reached, end.node, end.items)?)),
+        None => Ok(None),
+    }
+}
+
+// The end that the search comes to first, when it has come to all nodes of the levels below.
+fn first_end<G: Graph>(
+    alloc: Global,
+    graph: &G,
+    ends: Moves,
+    reached: &mut Vec<Reached>,
+) -> Result<Option<Reached>, AllocError>
+    requires { reached.old.items ≡ [] }
+    ensures { IfOk result (λ found. MatchOption found
+        ((items : ℕ) → EndsBehind (G.begins graph.now) (G.goes_on graph.now) (G.meet graph.now)
+        (IsIn ends) items → ⊥)
+        (IsFirstEnd (G.begins graph.now) (G.goes_on graph.now) (G.meet graph.now) (IsIn ends)
+        reached.new.items)) }
+{
+    let mut search = begun(alloc, graph)?;
     let mut items = 1u32;
     'levels: while !search.is_over() {
-        if let Some(end) = end_in(search.latest(), ends) {
-            return Ok(Some(walk_to(alloc, graph, &reached, end, items)?));
+        if let Some(node) = end_in(search.latest(), ends) {
+            return Ok(Some(Reached { node, items }));
         }
-        add_level(&mut reached, search.latest(), items)?;
-        let Some(next) = items.checked_add(1) else {
-            return Err(AllocError);
-        };
-        items = next;
+        items = add_level(reached, search.latest(), items)?;
         search.advance(graph);
     }
     Ok(None)
+}
+
+// The search after the first item.
+fn begun<G: Graph>(alloc: Global, graph: &G) -> Result<Box<Search>, AllocError>
+    ensures { IfOk result (λ search. IsLevel (G.begins graph.now) (G.goes_on graph.now)
+        (G.meet graph.now) 1 search.value) }
+{
+    let search = Search::begin(alloc, graph)?;
+    Ok(Box::new(alloc, search)?)
 }
 
 // The nodes of a shortest walk to a node, found backwards among those of the levels below its own.

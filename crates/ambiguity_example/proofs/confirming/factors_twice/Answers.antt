@@ -1,6 +1,6 @@
 use Rattle.std.proofs.Common.{◌≡◌, ◌∙◌, sym, true, false}
 use Rattle.ambiguity_example.specs.Shows.{ShowsFactorings}
-use Rattle.ambiguity_example.proofs.Deciding.{decides_too, not_both, told_apart, told_same}
+use Rattle.ambiguity_example.proofs.Deciding.{decides_too, not_both, found_different, found_same}
 use Rattle.ambiguity_example.proofs.confirming.factors_twice.Goals as goal
 use Rattle.ambiguity_example.proofs.confirming.factors_twice.Goals.{then-ne, else-ne}
 
@@ -23,7 +23,7 @@ returns-then-parts_into c = λ r of_r.
           (λ other. record {
             first = one;
             second = other;
-            differ = told_apart _ _ _ differs w.if-ne.true;
+            differ = found_different _ _ _ differs w.if-ne.true;
           })
           (λ shows. shows.second)
       | else-ne w ↦ absurd
@@ -43,5 +43,5 @@ returns-else-parts_into c = λ r of_r.
           let none : w.parts_into.result ≡ false = sym w.value-is ∙ c.if-parts_into.false in
           (rw none at (rw (c.items-items.ensures, c.as_slice-first.ensures, c.first.ensures) at
           (w.parts_into.ensures r of_r))) shows.first
-      | else-ne w ↦ shows.differ (told_same _ _ _ differs w.if-ne.false)
+      | else-ne w ↦ shows.differ (found_same _ _ _ differs w.if-ne.false)
     ])

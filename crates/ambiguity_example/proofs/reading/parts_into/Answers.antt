@@ -1,5 +1,5 @@
 use Rattle.ambiguity_example.proofs.Deciding.{decides_too}
-use Rattle.ambiguity_example.proofs.Parting.{behind_first, first_parted, parted_first, no_cuts}
+use Rattle.ambiguity_example.proofs.Parting.{after_first, first_parted, parted_first, no_cuts}
 use Rattle.ambiguity_example.proofs.reading.parts_into.Goals as goal
 
 pub returns-in_default : goal.returns-in_default
@@ -12,6 +12,6 @@ returns-then-begin-ne0 c = λ rate are into.
 
 pub returns : goal.returns
 returns c = λ rate are. decides_too _ _ _
-    (rw (behind_first c.args.cuts.now) at (c.reads_parts.ensures rate are))
+    (rw (after_first c.args.cuts.now) at (c.reads_parts.ensures rate are))
     (parted_first rate c.args.items.now c.args.cuts.now c.in-len1-up.len_at_least c.if-begin-ne0.false)
     (λ into. (first_parted rate c.args.items.now c.args.cuts.now c.in-len1-up.len_at_least into).1)

@@ -5,13 +5,13 @@ use Rattle.ambiguity_check.specs.Levels.{IsLevel}
 use Rattle.ambiguity_check.specs.Marked.{room}
 use Rattle.ambiguity_check.specs.Walks.{IsIn}
 use Rattle.ambiguity_example.specs.Known.{AreKnown}
-use Rattle.ambiguity_example.proofs.walk.shortest_walk.Given as goal
+use Rattle.ambiguity_example.proofs.walk.first_end.Given as goal
 
 -- the levels so far are known, and none of their nodes is an end
 abbrev pub invariant-levels : goal.invariant-levels
 invariant-levels g l = record {
   level : IsLevel (g.G.Graph.begins l.graph) (g.G.Graph.goes_on l.graph) (g.G.Graph.meet l.graph)
-      l.items l.search;
+      l.items l.search.value;
   known : AreKnown (g.G.Graph.begins l.graph) (g.G.Graph.goes_on l.graph) (g.G.Graph.meet l.graph)
       l.items l.reached.items;
   none : (fewer : ℕ) → fewer < l.items → EndsBehind (g.G.Graph.begins l.graph)
@@ -20,4 +20,4 @@ invariant-levels g l = record {
 
 -- the nodes that are left to be seen, and the latest
 abbrev pub decreases-levels : goal.decreases-levels
-decreases-levels g l = room l.search.seen + sum l.search.latest
+decreases-levels g l = room l.search.value.seen + sum l.search.value.latest
