@@ -22,7 +22,7 @@ use Rattle.query_model.specs.declared.query.Query.{Query}
 use Rattle.query_model.specs.declared.query.Shape.{Shape}
 use Rattle.query_model.specs.Members.{HaveSameMembers}
 use Rattle.type_checker.specs.Findings.{AreAmong, AreOperands, CanBeAsked, KeepsTypes}
-use Rattle.type_checker.specs.declared.roots.Operands.{Operands}
+use Rattle.type_checker.specs.declared.blame.Operands.{Operands}
 use Rattle.type_checker.proofs.Fitting.{all_fit}
 
 -- the same, one by one

@@ -22,7 +22,7 @@ use Rattle.type_checker.specs.declared.naming.Typed.{Typed}
 use Rattle.type_checker.specs.declared.shapes.Items.{Items}
 use Rattle.type_checker.specs.declared.stop.CheckStop.{CheckStop}
 use Rattle.type_checker.specs.declared.stop.CheckStop.TheVariants.{Refused, Memory}
-use Rattle.type_checker.proofs.Operands.{made_of, no_place}
+use Rattle.type_checker.proofs.FromOperands.{made_of, no_place}
 use Rattle.type_checker.proofs.WellTyped.{is_typed_true, type_is, untyped, well_typed}
 use Rattle.value_ops.specs.Expressions as values
 use Rattle.value_ops.specs.Typing.{HasType, Types}

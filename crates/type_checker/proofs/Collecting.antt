@@ -29,7 +29,7 @@ use Rattle.type_checker.specs.declared.naming.Typed.{Typed}
 use Rattle.type_checker.specs.declared.stop.CheckStop.{CheckStop}
 use Rattle.type_checker.specs.declared.stop.CheckStop.TheVariants.{Refused, Memory}
 use Rattle.type_checker.proofs.Composing.{made_inside}
-use Rattle.type_checker.proofs.Operands.{made_of, one_place}
+use Rattle.type_checker.proofs.FromOperands.{made_of, one_place}
 use Rattle.type_checker.proofs.WithoutTables.{gives_numbers, lines_no_table}
 use Rattle.value_ops.specs.declared.value.ValueType.TheVariants as type
 

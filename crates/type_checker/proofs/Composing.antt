@@ -16,7 +16,7 @@ use Rattle.type_checker.specs.declared.stop.CheckStop.{CheckStop}
 use Rattle.type_checker.specs.declared.stop.CheckStop.TheVariants.{Refused, Memory}
 use Rattle.type_checker.proofs.Behind.{of_value}
 use Rattle.type_checker.proofs.Nested.{none_inside}
-use Rattle.type_checker.proofs.Operands.{made_of, two_places}
+use Rattle.type_checker.proofs.FromOperands.{made_of, two_places}
 use Rattle.value_ops.specs.declared.value.ValueType.{ValueType}
 
 -- an operand that is made inside has no collection

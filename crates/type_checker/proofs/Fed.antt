@@ -1,8 +1,7 @@
 -- A composition: its second operand on the values of the first, and its root.
-use Rattle.std.proofs.Common.{◌≡◌, inl, inr, List, [], ◌∷◌, ◌++◌, Option, Some, None, Result, Ok, Err, IfErr, OnOk, refl, sym, subst, append_assoc}
+use Rattle.std.proofs.Common.{◌≡◌, inr, List, ◌++◌, Some, None, Result, Ok, Err, IfErr, OnOk, refl, sym, subst, append_assoc}
 use Rattle.item_schema.specs.Layout.{Layout, derived_layout}
 use Rattle.item_schema.specs.declared.column.Column.{Column}
-use Rattle.language_base.specs.declared.refusal.Refusal.{Refusal}
 use Rattle.language_base.specs.declared.span.Span.{Span}
 use Rattle.query_model.specs.Queries.{Qre, compose, plain_of}
 use Rattle.query_model.specs.QueryTypes.{derived_columns, type_of}
@@ -11,11 +10,12 @@ use Rattle.query_model.specs.Rules.{Standing}
 use Rattle.query_model.specs.declared.query.Query.{Query}
 use Rattle.type_checker.specs.Findings.{IsBrokenBy, IsUnfed, nodes_behind, places_in}
 use Rattle.type_checker.specs.Nodes.{Node, nodes_in, with_two}
-use Rattle.type_checker.specs.Steps.{refusal}
-use Rattle.type_checker.specs.WordRules.{BreaksFed, FirstBroken}
-use Rattle.type_checker.specs.declared.stop.CheckStop.{CheckStop}
-use Rattle.type_checker.specs.declared.stop.CheckStop.TheVariants.{Refused, Memory}
+use Rattle.type_checker.specs.WordRules.{Breaks, BreaksFed, FirstBroken}
+use Rattle.type_checker.specs.declared.word_stop.WordStop.{WordStop}
+use Rattle.type_checker.specs.declared.word_stop.WordStop.TheVariants.{Broken, Ambiguous, Memory}
+use Rattle.type_checker.proofs.FirstNodes.{first_alone, first_after_kept}
 use Rattle.type_checker.proofs.Placed.{broken_behind}
+use Rattle.type_checker.proofs.PlainRules.{fed_plain}
 use Rattle.type_checker.proofs.Walked.{nodes_at, stops_before, stops_behind}
 
 -- the second operand, on the stream of these values
@@ -32,7 +32,7 @@ module _ (columns : List Column) (standing : Standing) (f : Qre) (second : Query
   behind = nodes_behind columns standing f (plain_of second.shape) (places_in second) span
 
   -- a node of it breaks a rule
-  pub fed_stopped : (stop : CheckStop) → IsBrokenBy (nodes_at layout.columns standing second) stop
+  pub fed_stopped : (stop : WordStop) → IsBrokenBy (nodes_at layout.columns standing second) stop
       → IsBrokenBy behind stop
   fed_stopped stop broken =
       stops_before (nodes_at values standing second) _ stop
@@ -43,34 +43,33 @@ module _ (columns : List Column) (standing : Standing) (f : Qre) (second : Query
     kept_there : FirstBroken (nodes_at values standing second) None
     kept_there = subst (λ (l : Layout). FirstBroken (nodes_at l.columns standing second) None) is kept
 
-    at_end : (why : Option Refusal) → FirstBroken (last ∷ []) why → FirstBroken behind why
-    at_end why here = broken_behind (nodes_at values standing second) _ why kept_there here
-
     fed_by : BreaksFed standing layout.columns (rate_of (plain_of second.shape)) None → FirstBroken behind None
-    fed_by holds = at_end None (inr (
+    fed_by holds = broken_behind (nodes_at values standing second) _ None kept_there (inr (
       subst (λ (l : Layout). BreaksFed standing l.columns (rate_of (plain_of second.shape)) None) is holds,
       refl,
     ))
 
-    unfed_by : (stop : CheckStop) → IsUnfed standing layout.columns (rate_of (plain_of second.shape)) span stop
+    unfed_by : (stop : WordStop) → IsUnfed standing layout.columns (rate_of (plain_of second.shape)) span stop
         → IsBrokenBy behind stop
-    unfed_by (Refused why) (rule, same, breaks) =
-        subst (λ (w : Refusal). FirstBroken behind (Some w)) (sym same)
-        (at_end (Some (refusal rule span)) (inl (
+    unfed_by (Broken why) (rule, same, breaks) =
+        let here : Breaks last (Some rule) =
+        subst (λ (l : Layout). BreaksFed standing l.columns (rate_of (plain_of second.shape)) (Some rule)) is breaks in (
+          last,
           rule,
-          subst (λ (l : Layout). BreaksFed standing l.columns (rate_of (plain_of second.shape)) (Some rule)) is breaks,
-          refl,
-        )))
+          first_after_kept last rule (nodes_at values standing second) _ kept_there (first_alone last rule here),
+          (same, fed_plain standing values (rate_of (plain_of second.shape)) rule here),
+        )
+    unfed_by (Ambiguous blame) broken = absurd broken
     unfed_by Memory broken = tt
 
     -- and the composition is asked
-    pub fed_kept : (result : Result (Unit {0}) CheckStop)
+    pub fed_kept : (result : Result (Unit {0}) WordStop)
         → OnOk result (BreaksFed standing layout.columns (rate_of (plain_of second.shape)) None)
         → OnOk result (FirstBroken behind None)
     fed_kept (Ok done) holds = fed_by holds
     fed_kept (Err stop) holds = tt
 
-    pub fed_refused : (result : Result (Unit {0}) CheckStop)
+    pub fed_refused : (result : Result (Unit {0}) WordStop)
         → IfErr result (IsUnfed standing layout.columns (rate_of (plain_of second.shape)) span)
         → IfErr result (IsBrokenBy behind)
     fed_refused (Ok done) broken = tt
@@ -92,14 +91,14 @@ module _ (columns : List Column) (standing : Standing) (first second : Query) (s
       (nodes_at (derived_columns (type_of columns (plain_of first.shape))) standing second) _
 
   -- a node of the first operand breaks a rule
-  pub composed_first : (stop : CheckStop) → IsBrokenBy (nodes_at columns standing first) stop → IsBrokenBy all stop
+  pub composed_first : (stop : WordStop) → IsBrokenBy (nodes_at columns standing first) stop → IsBrokenBy all stop
   composed_first stop broken =
       subst (λ (nodes : List Node). IsBrokenBy nodes stop) (sym nodes_are)
       (stops_before (nodes_at columns standing first) others stop broken)
 
   -- none does
   module _ (kept : FirstBroken (nodes_at columns standing first) None) where
-    pub composed_second : (stop : CheckStop) → IsBrokenBy others stop → IsBrokenBy all stop
+    pub composed_second : (stop : WordStop) → IsBrokenBy others stop → IsBrokenBy all stop
     composed_second stop broken =
         subst (λ (nodes : List Node). IsBrokenBy nodes stop) (sym nodes_are)
         (stops_behind (nodes_at columns standing first) others stop kept broken)

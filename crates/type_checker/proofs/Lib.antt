@@ -1,23 +1,27 @@
 pub mod Asked
 mod Atoms
 pub mod Behind
+pub mod Blaming
 pub mod Clear
 mod Chosen
 mod Collecting
 mod Composing
 mod Counted
 pub mod Fed
+pub mod FirstNodes
 pub mod FieldTypes
 pub mod Fitting
+mod FromOperands
 pub mod Judging
 pub mod ManyPositions
 pub mod Measuring
 pub mod Nested
 pub mod OfOperands
-mod Operands
 pub mod OverOne
 pub mod OverTwo
 mod Paired
+pub mod PlainRules
+pub mod Questions
 pub mod Parted
 pub mod Placed
 pub mod Repeats

@@ -7,11 +7,11 @@ use Rattle.rate_expr.specs.Sets.{Sets}
 use Rattle.symbolic_nfa.specs.Automata.{Automaton}
 use Rattle.value_ops.specs.Expressions.{Expression}
 use Rattle.type_checker.specs.Findings.{IsAutomatonOf, IsBrokenAt, IsKept}
-use Rattle.type_checker.specs.declared.stop.CheckStop.{CheckStop}
+use Rattle.type_checker.specs.declared.word_stop.WordStop.{WordStop}
 use Rattle.type_checker.proofs.Told.{told_err, told_ok}
 
 module _ (cells : Partition) (operand : Automaton) (same : operand.cells ≡ cells) (f : Qre)
-    (are : IsAutomatonOf f operand) (number : ℤ) (step : Expression) (result : Result Sets CheckStop) where
+    (are : IsAutomatonOf f operand) (number : ℤ) (step : Expression) (result : Result Sets WordStop) where
   -- where there are sets
   pub iter_kept : IfOk result (λ sets. (a : Qre) (n : ℤ) (e : Expression) → IsAutomatonOf a operand
       → IsKept operand.cells.layout.columns (iter a n e) sets)

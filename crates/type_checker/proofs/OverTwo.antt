@@ -7,13 +7,13 @@ use Rattle.rate_expr.specs.Sets.{Sets}
 use Rattle.type_checker.specs.Findings.{AreOperands, IsBrokenAt, IsBrokenBy, IsKept, operand_nodes}
 use Rattle.type_checker.specs.Nodes.{Places, nodes_in, own_place}
 use Rattle.type_checker.specs.WordRules.{FirstBroken}
-use Rattle.type_checker.specs.declared.roots.Operands.{Operands}
-use Rattle.type_checker.specs.declared.stop.CheckStop.{CheckStop}
+use Rattle.type_checker.specs.declared.blame.Operands.{Operands}
+use Rattle.type_checker.specs.declared.word_stop.WordStop.{WordStop}
 use Rattle.type_checker.proofs.Told.{told_err, told_ok}
 use Rattle.type_checker.proofs.Walked.{root_kept, root_refused}
 
 module _ (node : Qre → Qre → Qre) (f g : Qre) (places : Places) (cells : Partition) (operands : Operands)
-    (are : AreOperands cells f g operands) (result : Result Sets CheckStop) where
+    (are : AreOperands cells f g operands) (result : Result Sets WordStop) where
   -- what is told of the root where there are sets
   abbrev pub AreTold : Type 0
   AreTold = IfOk result (λ sets. (c : Partition) (a b : Qre) → AreOperands c a b operands

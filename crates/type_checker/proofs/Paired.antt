@@ -9,7 +9,7 @@ use Rattle.query_lets.specs.Unfolded.{Binding, bindings_of, replaced}
 use Rattle.query_lets.specs.declared.scope.Scope.{Scope}
 use Rattle.query_syntax.specs.Plain.{plain_query}
 use Rattle.query_syntax.specs.Queries as q
-use Rattle.type_checker.proofs.Operands.{first_of_two, joint_operands, second_of_two, two_made, two_refused}
+use Rattle.type_checker.proofs.FromOperands.{first_of_two, joint_operands, second_of_two, two_made, two_refused}
 use Rattle.type_checker.specs.Joints.{joint_node, pair_node}
 use Rattle.type_checker.specs.Resolutions.{IsMade, IsMadeOfTwo, IsRefused, IsRefusedOverTwo}
 use Rattle.type_checker.specs.Resolved.{Nesting}

@@ -38,10 +38,3 @@ broken_behind [] others why kept later = later
 broken_behind (node ∷ nodes) others why (inl (rule, broken, is)) later = absurd (cc)
 broken_behind (node ∷ nodes) others why (inr (here, kept)) later =
     inr (here, broken_behind nodes others why kept later)
-
--- one of the first nodes breaks a rule
-pub broken_before : (nodes others : List Node) (why : Refusal) → FirstBroken nodes (Some why)
-    → FirstBroken (nodes ++ others) (Some why)
-broken_before [] others why broken = absurd (cc)
-broken_before (node ∷ nodes) others why (inl broken) = inl broken
-broken_before (node ∷ nodes) others why (inr (here, broken)) = inr (here, broken_before nodes others why broken)

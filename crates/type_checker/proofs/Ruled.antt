@@ -12,12 +12,14 @@ use Rattle.rate_expr.specs.Rates.{Expression}
 use Rattle.rate_expr.specs.Sets.{Sets}
 use Rattle.rate_expr.proofs.SetsOf.{sets_spell}
 use Rattle.symbolic_nfa.specs.Automata.{Automaton}
+use Rattle.type_checker.specs.Blames.{question_of}
 use Rattle.type_checker.specs.Findings.{AreOperands, IsAutomatonOf, IsBrokenAt, IsKept, IsUnfed}
 use Rattle.type_checker.specs.Steps.{refusal}
 use Rattle.type_checker.specs.WordRules.{BreaksAt, BreaksFed}
-use Rattle.type_checker.specs.declared.roots.Operands.{Operands}
-use Rattle.type_checker.specs.declared.stop.CheckStop.{CheckStop}
-use Rattle.type_checker.specs.declared.stop.CheckStop.TheVariants.{Refused}
+use Rattle.type_checker.specs.declared.blame.Operands.{Operands}
+use Rattle.type_checker.specs.declared.word_stop.WordStop.{WordStop}
+use Rattle.type_checker.specs.declared.word_stop.WordStop.TheVariants.{Broken}
+use Rattle.type_checker.proofs.PlainRules.{plain_at}
 
 module _ (columns : List Column) (query : Qre) (broken : Option Rule)
     (breaks : (standing : Standing) → BreaksAt columns standing query broken) where
@@ -26,13 +28,15 @@ module _ (columns : List Column) (query : Qre) (broken : Option Rule)
   kept_by sets none are =
       record { rule = λ standing. subst (BreaksAt columns standing query) none (breaks standing); sets = are }
 
-  -- a rule is broken, and refused
-  pub broken_by : (span : Span) (stop : CheckStop)
-      → ((rule : Rule) × (broken ≡ Some rule) × (stop ≡ Refused (refusal rule span)))
+  -- a rule is broken, and refused where the query asks nothing of readings
+  pub broken_by : question_of query ≡ None → (span : Span) (stop : WordStop)
+      → ((rule : Rule) × (broken ≡ Some rule) × (stop ≡ Broken (refusal rule span)))
       → IsBrokenAt columns query span stop
-  broken_by span stop (rule, is, stops) =
+  broken_by none span stop (rule, is, stops) =
+      let here : (standing : Standing) → BreaksAt columns standing query (Some rule) =
+      λ standing. subst (BreaksAt columns standing query) is (breaks standing) in
       subst (IsBrokenAt columns query span) (sym stops)
-      (rule, refl, λ standing. subst (BreaksAt columns standing query) is (breaks standing))
+      (rule, λ standing. (here standing, (refl, plain_at columns standing query rule none (here standing))))
 
 -- what is told on some cells is told on the same
 pub on_same : (cells other : Partition) (query : Qre) (broken : Option Rule) → cells ≡ other
@@ -61,8 +65,8 @@ module _ (standing : Standing) (columns : List Column) (r : Expression) (broken 
   pub fed_by : broken ≡ None → BreaksFed standing columns r None
   fed_by none = subst (BreaksFed standing columns r) none breaks
 
-  pub unfed_by : (span : Span) (stop : CheckStop)
-      → ((rule : Rule) × (broken ≡ Some rule) × (stop ≡ Refused (refusal rule span)))
+  pub unfed_by : (span : Span) (stop : WordStop)
+      → ((rule : Rule) × (broken ≡ Some rule) × (stop ≡ Broken (refusal rule span)))
       → IsUnfed standing columns r span stop
   unfed_by span stop (rule, is, stops) =
       subst (IsUnfed standing columns r span) (sym stops)

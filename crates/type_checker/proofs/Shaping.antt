@@ -21,7 +21,7 @@ use Rattle.type_checker.specs.Steps.{◌>>=◌, provided, refusal}
 use Rattle.type_checker.specs.declared.naming.Typed.{Typed}
 use Rattle.type_checker.specs.declared.stop.CheckStop.{CheckStop}
 use Rattle.type_checker.specs.declared.stop.CheckStop.TheVariants.{Refused, Memory}
-use Rattle.type_checker.proofs.Operands.{made_of, no_place, one_place, two_places}
+use Rattle.type_checker.proofs.FromOperands.{made_of, no_place, one_place, two_places}
 use Rattle.type_checker.proofs.Valued.{fit, fit_number}
 use Rattle.value_ops.specs.Expressions as values
 use Rattle.value_ops.specs.Typing.{HasType, Types}

@@ -1,31 +1,38 @@
 -- The first broken rule of words in a query, from those of its operands and that of its root.
-use Rattle.std.proofs.Common.{◌≡◌, inl, inr, List, [], ◌∷◌, ◌++◌, Option, Some, None}
-use Rattle.std.proofs.Common.{Result, Ok, Err, OnOk, IfErr, IfOk, refl, sym, subst}
+use Rattle.std.proofs.Common.{◌≡◌, inr, List, [], ◌∷◌, ◌++◌, Some, None}
+use Rattle.std.proofs.Common.{Result, Ok, Err, OnOk, IfErr, IfOk, refl, subst}
 use Rattle.item_schema.specs.declared.column.Column.{Column}
-use Rattle.language_base.specs.declared.refusal.Refusal.{Refusal}
+use Rattle.language_base.specs.declared.rule.Rule.{Rule}
 use Rattle.query_model.specs.Queries as q
 use Rattle.query_model.specs.Queries.{Qre, plain_of}
 use Rattle.query_model.specs.Rules.{Standing}
 use Rattle.query_model.specs.declared.query.Query.{Query}
 use Rattle.rate_expr.specs.Sets.{Sets}
+use Rattle.type_checker.specs.Blames.{IsFirstBroken}
 use Rattle.type_checker.specs.Findings.{IsBrokenAt, IsBrokenBy, IsKept, operand_nodes, places_in}
 use Rattle.type_checker.specs.Nodes.{Node, Places, nodes_in, own_place, root}
-use Rattle.type_checker.specs.Steps.{refusal}
 use Rattle.type_checker.specs.WordRules.{BreaksAt, FirstBroken}
-use Rattle.type_checker.specs.declared.stop.CheckStop.{CheckStop}
-use Rattle.type_checker.specs.declared.stop.CheckStop.TheVariants.{Refused, Memory}
-use Rattle.type_checker.proofs.Placed.{broken_before, broken_behind}
+use Rattle.type_checker.specs.declared.word_stop.WordStop.{WordStop}
+use Rattle.type_checker.specs.declared.word_stop.WordStop.TheVariants.{Broken, Ambiguous, Memory}
+use Rattle.type_checker.proofs.FirstNodes.{first_alone, first_after_kept, first_with_more}
+use Rattle.type_checker.proofs.Placed.{broken_behind}
 
 -- what stops among some nodes stops among them and others
-pub stops_before : (nodes others : List Node) (stop : CheckStop) → IsBrokenBy nodes stop
+pub stops_before : (nodes others : List Node) (stop : WordStop) → IsBrokenBy nodes stop
     → IsBrokenBy (nodes ++ others) stop
-stops_before nodes others (Refused why) broken = broken_before nodes others why broken
+stops_before nodes others (Broken why) (node, rule, first, is) =
+    (node, rule, first_with_more node rule nodes others first, is)
+stops_before nodes others (Ambiguous blame) (node, rule, first, is) =
+    (node, rule, first_with_more node rule nodes others first, is)
 stops_before nodes others Memory broken = tt
 
 -- what stops behind nodes that break no rule
-pub stops_behind : (nodes others : List Node) (stop : CheckStop) → FirstBroken nodes None → IsBrokenBy others stop
+pub stops_behind : (nodes others : List Node) (stop : WordStop) → FirstBroken nodes None → IsBrokenBy others stop
     → IsBrokenBy (nodes ++ others) stop
-stops_behind nodes others (Refused why) kept broken = broken_behind nodes others (Some why) kept broken
+stops_behind nodes others (Broken why) kept (node, rule, first, is) =
+    (node, rule, first_after_kept node rule nodes others kept first, is)
+stops_behind nodes others (Ambiguous blame) kept (node, rule, first, is) =
+    (node, rule, first_after_kept node rule nodes others kept first, is)
 stops_behind nodes others Memory kept broken = tt
 
 -- the nodes of a query in memory
@@ -48,33 +55,38 @@ root_last columns standing (q.collect column sync rate f) places = refl
 
 module _ (columns : List Column) (standing : Standing) (query : Qre) (places : Places) where
   -- a node of an operand breaks a rule
-  pub stopped_in : (stop : CheckStop) → IsBrokenBy (operand_nodes columns standing query places) stop
+  pub stopped_in : (stop : WordStop) → IsBrokenBy (operand_nodes columns standing query places) stop
       → IsBrokenBy (nodes_in columns standing query places) stop
   stopped_in stop broken = subst (λ nodes. IsBrokenBy nodes stop) (root_last columns standing query places)
       (stops_before _ _ stop broken)
 
   -- none does
   module _ (none : FirstBroken (operand_nodes columns standing query places) None) where
-    -- the root decides
-    at_root : (why : Option Refusal) → FirstBroken (root columns standing query places ∷ []) why
-        → FirstBroken (nodes_in columns standing query places) why
-    at_root why here = subst (λ nodes. FirstBroken nodes why) (root_last columns standing query places)
-        (broken_behind _ _ why none here)
-
     -- it breaks no rule
     pub kept_at : BreaksAt columns standing query None → FirstBroken (nodes_in columns standing query places) None
-    kept_at here = at_root None (inr (here, refl))
+    kept_at here = subst (λ nodes. FirstBroken nodes None) (root_last columns standing query places)
+        (broken_behind _ _ None none (inr (here, refl)))
+
+    -- it breaks this rule, and is the first that breaks one
+    first_at_root : (rule : Rule) → BreaksAt columns standing query (Some rule)
+        → IsFirstBroken (nodes_in columns standing query places) (root columns standing query places) rule
+    first_at_root rule breaks =
+        let here = root columns standing query places in
+        subst (λ nodes. IsFirstBroken nodes here rule) (root_last columns standing query places)
+        (first_after_kept here rule (operand_nodes columns standing query places) _ none
+        (first_alone here rule breaks))
 
     -- it is asked
-    pub root_kept : (result : Result Sets CheckStop) → IfOk result (IsKept columns query)
+    pub root_kept : (result : Result Sets WordStop) → IfOk result (IsKept columns query)
         → OnOk result (FirstBroken (nodes_in columns standing query places) None)
     root_kept (Ok sets) kept = kept_at (kept.rule standing)
     root_kept (Err stop) kept = tt
 
-    pub root_refused : (result : Result Sets CheckStop) → IfErr result (IsBrokenAt columns query (own_place places))
+    pub root_refused : (result : Result Sets WordStop) → IfErr result (IsBrokenAt columns query (own_place places))
         → IfErr result (IsBrokenBy (nodes_in columns standing query places))
     root_refused (Ok sets) broken = tt
-    root_refused (Err (Refused why)) (rule, is, breaks) =
-        subst (λ (w : Refusal). FirstBroken (nodes_in columns standing query places) (Some w)) (sym is)
-        (at_root (Some (refusal rule (own_place places))) (inl (rule, breaks standing, refl)))
+    root_refused (Err (Broken why)) (rule, each) = let (breaks, is) = each standing in
+        (root columns standing query places, rule, first_at_root rule breaks, is)
+    root_refused (Err (Ambiguous blame)) (rule, each) = let (breaks, is) = each standing in
+        (root columns standing query places, rule, first_at_root rule breaks, is)
     root_refused (Err Memory) broken = tt

@@ -122,7 +122,7 @@ module _ (columns : List Column) (standing : Standing) where
       met_rule columns (preds_of rate) other broken' ∙ sym (met_rule columns (preds_of rate) rule broken)
 
   -- and it does not break a rule and keep them all
-  broken_or_kept : (query : Qre) (rule : Rule) → BreaksAt columns standing query (Some rule)
+  pub broken_or_kept : (query : Qre) (rule : Rule) → BreaksAt columns standing query (Some rule)
       → BreaksAt columns standing query None → ⊥
   broken_or_kept (atom pred e) Empty broken kept = apart columns pred broken kept
   broken_or_kept (atom pred e) _ broken kept = broken

@@ -22,16 +22,19 @@ use Rattle.query_model.specs.Sizes.{HasFewPositions, HaveFewCells, predicates_of
 use Rattle.query_model.specs.declared.query.Query.{Query}
 use Rattle.query_model.specs.declared.query.Shape.{Shape}
 use Rattle.query_model.specs.declared.query.Shape.TheVariants.{Atom, Eps, Or', Split', Iter', Combine', Apply', Compose', Collect'}
+use Rattle.type_checker.specs.Blames.{ForbidsTwoReadings, IsBlameAt, IsFirstBroken}
 use Rattle.type_checker.specs.Nodes.{Node, Places, alone, first_places, first_where, nodes_in, second_places, with_one, with_two}
 use Rattle.type_checker.specs.Sizes.{derives_many_cells}
 use Rattle.type_checker.specs.Steps.{refusal}
-use Rattle.type_checker.specs.WordRules.{BreaksAt, BreaksFed, FirstBroken}
+use Rattle.type_checker.specs.WordRules.{BreaksAt, BreaksFed}
 use Rattle.std.specs.Int.{w64}
 use Rattle.predicate_cells.specs.Fits.{fits, has_texts}
 use Rattle.type_checker.specs.declared.naming.Typed.{Typed}
-use Rattle.type_checker.specs.declared.roots.Operands.{Operands}
+use Rattle.type_checker.specs.declared.blame.Operands.{Operands}
 use Rattle.type_checker.specs.declared.stop.CheckStop.{CheckStop}
 use Rattle.type_checker.specs.declared.stop.CheckStop.TheVariants.{Refused, Memory}
+use Rattle.type_checker.specs.declared.word_stop.WordStop.{WordStop}
+use Rattle.type_checker.specs.declared.word_stop.WordStop.TheVariants as word
 use Rattle.value_ops.specs.Typing.{HasType}
 use Rattle.value_ops.specs.declared.value.ValueType.TheVariants.{Number}
 
@@ -137,17 +140,32 @@ pub record IsKept (columns : List Column) (query : Qre) (made : Sets) : Type 0 w
   pub rule : (standing : Standing) → BreaksAt columns standing query None
   pub sets : AreSetsOf made (rate_of query)
 
--- the refusal is that of the rule of words that the root of a query breaks, or memory was wanting
-abbrev pub IsBrokenAt : List Column → Qre → Span → CheckStop → Type 0
-IsBrokenAt columns query span (Refused why) = (rule : Rule) × (why ≡ refusal rule span)
-    × ((standing : Standing) → BreaksAt columns standing query (Some rule))
-IsBrokenAt columns query span Memory = Unit {0}
+-- the stop is that of the rule that the node breaks: its refusal, or where the rule forbids a word
+-- with two readings, the blame
+abbrev pub IsRefusalAt : Node → Rule → WordStop → Type 0
+IsRefusalAt node rule (word.Broken why) =
+    (why ≡ refusal rule node.place) × (ForbidsTwoReadings rule → ⊥)
+IsRefusalAt node rule (word.Ambiguous blame) = IsBlameAt node rule blame.value
+IsRefusalAt node rule word.Memory = ⊥
 
--- the refusal is that of the rule which words of values break, or memory was wanting
-abbrev pub IsUnfed : Standing → List Column → Expression → Span → CheckStop → Type 0
-IsUnfed standing columns r span (Refused why) =
+-- the query as a node
+abbrev pub node_at : List Column → Qre → Span → Standing → Node
+node_at columns query span standing =
+    record { columns = columns; standing = standing; query = query; place = span }
+
+-- the stop is that of the rule of words that the root of a query breaks, or out of memory
+abbrev pub IsBrokenAt : List Column → Qre → Span → WordStop → Type 0
+IsBrokenAt columns query span word.Memory = Unit {0}
+IsBrokenAt columns query span stop = (rule : Rule) × ((standing : Standing)
+    → BreaksAt columns standing query (Some rule)
+    × IsRefusalAt (node_at columns query span standing) rule stop)
+
+-- the stop is that of the rule which words of values break, or out of memory
+abbrev pub IsUnfed : Standing → List Column → Expression → Span → WordStop → Type 0
+IsUnfed standing columns r span (word.Broken why) =
     (rule : Rule) × (why ≡ refusal rule span) × BreaksFed standing columns r (Some rule)
-IsUnfed standing columns r span Memory = Unit {0}
+IsUnfed standing columns r span (word.Ambiguous blame) = ⊥
+IsUnfed standing columns r span word.Memory = Unit {0}
 
 -- the nodes of the second operand of a composition, and then the composition
 abbrev pub nodes_behind : List Column → Standing → Qre → Qre → Places → Span → List Node
@@ -178,10 +196,11 @@ operand_nodes columns standing (compose f g) places =
 operand_nodes columns standing (collect column sync rate f) places =
     nodes_in columns bound f (first_places places)
 
--- the refusal is that of the first node that breaks a rule of words, or memory was wanting
-abbrev pub IsBrokenBy : List Node → CheckStop → Type 0
-IsBrokenBy nodes (Refused refusal) = FirstBroken nodes (Some refusal)
-IsBrokenBy nodes Memory = Unit {0}
+-- the stop is that of the first node that breaks a rule of words, or out of memory
+abbrev pub IsBrokenBy : List Node → WordStop → Type 0
+IsBrokenBy nodes word.Memory = Unit {0}
+IsBrokenBy nodes stop =
+    (node : Node) × (rule : Rule) × IsFirstBroken nodes node rule × IsRefusalAt node rule stop
 
 -- a query with its type
 pub record IsResolved (columns : List Column) (made : Typed) : Type 0 where

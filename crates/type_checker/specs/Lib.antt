@@ -1,8 +1,10 @@
+pub mod Blames
 pub mod Expressions
 pub mod Findings
 pub mod Forms
 pub mod Joints
 pub mod Judged
+pub mod Judgments
 pub mod Layouts
 pub mod Names
 pub mod Nestings

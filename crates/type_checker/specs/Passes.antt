@@ -23,6 +23,8 @@ use Rattle.type_checker.specs.Resolved.{outside, resolved}
 use Rattle.query_model.specs.Few.{has_few_cells}
 use Rattle.type_checker.specs.Sizes.{has_few_nodes}
 use Rattle.type_checker.specs.Steps.{◌>>=◌, because, provided, unless}
+use Rattle.type_checker.specs.declared.judgment.Judgment.{Judgment}
+use Rattle.type_checker.specs.declared.judgment.Judgment.TheVariants.{Accepted}
 use Rattle.type_checker.specs.declared.measured.Measured.{Measured}
 use Rattle.type_checker.specs.declared.stop.CheckStop.{CheckStop}
 
@@ -76,3 +78,8 @@ pub record IsMeasured (program : Program) (made : Measured) : Type 0 where
   pub places : places_in made.query.value ≡ places_of (unfolded program)
   pub small : IsSmall (layout_of program.stream).columns (plain_of made.query.value.shape)
   pub asked : CanBeAsked made.cells (plain_of made.query.value.shape)
+
+-- the query that is accepted has the places of the main query after lets
+abbrev pub HasPlaces : Program → Judgment → Type 0
+HasPlaces program (Accepted checked) = places_in checked.value.main ≡ places_of (unfolded program)
+HasPlaces program _ = Unit {0}

@@ -1,4 +1,4 @@
-//! The top call.
+//! The top calls.
 ghost use Rattle.std.specs.Prelude.{◌≡◌, IfErr, IfOk, None, OnOk};
 ghost use Rattle.query_lets.specs.Unfolded.{unfolded};
 ghost use Rattle.query_model.specs.Monitors.{monitor_of};
@@ -6,15 +6,20 @@ ghost use Rattle.query_model.specs.Queries.{plain_of};
 ghost use Rattle.query_model.specs.Rules.{free};
 ghost use Rattle.query_syntax.specs.Limits.{IsWithin};
 ghost use Rattle.query_syntax.specs.Plain.{plain_program, plain_stream};
+ghost use Rattle.query_syntax.specs.Programs as syntax;
 ghost use Rattle.type_checker.specs.Findings.{CanBeAsked, IsBrokenBy, places_in};
 ghost use Rattle.type_checker.specs.Judged.{IsJudged, accepted};
+ghost use Rattle.type_checker.specs.Judgments.{IsJudgmentOf};
 ghost use Rattle.type_checker.specs.Nodes.{nodes_in, places_of};
+ghost use Rattle.type_checker.specs.Passes.{HasPlaces, IsMeasured};
 ghost use Rattle.type_checker.specs.Stops.{IsStopOf};
 ghost use Rattle.type_checker.specs.WordRules.{FirstBroken};
 
 use crate::CheckStop;
-use crate::measured::measure;
+use crate::judgment::Judgment;
+use crate::measured::{Measured, measure};
 use crate::standing::Standing;
+use crate::word_stop::WordStop;
 use crate::words::keep_words;
 use predicate_cells::Cells;
 use query_model::{Checked, Query};
@@ -31,13 +36,47 @@ pub fn check(alloc: Global, program: &Program) -> Result<Checked, CheckStop>
         places_in made.main ≡ places_of (unfolded (plain_program program.now))) }
     ensures refused { IfErr result (IsStopOf (plain_program program.now)) }
 {
-    let found = measure(alloc, program)?;
-    keep_words_over(alloc, found.cells, &found.query)?;
-    Ok(Checked::new(found.schema, found.query))
+    match judge(alloc, program)? {
+        Judgment::Accepted(checked) => Ok(Box::into_inner(checked)),
+        Judgment::Refused(why) => Err(CheckStop::Refused(why)),
+        Judgment::Ambiguous(blame) => Err(CheckStop::Refused(blame.refusal())),
+    }
+}
+
+/// The same, with the automata of the first broken rule where it forbids a word with two readings.
+pub fn judge(alloc: Global, program: &Program) -> Result<Judgment, AllocError>
+    requires { IsWithin (plain_stream program.now.stream) }
+    ensures judged { IfOk result (IsJudgmentOf (plain_program program.now)) }
+    ensures places { IfOk result (HasPlaces (plain_program program.now)) }
+{
+    match measure(alloc, program) {
+        Ok(found) => judge_words(alloc, found),
+        Err(CheckStop::Refused(why)) => Ok(Judgment::Refused(why)),
+        Err(CheckStop::Memory) => Err(AllocError),
+    }
+}
+
+// The judgment on a program of which this was made, by the rules of words.
+fn judge_words(alloc: Global, found: Measured) -> Result<Judgment, AllocError>
+    requires { (program : syntax.Program) × IsMeasured program found }
+    ensures judged { IfOk result (λ judgment. (program : syntax.Program)
+        → IsMeasured program found → IsJudgmentOf program judgment) }
+    ensures places { IfOk result (λ judgment. (program : syntax.Program)
+        → IsMeasured program found → HasPlaces program judgment) }
+{
+    match keep_words_over(alloc, found.cells, &found.query) {
+        Ok(()) => {
+            let checked = Checked::new(found.schema, found.query);
+            Ok(Judgment::Accepted(Box::new(alloc, checked)?))
+        }
+        Err(WordStop::Broken(why)) => Ok(Judgment::Refused(why)),
+        Err(WordStop::Ambiguous(blame)) => Ok(Judgment::Ambiguous(blame)),
+        Err(WordStop::Memory) => Err(AllocError),
+    }
 }
 
 // Whether no node of a main query breaks a rule of words over the cells.
-fn keep_words_over(alloc: Global, cells: Cells, query: &Query) -> Result<(), CheckStop>
+fn keep_words_over(alloc: Global, cells: Cells, query: &Query) -> Result<(), WordStop>
     requires { CanBeAsked cells (plain_of query.now.shape) }
     ensures kept { OnOk result (FirstBroken
         (nodes_in cells.layout.columns free (plain_of query.now.shape) (places_in query.now))

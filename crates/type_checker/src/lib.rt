@@ -4,9 +4,11 @@
 mod after_lets;
 mod apart;
 mod atom;
+mod blame;
 mod checking;
 mod columns;
 mod expression;
+mod judgment;
 mod laws;
 mod measured;
 mod named;
@@ -25,8 +27,11 @@ mod streams;
 mod typed;
 mod values;
 mod word_rules;
+mod word_stop;
 mod words;
 
-pub use checking::check;
-pub use laws::one_verdict;
+pub use blame::{Ambiguity, Blame, Operands};
+pub use checking::{check, judge};
+pub use judgment::Judgment;
+pub use laws::{blame_refuses, one_verdict};
 pub use stop::CheckStop;

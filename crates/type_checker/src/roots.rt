@@ -11,30 +11,25 @@ ghost use Rattle.rate_expr.specs.FirstLastFollow.{AreSetsOf};
 ghost use Rattle.rate_expr.specs.Plain as rates;
 ghost use Rattle.rate_expr.specs.Rates as rate;
 ghost use Rattle.rate_expr.specs.Rates.{preds_of, size_of};
-ghost use Rattle.symbolic_nfa.specs.Automata.{AreDecided, Automaton};
+ghost use Rattle.symbolic_nfa.specs.Automata.{AreDecided};
 ghost use Rattle.value_ops.specs.Expressions.{Expression};
+ghost use Rattle.type_checker.specs.Blames.{ambiguity_of, refusal_of};
 ghost use Rattle.type_checker.specs.Findings.{AreAmong, AreOperands, IsAutomatonOf, IsBrokenAt, IsKept, IsUnfed};
 ghost use Rattle.type_checker.specs.Standings.{standing_of};
 ghost use Rattle.type_checker.specs.WordRules.{BreaksFed};
 
-use crate::CheckStop;
+use crate::blame::{Ambiguity, Blame, Operands};
 use crate::standing::Standing;
 use crate::word_rules::{
     choice_rule, empty_rule, fed_rule, iter_rule, met_rule, rates_rule, split_rule,
 };
-use language_base::{Rule, Span};
+use crate::word_stop::WordStop;
+use language_base::{Refusal, Rule, Span};
 use predicate_cells::{Cells, Pred};
 use rate_expr::{Positions, Rate};
-use std::alloc::Global;
+use std::alloc::{AllocError, Global};
 use std::rc::Rc;
 use symbolic_nfa::Nfa;
-
-/// The automata of the rates of two operands.
-#[derive(Drop)]
-pub(crate) struct Operands {
-    pub(crate) left: Nfa,
-    pub(crate) right: Nfa,
-}
 
 /// One item that meets the predicate.
 pub(crate) fn one_item(
@@ -42,7 +37,7 @@ pub(crate) fn one_item(
     cells: &Rc<Cells>,
     pred: &Pred,
     span: Span,
-) -> Result<Positions, CheckStop>
+) -> Result<Positions, WordStop>
     requires { Contains cells.now.value.preds (plain_of pred.now) }
     ensures kept { IfOk result (λ sets. (value : Expression)
         → IsKept cells.now.value.layout.columns (atom (plain_of pred.now) value) sets) }
@@ -54,7 +49,7 @@ pub(crate) fn one_item(
 }
 
 /// A word of either operand.
-pub(crate) fn choice(alloc: Global, operands: Operands, span: Span) -> Result<Positions, CheckStop>
+pub(crate) fn choice(alloc: Global, operands: Operands, span: Span) -> Result<Positions, WordStop>
     requires cells { operands.left.cells ≡ operands.right.cells }
     requires few { length operands.left.sets.preds + length operands.right.sets.preds
         ≤ max_positions }
@@ -63,13 +58,20 @@ pub(crate) fn choice(alloc: Global, operands: Operands, span: Span) -> Result<Po
     ensures refused { IfErr result (λ stop. (cells : Partition) (f g : Qre)
         → AreOperands cells f g operands → IsBrokenAt cells.layout.columns (choice f g) span stop) }
 {
-    keep(choice_rule(alloc, &operands.left, &operands.right)?, span)?;
-    let left = operands.left.into_positions();
-    Ok(left.or(operands.right.into_positions())?)
+    match choice_rule(alloc, &operands.left, &operands.right)? {
+        Some(rule) => {
+            let ambiguity = Ambiguity::Choice(Box::new(alloc, operands)?);
+            Err(WordStop::Ambiguous(blame(alloc, ambiguity, rule, span)?))
+        }
+        None => {
+            let left = operands.left.into_positions();
+            Ok(left.or(operands.right.into_positions())?)
+        }
+    }
 }
 
 /// A word of the first operand, and then one of the second.
-pub(crate) fn split(alloc: Global, operands: Operands, span: Span) -> Result<Positions, CheckStop>
+pub(crate) fn split(alloc: Global, operands: Operands, span: Span) -> Result<Positions, WordStop>
     requires cells { operands.left.cells ≡ operands.right.cells }
     requires few { length operands.left.sets.preds + length operands.right.sets.preds
         ≤ max_positions }
@@ -79,13 +81,20 @@ pub(crate) fn split(alloc: Global, operands: Operands, span: Span) -> Result<Pos
         → AreOperands cells f g operands
         → IsBrokenAt cells.layout.columns (split f g value) span stop) }
 {
-    keep(split_rule(alloc, &operands.left, &operands.right)?, span)?;
-    let left = operands.left.into_positions();
-    Ok(left.then(operands.right.into_positions())?)
+    match split_rule(alloc, &operands.left, &operands.right)? {
+        Some(rule) => {
+            let ambiguity = Ambiguity::Split(Box::new(alloc, operands)?);
+            Err(WordStop::Ambiguous(blame(alloc, ambiguity, rule, span)?))
+        }
+        None => {
+            let left = operands.left.into_positions();
+            Ok(left.then(operands.right.into_positions())?)
+        }
+    }
 }
 
 /// Words of the operand, one after the other.
-pub(crate) fn iterated(alloc: Global, operand: Nfa, span: Span) -> Result<Positions, CheckStop>
+pub(crate) fn iterated(alloc: Global, operand: Nfa, span: Span) -> Result<Positions, WordStop>
     ensures kept { IfOk result (λ sets. (f : Qre) (number : ℤ) (step : Expression)
         → IsAutomatonOf f operand
         → IsKept operand.cells.layout.columns (iter f number step) sets) }
@@ -93,8 +102,13 @@ pub(crate) fn iterated(alloc: Global, operand: Nfa, span: Span) -> Result<Positi
         → IsAutomatonOf f operand
         → IsBrokenAt operand.cells.layout.columns (iter f number step) span stop) }
 {
-    keep(iter_rule(alloc, &operand)?, span)?;
-    Ok(operand.into_positions().star())
+    match iter_rule(alloc, &operand)? {
+        Some(rule) => {
+            let ambiguity = Ambiguity::Iter(Box::new(alloc, operand)?);
+            Err(WordStop::Ambiguous(blame(alloc, ambiguity, rule, span)?))
+        }
+        None => Ok(operand.into_positions().star()),
+    }
 }
 
 /// A word of both operands, which have the same.
@@ -102,7 +116,7 @@ pub(crate) fn side_by_side(
     alloc: Global,
     operands: Operands,
     span: Span,
-) -> Result<Positions, CheckStop>
+) -> Result<Positions, WordStop>
     requires { operands.left.cells ≡ operands.right.cells }
     ensures kept { IfOk result (λ sets. (cells : Partition) (f g : Qre) (value : Expression)
         → AreOperands cells f g operands → IsKept cells.layout.columns (combine f g value) sets) }
@@ -121,7 +135,7 @@ pub(crate) fn fed(
     cells: &Rc<Cells>,
     second: Positions,
     span: Span,
-) -> Result<(), CheckStop>
+) -> Result<(), WordStop>
     requires { AreDecided second cells.now.value }
     ensures kept { OnOk result ((r : rate.Expression) → AreSetsOf second r
         → BreaksFed (standing_of standing) cells.now.value.layout.columns r None) }
@@ -143,7 +157,7 @@ pub(crate) fn collected(
     cells: &Rc<Cells>,
     rate: &Rate,
     span: Span,
-) -> Result<Positions, CheckStop>
+) -> Result<Positions, WordStop>
     requires few { size_of (rates.plain_of rate.now) ≤ max_positions }
     requires members { AreAmong cells.now.value (preds_of (rates.plain_of rate.now)) }
     ensures kept { IfOk result (λ sets. (key : ℕ) (sync : Predicate) (f : Qre)
@@ -158,13 +172,28 @@ pub(crate) fn collected(
 }
 
 // Whether no rule is broken; the rule that is broken is refused at the place.
-fn keep(broken: Option<Rule>, span: Span) -> Result<(), CheckStop>
+fn keep(broken: Option<Rule>, span: Span) -> Result<(), WordStop>
     ensures kept { OnOk result (broken ≡ None) }
     ensures refused { IfErr result (λ stop. (rule : Rule) × (broken ≡ Some rule)
-        × (stop ≡ CheckStop.Refused (record { rule = rule; span = span }))) }
+        × (stop ≡ WordStop.Broken (record { rule = rule; span = span }))) }
 {
     match broken {
-        Some(rule) => Err(CheckStop::refused(rule, span)),
+        Some(rule) => Err(WordStop::broken(rule, span)),
         None => Ok(()),
     }
+}
+
+// The refusal by this rule at the place, with what it asks about.
+fn blame(
+    alloc: Global,
+    ambiguity: Ambiguity,
+    rule: Rule,
+    span: Span,
+) -> Result<Box<Blame>, AllocError>
+    ensures refusal { IfOk result (λ blame.
+        refusal_of blame.value ≡ record { rule = rule; span = span }) }
+    ensures ambiguity { IfOk result (λ blame. ambiguity_of blame.value ≡ ambiguity) }
+{
+    let blame = Blame::new(Refusal { rule, span }, ambiguity);
+    Ok(Box::new(alloc, blame)?)
 }

@@ -19,10 +19,11 @@ ghost use Rattle.type_checker.specs.Standings.{standing_of};
 ghost use Rattle.type_checker.specs.WordRules.{FirstBroken};
 ghost use Rattle.value_ops.specs.Expressions.{Expression};
 
-use crate::CheckStop;
-use crate::roots::{Operands, choice, collected, fed, iterated, one_item, side_by_side, split};
+use crate::blame::Operands;
+use crate::roots::{choice, collected, fed, iterated, one_item, side_by_side, split};
 use crate::standing::Standing;
 use crate::values::values_of;
+use crate::word_stop::WordStop;
 use language_base::Span;
 use predicate_cells::{CellStop, Cells};
 use query_model::{Query, Shape, cells_of};
@@ -39,7 +40,7 @@ pub fn keep_words(
     standing: Standing,
     cells: &Rc<Cells>,
     query: &Query,
-) -> Result<Positions, CheckStop>
+) -> Result<Positions, WordStop>
     requires { CanBeAsked cells.now.value (plain_of query.now.shape) }
     ensures kept { OnOk result (FirstBroken
         (nodes_in cells.now.value.layout.columns (standing_of standing) (plain_of query.now.shape)
@@ -74,7 +75,7 @@ fn keep_choice(
     first: &Query,
     second: &Query,
     span: Span,
-) -> Result<Positions, CheckStop>
+) -> Result<Positions, WordStop>
     requires first { CanBeAsked cells.now.value (plain_of first.now.shape) }
     requires second { CanBeAsked cells.now.value (plain_of second.now.shape) }
     requires few { size_of (rate_of (plain_of first.now.shape))
@@ -102,7 +103,7 @@ fn keep_split(
     first: &Query,
     second: &Query,
     span: Span,
-) -> Result<Positions, CheckStop>
+) -> Result<Positions, WordStop>
     requires first { CanBeAsked cells.now.value (plain_of first.now.shape) }
     requires second { CanBeAsked cells.now.value (plain_of second.now.shape) }
     requires few { size_of (rate_of (plain_of first.now.shape))
@@ -130,7 +131,7 @@ fn keep_combination(
     first: &Query,
     second: &Query,
     span: Span,
-) -> Result<Positions, CheckStop>
+) -> Result<Positions, WordStop>
     requires first { CanBeAsked cells.now.value (plain_of first.now.shape) }
     requires second { CanBeAsked cells.now.value (plain_of second.now.shape) }
     ensures kept { (standing : model.Standing) (value : Expression) → OnOk result (FirstBroken
@@ -155,7 +156,7 @@ fn keep_iteration(
     cells: &Rc<Cells>,
     operand: &Query,
     span: Span,
-) -> Result<Positions, CheckStop>
+) -> Result<Positions, WordStop>
     requires { CanBeAsked cells.now.value (plain_of operand.now.shape) }
     ensures kept { (standing : model.Standing) (number : ℤ) (step : Expression)
         → OnOk result (FirstBroken (nodes_in cells.now.value.layout.columns standing
@@ -182,7 +183,7 @@ fn keep_composition(
     first: &Query,
     second: &Query,
     span: Span,
-) -> Result<Positions, CheckStop>
+) -> Result<Positions, WordStop>
     requires { CanBeAsked cells.now.value
         (compose (plain_of first.now.shape) (plain_of second.now.shape)) }
     ensures kept { OnOk result (FirstBroken
@@ -208,7 +209,7 @@ fn keep_collection(
     rate: &Rate,
     operand: &Query,
     span: Span,
-) -> Result<Positions, CheckStop>
+) -> Result<Positions, WordStop>
     requires asked { CanBeAsked cells.now.value (plain_of operand.now.shape) }
     requires few { size_of (rates.plain_of rate.now) ≤ max_positions }
     requires members { AreAmong cells.now.value (preds_of (rates.plain_of rate.now)) }
@@ -233,7 +234,7 @@ fn keep_both(
     cells: &Rc<Cells>,
     first: &Query,
     second: &Query,
-) -> Result<Operands, CheckStop>
+) -> Result<Operands, WordStop>
     requires first { CanBeAsked cells.now.value (plain_of first.now.shape) }
     requires second { CanBeAsked cells.now.value (plain_of second.now.shape) }
     ensures kept { OnOk result (FirstBroken
@@ -266,7 +267,7 @@ fn keep_fed(
     first: &Query,
     second: &Query,
     span: Span,
-) -> Result<(), CheckStop>
+) -> Result<(), WordStop>
     requires { CanBeAsked cells.now.value
         (compose (plain_of first.now.shape) (plain_of second.now.shape)) }
     ensures kept { OnOk result (FirstBroken

@@ -6,12 +6,12 @@ use Rattle.query_model.specs.Rules.{free}
 use Rattle.query_model.specs.declared.query.Query.{Query}
 use Rattle.type_checker.specs.Findings.{CanBeAsked, IsBrokenBy}
 use Rattle.type_checker.specs.WordRules.{FirstBroken}
-use Rattle.type_checker.specs.declared.stop.CheckStop.{CheckStop}
+use Rattle.type_checker.specs.declared.word_stop.WordStop.{WordStop}
 use Rattle.type_checker.proofs.Walked.{nodes_at}
 use Rattle.type_checker.proofs.checking.keep_words_over.Goals as goal
 
 -- what is broken over cells that are shared
-broken_on : (shared cells : Partition) → shared ≡ cells → (query : Query) (stop : CheckStop)
+broken_on : (shared cells : Partition) → shared ≡ cells → (query : Query) (stop : WordStop)
     → IsBrokenBy (nodes_at shared.layout.columns free query) stop
     → IsBrokenBy (nodes_at cells.layout.columns free query) stop
 broken_on shared cells same query stop broken =

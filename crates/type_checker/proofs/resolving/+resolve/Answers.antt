@@ -10,7 +10,7 @@ use Rattle.type_checker.specs.Resolutions.{IsMade, IsRefused, columns_of}
 use Rattle.type_checker.specs.Resolved.{inside}
 use Rattle.type_checker.proofs.Collecting.{collect_first, inner_made, inner_refused}
 use Rattle.type_checker.proofs.Composing.{compose_first, compose_second, on_values}
-use Rattle.type_checker.proofs.Operands.{apply_first, iter_first, made_there, name_itself, one_made, one_refused, refused_there}
+use Rattle.type_checker.proofs.FromOperands.{apply_first, iter_first, made_there, name_itself, one_made, one_refused, refused_there}
 use Rattle.type_checker.proofs.Paired.{pair_first, pair_made, pair_nodes, pair_refused, pair_second}
 use Rattle.type_checker.proofs.Shaping.{name_refused}
 use Rattle.type_checker.proofs.resolving.+resolve.Goals as goal

@@ -1,4 +1,4 @@
-use Rattle.std.proofs.Common.{subst, sym}
+use Rattle.std.proofs.Common.{refl, subst, sym}
 use Rattle.std.proofs.lemmas.Result.{err_from_is_err_and}
 use Rattle.predicate_cells.specs.Cells.{Partition}
 use Rattle.query_model.specs.Queries.{collect}
@@ -19,7 +19,7 @@ returns-in_err-keep-clause-refused c =
     rw (err.1, err.2) (λ key sync f.
     broken_by c.args.cells.now.value.layout.columns (collect key sync (plain_of c.args.rate.now) f) c.met_rule.result
     (on_same _ _ (collect key sync (plain_of c.args.rate.now) f) c.met_rule.result c.as_ref.ensures
-    (λ standing. c.met_rule.ensures)) c.args.span _ c.in_err-keep.ensures.refused)
+    (λ standing. c.met_rule.ensures)) refl c.args.span _ c.in_err-keep.ensures.refused)
 
 pub returns-clause-kept : goal.returns-clause-kept
 returns-clause-kept c = λ key sync f.

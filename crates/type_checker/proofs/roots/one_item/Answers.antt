@@ -1,3 +1,4 @@
+use Rattle.std.proofs.Common.{refl}
 use Rattle.std.proofs.lemmas.Result.{err_from_is_err_and}
 use Rattle.predicate_cells.specs.Plain.{plain_of}
 use Rattle.query_model.specs.Queries.{atom}
@@ -10,7 +11,7 @@ returns-in_err-keep-clause-refused c =
     rw (err.1, err.2) (λ value.
     broken_by c.args.cells.now.value.layout.columns (atom (plain_of c.args.pred.now) value) c.empty_rule.result
     (on_same _ _ (atom (plain_of c.args.pred.now) value) c.empty_rule.result c.as_ref.ensures
-    (λ standing. c.empty_rule.ensures standing value)) c.args.span _ c.in_err-keep.ensures.refused)
+    (λ standing. c.empty_rule.ensures standing value)) refl c.args.span _ c.in_err-keep.ensures.refused)
 
 pub returns-clause-kept : goal.returns-clause-kept
 returns-clause-kept c = λ value.

@@ -1,4 +1,4 @@
-use Rattle.std.proofs.Common.{subst, sym}
+use Rattle.std.proofs.Common.{refl, subst, sym}
 use Rattle.std.proofs.lemmas.Result.{err_from_is_err_and}
 use Rattle.query_model.specs.Queries.{combine}
 use Rattle.query_model.specs.Rates.{rate_of}
@@ -13,7 +13,7 @@ returns-in_err-keep-clause-refused c =
     broken_by cells.layout.columns (combine f g value) _
     (on_cells cells f g c.args.operands (combine f g value) _ are
     (λ standing. c.in_ok-rates_rule.ensures standing f g value are.left are.right))
-    c.args.span _ c.in_err-keep.ensures.refused)
+    refl c.args.span _ c.in_err-keep.ensures.refused)
 
 pub returns-clause-kept : goal.returns-clause-kept
 returns-clause-kept c = λ cells f g value are.
