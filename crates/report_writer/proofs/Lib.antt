@@ -1,2 +1,3 @@
 mod Begins
+mod Joined
 pub mod Tables

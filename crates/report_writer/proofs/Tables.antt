@@ -1,5 +1,5 @@
 -- The texts of entries, from one to the next.
-use Rattle.std.proofs.Common.{◌≡◌, ℕ, zero, suc, ◌+◌, List, [], ◌∷◌, ◌++◌, Option, Some, None, Result, Ok, Err, OnOk, length, take, codes, refl, sym, ap, ◌∙◌, append_assoc, slice_get, arith}
+use Rattle.std.proofs.Common.{◌≡◌, ℕ, zero, suc, ◌+◌, List, [], ◌∷◌, ◌++◌, Some, Result, Ok, Err, OnOk, length, take, codes, refl, sym, ap, ◌∙◌, append_assoc, slice_get, arith}
 use Rattle.std.specs.declared.alloc.AllocError.{AllocError}
 use Rattle.value_ops.specs.declared.scalar.Scalar.{Scalar}
 use Rattle.value_ops.specs.Entries.{keys_of, values_of}

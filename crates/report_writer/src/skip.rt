@@ -20,7 +20,7 @@ pub fn push_skip(skip: Skip, text: &mut Vec<u8>) -> Result<(), AllocError>
     text.extend_from_slice(b"\n")
 }
 
-fn push_number(number: u32, text: &mut Vec<u8>) -> Result<(), AllocError>
+pub(crate) fn push_number(number: u32, text: &mut Vec<u8>) -> Result<(), AllocError>
     ensures ok { OnOk result (text.new.items ≡ text.old.items ++ decimal number) }
     ensures err { OnErr result (StartsWith text.new.items text.old.items) }
 {
