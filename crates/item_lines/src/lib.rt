@@ -1,0 +1,13 @@
+//! The line of an item, as a person reads it and types it.
+#![tactic(auto)]
+
+mod field_text;
+mod laws;
+mod line;
+mod number_text;
+mod plain;
+mod quotes;
+
+pub use laws::shown_lines_are_read_to_their_items;
+pub use line::shown_line;
+pub use plain::is_shown;
