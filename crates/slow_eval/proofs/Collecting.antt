@@ -20,7 +20,7 @@ use Rattle.slow_eval.specs.declared.keyed.Keyed.{Keyed}
 use Rattle.slow_eval.specs.Answers.{AreAnswers, CanBeRead}
 use Rattle.slow_eval.specs.Fronts.{AreInRate}
 use Rattle.slow_eval.specs.Projections.{AreKeysOf, IsOnItems}
-use Rattle.slow_eval.specs.Tabled.{AreTables, HaveAnswersAt, entries_at, entry_with, keys_in}
+use Rattle.slow_eval.specs.Tabled.{AreTables, HaveAnswersAt, IsKeyed, entries_at, entry_with, keys_in}
 use Rattle.slow_eval.proofs.Cutting.{front_word}
 use Rattle.slow_eval.proofs.Keying.{projection_shorter, projection_taken}
 use Rattle.slow_eval.proofs.Tabling.{all_push, all_so, all_take}
@@ -35,12 +35,6 @@ of_key column sync r f key word can = record {
   is_word = kept_word can.columns _ word can.is_word;
   positions = can.positions.0;
 }
-
--- an answer on what each front has for the key
-pub record IsKeyed (f : Qre) (column : ℕ) (sync : Predicate) (word : Word) (one : Keyed) : Type 0 where
-  pub count : length one.answers.items ≡ length word + 1
-  pub each : (place : ℕ) → place ≤ length word
-      → IsAnswer f (projection column sync one.key (take place word)) (get_or one.answers.items place None)
 
 -- from those on the fronts of all that the word has for it
 pub keyed : (f : Qre) (column : ℕ) (sync : Predicate) (word : Word) (one : Keyed) (found : List (Option Value))
@@ -76,6 +70,11 @@ keyed_more f column sync word keys at all one so_far inside read is = record {
   each = all_push (IsKeyed f column sync word) all one so_far.each is;
 }
 
+-- all keys
+pub keyed_all : (f : Qre) (column : ℕ) (sync : Predicate) (word : Word) (keys : List (List ℕ)) (at : ℕ)
+    (all : List Keyed) → AreKeyed f column sync word keys at all → length keys ≤ at → keys_in all ≡ keys
+keyed_all f column sync word keys at all so_far whole = so_far.of_keys ∙ take_all at keys whole
+
 -- the same tables, by other names
 pub tables_by : (fronts fronts' : List Bool) (counts counts' : List ℕ) (all all' : List Keyed)
     (row : List (Option Value)) → AreTables fronts' counts' all' row → fronts' ≡ fronts → counts' ≡ counts
@@ -85,12 +84,9 @@ tables_by fronts fronts' counts counts' all all' row tables same same' same'' =
     (subst (λ cs. AreTables fronts' cs all row) same' (subst (λ xs. AreTables fronts' counts' xs row) same'' tables))
 
 module _ (f : Qre) (column : ℕ) (sync : Predicate) (r : rate.Expression) (word : Word) (keys : List (List ℕ))
-    (counts : List ℕ) (at : ℕ) (all : List Keyed) (can : CanBeRead (collect column sync r f) word)
-    (are : AreKeysOf column sync word keys counts) (with_all : AreKeyed f column sync word keys at all)
-    (whole : length keys ≤ at) where
-  all_keys : keys_in all ≡ keys
-  all_keys = with_all.of_keys ∙ take_all at keys whole
-
+    (counts : List ℕ) (all : List Keyed) (can : CanBeRead (collect column sync r f) word)
+    (are : AreKeysOf column sync word keys counts) (all_keys : keys_in all ≡ keys)
+    (each_keyed : AllByRecursion (IsKeyed f column sync word) all) where
   -- the keys differ
   pub keys_differ : IsDistinct bytes_eq (keys_in all)
   keys_differ =
@@ -107,7 +103,7 @@ module _ (f : Qre) (column : ℕ) (sync : Predicate) (r : rate.Expression) (word
   pub answers_there : (place : ℕ) → place ≤ length word → HaveAnswersAt place all
   answers_there place inside =
       all_so (IsKeyed f column sync word) (λ (one : Keyed). place < length one.answers.items) all
-      (λ one is. let count : length one.answers.items ≡ length word + 1 = is.count in omega arith) with_all.each
+      (λ one is. let count : length one.answers.items ≡ length word + 1 = is.count in omega arith) each_keyed
 
   -- the entries of keys are their scalars on a front
   entries_are : (place : ℕ) → place ≤ length word → (some : List Keyed)
@@ -136,7 +132,7 @@ module _ (f : Qre) (column : ℕ) (sync : Predicate) (r : rate.Expression) (word
       let first : keys_in (take n all) ≡ keys_after column sync [] (take place word) =
       sym (take-map (λ (k : Keyed). k.key) n all) ∙ ap (take n) all_keys ∙ sym (are.each place inside) in
       subst (λ ks. AreEntries (on_keys f column sync (take place word)) ks (entries_at place (take n all))) first
-      (entries_are place inside (take n all) (all_take (IsKeyed f column sync word) n all with_all.each))
+      (entries_are place inside (take n all) (all_take (IsKeyed f column sync word) n all each_keyed))
 
   collected_at : (place : ℕ) → place ≤ length word → (in_rate : Bool) → IsTrue in_rate ↔ In r (take place word)
       → IsAnswer (collect column sync r f) (take place word)

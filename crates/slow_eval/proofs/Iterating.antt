@@ -20,11 +20,12 @@ use Rattle.query_model.specs.Rates.{rate_of}
 use Rattle.query_model.specs.Rules.{bound}
 use Rattle.query_model.proofs.InRates.{den_in}
 use Rattle.slow_eval.specs.Answers.{AreAnswers, CanBeRead}
-use Rattle.slow_eval.specs.Rows.{IsJoined, IsTypedOnBoth}
+use Rattle.slow_eval.specs.Rests.{IsJoinedWithRest, IsTypedWithRest}
+use Rattle.slow_eval.specs.Rows.{IsJoined}
 use Rattle.slow_eval.proofs.Cutting.{IsCut, cut, front_word}
 use Rattle.slow_eval.proofs.Filling.{IsFilled, joined, put_or_same, skipped, some_not_none}
 use Rattle.slow_eval.proofs.Folding.{fold_less, fold_more, join_more, last_piece}
-use Rattle.slow_eval.proofs.Reading.{is_answer, is_none, of_piece, one_at, value_at}
+use Rattle.slow_eval.proofs.Reading.{is_answer, is_none, of_piece, one_at}
 use Rattle.slow_eval.proofs.WellTyped.{typed_at, typed_on_both}
 use Rattle.slow_eval.proofs.Splitting.{answers_behind}
 
@@ -102,15 +103,14 @@ one_piece_more f number e word at m x y v (pieces, whole, folds) den gives = (
   fold_more (Den f) e pieces (take m (drop at word)) (value.Scalar (Number number)) x y v folds den gives,
 )
 
-pub iter_typed : (f : Qre) (number : ℤ) (e : Expression) (word : Word) (at : ℕ) (row pieces : List (Option Value))
-    (x : Value) → CanBeRead (iter f number e) word → IsIterated f number e word at row → at ≤ length word
-    → get_or row at None ≡ Some x → AreAnswers f (drop at word) pieces
-    → (place : ℕ) (y : Value) → get_or pieces place None ≡ Some y → IsTypedOnBoth e x y
-iter_typed f number e word at row pieces x can so_far inside there answers place y there' =
+-- the expression is well typed on the value so far and those behind it
+pub iter_typed : (f : Qre) (number : ℤ) (e : Expression) (word : Word) (at : ℕ) (row : List (Option Value))
+    → CanBeRead (iter f number e) word → IsIterated f number e word at row → at ≤ length word
+    → IsTypedWithRest f (drop at word) e (get_or row at None)
+iter_typed f number e word at row can so_far inside = λ place x y there den.
     typed_on_both type.Number (type_of can.columns f) type.Number e x y
     (typed_at (iter f number e) word at x can (so_far.filled.sound at x inside there))
-    (typed_at f (drop at word) place y (of_piece f number e word at can)
-    (value_at f (drop at word) pieces place y answers there').1) can.clear.2
+    (typed_at f (drop at word) place y (of_piece f number e word at can) den) can.clear.2
 
 -- the first place keeps an answer
 begins_still : (e : Expression) (x : Value) (right : List (Option Value)) (from : ℕ) (old new : List (Option Value))
@@ -126,11 +126,11 @@ begins_still e x right (suc from) old new n is begins some none =
     begins (sym (is.before 0 (omega arith)) ∙ none)
 
 -- a front with a value, and all pieces behind it
-pub iter_joined : (f : Qre) (number : ℤ) (e : Expression) (word : Word) (at : ℕ) (row new pieces : List (Option Value))
+iter_joined : (f : Qre) (number : ℤ) (e : Expression) (word : Word) (at : ℕ) (row new : List (Option Value))
     (x : Value) → CanBeRead (iter f number e) word → IsIterated f number e word at row → at ≤ length word
-    → get_or row at None ≡ Some x → AreAnswers f (drop at word) pieces → IsJoined e x pieces at row new
+    → get_or row at None ≡ Some x → IsJoinedWithRest f (drop at word) e (Some x) at row new
     → IsIterated f number e word (at + 1) new
-iter_joined f number e word at row new pieces x can so_far inside there answers is_joined =
+iter_joined f number e word at row new x can so_far inside there (pieces, answers, is_joined) =
     let den = so_far.filled.sound at x inside there in
     record {
       filled = joined (Den (iter f number e)) (Den f) (Den (iter f number e)) e word at row new pieces x so_far.filled
@@ -141,7 +141,7 @@ iter_joined f number e word at row new pieces x can so_far inside there answers 
     }
 
 -- a front without a value
-pub iter_skipped : (f : Qre) (number : ℤ) (e : Expression) (word : Word) (at : ℕ) (row : List (Option Value))
+iter_skipped : (f : Qre) (number : ℤ) (e : Expression) (word : Word) (at : ℕ) (row : List (Option Value))
     → CanBeRead (iter f number e) word → IsIterated f number e word at row → at ≤ length word
     → get_or row at None ≡ None → IsIterated f number e word (at + 1) row
 iter_skipped f number e word at row can so_far inside there = record {
@@ -149,6 +149,16 @@ iter_skipped f number e word at row can so_far inside there = record {
       (is_none (iter f number e) (take at word) _ (iter_answer f number e word at row can so_far at (omega arith) inside) there);
   begins = so_far.begins;
 }
+
+-- one front more
+pub iter_more : (f : Qre) (number : ℤ) (e : Expression) (word : Word) (at : ℕ) (row new : List (Option Value))
+    (so_far : Option Value) → CanBeRead (iter f number e) word → IsIterated f number e word at row → at ≤ length word
+    → get_or row at None ≡ so_far → IsJoinedWithRest f (drop at word) e so_far at row new
+    → IsIterated f number e word (at + 1) new
+iter_more f number e word at row new None can is inside there same =
+    subst (IsIterated f number e word (at + 1)) (sym same) (iter_skipped f number e word at row can is inside there)
+iter_more f number e word at row new (Some x) can is inside there joined =
+    iter_joined f number e word at row new x can is inside there joined
 
 -- all fronts have been tried
 pub iter_ended : (f : Qre) (number : ℤ) (e : Expression) (word : Word) (at : ℕ) (row : List (Option Value))

@@ -1,8 +1,8 @@
 -- Rows that answers are put into one after the other.
-use Rattle.std.proofs.Common.{◌≡◌, ◌<◌, ◌≤◌, ℕ, ◌+◌, ◌∙◌, List, Option, None, length, get_or, sym, subst}
+use Rattle.std.proofs.Common.{◌≡◌, ◌<◌, ◌≤◌, ℕ, ◌+◌, ◌∙◌, List, Option, None, length, get_or, sym}
 use Rattle.value_ops.specs.declared.value.Value.{Value}
 use Rattle.value_ops.specs.Expressions.{Expression}
-use Rattle.slow_eval.specs.Rows.{IsJoined, IsPut}
+use Rattle.slow_eval.specs.Rows.{IsPut}
 use Rattle.std.proofs.lemmas.List.{get_or_default}
 
 -- what is read inside of a row is the answer there
@@ -18,12 +18,3 @@ pub record IsBegun (expression : Expression) (left : Value) (right : List (Optio
   pub done : (place : ℕ) → place < at
       → IsPut expression left (get_or right place None) (get_or old (from + place) None) (get_or new (from + place) None)
   pub later : (place : ℕ) → at ≤ place → get_or new (from + place) None ≡ get_or old (from + place) None
-
--- the same rows, by other names
-pub joined_items : (expression : Expression) (left : Value) (right right' : List (Option Value)) (from : ℕ)
-    (old old' new new' : List (Option Value)) → IsJoined expression left right from old new → right ≡ right'
-    → old ≡ old' → new ≡ new' → IsJoined expression left right' from old' new'
-joined_items expression left right right' from old old' new new' joined rights olds news =
-    subst (λ rs. IsJoined expression left rs from old' new') rights
-    (subst (λ before. IsJoined expression left right from before new') olds
-    (subst (IsJoined expression left right from old) news joined))

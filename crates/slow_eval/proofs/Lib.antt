@@ -6,7 +6,9 @@ pub mod Folding
 pub mod Iterating
 pub mod Joining
 pub mod Keying
+pub mod Outcomes
 pub mod Reading
+pub mod Resting
 pub mod Splitting
 pub mod Stepping
 pub mod Streaming

@@ -7,7 +7,7 @@ use Rattle.query_model.specs.Denotation.{Den}
 use Rattle.query_model.specs.Queries.{Qre, split}
 use Rattle.query_model.specs.QueryTypes.{type_of}
 use Rattle.slow_eval.specs.Answers.{AreAnswers, CanBeRead}
-use Rattle.slow_eval.specs.Rows.{IsJoined, IsTypedOnBoth}
+use Rattle.slow_eval.specs.Rests.{IsJoinedWithRest, IsTypedWithRest}
 use Rattle.slow_eval.proofs.Cutting.{cut}
 use Rattle.slow_eval.proofs.Filling.{AreBehind, IsFilled, joined, skipped}
 use Rattle.slow_eval.proofs.Reading.{is_answer, is_none, is_value, of_front, of_rest, one_at, value_at}
@@ -29,22 +29,21 @@ answers_behind g word at right inside answers =
       none = λ m y within there den. is_none g (take m (drop at word)) _ (answers.each m (omega arith)) there y den;
     }
 
-pub split_typed : (f g : Qre) (e : Expression) (word : Word) (at : ℕ) (lefts rights : List (Option Value)) (x : Value)
-    → CanBeRead (split f g e) word → AreAnswers f word lefts → get_or lefts at None ≡ Some x
-    → AreAnswers g (drop at word) rights → (place : ℕ) (y : Value) → get_or rights place None ≡ Some y
-    → IsTypedOnBoth e x y
-split_typed f g e word at lefts rights x can left there right place y there' =
+-- the expression is well typed on a left value and those behind it
+pub split_typed : (f g : Qre) (e : Expression) (word : Word) (at : ℕ) (lefts : List (Option Value))
+    → CanBeRead (split f g e) word → AreAnswers f word lefts
+    → IsTypedWithRest g (drop at word) e (get_or lefts at None)
+split_typed f g e word at lefts can left = λ place x y there den.
     typed_on_both (type_of can.columns f) (type_of can.columns g) _ e x y
     (typed_at f word at x (of_front f g e word can) (value_at f word lefts at x left there).1)
-    (typed_at g (drop at word) place y (of_rest f g e word at can)
-    (value_at g (drop at word) rights place y right there').1) can.clear.2
+    (typed_at g (drop at word) place y (of_rest f g e word at can) den) can.clear.2
 
 -- a left value, and all right ones behind it
-pub split_joined : (f g : Qre) (e : Expression) (word : Word) (at : ℕ) (lefts rights row new : List (Option Value))
+split_joined : (f g : Qre) (e : Expression) (word : Word) (at : ℕ) (lefts row new : List (Option Value))
     (x : Value) → CanBeRead (split f g e) word → AreAnswers f word lefts → IsSplit f g e word at row
-    → get_or lefts at None ≡ Some x → AreAnswers g (drop at word) rights → IsJoined e x rights at row new
+    → get_or lefts at None ≡ Some x → IsJoinedWithRest g (drop at word) e (Some x) at row new
     → IsSplit f g e word (at + 1) new
-split_joined f g e word at lefts rights row new x can left filled there right is_joined =
+split_joined f g e word at lefts row new x can left filled there (rights, right, is_joined) =
     let found = value_at f word lefts at x left there in
     joined (Den f) (Den g) (Den (split f g e)) e word at row new rights x filled is_joined
     (answers_behind g word at rights found.0 right) found.0
@@ -52,13 +51,23 @@ split_joined f g e word at lefts rights row new x can left filled there right is
     (λ m y v inside den gives. (take at word, take m (drop at word), x, y, take-add at m word, found.1, den, gives))
 
 -- no left value
-pub split_skipped : (f g : Qre) (e : Expression) (word : Word) (at : ℕ) (lefts row : List (Option Value))
+split_skipped : (f g : Qre) (e : Expression) (word : Word) (at : ℕ) (lefts row : List (Option Value))
     → AreAnswers f word lefts → IsSplit f g e word at row → at < length lefts → get_or lefts at None ≡ None
     → IsSplit f g e word (at + 1) row
 split_skipped f g e word at lefts row left filled below there =
     let count : length lefts ≡ length word + 1 = left.count in
     skipped (Den f) (Den g) (Den (split f g e)) e word at row filled
     (is_none f (take at word) _ (left.each at (omega arith)) there)
+
+-- one front more
+pub split_more : (f g : Qre) (e : Expression) (word : Word) (at : ℕ) (lefts row new : List (Option Value))
+    (left : Option Value) → CanBeRead (split f g e) word → AreAnswers f word lefts → IsSplit f g e word at row
+    → at < length lefts → get_or lefts at None ≡ left → IsJoinedWithRest g (drop at word) e left at row new
+    → IsSplit f g e word (at + 1) new
+split_more f g e word at lefts row new None can left filled below there same =
+    subst (IsSplit f g e word (at + 1)) (sym same) (split_skipped f g e word at lefts row left filled below there)
+split_more f g e word at lefts row new (Some x) can left filled below there joined =
+    split_joined f g e word at lefts row new x can left filled there joined
 
 -- all fronts have been tried
 pub split_ended : (f g : Qre) (e : Expression) (word : Word) (at : ℕ) (row : List (Option Value))

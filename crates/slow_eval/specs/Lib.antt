@@ -3,6 +3,7 @@ pub mod Following
 pub mod Fronts
 pub mod Laws
 pub mod Projections
+pub mod Rests
 pub mod Rows
 pub mod Streams
 pub mod Tabled

@@ -1,22 +1,17 @@
 //! The search for the values of a query.
 ghost use Rattle.std.specs.Prelude.{IfOk};
 ghost use Rattle.value_ops.specs.Expressions as values;
-ghost use Rattle.predicate_cells.specs.Plain as predicates;
-ghost use Rattle.rate_expr.specs.Plain as rates;
 ghost use Rattle.query_model.specs.Following.{IsAnswer};
-ghost use Rattle.query_model.specs.Queries.{collect, compose, iter, plain_of, split};
+ghost use Rattle.query_model.specs.Queries.{apply, choice, combine, compose, plain_of};
 ghost use Rattle.slow_eval.specs.Answers.{AreAnswers, CanBeRead};
 
+use crate::collection::collect_answers;
 use crate::derived::{on_stream, stream_of};
-use crate::keyed::{Keyed, tables};
-use crate::keys::{keys_of, on_items, projection};
-use crate::places::{applied, combined, either, join, no_answers};
-use crate::rates::fronts_in;
+use crate::pieces::{iter_answers, split_answers};
+use crate::places::{applied, combined, either};
 use crate::single::{atom_answers, eps_answers};
 use item_schema::Item;
-use predicate_cells::Pred;
 use query_model::{Query, Shape};
-use rate_expr::Rate;
 use std::alloc::{AllocError, Global};
 use value_ops::{Expr, Value};
 
@@ -37,10 +32,7 @@ pub fn answers_on_fronts(
     match &query.shape {
         Shape::Atom(pred, expression) => atom_answers(alloc, pred, expression, word),
         Shape::Eps(number) => eps_answers(alloc, *number, word),
-        Shape::Or(first, second) => {
-            let answers = answers_on_fronts(alloc, first, word)?;
-            Ok(either(answers, answers_on_fronts(alloc, second, word)?))
-        }
+        Shape::Or(first, second) => or_answers(alloc, first, second, word),
         Shape::Split(first, second, expression) => {
             split_answers(alloc, first, second, expression, word)
         }
@@ -48,14 +40,9 @@ pub fn answers_on_fronts(
             iter_answers(alloc, inner, *number, expression, word)
         }
         Shape::Combine(first, second, expression) => {
-            let left = answers_on_fronts(alloc, first, word)?;
-            let right = answers_on_fronts(alloc, second, word)?;
-            combined(alloc, expression, &left, &right)
+            combine_answers(alloc, first, second, expression, word)
         }
-        Shape::Apply(inner, expression) => {
-            let answers = answers_on_fronts(alloc, inner, word)?;
-            applied(alloc, expression, &answers)
-        }
+        Shape::Apply(inner, expression) => apply_answers(alloc, inner, expression, word),
         Shape::Compose(first, second) => compose_answers(alloc, first, second, word),
         Shape::Collect(column, sync, rate, inner) => {
             collect_answers(alloc, *column, sync, rate, inner, word)
@@ -73,53 +60,54 @@ pub fn answer_on(alloc: Global, query: &Query, word: &[Item]) -> Result<Option<V
 }
 
 #[cycle(search)]
-fn split_answers(
+fn or_answers(
+    alloc: Global,
+    first: &Query,
+    second: &Query,
+    word: &[Item],
+) -> Result<Vec<Option<Value>>, AllocError>
+    requires { let query = choice (plain_of first.now.shape) (plain_of second.now.shape) in
+        CanBeRead query word.now }
+    ensures { let query = choice (plain_of first.now.shape) (plain_of second.now.shape) in
+        IfOk result (λ answers. AreAnswers query word.now answers.items) }
+{
+    let answers = answers_on_fronts(alloc, first, word)?;
+    Ok(either(answers, answers_on_fronts(alloc, second, word)?))
+}
+
+#[cycle(search)]
+fn combine_answers(
     alloc: Global,
     first: &Query,
     second: &Query,
     expression: &Expr,
     word: &[Item],
 ) -> Result<Vec<Option<Value>>, AllocError>
-    requires { let query = split (plain_of first.now.shape) (plain_of second.now.shape)
+    requires { let query = combine (plain_of first.now.shape) (plain_of second.now.shape)
         (values.plain_of expression.now) in CanBeRead query word.now }
-    ensures { let query = split (plain_of first.now.shape) (plain_of second.now.shape)
+    ensures { let query = combine (plain_of first.now.shape) (plain_of second.now.shape)
         (values.plain_of expression.now) in
         IfOk result (λ answers. AreAnswers query word.now answers.items) }
 {
     let lefts = answers_on_fronts(alloc, first, word)?;
-    let mut row = no_answers(alloc, word.len())?;
-    'places: for place in 0..lefts.len() {
-        if let Some(left) = &lefts[place] {
-            let rights = answers_on_fronts(alloc, second, &word[place..])?;
-            join(alloc, expression, left, &rights, &mut row, place)?;
-        }
-    }
-    Ok(row)
+    let rights = answers_on_fronts(alloc, second, word)?;
+    combined(alloc, expression, &lefts, &rights)
 }
 
 #[cycle(search)]
-fn iter_answers(
+fn apply_answers(
     alloc: Global,
     inner: &Query,
-    number: i64,
     expression: &Expr,
     word: &[Item],
 ) -> Result<Vec<Option<Value>>, AllocError>
-    requires { let query = iter (plain_of inner.now.shape) number
-        (values.plain_of expression.now) in CanBeRead query word.now }
-    ensures { let query = iter (plain_of inner.now.shape) number
-        (values.plain_of expression.now) in
+    requires { let query = apply (plain_of inner.now.shape) (values.plain_of expression.now) in
+        CanBeRead query word.now }
+    ensures { let query = apply (plain_of inner.now.shape) (values.plain_of expression.now) in
         IfOk result (λ answers. AreAnswers query word.now answers.items) }
 {
-    let mut row = eps_answers(alloc, number, word)?;
-    'places: for place in 0..row.len() {
-        if let Some(so_far) = &row[place] {
-            let so_far = so_far.try_copy(alloc)?;
-            let pieces = answers_on_fronts(alloc, inner, &word[place..])?;
-            join(alloc, expression, &so_far, &pieces, &mut row, place)?;
-        }
-    }
-    Ok(row)
+    let answers = answers_on_fronts(alloc, inner, word)?;
+    applied(alloc, expression, &answers)
 }
 
 #[cycle(search)]
@@ -137,35 +125,5 @@ fn compose_answers(
     let firsts = answers_on_fronts(alloc, first, word)?;
     let stream = stream_of(alloc, &firsts)?;
     let seconds = answers_on_fronts(alloc, second, &stream)?;
-    let answers = on_stream(alloc, &firsts, &seconds)?;
-    Ok(answers)
-}
-
-#[cycle(search)]
-fn collect_answers(
-    alloc: Global,
-    column: u32,
-    sync: &Pred,
-    rate: &Rate,
-    inner: &Query,
-    word: &[Item],
-) -> Result<Vec<Option<Value>>, AllocError>
-    requires { let query = collect column (predicates.plain_of sync.now)
-        (rates.plain_of rate.now) (plain_of inner.now.shape) in CanBeRead query word.now }
-    ensures { let query = collect column (predicates.plain_of sync.now)
-        (rates.plain_of rate.now) (plain_of inner.now.shape) in
-        IfOk result (λ answers. AreAnswers query word.now answers.items) }
-{
-    let in_rate = fronts_in(alloc, rate, word)?;
-    let found = keys_of(alloc, column, sync, word)?;
-    let mut all = Vec::new(alloc);
-    'keys: for key in &found.keys {
-        let items = projection(alloc, column, sync, key.as_slice(), word)?;
-        let values = answers_on_fronts(alloc, inner, &items)?;
-        let answers = on_items(alloc, column, sync, key.as_slice(), word, &values)?;
-        let key = key.try_copy(alloc)?;
-        all.push(Keyed { key, answers })?;
-    }
-    let answers = tables(alloc, &in_rate, &found.counts, &all)?;
-    Ok(answers)
+    on_stream(alloc, &firsts, &seconds)
 }
