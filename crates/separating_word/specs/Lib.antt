@@ -1,4 +1,7 @@
 pub mod Findings
+pub mod Known
+pub mod Letters
 pub mod Pairs
+pub mod Searched
 pub mod Separations
 pub mod Telling

@@ -1,11 +1,13 @@
--- For the prover. What a search through two automata over the same cells keeps to.
+-- For the prover. The automata of two queries.
 use Rattle.std.specs.Prelude.{◌≡◌, ◌<◌, ℕ, List, All}
-use Rattle.predicate_cells.specs.Cells.{cell_count}
-use Rattle.rate_expr.specs.Behind.{IsStateOf}
+use Rattle.predicate_cells.specs.Cells.{Partition, cell_count}
+use Rattle.query_model.specs.Checked.{OnStream}
+use Rattle.query_model.specs.Queries.{plain_of}
+use Rattle.query_model.specs.Rates.{rate_of}
+use Rattle.rate_expr.specs.Paths.{AreOf}
+use Rattle.rate_expr.specs.Sets.{Sets}
+use Rattle.symbolic_nfa.specs.Automata.{Automaton}
 use Rattle.separating_word.specs.declared.automata.Automata.{Automata}
-use Rattle.separating_word.specs.declared.search.Level.{Level}
-use Rattle.separating_word.specs.declared.search.Level.TheVariants.{Found, Next}
-use Rattle.separating_word.specs.declared.search.Reached.{Reached}
 
 -- both read the same cells
 abbrev pub ShareCells : Automata → Type 0
@@ -15,13 +17,18 @@ ShareCells automata = automata.left.cells ≡ automata.right.cells
 abbrev pub AreCellsOf : Automata → List ℕ → Type 0
 AreCellsOf automata cells = All (λ cell. cell < cell_count automata.left.cells) cells
 
--- the states are theirs, behind cells that they read
-pub record IsReachedIn (automata : Automata) (reached : Reached) : Type 0 where
-  pub left : IsStateOf automata.left.sets reached.left
-  pub right : IsStateOf automata.right.sets reached.right
-  pub word : AreCellsOf automata reached.word.items
+-- the automaton of these sets over the cells
+abbrev pub over : Partition → Sets → Automaton
+over cells sets = record { sets = sets; cells = cells }
 
--- how a search goes on keeps to that
-abbrev pub LeadsOn : Automata → Level → Type 0
-LeadsOn automata (Found word) = AreCellsOf automata word.items
-LeadsOn automata (Next level) = All (IsReachedIn automata) level.items
+-- they are those of these sets over the cells
+pub record AreOver (cells : Partition) (first second : Sets) (automata : Automata) : Type 0 where
+  pub left_is : automata.left ≡ over cells first
+  pub right_is : automata.right ≡ over cells second
+
+-- they read items of the left query's stream, and are of the rates of the queries
+pub record AreOfRates (left right : OnStream) (automata : Automata) : Type 0 where
+  pub shared : ShareCells automata
+  pub layout : automata.left.cells.layout ≡ left.layout
+  pub left_of : AreOf automata.left.sets (rate_of (plain_of left.main.shape))
+  pub right_of : AreOf automata.right.sets (rate_of (plain_of right.main.shape))

@@ -1,7 +1,11 @@
 //! The automata of two queries over the same cells.
-ghost use Rattle.std.specs.Prelude.{IfOk, IfSome};
+ghost use Rattle.std.specs.Prelude.{◌≡◌, IfOk, IfSome};
 ghost use Rattle.predicate_cells.specs.Cells.{AllFit};
-ghost use Rattle.separating_word.specs.Pairs.{ShareCells};
+ghost use Rattle.query_model.specs.Queries.{plain_of};
+ghost use Rattle.query_model.specs.Rates.{rate_of};
+ghost use Rattle.rate_expr.specs.Paths.{AreOf};
+ghost use Rattle.rate_expr.specs.Plain as rates;
+ghost use Rattle.separating_word.specs.Pairs.{AreOfRates, AreOver};
 
 use item_schema::Schema;
 use predicate_cells::{CellStop, Cells, Preds};
@@ -24,7 +28,7 @@ pub(crate) fn automata_of(
     left: &Checked,
     right: &Checked,
 ) -> Result<Option<Automata>, AllocError>
-    ensures { IfOk result (λ found. IfSome found ShareCells) }
+    ensures { IfOk result (λ found. IfSome found (AreOfRates left.now right.now)) }
 {
     let Some(first) = positions_of(alloc, left.main())? else {
         return Ok(None);
@@ -38,12 +42,18 @@ pub(crate) fn automata_of(
     }
 }
 
-fn positions_of(alloc: Global, query: &Query) -> Result<Option<Box<Positions>>, AllocError> {
+fn positions_of(alloc: Global, query: &Query) -> Result<Option<Box<Positions>>, AllocError>
+    ensures { IfOk result (λ found. IfSome found (λ positions.
+        AreOf positions.value (rate_of (plain_of query.now.shape)))) }
+{
     let rate = Box::new(alloc, query.rate(alloc)?)?;
     positions_in(alloc, &rate)
 }
 
-fn positions_in(alloc: Global, rate: &Rate) -> Result<Option<Box<Positions>>, AllocError> {
+fn positions_in(alloc: Global, rate: &Rate) -> Result<Option<Box<Positions>>, AllocError>
+    ensures { IfOk result (λ found.
+        IfSome found (λ positions. AreOf positions.value (rates.plain_of rate.now))) }
+{
     if rate.positions() > MAX_POSITIONS {
         return Ok(None);
     }
@@ -56,7 +66,9 @@ fn cells_of(
     schema: &Schema,
     first: &Positions,
     second: &Positions,
-) -> Result<Option<Rc<Cells>>, AllocError> {
+) -> Result<Option<Rc<Cells>>, AllocError>
+    ensures { IfOk result (λ found. IfSome found (λ cells. cells.value.layout ≡ schema.now)) }
+{
     let preds = preds_of_both(alloc, first, second)?;
     if !preds.fit(schema) {
         return Ok(None);
@@ -88,6 +100,7 @@ fn cells_over(
     preds: &Preds,
 ) -> Result<Option<Rc<Cells>>, AllocError>
     requires { AllFit schema.now.columns preds.now }
+    ensures { IfOk result (λ found. IfSome found (λ cells. cells.value.layout ≡ schema.now)) }
 {
     match Cells::new(alloc, schema, preds) {
         Ok(cells) => Ok(Some(Rc::new(alloc, cells)?)),
@@ -102,7 +115,8 @@ fn over(
     first: Box<Positions>,
     second: Box<Positions>,
 ) -> Result<Option<Automata>, AllocError>
-    ensures { IfOk result (λ found. IfSome found ShareCells) }
+    ensures { IfOk result (λ found.
+        IfSome found (AreOver cells.now.value first.value second.value)) }
 {
     if !Nfa::can_read(&first, cells.as_ref()) || !Nfa::can_read(&second, cells.as_ref()) {
         return Ok(None);

@@ -1,12 +1,11 @@
-//! A shortest word on which one of two queries has a value and the other has none, as lines of their stream.
+//! A shortest word on which only one of two queries has a value, as lines of their stream.
 #![tactic(auto)]
 
 mod automata;
-mod field_text;
+mod known;
 mod letters;
 mod line;
 mod reading;
-mod sample;
 mod search;
 mod separation;
 mod telling;

@@ -1,25 +1,34 @@
 //! Lines of a word that leads to an end of one automaton alone.
-ghost use Rattle.std.specs.Prelude.{◌<◌};
+ghost use Rattle.std.specs.Prelude.{◌≡◌, ◌<◌, IfOk, IfSome, IsTrue, length};
+ghost use Rattle.std.specs.List.{list_all};
 ghost use Rattle.predicate_cells.specs.Cells.{cell_count};
+ghost use Rattle.query_model.specs.Monitors.{monitor_of};
+ghost use Rattle.item_lines.specs.Lines.{is_shown};
 ghost use Rattle.separating_word.specs.Pairs.{AreCellsOf, ShareCells};
+ghost use Rattle.separating_word.specs.Searched.{AgreeBelow};
+ghost use Rattle.separating_word.specs.Separations.{ShareWordsBelow};
 
 use crate::automata::{Automata, automata_of};
-use crate::field_text::push_field;
-use crate::sample::Sample;
 use crate::search::cells_apart;
-use item_schema::Schema;
+use item_lines::shown_line;
 use language_base::Bytes;
+use plain_items::plain_item;
 use predicate_cells::Cells;
 use query_model::Checked;
 use std::alloc::{AllocError, Global};
-use value_ops::Field;
 
-/// Lines of items on whose word, as the automata of the queries tell, one of them alone has a value.
+/// Lines of items whose word is a shortest one in the rate of one query alone, if one is found and
+/// its lines are all shown.
 pub(crate) fn lines_apart(
     alloc: Global,
     left: &Checked,
     right: &Checked,
-) -> Result<Option<Vec<Bytes>>, AllocError> {
+) -> Result<Option<Vec<Bytes>>, AllocError>
+    ensures shown { IfOk result (λ found.
+        IfSome found (λ lines. IsTrue (list_all is_shown lines.items))) }
+    ensures shortest { IfOk result (λ found. IfSome found (λ lines.
+        ShareWordsBelow (monitor_of left.now) (monitor_of right.now) (length lines.items))) }
+{
     match automata_of(alloc, left, right)? {
         Some(automata) => lines_between(alloc, &automata),
         None => Ok(None),
@@ -29,45 +38,45 @@ pub(crate) fn lines_apart(
 // The same of the automata themselves.
 fn lines_between(alloc: Global, automata: &Automata) -> Result<Option<Vec<Bytes>>, AllocError>
     requires { ShareCells automata.now }
+    ensures shown { IfOk result (λ found.
+        IfSome found (λ lines. IsTrue (list_all is_shown lines.items))) }
+    ensures agree { IfOk result (λ found.
+        IfSome found (λ lines. AgreeBelow automata.now (length lines.items))) }
 {
     match cells_apart(alloc, automata)? {
-        Some(word) => Ok(Some(lines_of(alloc, automata, &word)?)),
+        Some(word) => lines_of(alloc, automata, &word),
         None => Ok(None),
     }
 }
 
-fn lines_of(alloc: Global, automata: &Automata, word: &[u32]) -> Result<Vec<Bytes>, AllocError>
+// A line for each cell, if all are shown.
+fn lines_of(
+    alloc: Global,
+    automata: &Automata,
+    word: &[u32],
+) -> Result<Option<Vec<Bytes>>, AllocError>
     requires { AreCellsOf automata.now word.now }
+    ensures shown { IfOk result (λ found.
+        IfSome found (λ lines. IsTrue (list_all is_shown lines.items))) }
+    ensures length { IfOk result (λ found.
+        IfSome found (λ lines. length lines.items ≡ length word.now)) }
 {
     let mut lines = Vec::new(alloc);
-    for &cell in word {
-        lines.push(line_of(alloc, automata.left.cells(), cell)?)?;
+    'cells: for &cell in word {
+        match line_of(alloc, automata.left.cells(), cell)? {
+            Some(line) => lines.push(line)?,
+            None => return Ok(None),
+        }
     }
-    Ok(lines)
+    Ok(Some(lines))
 }
 
-// The line of an item of the cell.
-fn line_of(alloc: Global, cells: &Cells, cell: u32) -> Result<Bytes, AllocError>
+// The line of an item of the cell, if it is shown.
+#[tactic(auto, using(crate::proofs::Found::shown_found))]
+fn line_of(alloc: Global, cells: &Cells, cell: u32) -> Result<Option<Bytes>, AllocError>
     requires { cell < cell_count cells.now }
+    ensures { IfOk result (λ found. IfSome found (λ line. IsTrue (is_shown line))) }
 {
-    let fields = fields_of(alloc, cells, cell)?;
-    line_with(alloc, cells.schema(), &fields)
-}
-
-// The fields of an item of the cell.
-fn fields_of(alloc: Global, cells: &Cells, cell: u32) -> Result<Vec<Field>, AllocError>
-    requires { cell < cell_count cells.now }
-{
-    let sample = Sample::of(alloc, cells, cell)?;
-    sample.plain_fields(alloc)
-}
-
-fn line_with(alloc: Global, schema: &Schema, fields: &[Field]) -> Result<Bytes, AllocError> {
-    let mut line = Vec::new(alloc);
-    for (column, field) in schema.columns().iter().zip(fields.iter()) {
-        push_field(column.kind, field, &mut line)?;
-        line.push(b',')?;
-    }
-    line.pop();
-    Ok(Bytes::from_vec(line))
+    let item = plain_item(alloc, cells, cell)?;
+    shown_line(alloc, cells.schema(), &item)
 }

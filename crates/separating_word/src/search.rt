@@ -1,11 +1,14 @@
 //! The search for a shortest word that leads to an end of one automaton alone.
-ghost use Rattle.std.specs.Prelude.{◌<◌, All, IfOk, IfSome, OnOk};
-ghost use Rattle.predicate_cells.specs.Cells.{cell_count};
+ghost use Rattle.std.specs.Prelude.{◌≡◌, ◌+◌, ◌++◌, ℕ, [], ◌∷◌, All, IfNone, IfOk, IfSome, MatchBool, OnOk, length};
+ghost use Rattle.rate_expr.specs.declared.state.State.TheVariants.{Initial};
 ghost use Rattle.separating_word.specs.declared.automata.Automata.{Automata};
-ghost use Rattle.separating_word.specs.Pairs.{AreCellsOf, IsReachedIn, LeadsOn, ShareCells};
+ghost use Rattle.separating_word.specs.Letters.{AreLetters};
+ghost use Rattle.separating_word.specs.Pairs.{AreCellsOf, ShareCells};
+ghost use Rattle.separating_word.specs.Searched.{Agree, AreAmong, HaveItems, IsExpanded, IsReachedIn, IsSearched, IsSearchedOn, IsShortestApart, LeadsOn};
 
 use crate::automata::Automata;
-use crate::letters::letters_of;
+use crate::known::note;
+use crate::letters::{Letter, letters_of};
 use indexmap::IndexSet;
 use std::alloc::{AllocError, Global};
 use symbolic_nfa::State;
@@ -15,7 +18,7 @@ const MAX_ITEMS: usize = 8;
 /// The most steps, about, that are tried.
 const MAX_STEPS: usize = 262_144;
 
-/// The states behind a word of cells.
+/// The states after a word of cells.
 #[derive(Drop)]
 pub(crate) struct Reached {
     pub(crate) left: State,
@@ -23,13 +26,15 @@ pub(crate) struct Reached {
     pub(crate) word: Vec<u32>,
 }
 
-/// How a search goes on.
+/// What comes of words that are one cell longer than those of a level.
 #[derive(Drop)]
 pub(crate) enum Level {
-    /// A word leads to an end of one automaton alone.
+    /// One leads to an end of one automaton alone.
     Found(Vec<u32>),
-    /// Words that are one cell longer lead to these.
+    /// None does. These are the first to lead to their states.
     Next(Vec<Reached>),
+    /// Too much would have to be tried.
+    Stopped,
 }
 
 /// The cells of a shortest word that leads to an end of one automaton alone.
@@ -38,44 +43,59 @@ pub(crate) fn cells_apart(
     automata: &Automata,
 ) -> Result<Option<Vec<u32>>, AllocError>
     requires { ShareCells automata.now }
-    ensures { IfOk result (λ found. IfSome found (λ cells. AreCellsOf automata.now cells.items)) }
+    ensures { IfOk result (λ found.
+        IfSome found (λ cells. IsShortestApart automata.now cells.items)) }
 {
-    if automata.left.accepts(State::Initial) != automata.right.accepts(State::Initial) {
+    if differ(automata, State::Initial, State::Initial) {
         return Ok(Some(Vec::new(alloc)));
     }
     let letters = letters_of(alloc, automata)?;
     let first = first_level(alloc)?;
     let mut known = IndexSet::new(alloc);
-    search_from(alloc, automata, &letters, first, &mut known)
+    search_levels(alloc, automata, &letters, first, &mut known)
 }
 
-// The same of the words of letters that go on from this level.
-fn search_from(
+// Whether a word that leads to these states may end in one of them alone.
+fn differ(automata: &Automata, left: State, right: State) -> bool
+    ensures { MatchBool result (Agree automata.now left right → ⊥)
+        (Agree automata.now left right) }
+{
+    automata.left.accepts(left) != automata.right.accepts(right)
+}
+
+// The same of words that are longer than those of the first level.
+fn search_levels(
     alloc: Global,
     automata: &Automata,
-    letters: &[u32],
+    letters: &[Letter],
     first: Vec<Reached>,
     known: &mut IndexSet<(u128, u128)>,
 ) -> Result<Option<Vec<u32>>, AllocError>
     requires cells { ShareCells automata.now }
-    requires letters { AreCellsOf automata.now letters.now }
-    requires level { All (IsReachedIn automata.now) first.items }
-    ensures { IfOk result (λ found. IfSome found (λ cells. AreCellsOf automata.now cells.items)) }
+    requires letters { AreLetters automata.now letters.now }
+    requires reached { All (IsReachedIn automata.now) first.items }
+    requires items { HaveItems 0 first.items }
+    requires searched { IsSearched automata.now 0 known.old.keys first.items }
+    ensures { IfOk result (λ found.
+        IfSome found (λ cells. IsShortestApart automata.now cells.items)) }
 {
     let mut level = first;
     'levels: for _ in 0..MAX_ITEMS {
         match next_level(alloc, automata, letters, &level, known)? {
             Level::Found(word) => return Ok(Some(word)),
             Level::Next(next) => level = next,
+            Level::Stopped => return Ok(None),
         }
     }
     Ok(None)
 }
 
-// The states behind the empty word.
+// The states after the empty word.
 fn first_level(alloc: Global) -> Result<Vec<Reached>, AllocError>
-    ensures { (automata : Automata) → IfOk result (λ level.
+    ensures reached { (automata : Automata) → IfOk result (λ level.
         All (IsReachedIn automata) level.items) }
+    ensures items { IfOk result (λ level. HaveItems 0 level.items) }
+    ensures initial { IfOk result (λ level. AreAmong level.items Initial Initial) }
 {
     let mut level = Vec::new(alloc);
     level.push(Reached {
@@ -86,85 +106,81 @@ fn first_level(alloc: Global) -> Result<Vec<Reached>, AllocError>
     Ok(level)
 }
 
-// What words lead to that are one cell longer, as far as no other word leads there.
+// What words that are one cell longer lead to, as far as no other word leads there.
 fn next_level(
     alloc: Global,
     automata: &Automata,
-    letters: &[u32],
+    letters: &[Letter],
     level: &[Reached],
     known: &mut IndexSet<(u128, u128)>,
 ) -> Result<Level, AllocError>
     requires cells { ShareCells automata.now }
-    requires letters { AreCellsOf automata.now letters.now }
+    requires letters { AreLetters automata.now letters.now }
     requires level { All (IsReachedIn automata.now) level.now }
-    ensures { IfOk result (LeadsOn automata.now) }
+    ensures level { IfOk result (LeadsOn automata.now) }
+    ensures searched { (items : ℕ) → HaveItems items level.now
+        → IsSearched automata.now items known.old.keys level.now
+        → IfOk result (IsSearchedOn automata.now (items + 1) known.new.keys) }
 {
     let mut next = Vec::new(alloc);
-    'level: for reached in level {
+    'level: for from in level {
         if known.len().saturating_mul(letters.len()) > MAX_STEPS {
-            return Ok(Level::Next(Vec::new(alloc)));
+            return Ok(Level::Stopped);
         }
-        if let Some(word) = go_on(alloc, automata, letters, reached, known, &mut next)? {
+        if let Some(word) = expand(alloc, automata, letters, from, known, &mut next)? {
             return Ok(Level::Found(word));
         }
     }
     Ok(Level::Next(next))
 }
 
-// The word that leads to an end of one automaton alone and goes on from this one by a letter; if
-// there is none, what is reached for the first time is put behind the others.
-fn go_on(
+// A word with one cell more than this one that leads to an end of one automaton alone; if there is
+// none, what is reached for the first time is next too.
+fn expand(
     alloc: Global,
     automata: &Automata,
-    letters: &[u32],
+    letters: &[Letter],
     from: &Reached,
     known: &mut IndexSet<(u128, u128)>,
     next: &mut Vec<Reached>,
 ) -> Result<Option<Vec<u32>>, AllocError>
     requires cells { ShareCells automata.now }
-    requires letters { AreCellsOf automata.now letters.now }
+    requires letters { AreLetters automata.now letters.now }
     requires from { IsReachedIn automata.now from.now }
     requires next { All (IsReachedIn automata.now) next.old.items }
-    ensures found { IfOk result (λ found.
-        IfSome found (λ word. AreCellsOf automata.now word.items)) }
+    ensures found { IfOk result (λ found. IfSome found (λ word.
+        AreCellsOf automata.now word.items
+        × (length word.items ≡ length from.now.word.items + 1))) }
     ensures next { OnOk result (All (IsReachedIn automata.now) next.new.items) }
+    ensures items { OnOk result ((items : ℕ) → length from.now.word.items + 1 ≡ items
+        → HaveItems items next.old.items → HaveItems items next.new.items) }
+    ensures expanded { IfOk result (λ found. IfNone found (IsExpanded automata.now
+        from.now known.old.keys next.old.items known.new.keys next.new.items)) }
 {
-    'letters: for &letter in letters {
-        let reached = step(alloc, automata, from, letter)?;
-        if automata.left.accepts(reached.left) != automata.right.accepts(reached.right) {
-            return Ok(Some(reached.word));
-        }
-        if known.insert((mask_of(reached.left), mask_of(reached.right)))? {
-            next.push(reached)?;
+    let ways = (
+        automata.left.ways_on(from.left),
+        automata.right.ways_on(from.right),
+    );
+    'letters: for letter in letters {
+        let masks = letter.target(ways);
+        if note(known, masks)? {
+            let (left, right) = (State::At(masks.0), State::At(masks.1));
+            let word = with_cell(alloc, &from.word, letter.cell)?;
+            if differ(automata, left, right) {
+                return Ok(Some(word));
+            }
+            next.push(Reached { left, right, word })?;
         }
     }
     Ok(None)
 }
 
-// The states behind one more item of the cell.
-fn step(
-    alloc: Global,
-    automata: &Automata,
-    from: &Reached,
-    cell: u32,
-) -> Result<Reached, AllocError>
-    requires cells { ShareCells automata.now }
-    requires cell { cell < cell_count automata.now.left.cells }
-    requires from { IsReachedIn automata.now from.now }
-    ensures { IfOk result (IsReachedIn automata.now) }
+// The word with one more cell.
+fn with_cell(alloc: Global, word: &[u32], cell: u32) -> Result<Vec<u32>, AllocError>
+    ensures { IfOk result (λ longer. longer.items ≡ word.now ++ cell ∷ []) }
 {
-    let mut word = Vec::from_slice(alloc, &from.word)?;
-    word.push(cell)?;
-    Ok(Reached {
-        left: automata.left.step(from.left, cell),
-        right: automata.right.step(from.right, cell),
-        word,
-    })
-}
-
-fn mask_of(state: State) -> u128 {
-    match state {
-        State::Initial => 0,
-        State::At(mask) => mask,
-    }
+    let mut longer = Vec::with_capacity(alloc, word.len() + 1)?;
+    longer.extend_from_slice(word)?;
+    longer.push(cell)?;
+    Ok(longer)
 }

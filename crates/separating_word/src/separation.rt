@@ -1,11 +1,10 @@
 //! Lines of items that tell two queries apart.
 ghost use Rattle.std.specs.Prelude.{◌≡◌, IfOk, IfSome, IsTrue};
-ghost use Rattle.std.specs.Char.{is_control};
-ghost use Rattle.std.specs.List.{list_all, list_any};
-ghost use Rattle.std.specs.Str.{chars};
+ghost use Rattle.std.specs.List.{list_all};
+ghost use Rattle.item_lines.specs.Lines.{is_shown};
 ghost use Rattle.query_model.specs.Monitors.{Monitor, monitor_of};
 ghost use Rattle.separating_word.specs.Findings.{TellsSide};
-ghost use Rattle.separating_word.specs.Separations.{Separates, is_plain, is_shown};
+ghost use Rattle.separating_word.specs.Separations.{IsShortest, Separates};
 
 use crate::line::lines_apart;
 use crate::reading::{Finding, finding_on};
@@ -27,52 +26,24 @@ pub struct Separation {
     pub lines: Vec<Bytes>,
 }
 
-/// What tells the queries apart. A shortest word is looked for, and nothing is found where it has
-/// more than eight items, where too much would have to be tried, or where its lines are too long or
-/// can not be shown.
+/// A shortest word of items of the queries' stream that is in the rate of one of them alone, where
+/// that one has a value on it. None is found where no such word has at most eight items, or where
+/// more than some 262,144 steps would have to be tried; where the rates have too many positions, or
+/// their predicates too many cells; and where the line of an item is too long or can not be shown.
 pub fn tell_apart(
     alloc: Global,
     left: &Checked,
     right: &Checked,
 ) -> Result<Option<Separation>, AllocError>
-    ensures { IfOk result (λ found.
+    ensures found { IfOk result (λ found.
         IfSome found (Separates (monitor_of left.now) (monitor_of right.now))) }
+    ensures shortest { IfOk result (λ found.
+        IfSome found (IsShortest (monitor_of left.now) (monitor_of right.now))) }
 {
     let Some(lines) = lines_apart(alloc, left, right)? else {
         return Ok(None);
     };
-    if !are_shown(&lines) {
-        return Ok(None);
-    }
     told_apart(alloc, left, right, lines)
-}
-
-fn are_shown(lines: &[Bytes]) -> bool
-    ensures { result ≡ list_all is_shown lines.now }
-{
-    lines.iter().all(|line| is_shown(line.as_slice()))
-}
-
-// Whether the line is short, and a text that is shown as it is.
-fn is_shown(line: &[u8]) -> bool
-    ensures { result ≡ is_shown line.now }
-{
-    line.len() <= 96 && is_plain(line)
-}
-
-fn is_plain(line: &[u8]) -> bool
-    ensures { result ≡ is_plain line.now }
-{
-    match str::from_utf8(line) {
-        Ok(text) => !has_control(text),
-        Err(_) => false,
-    }
-}
-
-fn has_control(text: &str) -> bool
-    ensures { result ≡ list_any is_control (chars text.now) }
-{
-    text.chars().any(|character| character.is_control())
 }
 
 // What these lines tell: the queries are asked for their values on them.
@@ -83,8 +54,9 @@ fn told_apart(
     lines: Vec<Bytes>,
 ) -> Result<Option<Separation>, AllocError>
     requires { IsTrue (list_all is_shown lines.items) }
-    ensures { IfOk result (λ found.
+    ensures found { IfOk result (λ found.
         IfSome found (Separates (monitor_of left.now) (monitor_of right.now))) }
+    ensures lines { IfOk result (λ found. IfSome found (λ separation. separation.lines ≡ lines)) }
 {
     let on_left = finding_on(alloc, left, &lines)?;
     let on_right = finding_on(alloc, right, &lines)?;

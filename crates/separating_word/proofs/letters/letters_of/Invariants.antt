@@ -1,5 +1,6 @@
-use Rattle.separating_word.specs.Pairs.{AreCellsOf}
+use Rattle.separating_word.specs.Letters.{AreGathered}
 use Rattle.separating_word.proofs.letters.letters_of.Given as goal
 
+-- the cells so far have letters
 abbrev pub invariant-cells : goal.invariant-cells
-invariant-cells l = AreCellsOf l.automata l.letters.items
+invariant-cells l = AreGathered l.automata l.cell l.known.keys l.letters.items

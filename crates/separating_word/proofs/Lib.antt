@@ -1,0 +1,9 @@
+pub mod Differing
+pub mod Found
+pub mod Gathering
+pub mod Growing
+pub mod Leading
+pub mod Putting
+pub mod Reaching
+pub mod Searching
+pub mod Sharing

@@ -1,0 +1,9 @@
+-- For the prover. Masks that are known, with one more pair of them.
+use Rattle.std.specs.Prelude.{◌≡◌, ◌⊎◌, ℕ, List}
+use Rattle.std.specs.List.{Contains}
+
+-- the masks are put among others
+pub record IsPut (old new : List (ℕ × ℕ)) (masks : ℕ × ℕ) : Type 0 where
+  pub kept : (other : ℕ × ℕ) → Contains old other → Contains new other
+  pub only : (other : ℕ × ℕ) → Contains new other → Contains old other ⊎ (masks ≡ other)
+  pub has : Contains new masks
