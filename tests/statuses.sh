@@ -12,6 +12,7 @@ trap 'exit 1' HUP INT TERM
 cd "$room" || exit 1
 printf '%s\n' 'stream(plain, col(pulses, int))' 'main(iter(atom(any, pulses), 0, add(x, y)))' >query
 sed 's/any, pulses/any, pulse/' query >refused
+printf '%s\n' 'stream(plain, col(a, int))' 'main(iter(iter(atom(any, a), 0, add(x, y)), 0, add(x, y)))' >ambiguous
 printf '%s\n' 5 7 -2 >items
 
 # The call of the words behind $3 ends with the status $1, writes $2, and says $3 on standard error.
@@ -38,6 +39,14 @@ ends 1 'refused name 42..58
 ' 'refused:2:11 (the column in bytes): refused name 42..58' check refused
 ends 1 'refused name 42..58
 ' 'Not known here: pulse' run refused nothing
+ends 0 'ok
+' '' why query
+ends 1 'refused name 42..58
+' 'Not known here: pulse' why refused
+ends 1 'refused iter 32..84
+first 0
+second 0 0
+' 'ambiguous:2:6 (the column in bytes): refused iter 32..84' why ambiguous
 ends 2 '' 'the words are none of' run query
 ends 2 '' 'the words are none of' run query items items
 ends 2 '' 'the words are none of' go query items

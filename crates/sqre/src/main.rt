@@ -21,15 +21,22 @@ fn main(rt: HostRuntime) -> ExitCode {
 }
 
 fn run(rt: HostRuntime) -> io::Result<Status> {
-    let alloc = rt.alloc();
-    let words: Vec<String> = env::args(&rt)?.skip(1).collect(alloc)?;
-    let mut query = LazyFile::new(rt, alloc, path(&words, 1))?;
-    let mut items = LazyFile::new(rt, alloc, path(&words, 2))?;
-    let mut out = WriterSink::new(io::writer(&rt), alloc)?;
-    Ok(sqre(alloc, &words, &mut query, &mut items, &mut out))
+    let words: Vec<String> = env::args(&rt)?.skip(1).collect(rt.alloc())?;
+    call(rt, &words)
 }
 
-// The word that names a source, or standard input where it is missing.
-fn path(words: &[String], at: usize) -> &str {
-    words.get(at).map_or("-", |word| word.as_str())
+fn call(rt: HostRuntime, words: &[String]) -> io::Result<Status> {
+    let alloc = rt.alloc();
+    let mut query = source(rt, words, 1)?;
+    let mut items = source(rt, words, 2)?;
+    let mut out = WriterSink::new(io::writer(&rt), alloc)?;
+    Ok(sqre(alloc, words, &mut *query, &mut *items, &mut out))
+}
+
+// What the word names, or standard input where it is missing. It is boxed, since each later exit
+// drops it.
+fn source(rt: HostRuntime, words: &[String], at: usize) -> io::Result<Box<LazyFile<HostRuntime>>> {
+    let alloc = rt.alloc();
+    let path = words.get(at).map_or("-", |word| word.as_str());
+    Ok(Box::new(alloc, LazyFile::new(rt, alloc, path)?)?)
 }

@@ -1,26 +1,29 @@
--- From how a program is judged to what the text that writes it is compiled to.
-use Rattle.std.proofs.Common.{ℕ, List, Result, Ok, Err, IfOk, IfErr}
+-- From how a program is judged to how the text that writes it is.
+use Rattle.std.proofs.Common.{ℕ, List, Result, Ok, Err, IfOk}
+use Rattle.std.specs.declared.alloc.AllocError.{AllocError}
+use Rattle.query_model.specs.Monitors.{monitor_of}
 use Rattle.query_parser.specs.Reading.{IsFileOf}
 use Rattle.query_syntax.specs.Files.{program_terms}
+use Rattle.query_syntax.specs.Limits.{IsWithin}
 use Rattle.query_syntax.specs.Programs.{Program}
-use Rattle.query_model.specs.Checked.{OnStream}
-use Rattle.query_model.specs.Monitors.{monitor_of}
-use Rattle.type_checker.specs.Judged.{IsJudged, accepted, refused}
-use Rattle.type_checker.specs.Stops as checker
-use Rattle.type_checker.specs.declared.stop.CheckStop.{CheckStop}
-use Rattle.type_checker.specs.declared.stop.CheckStop.TheVariants.{Refused, Memory}
-use Rattle.sqre_run.specs.Compiled.{Compiles, judged}
-use Rattle.sqre_run.specs.Stops.{IsStopAt}
+use Rattle.type_checker.specs.Judged.{accepted, refused}
+use Rattle.type_checker.specs.Judgments.{IsJudgmentOf}
+use Rattle.type_checker.specs.declared.judgment.Judgment.{Judgment}
+use Rattle.type_checker.specs.declared.judgment.Judgment.TheVariants.{Accepted, Ambiguous, Refused}
+use Rattle.sqre_run.specs.Compiled.{judged}
+use Rattle.sqre_run.specs.Stops.{IsJudgmentAt}
+use Rattle.sqre_run.proofs.Drillable.{drillable_of_text}
 
-module _ (text : List ℕ) (program : Program) (file : IsFileOf text (program_terms program)) where
-  -- a query is that of the text
-  pub query_of_text : (result : Result OnStream CheckStop) → IfOk result (λ made. IsJudged program (accepted (monitor_of made)))
-      → IfOk result (λ made. Compiles text (accepted (monitor_of made)))
-  query_of_text (Ok made) is = judged program (accepted (monitor_of made)) file is
-  query_of_text (Err stop) is = tt
+module _ (text : List ℕ) (program : Program) (file : IsFileOf text (program_terms program)) (within : IsWithin program.stream) where
+  judgment_at : (judgment : Judgment) → IsJudgmentOf program judgment → IsJudgmentAt text judgment
+  judgment_at (Accepted checked) is = (
+    judged program (accepted (monitor_of checked.value)) file is,
+    drillable_of_text text program file within (monitor_of checked.value) is,
+  )
+  judgment_at (Refused why) is = (judged program (refused why) file is.0, is.1)
+  judgment_at (Ambiguous blame) is = (program, is, file)
 
-  -- and so is a refusal
-  pub stop_of_text : (result : Result OnStream CheckStop) → IfErr result (checker.IsStopOf program) → IfErr result (IsStopAt text)
-  stop_of_text (Ok made) is = tt
-  stop_of_text (Err (Refused why)) is = judged program (refused why) file is
-  stop_of_text (Err Memory) is = tt
+  -- a judgment, if there is one
+  pub judgment_of_text : (result : Result Judgment AllocError) → IfOk result (IsJudgmentOf program) → IfOk result (IsJudgmentAt text)
+  judgment_of_text (Ok judgment) is = judgment_at judgment is
+  judgment_of_text (Err error) is = tt

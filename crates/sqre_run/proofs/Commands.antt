@@ -11,24 +11,28 @@ use Rattle.query_model.specs.Monitors.{Monitor}
 use Rattle.query_model.specs.Queries.{Qre, atom, eps, choice, split, iter, combine, apply, compose, collect}
 use Rattle.query_model.specs.Sizes.{max_slots}
 use Rattle.rate_expr.specs.Rates.{size_of}
-use Rattle.report_writer.specs.Texts.{bound_text, check_text}
+use Rattle.report_writer.specs.Texts.{bound_text, check_text, refusal_text}
+use Rattle.type_checker.specs.Blames.{refusal_of}
 use Rattle.type_checker.specs.Judged.{Verdict, accepted, refused}
-use Rattle.sqre_run.specs.Call.{CompletesOf, OutcomeOf, Refuses}
+use Rattle.type_checker.specs.declared.blame.Blame.{Blame}
+use Rattle.sqre_run.specs.Call.{CompletesOf, OutcomeOf}
 use Rattle.sqre_run.specs.Carried.{Carried, LineCarried}
 use Rattle.sqre_run.specs.Compiled.{Compiles}
 use Rattle.sqre_run.specs.Drilled.{drilled}
-use Rattle.sqre_run.specs.Handed.{Told}
+use Rattle.sqre_run.specs.Handed.{Refuses, Told}
 use Rattle.sqre_run.specs.Meanings.{IsMeaning, KeepsRules, Meaning}
 use Rattle.sqre_run.specs.OneLine.{CompletesLine, HoldsOfLine, WritesLine}
 use Rattle.sqre_run.specs.Outside.{Outside}
-use Rattle.sqre_run.specs.Stops.{IsStopOf}
+use Rattle.sqre_run.specs.Reasons.{WritesReason}
+use Rattle.sqre_run.specs.Stops.{AreLinesOf, IsBlamedIn, IsStopOf}
 use Rattle.sqre_run.specs.declared.command.Command.{Command}
-use Rattle.sqre_run.specs.declared.command.Command.TheVariants.{Run, Check, Bound, Drill}
+use Rattle.sqre_run.specs.declared.command.Command.TheVariants.{Run, Check, Bound, Why, Drill}
 use Rattle.sqre_run.specs.declared.query.QueryStop.TheVariants.{Refused as Refusing}
 use Rattle.sqre_run.specs.declared.status.Status.{Status}
-use Rattle.sqre_run.specs.declared.status.Status.TheVariants.{Done, Refused, ItemFault, SinkFault, Memory}
+use Rattle.sqre_run.specs.declared.status.Status.TheVariants.{Done, ItemFault, SinkFault, Memory}
 use Rattle.sqre_run.proofs.Compilations.{one_query}
-use Rattle.sqre_run.proofs.Outcomes.{Completes-ended, Completes-refused, Outcome-ended, Outcome-refused}
+use Rattle.sqre_run.proofs.Outcomes.{Completes-ended, Outcome-ended}
+use Rattle.sqre_run.proofs.Refusals.{blame_compiles, completes_refused, outcome_blamed, outcome_refused}
 
 -- nothing was appended
 none_appended : (old new : Option (List ℕ)) (line : List ℕ) → new ≡ old → AppendsSome old new line
@@ -56,6 +60,14 @@ told_check monitor reply is = told_line Check monitor reply (λ P each. each che
         → (P : List ℕ → Type 0) → P line → P check_text
     given (Ok text) is line same P holds = let here : line ≡ check_text = cc in subst P here holds
     given (Err error) is line same P holds = absurd (cc)
+
+-- which `why` writes, too
+pub told_why : (monitor : Monitor) (status : Status) (old new : Option (List ℕ)) → LineCarried Check monitor status old new
+    → LineCarried Why monitor status old new
+told_why monitor Done old new carried = carried
+told_why monitor SinkFault old new carried = carried
+told_why monitor Memory old new carried = carried
+told_why monitor status old new carried = absurd carried
 
 -- that of a bound
 pub told_bound : (monitor : Monitor) (reply : Result (List ℕ) AllocError)
@@ -98,12 +110,15 @@ line_writes command text monitor compiles keeps SinkFault old new carried = (acc
 line_writes command text monitor compiles keeps Memory old new carried = carried
 line_writes command text monitor compiles keeps status old new carried = absurd carried
 
-line_refused : (command : Command) (text : List ℕ) (refusal : Refusal) → Compiles text (refused refusal)
-    → (status : Status) (old new : Option (List ℕ)) → Refuses refusal status old new → WritesLine command text status old new
-line_refused command text refusal compiles Refused old new refuses = (refusal, compiles, refuses)
-line_refused command text refusal compiles SinkFault old new refuses = (refused refusal, compiles, tt, refuses)
-line_refused command text refusal compiles Memory old new refuses = refuses
-line_refused command text refusal compiles status old new refuses = absurd refuses
+-- and so it is what `why` writes
+reason_writes : (text : List ℕ) (monitor : Monitor) → Compiles text (accepted monitor) → KeepsRules monitor
+    → (status : Status) (old new : Option (List ℕ)) → LineCarried Why monitor status old new
+    → WritesReason text status old new
+reason_writes text monitor compiles keeps Done old new carried = (monitor, compiles, keeps, carried)
+reason_writes text monitor compiles keeps SinkFault old new carried =
+    (accepted monitor, check_text, compiles, keeps, refl, carried)
+reason_writes text monitor compiles keeps Memory old new carried = carried
+reason_writes text monitor compiles keeps status old new carried = absurd carried
 
 -- and is complete where the sink did not fail
 line_completes : (command : Command) (monitor : Monitor) (status : Status) (old new : Option (List ℕ))
@@ -112,13 +127,6 @@ line_completes command monitor Done old new carried no_sink = tt
 line_completes command monitor SinkFault old new carried no_sink = absurd (no_sink refl)
 line_completes command monitor Memory old new carried no_sink = tt
 line_completes command monitor status old new carried no_sink = absurd carried
-
-refusal_completes : (refusal : Refusal) (status : Status) (old new : Option (List ℕ)) → Refuses refusal status old new
-    → (status ≡ SinkFault → ⊥) → CompletesLine (refused refusal) status
-refusal_completes refusal Refused old new refuses no_sink = tt
-refusal_completes refusal SinkFault old new refuses no_sink = absurd (no_sink refl)
-refusal_completes refusal Memory old new refuses no_sink = tt
-refusal_completes refusal status old new refuses no_sink = absurd refuses
 
 -- the outcome of the text, by the command
 outcome_carried : (command : Command) (text : List ℕ) (monitor : Monitor) → Compiles text (accepted monitor) → KeepsRules monitor
@@ -129,20 +137,10 @@ outcome_carried Check text monitor compiles keeps status old new carried =
     line_writes Check text monitor compiles keeps status old.taken new.taken carried
 outcome_carried Bound text monitor compiles keeps status old new carried =
     line_writes Bound text monitor compiles keeps status old.taken new.taken carried
+outcome_carried Why text monitor compiles keeps status old new carried =
+    reason_writes text monitor compiles keeps status old.taken new.taken carried
 outcome_carried (Drill count seed) text monitor compiles keeps status old new carried =
     line_writes (Drill count seed) text monitor compiles keeps status old.taken new.taken carried
-
-outcome_refused : (command : Command) (text : List ℕ) (refusal : Refusal) → Compiles text (refused refusal)
-    → (status : Status) (old : Outside) (taken : Option (List ℕ)) → Refuses refusal status old.taken taken
-    → OutcomeOf (Some command) text status old (record old { taken = taken })
-outcome_refused (Run engine) text refusal compiles status old taken refuses =
-    Outcome-refused text refusal compiles status old taken refuses
-outcome_refused Check text refusal compiles status old taken refuses =
-    line_refused Check text refusal compiles status old.taken taken refuses
-outcome_refused Bound text refusal compiles status old taken refuses =
-    line_refused Bound text refusal compiles status old.taken taken refuses
-outcome_refused (Drill count seed) text refusal compiles status old taken refuses =
-    line_refused (Drill count seed) text refusal compiles status old.taken taken refuses
 
 -- and its end
 completes_carried : (command : Command) (monitor : Monitor) (status : Status) (old new : Outside)
@@ -154,17 +152,10 @@ completes_carried Check monitor status old new carried no_items no_sink =
     line_completes Check monitor status old.taken new.taken carried no_sink
 completes_carried Bound monitor status old new carried no_items no_sink =
     line_completes Bound monitor status old.taken new.taken carried no_sink
+completes_carried Why monitor status old new carried no_items no_sink =
+    line_completes Why monitor status old.taken new.taken carried no_sink
 completes_carried (Drill count seed) monitor status old new carried no_items no_sink =
     line_completes (Drill count seed) monitor status old.taken new.taken carried no_sink
-
-completes_refused : (command : Command) (refusal : Refusal) (status : Status) (old new : Option (List ℕ))
-    → Refuses refusal status old new → (status ≡ SinkFault → ⊥) → CompletesOf (Some command) (refused refusal) status
-completes_refused (Run engine) refusal status old new refuses no_sink =
-    Completes-refused refusal status old new refuses no_sink
-completes_refused Check refusal status old new refuses no_sink = refusal_completes refusal status old new refuses no_sink
-completes_refused Bound refusal status old new refuses no_sink = refusal_completes refusal status old new refuses no_sink
-completes_refused (Drill count seed) refusal status old new refuses no_sink =
-    refusal_completes refusal status old new refuses no_sink
 
 -- what completes a text's query completes each query that the text is compiled to
 only_query : (command : Command) (text : List ℕ) (query : Verdict) (status : Status) → Compiles text query
@@ -198,21 +189,41 @@ module _ (command : Command) (asked : Option Command) (is : Some command ≡ ask
       (completes_carried command monitor status old new carried no_items no_sink) other compiles')
 
   -- the same for a refusal
-  pub told_refused : (query : Option (List ℕ)) (refusal : Refusal) (status : Status) (old : Outside) (taken : Option (List ℕ))
-      → IsStopOf query (Refusing refusal) → Refuses refusal status old.taken taken
-      → IfSome query (λ text. OutcomeOf asked text status old (record old { taken = taken }))
-  told_refused None refusal status old taken stop refuses = tt
-  told_refused (Some text) refusal status old taken stop refuses =
-      outcome_asked text status old (record old { taken = taken })
-      (outcome_refused command text refusal stop status old taken refuses)
+  module _ (status : Status) (lines : Result (List ℕ) AllocError) (old : Outside) (taken : Option (List ℕ))
+      (refuses : Refuses status lines old.taken taken) where
+    pub told_refused : (query : Option (List ℕ)) (why : Refusal) → IsStopOf query (Refusing why)
+        → IfOk lines (λ l. l ≡ refusal_text why)
+        → IfSome query (λ text. OutcomeOf asked text status old (record old { taken = taken }))
+    told_refused None why stop are = tt
+    told_refused (Some text) why stop are =
+        outcome_asked text status old (record old { taken = taken })
+        (outcome_refused command text status lines old taken refuses why stop are)
 
-  pub told_refused_complete : (query : Option (List ℕ)) (refusal : Refusal) (status : Status) (old new : Option (List ℕ))
-      → IsStopOf query (Refusing refusal) → Refuses refusal status old new → (status ≡ SinkFault → ⊥)
-      → IfSome query (λ text. (compiled : Verdict) → Compiles text compiled → CompletesOf asked compiled status)
-  told_refused_complete None refusal status old new stop refuses no_sink = tt
-  told_refused_complete (Some text) refusal status old new stop refuses no_sink = λ other compiles'.
-      completes_asked other status (only_query command text (refused refusal) status stop
-      (completes_refused command refusal status old new refuses no_sink) other compiles')
+    pub told_blamed : (query : Option (List ℕ)) (blame : Blame) → IsBlamedIn query blame → IfOk lines (AreLinesOf command blame)
+        → IfSome query (λ text. OutcomeOf asked text status old (record old { taken = taken }))
+    told_blamed None blame stop are = tt
+    told_blamed (Some text) blame (program, is, file) are =
+        outcome_asked text status old (record old { taken = taken })
+        (outcome_blamed command text status lines old taken refuses program blame file is are)
+
+  module _ (status : Status) (lines : Result (List ℕ) AllocError) (old new : Option (List ℕ)) (refuses : Refuses status lines old new)
+      (no_sink : status ≡ SinkFault → ⊥) where
+    complete_at : (text : List ℕ) (why : Refusal) → Compiles text (refused why)
+        → (compiled : Verdict) → Compiles text compiled → CompletesOf asked compiled status
+    complete_at text why compiles other compiles' =
+        completes_asked other status (only_query command text (refused why) status compiles
+        (completes_refused command why status lines old new refuses no_sink) other compiles')
+
+    pub told_refused_complete : (query : Option (List ℕ)) (why : Refusal) → IsStopOf query (Refusing why)
+        → IfSome query (λ text. (compiled : Verdict) → Compiles text compiled → CompletesOf asked compiled status)
+    told_refused_complete None why stop = tt
+    told_refused_complete (Some text) why (compiles, no_word) = complete_at text why compiles
+
+    pub told_blamed_complete : (query : Option (List ℕ)) (blame : Blame) → IsBlamedIn query blame
+        → IfSome query (λ text. (compiled : Verdict) → Compiles text compiled → CompletesOf asked compiled status)
+    told_blamed_complete None blame stop = tt
+    told_blamed_complete (Some text) blame (program, is, file) =
+        complete_at text (refusal_of blame) (blame_compiles text program blame file is)
 
 -- a factor of one or more
 at_least : (a b : ℕ) → 1 ≤ b → a ≤ a * b

@@ -1,6 +1,8 @@
 -- What a text is compiled to is one thing, and what was read of a query tells what the whole of it is.
 use Rattle.std.proofs.Common.{◌≡◌, ◌<◌, ◌≤◌, ◌⊎◌, inl, inr, ℕ, zero, suc, List, ◌++◌, length, Option, Some, None, IfSome, sym, ap, subst, ◌∙◌, append-nil, length-append, arith}
 use Rattle.std.specs.Io.KnownBytes.{Consumes, IsAtEnd}
+use Rattle.std.specs.Prelude.{Box}
+use Rattle.std.specs.declared.alloc.Global.{Global}
 use Rattle.language_base.specs.Limits.{max_text}
 use Rattle.language_base.specs.declared.refusal.Refusal.{Refusal}
 use Rattle.language_base.specs.declared.rule.Rule.TheVariants as rule
@@ -13,6 +15,9 @@ use Rattle.query_syntax.proofs.OneProgram.{one_program}
 use Rattle.type_checker.specs.Judged.{IsJudged, Verdict, refused}
 use Rattle.type_checker.proofs.Verdicts.{one_verdict}
 use Rattle.sqre_run.specs.Compiled.{Compiles, judged, unread}
+use Rattle.sqre_run.specs.Stops.{IsBlamedIn, IsJudgmentAt, IsRefusedBy}
+use Rattle.type_checker.specs.declared.blame.Blame.{Blame}
+use Rattle.type_checker.specs.declared.judgment.Judgment.TheVariants.{Ambiguous}
 
 -- a text is compiled to one verdict
 pub one_query : (text : List ℕ) (one other : Verdict) → Compiles text one → Compiles text other → other ≡ one
@@ -60,3 +65,29 @@ told_query (Some text) (Some rest) bytes verdict read whole compiles = at (le_or
     at (inr h) =
         let longer : max_text < length text = omega (arith, ap length read, length-append bytes rest) in
         too_long text bytes verdict longer h compiles
+
+-- so by a refusal
+pub told_refusal : (left left' : Option (List ℕ)) (bytes : List ℕ) (why : Refusal)
+    → Consumes left left' bytes → (length bytes ≤ max_text → IsAtEnd left') → IsRefusedBy why bytes → IfSome left (IsRefusedBy why)
+told_refusal None left' bytes why read whole is = tt
+told_refusal (Some text) left' bytes why read whole (compiles, no_word) =
+    (told_query (Some text) left' bytes (refused why) read whole compiles, no_word)
+
+-- and it writes what the bytes read do, where these are a file
+told_file : (left left' : Option (List ℕ)) (bytes : List ℕ) (terms : Terms)
+    → Consumes left left' bytes → (length bytes ≤ max_text → IsAtEnd left') → IsFileOf bytes terms
+    → IfSome left (λ text. IsFileOf text terms)
+told_file None left' bytes terms read whole file = tt
+told_file (Some text) None bytes terms read whole file = absurd read
+told_file (Some text) (Some rest) bytes terms read whole file =
+    let same : bytes ≡ text =
+    sym (read ∙ ap (λ (l : List ℕ). bytes ++ l) (whole (file_short bytes terms file)) ∙ append-nil bytes)
+    in
+    subst (λ (t : List ℕ). IsFileOf t terms) same file
+
+-- so it is blamed as they are
+pub told_blame : (left left' : Option (List ℕ)) (bytes : List ℕ) (blame : Box Blame Global)
+    → Consumes left left' bytes → (length bytes ≤ max_text → IsAtEnd left') → IsJudgmentAt bytes (Ambiguous blame)
+    → IsBlamedIn left blame.value
+told_blame left left' bytes blame read whole (program, is, file) =
+    (program, is, told_file left left' bytes (program_terms program) read whole file)

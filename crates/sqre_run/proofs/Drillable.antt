@@ -1,5 +1,5 @@
 -- The stream of a query text can be drilled: the names of its columns are words, so none has an LF.
-use Rattle.std.proofs.Common.{◌≡◌, ◌≢◌, ◌&&◌, ℕ, true, false, IsTrue, List, [], ◌∷◌, map, Result, Ok, Err, IfOk, refl, sym, subst, arith}
+use Rattle.std.proofs.Common.{◌≡◌, ◌≢◌, ◌&&◌, ℕ, true, false, IsTrue, List, [], ◌∷◌, map, refl, sym, subst, arith}
 use Rattle.std.specs.List.{AllByRecursion}
 use Rattle.std.proofs.lemmas.Bool.{and_from}
 use Rattle.std.proofs.lemmas.Bool.Decides.{nat_tests}
@@ -9,8 +9,7 @@ use Rattle.io_edge.specs.Lines.{NoLf}
 use Rattle.item_drill.specs.Lines.{are_read, names_of}
 use Rattle.item_schema.specs.Layout.{has_digits, is_read}
 use Rattle.query_forms.specs.Terms.{IsTokenOf, Say, Terms, none, word, number, string, call, bytes_at}
-use Rattle.query_model.specs.Checked.{OnStream}
-use Rattle.query_model.specs.Monitors.{Monitor, monitor_of}
+use Rattle.query_model.specs.Monitors.{Monitor}
 use Rattle.query_parser.proofs.ReadTrees.{AreTrees, terms-trees}
 use Rattle.query_parser.proofs.TextTokens.{tokens_of_text}
 use Rattle.query_parser.specs.Reading.{IsFileOf}
@@ -28,7 +27,6 @@ use Rattle.query_trees.specs.Trees as trees
 use Rattle.query_trees.specs.Trees.{Trees}
 use Rattle.type_checker.specs.Judged.{IsJudged, Verdict, accepted, sound, unmeasured, ambiguous}
 use Rattle.type_checker.specs.Layouts.{column_of, kind_of, layout_of}
-use Rattle.type_checker.specs.declared.stop.CheckStop.{CheckStop}
 use Rattle.sqre_run.specs.Drilling.{IsDrillable}
 
 -- each word among the terms is one
@@ -122,11 +120,8 @@ judged_drillable program _ monitor (sound query measured breaks) is within have 
 judged_drillable program _ monitor (unmeasured why measured) is within have = absurd (cc)
 judged_drillable program _ monitor (ambiguous query why measured breaks) is within have = absurd (cc)
 
--- and in what comes of a text
+-- and so in each that the text is compiled to
 pub drillable_of_text : (text : List ℕ) (program : Program) → IsFileOf text (program_terms program) → IsWithin program.stream
-    → (result : Result OnStream CheckStop) → IfOk result (λ made. IsJudged program (accepted (monitor_of made)))
-    → IfOk result (λ made. IsDrillable made.layout)
-drillable_of_text text program file within (Ok made) is =
-    judged_drillable program (accepted (monitor_of made)) (monitor_of made) is refl within
-    (file_has_words text (program_terms program) file)
-drillable_of_text text program file within (Err stop) is = tt
+    → (monitor : Monitor) → IsJudged program (accepted monitor) → IsDrillable monitor.layout
+drillable_of_text text program file within monitor is =
+    judged_drillable program (accepted monitor) monitor is refl within (file_has_words text (program_terms program) file)

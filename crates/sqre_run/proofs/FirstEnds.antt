@@ -5,7 +5,7 @@ use Rattle.sqre_run.specs.Call.{LeavesItems, ReadsToFirstEnd}
 use Rattle.sqre_run.specs.Carried.{Carried}
 use Rattle.sqre_run.specs.Outside.{Ended, Outside, outside}
 use Rattle.sqre_run.specs.declared.command.Command.{Command}
-use Rattle.sqre_run.specs.declared.command.Command.TheVariants.{Run, Check, Bound, Drill}
+use Rattle.sqre_run.specs.declared.command.Command.TheVariants.{Run, Check, Bound, Why, Drill}
 use Rattle.sqre_run.specs.declared.command.Engine.{Engine}
 use Rattle.sqre_run.specs.declared.status.Status.{Status}
 use Rattle.sqre_run.specs.declared.status.Status.TheVariants.{Done, ItemFault, SinkFault, Memory, Limit}
@@ -29,6 +29,7 @@ module _ {S W : Type 0} (left : S → Option (List ℕ)) (count : S → ℕ) (ta
   reads_carried (Run engine) monitor status carried leaves = run_reads engine monitor status _ _ carried
   reads_carried Check monitor status carried leaves = ap count leaves
   reads_carried Bound monitor status carried leaves = ap count leaves
+  reads_carried Why monitor status carried leaves = ap count leaves
   reads_carried (Drill amount seed) monitor status carried leaves = ap count leaves
 
   -- and as it was asked for

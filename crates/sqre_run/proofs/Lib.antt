@@ -11,8 +11,10 @@ pub mod OneAnswer
 pub mod OneOutput
 pub mod Outcomes
 pub mod QueryReads
+pub mod Refusals
 pub mod Answering
 pub mod Sessions
+pub mod Shortest
 pub mod Showing
 pub mod SomeMeaning
 pub mod Takes

@@ -1,5 +1,7 @@
 -- From a run or a refusal to the outcome of a run.
-use Rattle.std.proofs.Common.{◌≡◌, ℕ, List, [], Option, inl, inr, refl, sym, ap, subst, arith}
+use Rattle.std.proofs.Common.{◌≡◌, ℕ, List, [], Option, Result, inl, inr, refl, sym, ap, subst, ◌∙◌, arith}
+use Rattle.std.specs.declared.alloc.AllocError.{AllocError}
+use Rattle.std.specs.Io.KnownBytes.{Appends}
 use Rattle.std.proofs.KnownBytes.{Consumes-nil}
 use Rattle.io_edge.specs.Written.{AppendsSome}
 use Rattle.language_base.specs.declared.refusal.Refusal.{Refusal}
@@ -10,7 +12,9 @@ use Rattle.type_checker.specs.Judged.{accepted, refused}
 use Rattle.sqre_run.specs.Meanings.{KeepsRules}
 use Rattle.sqre_run.specs.Output.{Spoken, Tells, answering, output, refusing, whole_output}
 use Rattle.sqre_run.specs.Outside.{Ended, Outside, WrotePart}
-use Rattle.sqre_run.specs.Call.{Completes, Outcome, Refuses}
+use Rattle.sqre_run.specs.Call.{Completes, Outcome}
+use Rattle.sqre_run.specs.Carried.{RefusalCarried}
+use Rattle.sqre_run.specs.Handed.{Refuses}
 use Rattle.sqre_run.specs.declared.status.Status.{Status}
 use Rattle.sqre_run.specs.declared.status.Status.TheVariants.{Done, Refused, ItemFault, SinkFault, Memory, Limit}
 
@@ -36,10 +40,12 @@ Outcome-ended text monitor compiles keeps status old new ended = absurd ended
 
 -- a refusal that was written is the outcome, where no item was read
 pub Outcome-refused : (text : List ℕ) (refusal : Refusal) → Compiles text (refused refusal)
-    → (status : Status) (old : Outside) (taken : Option (List ℕ)) → Refuses refusal status old.taken taken
+    → (status : Status) (old : Outside) (taken : Option (List ℕ))
+    → RefusalCarried (λ lines. lines ≡ refusal_text refusal) status old.taken taken
     → Outcome text status old (record old { taken = taken })
-Outcome-refused text refusal compiles Refused old taken refuses = (refusal, compiles, refl, refuses)
-Outcome-refused text refusal compiles SinkFault old taken refuses =
+Outcome-refused text refusal compiles Refused old taken (lines, are, all) =
+    (refusal, compiles, refl, subst (λ (l : List ℕ). Appends old.taken taken l) are all)
+Outcome-refused text refusal compiles SinkFault old taken (lines, are, some) =
     (refused refusal, [], compiles, tt, Consumes-nil old.left, told_some)
   where
     told_some : (spoken : Spoken) → Tells (refused refusal) spoken
@@ -47,7 +53,7 @@ Outcome-refused text refusal compiles SinkFault old taken refuses =
     told_some (answering meaning) means = absurd means
     told_some (refusing other) same =
         let part : AppendsSome old.taken taken (refusal_text other) =
-        subst (λ (r : Refusal). AppendsSome old.taken taken (refusal_text r)) (sym same) refuses in
+        subst (λ (l : List ℕ). AppendsSome old.taken taken l) (are ∙ ap refusal_text (sym same)) some in
         record { part = part; no_end = λ none. part }
 Outcome-refused text refusal compiles Memory old taken refuses =
     inl (ap (λ (t : Option (List ℕ)). record old { taken = t }) refuses)
@@ -63,9 +69,9 @@ Completes-ended monitor Memory old new ended no_items no_sink = tt
 Completes-ended monitor Limit old new ended no_items no_sink = tt
 Completes-ended monitor status old new ended no_items no_sink = absurd ended
 
-pub Completes-refused : (refusal : Refusal) (status : Status) (old new : Option (List ℕ)) → Refuses refusal status old new
-    → (status ≡ SinkFault → ⊥) → Completes (refused refusal) status
-Completes-refused refusal Refused old new refuses no_sink = tt
-Completes-refused refusal SinkFault old new refuses no_sink = absurd (no_sink refl)
-Completes-refused refusal Memory old new refuses no_sink = tt
-Completes-refused refusal status old new refuses no_sink = absurd refuses
+pub Completes-refused : (refusal : Refusal) (status : Status) (lines : Result (List ℕ) AllocError)
+    (old new : Option (List ℕ)) → Refuses status lines old new → (status ≡ SinkFault → ⊥) → Completes (refused refusal) status
+Completes-refused refusal Refused lines old new refuses no_sink = tt
+Completes-refused refusal SinkFault lines old new refuses no_sink = absurd (no_sink refl)
+Completes-refused refusal Memory lines old new refuses no_sink = tt
+Completes-refused refusal status lines old new refuses no_sink = absurd refuses

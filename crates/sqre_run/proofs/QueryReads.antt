@@ -1,16 +1,16 @@
 -- From what was read of a query source to what a call says of it.
-use Rattle.std.proofs.Common.{◌≤◌, inr, ℕ, List, length, Option, arith}
+use Rattle.std.proofs.Common.{◌≤◌, inr, ℕ, List, length, Option, Result, arith}
+use Rattle.std.specs.declared.alloc.AllocError.{AllocError}
 use Rattle.std.specs.Io.KnownBytes.{IsAtEnd}
 use Rattle.io_edge.specs.Taken.{TakesFirst}
 use Rattle.language_base.specs.Limits.{max_text}
-use Rattle.language_base.specs.declared.refusal.Refusal.{Refusal}
-use Rattle.sqre_run.specs.Call.{Refuses}
 use Rattle.sqre_run.specs.Carried.{Carried, LineCarried}
+use Rattle.sqre_run.specs.Handed.{Refuses}
 use Rattle.sqre_run.specs.Outside.{Outside, Ended}
 use Rattle.query_model.specs.Monitors.{Monitor}
 use Rattle.sqre_run.specs.QueryRead.{max_read, ReadsText, ReadsQuery}
 use Rattle.sqre_run.specs.declared.command.Command.{Command}
-use Rattle.sqre_run.specs.declared.command.Command.TheVariants.{Run, Check, Bound, Drill}
+use Rattle.sqre_run.specs.declared.command.Command.TheVariants.{Run, Check, Bound, Why, Drill}
 use Rattle.sqre_run.specs.declared.status.Status.{Status}
 use Rattle.sqre_run.specs.declared.status.Status.TheVariants.{Done, Refused, Usage, QueryFault, ItemFault, SinkFault, Memory, Limit}
 
@@ -46,13 +46,14 @@ module _ (left left' : Option (List ℕ)) (ends ends' : ℕ) where
     reads_carried (Run engine) monitor status old new carried = reads_run monitor status old new carried
     reads_carried Check monitor status old new carried = reads_line Check monitor status old.taken new.taken carried
     reads_carried Bound monitor status old new carried = reads_line Bound monitor status old.taken new.taken carried
+    reads_carried Why monitor status old new carried = reads_line Why monitor status old.taken new.taken carried
     reads_carried (Drill count seed) monitor status old new carried =
         reads_line (Drill count seed) monitor status old.taken new.taken carried
 
     -- and so does a refusal
-    pub reads_refusal : (refusal : Refusal) (status : Status) (old new : Option (List ℕ))
-        → Refuses refusal status old new → ReadsQuery left left' ends ends' status
-    reads_refusal refusal Refused old new refuses = reads
-    reads_refusal refusal SinkFault old new refuses = reads
-    reads_refusal refusal Memory old new refuses = inr reads
-    reads_refusal refusal status old new refuses = absurd refuses
+    pub reads_refusal : (status : Status) (lines : Result (List ℕ) AllocError) (old new : Option (List ℕ))
+        → Refuses status lines old new → ReadsQuery left left' ends ends' status
+    reads_refusal Refused lines old new refuses = reads
+    reads_refusal SinkFault lines old new refuses = reads
+    reads_refusal Memory lines old new refuses = inr reads
+    reads_refusal status lines old new refuses = absurd refuses

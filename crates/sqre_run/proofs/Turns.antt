@@ -43,6 +43,13 @@ Ended-held follows on old now reading kept taken same run =
     (subst (λ (t : Option (List ℕ)). Appends old.taken t (answers meaning run.shown)) (sym same)
     (run.wrote.wrote meaning means)))
 
+-- and the run so far is one still where it has handed on what it held
+pub Running-held : {F : Type 0} (follows : F → Word → Type 0) (on : OnStream) (old now : Outside) (reading : Reading)
+    (kept : Session F) (taken : Option (List ℕ)) → taken ≡ now.taken → Running follows on old now reading kept
+    → Running follows on old (record now { taken = taken }) reading kept
+Running-held follows on old now reading kept taken same run =
+    subst (λ (t : Option (List ℕ)). Running follows on old (record now { taken = t }) reading kept) (sym same) run
+
 -- how it ends where the sink hands on what it holds, or does not
 pub Ended-or_held : (on : OnStream) (old new : Outside) (status status' : Status)
     → (status' ≡ status) ⊎ (status' ≡ SinkFault) → Ended (monitor_of on) status old new

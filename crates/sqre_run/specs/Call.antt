@@ -3,9 +3,7 @@ use Rattle.std.specs.Prelude.{◌≡◌, ◌⊎◌, ℕ, List, [], length, Optio
 use Rattle.std.specs.Io.KnownBytes.{Appends, Consumes}
 use Rattle.io_edge.specs.Counts.{FailsBy, Rose, next_count}
 use Rattle.io_edge.specs.Limits.{max_count}
-use Rattle.io_edge.specs.Written.{AppendsSome}
 use Rattle.language_base.specs.declared.refusal.Refusal.{Refusal}
-use Rattle.report_writer.specs.Texts.{refusal_text}
 use Rattle.sqre_run.specs.Compiled.{Compiles, KeepsRulesIfAccepted}
 use Rattle.type_checker.specs.Judged.{Verdict, accepted, refused}
 use Rattle.query_model.specs.Monitors.{Monitor}
@@ -13,8 +11,9 @@ use Rattle.sqre_run.specs.Meanings.{IsMeaning, KeepsRules, Meaning}
 use Rattle.sqre_run.specs.Output.{Spoken, Tells, answering, output, refusing, whole_output}
 use Rattle.sqre_run.specs.OneLine.{CompletesLine, WritesLine}
 use Rattle.sqre_run.specs.Outside.{MeetsOneAtMost, Outside, Wrote, WroteLines, WrotePart}
+use Rattle.sqre_run.specs.Reasons.{WritesReason}
 use Rattle.sqre_run.specs.declared.command.Command.{Command}
-use Rattle.sqre_run.specs.declared.command.Command.TheVariants.{Run}
+use Rattle.sqre_run.specs.declared.command.Command.TheVariants.{Run, Why}
 use Rattle.sqre_run.specs.declared.status.Status.{Status}
 use Rattle.sqre_run.specs.declared.status.Status.TheVariants.{Done, Refused, Usage, QueryFault, ItemFault, SinkFault, Memory, Limit}
 
@@ -34,13 +33,6 @@ Untouched Usage query query' items items' out out' =
 Untouched QueryFault query query' items items' out out' = (items' ≡ items) × (out' ≡ out)
 Untouched Refused query query' items items' out out' = items' ≡ items
 Untouched _ query query' items items' out out' = Unit {0}
-
--- a refusal was written whole, in part, or not at all
-abbrev pub Refuses : Refusal → Status → Option (List ℕ) → Option (List ℕ) → Type 0
-Refuses refusal Refused old new = Appends old new (refusal_text refusal)
-Refuses refusal SinkFault old new = AppendsSome old new (refusal_text refusal)
-Refuses refusal Memory old new = new ≡ old
-Refuses refusal _ old new = ⊥
 
 -- the text is a query, of this monitor, that keeps the rules, and so has a meaning; it went on so
 abbrev pub Runs : List ℕ → (Monitor → Type 0) → Type 0
@@ -99,6 +91,7 @@ ReadsToFirstEnd command status ends ends' = ends' ≡ ends
 -- What was read of the items and written for a query text, by what the words ask for.
 abbrev pub OutcomeOf : Option Command → List ℕ → Status → Outside → Outside → Type 0
 OutcomeOf (Some (Run engine)) text status old new = Outcome text status old new
+OutcomeOf (Some Why) text status old new = WritesReason text status old.taken new.taken
 OutcomeOf (Some command) text status old new = WritesLine command text status old.taken new.taken
 OutcomeOf None text status old new = new ≡ old
 

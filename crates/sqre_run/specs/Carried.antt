@@ -1,4 +1,4 @@
--- For the prover. What came of a command for a query that is accepted.
+-- For the prover. What came of a command, for a query that is accepted or refused.
 use Rattle.std.specs.Prelude.{◌≡◌, ℕ, List, Option}
 use Rattle.std.specs.Io.KnownBytes.{Appends}
 use Rattle.io_edge.specs.Written.{AppendsSome}
@@ -8,7 +8,7 @@ use Rattle.sqre_run.specs.Outside.{Ended, Outside}
 use Rattle.sqre_run.specs.declared.command.Command.{Command}
 use Rattle.sqre_run.specs.declared.command.Command.TheVariants.{Run}
 use Rattle.sqre_run.specs.declared.status.Status.{Status}
-use Rattle.sqre_run.specs.declared.status.Status.TheVariants.{Done, SinkFault, Memory}
+use Rattle.sqre_run.specs.declared.status.Status.TheVariants.{Done, Refused, SinkFault, Memory}
 
 -- its line was written whole, in part, or not at all
 abbrev pub LineCarried : Command → Monitor → Status → Option (List ℕ) → Option (List ℕ) → Type 0
@@ -21,3 +21,10 @@ LineCarried command monitor _ old new = ⊥
 abbrev pub Carried : Command → Monitor → Status → Outside → Outside → Type 0
 Carried (Run engine) monitor status old new = Ended monitor status old new
 Carried command monitor status old new = LineCarried command monitor status old.taken new.taken
+
+-- lines of a refusal, of which this holds, were written whole, in part, or not at all
+abbrev pub RefusalCarried : (List ℕ → Type 0) → Status → Option (List ℕ) → Option (List ℕ) → Type 0
+RefusalCarried Are Refused old new = (lines : List ℕ) × Are lines × Appends old new lines
+RefusalCarried Are SinkFault old new = (lines : List ℕ) × Are lines × AppendsSome old new lines
+RefusalCarried Are Memory old new = new ≡ old
+RefusalCarried Are _ old new = ⊥

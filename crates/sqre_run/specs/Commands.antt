@@ -5,7 +5,7 @@ use Rattle.std.specs.Cmp.Lexicographic.{pointwise}
 use Rattle.std.specs.List.{list_all}
 use Rattle.std.specs.Str.Parse.{digits_value}
 use Rattle.sqre_run.specs.declared.command.Command.{Command}
-use Rattle.sqre_run.specs.declared.command.Command.TheVariants.{Run, Check, Bound, Drill}
+use Rattle.sqre_run.specs.declared.command.Command.TheVariants.{Run, Check, Bound, Why, Drill}
 use Rattle.sqre_run.specs.declared.command.Engine.TheVariants.{Runner, Slow}
 
 -- the most items of a drill, and the greatest seed
@@ -26,11 +26,12 @@ number_in digits greatest word =
     && nat_le (digits_value 10 word) greatest
     then Some (digits_value 10 word) else None
 
--- `check` or `bound`
+-- `check`, `bound` or `why`
 abbrev pub question_of : List ℕ → Option Command
 question_of word =
     if says word (codes "check") then Some Check
-    else if says word (codes "bound") then Some Bound else None
+    else if says word (codes "bound") then Some Bound
+    else if says word (codes "why") then Some Why else None
 
 -- `run` or `slow`
 abbrev pub run_of : List ℕ → Option Command
@@ -49,7 +50,7 @@ drill_of word count seed =
     if says word (codes "drill") then drill_from (number_in 7 max_items count) (number_in 20 max_seed seed)
     else None
 
--- what the words ask for, if they have one of the forms: `check QUERY` or `bound QUERY`,
+-- what the words ask for, if they have one of the forms: `check QUERY`, `bound QUERY` or `why QUERY`,
 -- `run QUERY ITEMS` or `slow QUERY ITEMS`, `drill QUERY COUNT SEED`
 abbrev pub command_of : List (List ℕ) → Option Command
 command_of (word ∷ query ∷ []) = question_of word

@@ -5,7 +5,7 @@ use Rattle.std.specs.Borrow.{Bor}
 use Rattle.std.specs.Io.KnownBytes.{Appends}
 use Rattle.io_edge.specs.Written.{AppendsSome}
 use Rattle.sqre_run.specs.declared.status.Status.{Status}
-use Rattle.sqre_run.specs.declared.status.Status.TheVariants.{Done, SinkFault, Memory}
+use Rattle.sqre_run.specs.declared.status.Status.TheVariants.{Done, Refused, SinkFault, Memory}
 
 -- nothing is answered where the text was written whole, SinkFault where a part of it was written, and
 -- where there is no text Memory, or SinkFault where the sink does not hand on what it holds back
@@ -25,3 +25,11 @@ Told SinkFault (Ok line) old new = AppendsSome old new line
 Told Memory (Err error) old new = new ≡ old
 Told SinkFault (Err error) old new = new ≡ old
 Told _ _ old new = ⊥
+
+-- the lines of a refusal were written whole and flushed, or a part of them; where there was no memory for them,
+-- nothing was written
+abbrev pub Refuses : Status → Result (List ℕ) AllocError → Option (List ℕ) → Option (List ℕ) → Type 0
+Refuses Refused (Ok lines) old new = Appends old new lines
+Refuses SinkFault (Ok lines) old new = AppendsSome old new lines
+Refuses Memory (Err error) old new = new ≡ old
+Refuses _ _ old new = ⊥

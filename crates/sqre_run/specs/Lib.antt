@@ -10,6 +10,7 @@ pub mod OneLine
 pub mod Output
 pub mod Outside
 pub mod QueryRead
+pub mod Reasons
 pub mod Running
 pub mod Sessions
 pub mod Statuses

@@ -11,7 +11,7 @@ use Rattle.sqre_run.specs.Compiled.{Compiles, KeepsRulesIfAccepted}
 use Rattle.sqre_run.specs.Drilled.{drilled}
 use Rattle.sqre_run.specs.Meanings.{IsMeaning, KeepsRules, Meaning}
 use Rattle.sqre_run.specs.declared.command.Command.{Command}
-use Rattle.sqre_run.specs.declared.command.Command.TheVariants.{Run, Check, Bound, Drill}
+use Rattle.sqre_run.specs.declared.command.Command.TheVariants.{Run, Check, Bound, Why, Drill}
 use Rattle.sqre_run.specs.declared.status.Status.{Status}
 use Rattle.sqre_run.specs.declared.status.Status.TheVariants.{Done, Refused, Usage, QueryFault, ItemFault, SinkFault, Memory, Limit}
 
@@ -20,6 +20,7 @@ use Rattle.sqre_run.specs.declared.status.Status.TheVariants.{Done, Refused, Usa
 abbrev pub HoldsOfLine : Command → Monitor → (List ℕ → Type 0) → Type 0
 HoldsOfLine (Run engine) monitor P = ⊥
 HoldsOfLine Check monitor P = P check_text
+HoldsOfLine Why monitor P = P check_text
 HoldsOfLine Bound monitor P = P (bound_text (places_of monitor.query) (slots_of monitor.query))
 HoldsOfLine (Drill count seed) monitor P =
     (meaning : Meaning) → IsMeaning monitor meaning → P (drilled meaning count seed)

@@ -26,6 +26,7 @@ module _ (left left' : Option (List ℕ)) (ends ends' : ℕ) where
   ReadsFor (Ok query) = ReadsText
   ReadsFor (Err stop.Failed) = TakesFewer max_read left left' ends ends'
   ReadsFor (Err (stop.Refused refusal)) = ReadsText
+  ReadsFor (Err (stop.Ambiguous blame)) = ReadsText
   ReadsFor (Err stop.Memory) = ReadsNone ⊎ ReadsText
 
   -- what was read by the status of a call: no status but those named comes before the text was read

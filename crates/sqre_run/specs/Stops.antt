@@ -1,18 +1,65 @@
 -- For the prover. Why there is no query to run.
-use Rattle.std.specs.Prelude.{ℕ, List, Option, IfSome}
+use Rattle.std.specs.Prelude.{◌≡◌, ℕ, List, ◌++◌, Option, IfSome}
+use Rattle.ambiguity_example.specs.Shows.{IsShortestShown, Shown}
+use Rattle.language_base.specs.declared.refusal.Refusal.{Refusal}
+use Rattle.language_base.specs.declared.rule.Rule.{Rule}
+use Rattle.query_model.specs.Monitors.{monitor_of}
+use Rattle.query_parser.specs.Reading.{IsFileOf}
+use Rattle.query_syntax.specs.Files.{program_terms}
+use Rattle.query_syntax.specs.Programs.{Program}
+use Rattle.report_writer.specs.Examples.{example_text}
+use Rattle.report_writer.specs.Texts.{refusal_text}
+use Rattle.type_checker.specs.Blames.{ForbidsTwoReadings, IsBlameAt, IsBlameOf, refusal_of}
+use Rattle.type_checker.specs.Judged.{accepted, refused}
+use Rattle.type_checker.specs.Nodes.{Node}
+use Rattle.type_checker.specs.declared.blame.Blame.{Blame}
+use Rattle.type_checker.specs.declared.judgment.Judgment.{Judgment}
+use Rattle.type_checker.specs.declared.judgment.Judgment.TheVariants as judgment
 use Rattle.sqre_run.specs.Compiled.{Compiles}
+use Rattle.sqre_run.specs.Drilling.{IsDrillable}
+use Rattle.sqre_run.specs.declared.command.Command.{Command}
+use Rattle.sqre_run.specs.declared.command.Command.TheVariants.{Why}
 use Rattle.sqre_run.specs.declared.query.QueryStop.{QueryStop}
-use Rattle.sqre_run.specs.declared.query.QueryStop.TheVariants.{Refused}
-use Rattle.type_checker.specs.Judged.{refused}
-use Rattle.type_checker.specs.declared.stop.CheckStop.{CheckStop}
-use Rattle.type_checker.specs.declared.stop.CheckStop.TheVariants as check
+use Rattle.sqre_run.specs.declared.query.QueryStop.TheVariants as stop
 
--- a refusal is that of the text, which may be told
+-- the text is refused so, by a rule that forbids no word with two readings
+abbrev pub IsRefusedBy : Refusal → List ℕ → Type 0
+IsRefusedBy why text = Compiles text (refused why) × (ForbidsTwoReadings why.rule → ⊥)
+
+-- some program is blamed so
+abbrev pub IsBlamed : Blame → Type 0
+IsBlamed blame = (program : Program) × IsBlameOf program blame
+
+-- and the text writes it, where the source reports its text
+abbrev pub IsBlamedIn : Option (List ℕ) → Blame → Type 0
+IsBlamedIn text blame = (program : Program) × IsBlameOf program blame
+    × IfSome text (λ text. IsFileOf text (program_terms program))
+
+-- a text that was read is judged so
+abbrev pub IsJudgmentAt : List ℕ → Judgment → Type 0
+IsJudgmentAt text (judgment.Accepted checked) =
+    Compiles text (accepted (monitor_of checked.value)) × IsDrillable checked.value.layout
+IsJudgmentAt text (judgment.Refused why) = IsRefusedBy why text
+IsJudgmentAt text (judgment.Ambiguous blame) =
+    (program : Program) × IsBlameOf program blame.value × IsFileOf text (program_terms program)
+
+-- a refusal is that of the text, where the source reports it, and so is a blame
 abbrev pub IsStopOf : Option (List ℕ) → QueryStop → Type 0
-IsStopOf text (Refused refusal) = IfSome text (λ text. Compiles text (refused refusal))
+IsStopOf text (stop.Refused why) = IfSome text (IsRefusedBy why)
+IsStopOf text (stop.Ambiguous blame) = IsBlamedIn text blame.value
 IsStopOf text _ = Unit {0}
 
--- the same of a text that was read
-abbrev pub IsStopAt : List ℕ → CheckStop → Type 0
-IsStopAt text (check.Refused refusal) = Compiles text (refused refusal)
-IsStopAt text check.Memory = Unit {0}
+-- at each node that may be blamed so, the word is a shortest one with two readings such as the rule forbids
+abbrev pub IsShownFor : Blame → Shown → Type 0
+IsShownFor blame shown = (node : Node) (broken : Rule) → (at : IsBlameAt node broken blame)
+    → IsShortestShown node.columns at.question shown
+
+-- the line of the refusal, and such a word after it
+abbrev pub IsReasonOf : Blame → List ℕ → Type 0
+IsReasonOf blame lines = (shown : Shown) × IsShownFor blame shown
+    × (lines ≡ refusal_text (refusal_of blame) ++ example_text shown.items shown.first shown.second)
+
+-- what a command writes of a blame: `why` the word too, and any other the refusal alone
+abbrev pub AreLinesOf : Command → Blame → List ℕ → Type 0
+AreLinesOf Why blame lines = IsReasonOf blame lines
+AreLinesOf command blame lines = lines ≡ refusal_text (refusal_of blame)

@@ -1,28 +1,29 @@
 //! The top call.
 ghost use Rattle.std.specs.Prelude.{◌≡◌, ◌↔◌, IfSome, map, string_bytes};
-ghost use Rattle.io_edge.specs.Counts.{Rose, FailsBy};
+ghost use Rattle.io_edge.specs.Counts.{Rose};
 ghost use Rattle.sqre_run.specs.Compiled.{Compiles};
 ghost use Rattle.type_checker.specs.Judged.{Verdict};
 ghost use Rattle.sqre_run.specs.Commands.{command_of};
 ghost use Rattle.sqre_run.specs.Outside.{outside};
 ghost use Rattle.sqre_run.specs.QueryRead.{ReadsQuery};
 ghost use Rattle.sqre_run.specs.Call.{CompletesOf, EndsItems, FirstFault, LeavesItems};
-ghost use Rattle.sqre_run.specs.Call.{OutcomeOf, ReadsToFirstEnd, Refuses, Untouched};
+ghost use Rattle.sqre_run.specs.Call.{OutcomeOf, ReadsToFirstEnd, Untouched};
 
 use crate::Status;
+use crate::blame_text::blame_text;
 use crate::command::command_of;
 use crate::engine::carry_out;
-use crate::handing::tell;
 use crate::query::{QueryStop, compile};
+use crate::refusing::refuse;
 use io_edge::{Sink, Source};
-use language_base::Refusal;
 use report_writer::refusal_text;
 use std::alloc::Global;
 
 /// Does what the words after the program's name ask for. `run QUERY ITEMS` compiles the query and
 /// answers every line of the items, and so does `slow QUERY ITEMS` by the engine that keeps the
-/// whole word; `check QUERY`, `bound QUERY` and `drill QUERY COUNT SEED` write one line. What the
-/// words QUERY and ITEMS name is for the caller to open.
+/// whole word; `check QUERY`, `bound QUERY` and `drill QUERY COUNT SEED` write one line. `why QUERY`
+/// writes as `check QUERY` does, and after a refusal for a word with two readings a shortest such
+/// word. What the words QUERY and ITEMS name is for the caller to open.
 pub fn sqre<Q: Source, S: Source, W: Sink>(
     alloc: Global,
     words: &[String],
@@ -60,19 +61,8 @@ pub fn sqre<Q: Source, S: Source, W: Sink>(
     match compile(alloc, query) {
         Ok(checked) => carry_out(alloc, command, &checked, items, out),
         Err(QueryStop::Failed) => Status::QueryFault,
-        Err(QueryStop::Refused(refusal)) => refuse(alloc, refusal, out),
+        Err(QueryStop::Refused(refusal)) => refuse(refusal_text(alloc, refusal), out),
+        Err(QueryStop::Ambiguous(blame)) => refuse(blame_text(alloc, command, &blame), out),
         Err(QueryStop::Memory) => Status::Memory,
-    }
-}
-
-// Writes the refusal.
-fn refuse<W: Sink>(alloc: Global, refusal: Refusal, out: &mut W) -> Status
-    ensures refuses { Refuses refusal result (W.taken out.old) (W.taken out.new) }
-    ensures handed_on { (result ≡ Status.SinkFault → ⊥) → W.held out.new ≡ 0 }
-    ensures cause { FailsBy (W.faults out.old) (W.faults out.new) (result ≡ Status.SinkFault) }
-{
-    match tell(refusal_text(alloc, refusal), out) {
-        Status::Done => Status::Refused,
-        status => status,
     }
 }

@@ -29,6 +29,8 @@ pub enum Command {
     Check,
     /// How much is kept for the query.
     Bound,
+    /// Why the query is refused, if it is.
+    Why,
     /// What comes of so many items from a seed.
     Drill { count: u32, seed: u64 },
 }
@@ -51,6 +53,7 @@ fn question_of(word: &str) -> Option<Command>
     match word {
         "check" => Some(Command::Check),
         "bound" => Some(Command::Bound),
+        "why" => Some(Command::Why),
         _ => None,
     }
 }

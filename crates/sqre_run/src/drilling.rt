@@ -32,15 +32,35 @@ pub fn drill<F: Follower + Drop>(
     ensures { IfOk result (λ line. (meaning : Meaning) → IsMeaning (monitor_of checked.now) meaning
         → line ≡ drilled meaning count seed) }
 {
-    let mut session = Session::begin(checked, follower);
     let mut drill = Drill::new(checked.schema(), seed);
-    take_header(alloc, checked, &drill, &mut session)?;
+    let mut session = begin(alloc, checked, follower, &drill)?;
     let mut defined = 0;
     'items: for _ in 0..count {
         take_next(alloc, &mut drill, &mut session)?;
         defined += u32::from(session.answer().is_some());
     }
     drill_text(alloc, count, defined, session.answer())
+}
+
+// The session that has taken the header, if there is one.
+fn begin<'c, F: Follower + Drop>(
+    alloc: Global,
+    checked: &'c Checked,
+    follower: F,
+    drill: &Drill<'_>,
+) -> Result<Session<'c, F>, AllocError>
+    requires word { F.follows follower [] }
+    requires query { F.query follower ≡ plain_of checked.now.main.shape }
+    requires columns { F.columns follower ≡ checked.now.layout.columns }
+    requires layout { drill.now.layout ≡ checked.now.layout }
+    ensures behind { IfOk result (IsBehind F.follows checked.now
+        (drilled_lines checked.now.layout 0 drill.now.state)) }
+    ensures ready { IfOk result (IsReady F.query F.columns F.lost F.sound) }
+    ensures position { IfOk result (λ session. F.position session.follower ≤ 1) }
+{
+    let mut session = Session::begin(checked, follower);
+    take_header(alloc, checked, drill, &mut session)?;
+    Ok(session)
 }
 
 // Takes the header, if there is one.

@@ -43,7 +43,7 @@ pub fn carry_out<S: Source, W: Sink>(
 {
     match command {
         Command::Run(engine) => run_query(alloc, engine, checked, items, out),
-        Command::Check => tell(check_text(alloc), out),
+        Command::Check | Command::Why => tell(check_text(alloc), out),
         Command::Bound => tell(bound_line(alloc, checked), out),
         Command::Drill { count, seed } => tell(drill_query(alloc, checked, count, seed), out),
     }

@@ -1,6 +1,7 @@
 //! One run of the program: from its words, a query and items to a status and what was written.
 #![tactic(auto)]
 
+mod blame_text;
 mod call;
 mod command;
 mod drill_engine;
@@ -10,6 +11,7 @@ mod handing;
 mod laws;
 mod line_texts;
 mod query;
+mod refusing;
 mod room;
 mod run;
 mod run_engine;

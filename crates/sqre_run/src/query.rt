@@ -5,7 +5,7 @@ ghost use Rattle.sqre_run.specs.Compiled.{Compiles};
 ghost use Rattle.sqre_run.specs.Drilling.{IsDrillable};
 ghost use Rattle.sqre_run.specs.Meanings.{KeepsRules};
 ghost use Rattle.sqre_run.specs.QueryRead.{ReadsFor};
-ghost use Rattle.sqre_run.specs.Stops.{IsStopAt, IsStopOf};
+ghost use Rattle.sqre_run.specs.Stops.{IsJudgmentAt, IsStopOf};
 ghost use Rattle.query_model.specs.Monitors.{monitor_of};
 ghost use Rattle.type_checker.specs.Judged.{accepted};
 
@@ -14,26 +14,29 @@ use language_base::Refusal;
 use query_model::Checked;
 use query_parser::ReadStop;
 use query_syntax::read_syntax;
-use std::alloc::Global;
-use type_checker::{CheckStop, check};
+use std::alloc::{AllocError, Global};
+use type_checker::{Blame, Judgment, judge};
 
 /// The most bytes that are read of a query: one more than a query may have.
 const MAX_READ: usize = 65_537;
 
 /// Why there is no query to run.
-#[derive(Clone, Copy, Debug, PartialEq, Eq)]
+#[derive(Drop)]
 pub enum QueryStop {
     Failed,
+    /// By a rule that no word with two readings breaks.
     Refused(Refusal),
+    /// By one that such a word breaks.
+    Ambiguous(Box<Blame>),
     Memory,
 }
 
 /// Reads the query to its first end, or until it is longer than a query may be, and compiles it.
-pub fn compile<Q: Source>(alloc: Global, query: &mut Q) -> Result<Checked, QueryStop>
+pub fn compile<Q: Source>(alloc: Global, query: &mut Q) -> Result<Box<Checked>, QueryStop>
     ensures accepted { IfOk result (λ compiled.
-        IfSome (Q.left query.old) (λ text. Compiles text (accepted (monitor_of compiled)))) }
-    ensures kept { IfOk result (λ compiled. KeepsRules (monitor_of compiled)) }
-    ensures drillable { IfOk result (λ compiled. IsDrillable compiled.layout) }
+        IfSome (Q.left query.old) (λ text. Compiles text (accepted (monitor_of compiled.value)))) }
+    ensures kept { IfOk result (λ compiled. KeepsRules (monitor_of compiled.value)) }
+    ensures drillable { IfOk result (λ compiled. IsDrillable compiled.value.layout) }
     ensures refused { IfErr result (IsStopOf (Q.left query.old)) }
     ensures end { OnOk result (Rose (Q.ends query.old) (Q.ends query.new)) }
     ensures read { ReadsFor (Q.left query.old) (Q.left query.new)
@@ -47,27 +50,25 @@ pub fn compile<Q: Source>(alloc: Global, query: &mut Q) -> Result<Checked, Query
         Err(TakeStop::Memory) => return Err(QueryStop::Memory),
     };
     match compile_text(alloc, text.as_slice()) {
-        Ok(checked) => {
+        Ok(Judgment::Accepted(checked)) => {
             // Its accessors say that it keeps the rules.
             let _schema = checked.schema();
             Ok(checked)
         }
-        Err(CheckStop::Refused(refusal)) => Err(QueryStop::Refused(refusal)),
-        Err(CheckStop::Memory) => Err(QueryStop::Memory),
+        Ok(Judgment::Refused(refusal)) => Err(QueryStop::Refused(refusal)),
+        Ok(Judgment::Ambiguous(blame)) => Err(QueryStop::Ambiguous(blame)),
+        Err(AllocError) => Err(QueryStop::Memory),
     }
 }
 
 // Compiles a text.
-fn compile_text(alloc: Global, text: &[u8]) -> Result<Checked, CheckStop>
-    ensures accepted { IfOk result (λ compiled.
-        Compiles text.now (accepted (monitor_of compiled))) }
-    ensures drillable { IfOk result (λ compiled. IsDrillable compiled.layout) }
-    ensures refused { IfErr result (IsStopAt text.now) }
+fn compile_text(alloc: Global, text: &[u8]) -> Result<Judgment, AllocError>
+    ensures { IfOk result (IsJudgmentAt text.now) }
 {
     let program = match read_syntax(alloc, text) {
         Ok(program) => program,
-        Err(ReadStop::Refused(refusal)) => return Err(CheckStop::Refused(refusal)),
-        Err(ReadStop::Memory) => return Err(CheckStop::Memory),
+        Err(ReadStop::Refused(refusal)) => return Ok(Judgment::Refused(refusal)),
+        Err(ReadStop::Memory) => return Err(AllocError),
     };
-    check(alloc, &program)
+    judge(alloc, &program)
 }

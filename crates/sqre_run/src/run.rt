@@ -46,10 +46,11 @@ pub fn run<F: Follower + Drop, S: Source, W: Sink>(
     let mut session = Session::begin(checked, follower);
     let mut buffer = Vec::new(alloc);
     'lines: loop {
-        if let Err(Failed) = hand_on_before_read(&lines, out) {
-            return Status::SinkFault;
-        }
-        if let Some(status) = turn(alloc, &mut lines, &mut session, &mut buffer, items, out) {
+        let ended = match hand_on_before_read(&lines, out) {
+            Ok(()) => turn(alloc, &mut lines, &mut session, &mut buffer, items, out),
+            Err(Failed) => Some(Status::SinkFault),
+        };
+        if let Some(status) = ended {
             return status;
         }
     }

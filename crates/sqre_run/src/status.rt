@@ -17,7 +17,7 @@ pub enum Status {
     ItemFault = 4,
     /// The sink failed.
     SinkFault = 5,
-    /// Memory was wanting.
+    /// Out of memory.
     Memory = 6,
     /// 2^63-1 item bytes were taken without an end.
     Limit = 7,

@@ -1,10 +1,13 @@
+use Rattle.std.proofs.Common.{inl, inr}
 use Rattle.query_model.specs.Monitors.{monitor_of}
-use Rattle.sqre_run.proofs.Commands.{told_bound, told_check, told_drill}
+use Rattle.sqre_run.proofs.Commands.{told_bound, told_check, told_drill, told_why}
 use Rattle.sqre_run.proofs.engine.carry_out.Goals as goal
 
 pub returns-in-Check-clause-carried : goal.returns-in-Check-clause-carried
 returns-in-Check-clause-carried g c =
-    rw c.in-Check.is (told_check (monitor_of c.args.checked.now) _ c.check_text.ensures _ _ _ c.tell.ensures.told)
+    let monitor = monitor_of c.args.checked.now in
+    let carried = told_check monitor _ c.check_text.ensures _ _ _ c.tell.ensures.told in
+    elim c.in-Check.is [ inl is ↦ rw is carried | inr is ↦ rw is (told_why monitor _ _ _ carried) ]
 
 pub returns-in-Bound-clause-carried : goal.returns-in-Bound-clause-carried
 returns-in-Bound-clause-carried g c =

@@ -1,5 +1,5 @@
 use Rattle.std.proofs.Common.{rules, ap, inl}
-use Rattle.sqre_run.proofs.Compilations.{told_query}
+use Rattle.sqre_run.proofs.Compilations.{told_blame, told_query, told_refusal}
 use Rattle.sqre_run.proofs.QueryReads.{text_at_end}
 use Rattle.sqre_run.proofs.query.compile.Goals as goal
 
@@ -8,12 +8,21 @@ returns-in-Err-Memory-clause-read g c =
     let kept = c.in-Err-Memory.ensures.memory (search rules) in
     inl (ap g.Q.Source.left kept, ap g.Q.Source.ends kept)
 
-pub returns-in-Ok-compile_text-clause-accepted : goal.returns-in-Ok-compile_text-clause-accepted
-returns-in-Ok-compile_text-clause-accepted g c =
-    told_query _ _ _ _ c.in-Ok.ensures.taken.consumed (text_at_end _ _ _ _ _ c.in-Ok.ensures.taken)
-    (rw c.as_slice.ensures.value at c.in-Ok-compile_text.ensures.accepted)
+pub returns-in-Ok-Accepted-clause-accepted : goal.returns-in-Ok-Accepted-clause-accepted
+returns-in-Ok-Accepted-clause-accepted g c =
+    let judged = rw c.as_slice.ensures.value at (rw c.in-Ok-Accepted.field-0-is at c.in-Ok-Accepted.ensures) in
+    told_query _ _ _ _ c.in-Ok.ensures.taken.consumed (text_at_end _ _ _ _ _ c.in-Ok.ensures.taken) judged.0
 
-pub returns-in-Err-Refused-clause-refused : goal.returns-in-Err-Refused-clause-refused
-returns-in-Err-Refused-clause-refused g c =
-    told_query _ _ _ _ c.in-Ok.ensures.taken.consumed (text_at_end _ _ _ _ _ c.in-Ok.ensures.taken)
-    (rw c.as_slice.ensures.value at (rw c.in-Err-Refused.field-0-is at c.in-Err-Refused.ensures.refused))
+pub returns-in-Ok-Accepted-clause-drillable : goal.returns-in-Ok-Accepted-clause-drillable
+returns-in-Ok-Accepted-clause-drillable g c =
+    let judged = rw c.in-Ok-Accepted.field-0-is at c.in-Ok-Accepted.ensures in judged.1
+
+pub returns-in-Ok-Refused-clause-refused : goal.returns-in-Ok-Refused-clause-refused
+returns-in-Ok-Refused-clause-refused g c =
+    told_refusal _ _ _ _ c.in-Ok.ensures.taken.consumed (text_at_end _ _ _ _ _ c.in-Ok.ensures.taken)
+    (rw c.as_slice.ensures.value at (rw c.in-Ok-Refused.field-0-is at c.in-Ok-Refused.ensures))
+
+pub returns-in-Ok-Ambiguous-clause-refused : goal.returns-in-Ok-Ambiguous-clause-refused
+returns-in-Ok-Ambiguous-clause-refused g c =
+    told_blame _ _ _ c.in-Ok-Ambiguous.blame c.in-Ok.ensures.taken.consumed (text_at_end _ _ _ _ _ c.in-Ok.ensures.taken)
+    (rw c.as_slice.ensures.value at (rw c.in-Ok-Ambiguous.field-0-is at c.in-Ok-Ambiguous.ensures))

@@ -1,9 +1,11 @@
-use Rattle.std.proofs.Common.{[], inl, refl, ap, sym, subst, arith}
+use Rattle.std.proofs.Common.{◌≡◌, [], Option, Some, IfSome, inl, refl, ap, sym, subst, ◌∙◌, arith}
 use Rattle.std.proofs.KnownBytes.{Consumes-nil, Appends-nil}
 use Rattle.sqre_run.proofs.Sessions.{behind_none, ready_begins}
-use Rattle.sqre_run.proofs.Turns.{Ended-held, Running-begins}
+use Rattle.sqre_run.proofs.Turns.{Ended-held, Running-begins, Running-held}
 use Rattle.sqre_run.specs.Outside.{outside}
+use Rattle.sqre_run.specs.declared.status.Status.TheVariants.{SinkFault}
 use Rattle.sqre_run.proofs.run.run.Goals as goal
+use Rattle.sqre_run.proofs.run.run.Goals.{in-Err-hand_on_before_read, in-Ok-hand_on_before_read}
 
 -- nothing was read and nothing was written
 pub returns-in-Err-clause-ended : goal.returns-in-Err-clause-ended
@@ -35,9 +37,25 @@ lines-init g c =
       sink_calm = refl;
     }
 
--- the answers to the lines so far were written, and are not handed on
-pub returns-in-Err-hand_on_before_read-clause-ended : goal.returns-in-Err-hand_on_before_read-clause-ended
-returns-in-Err-hand_on_before_read-clause-ended g c =
+-- of what is there the predicate holds
+some_holds : {A : Type 0} (P : A → Type 0) (there : Option A) (one : A) → there ≡ Some one → IfSome there P → P one
+some_holds P there one is holds = subst (λ o. IfSome o P) is holds
+
+-- the turn ended the run, or the answers to the lines so far were written and are not handed on
+pub returns-in-Some-clause-ended : goal.returns-in-Some-clause-ended
+returns-in-Some-clause-ended g c =
     let at = outside g.S.Source.left g.S.Source.ends g.W.Sink.taken in
-    Ended-held g.F.Follower.follows c.args.checked.now (at c.args.items.now c.args.out.now) (at c.lines.items c.lines.out)
-    c.lines.lines c.lines.session _ c.hand_on_before_read.ensures.taken c.lines.invariant.running
+    let before = at c.args.items.now c.args.out.now in
+    let now = at c.lines.items c.lines.out in
+    elim c.match-hand_on_before_read.branch [
+      | in-Ok-hand_on_before_read w ↦
+          let running = Running-held g.F.Follower.follows c.args.checked.now before now c.lines.lines c.lines.session _
+          c.hand_on_before_read.ensures.taken c.lines.invariant.running in
+          let stops = some_holds _ w.turn-ended.result c.in-Some.status (sym w.ended-is ∙ c.in-Some.is) w.turn-ended.ensures.stops in
+          rw (w.items-is, w.out-is) (stops c.args.checked.now before running)
+      | in-Err-hand_on_before_read w ↦
+          let held = Ended-held g.F.Follower.follows c.args.checked.now before now c.lines.lines c.lines.session _
+          c.hand_on_before_read.ensures.taken c.lines.invariant.running in
+          let fault : SinkFault ≡ c.in-Some.status = cc in
+          rw (w.items-is, w.out-is, ← fault) held
+    ]

@@ -1,0 +1,26 @@
+//! Refusing a query.
+ghost use Rattle.std.specs.Prelude.{◌≡◌};
+ghost use Rattle.io_edge.specs.Counts.{FailsBy};
+ghost use Rattle.sqre_run.specs.Handed.{Refuses};
+
+use crate::Status;
+use crate::handing::end;
+use io_edge::{Failed, Sink, write_all};
+use language_base::Bytes;
+use std::alloc::AllocError;
+
+/// Writes the lines of a refusal and flushes them. Out of memory for them, it writes nothing.
+pub fn refuse<W: Sink>(lines: Result<Bytes, AllocError>, out: &mut W) -> Status
+    ensures refuses { Refuses result lines (W.taken out.old) (W.taken out.new) }
+    ensures handed_on { W.held out.old ≡ 0 → (result ≡ Status.SinkFault → ⊥)
+        → W.held out.new ≡ 0 }
+    ensures cause { FailsBy (W.faults out.old) (W.faults out.new) (result ≡ Status.SinkFault) }
+{
+    let Ok(lines) = lines else {
+        return Status::Memory;
+    };
+    match write_all(out, lines.as_slice()) {
+        Ok(()) => end(Status::Refused, out),
+        Err(Failed) => Status::SinkFault,
+    }
+}
