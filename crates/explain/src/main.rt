@@ -28,16 +28,26 @@ fn run(rt: HostRuntime) -> io::Result<u8> {
     if names.is_empty() {
         return Ok(USAGE);
     }
+    let status = explain_files(rt, &names)?;
+    Ok(status.number())
+}
+
+fn explain_files(rt: HostRuntime, names: &[String]) -> io::Result<Status> {
     let mut out = WriterSink::new(io::writer(&rt), rt.alloc())?;
+    explain_each(rt, names, &mut out)
+}
+
+// Up to the first one that is neither accepted nor explained.
+fn explain_each<W: Sink>(rt: HostRuntime, names: &[String], out: &mut W) -> io::Result<Status> {
     let mut status = Status::Accepted;
-    for name in names.iter() {
-        match explain_file(rt, name.as_str(), &mut out)? {
+    for name in names {
+        match explain_file(rt, name.as_str(), out)? {
             Status::Accepted => {}
             Status::Explained => status = Status::Explained,
-            fault => return Ok(fault.number()),
+            fault => return Ok(fault),
         }
     }
-    Ok(status.number())
+    Ok(status)
 }
 
 fn explain_file<W: Sink>(rt: HostRuntime, name: &str, out: &mut W) -> io::Result<Status> {

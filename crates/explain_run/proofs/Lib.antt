@@ -1,3 +1,4 @@
+pub mod Blaming
 pub mod Explaining
 pub mod Outcomes
 pub mod Parting

@@ -1,6 +1,8 @@
 -- From what tells two parts of a text apart to what tells the operands of its main query apart.
 use Rattle.std.proofs.Common.{◌≡◌, ℕ, List, Option, None, Some, IfSome, sym, subst}
+use Rattle.std.specs.Prelude.{Result, Ok, Err, IfOk}
 use Rattle.language_base.specs.declared.span.Span.{Span}
+use Rattle.query_model.specs.Monitors.{Monitor}
 use Rattle.query_parser.specs.Reading.{IsFileOf}
 use Rattle.query_syntax.specs.Expressions.{Expression}
 use Rattle.query_syntax.specs.Files.{program_terms}
@@ -8,8 +10,11 @@ use Rattle.query_syntax.specs.Programs.{Program}
 use Rattle.query_syntax.specs.Queries as q
 use Rattle.query_syntax.specs.Queries.{Query}
 use Rattle.query_syntax.specs.Spans.{query_span}
+use Rattle.separating_word.specs.Separations.{IsShortest, Separates}
 use Rattle.separating_word.specs.declared.separation.Separation.{Separation}
-use Rattle.explain_run.specs.Apart.{SeparatesMain, SeparatesOperands, SeparatesParts}
+use Rattle.sqre_run.specs.Compiled.{Compiles}
+use Rattle.type_checker.specs.Judged.{accepted}
+use Rattle.explain_run.specs.Apart.{SeparatesFrom, SeparatesMain, SeparatesOperands, SeparatesParts}
 
 -- where these are the operands
 pub main_of : (text : List ℕ) (program : Program) (f g : Query) (value : Expression) (span : Span)
@@ -19,3 +24,12 @@ pub main_of : (text : List ℕ) (program : Program) (f g : Query) (value : Expre
 main_of text program f g value span None file is apart = tt
 main_of text program f g value span (Some found) file is apart =
     (program, file, subst (λ (query : Query). SeparatesOperands text program query found) (sym is) apart)
+
+-- from the query of a text that a run takes
+pub from_taken : {E : Type 0} (first second : Monitor) (right : List ℕ) (result : Result (Option Separation) E)
+    → Compiles right (accepted second) → IfOk result (λ found. IfSome found (Separates first second))
+    → IfOk result (λ found. IfSome found (IsShortest first second))
+    → IfOk result (λ found. IfSome found (SeparatesFrom first right))
+from_taken first second right (Ok None) taken apart shortest = tt
+from_taken first second right (Ok (Some found)) taken apart shortest = (second, taken, apart, shortest)
+from_taken first second right (Err e) taken apart shortest = tt

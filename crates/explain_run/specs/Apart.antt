@@ -1,8 +1,6 @@
 -- Statement. Lines that tell the operands of a refused combination apart: only one of them, as the main query of the
 -- text, has a value on the items of the lines.
-use Rattle.std.specs.Prelude.{◌≡◌, ◌-◌, ℕ, List, [], ◌++◌, take, drop, length, Option, Some, None}
-use Rattle.language_base.specs.declared.refusal.Refusal.{Refusal}
-use Rattle.language_base.specs.declared.rule.Rule.TheVariants.{Rates}
+use Rattle.std.specs.Prelude.{◌-◌, ℕ, List, ◌++◌, take, drop, length}
 use Rattle.language_base.specs.declared.span.Span.{Span}
 use Rattle.query_model.specs.Monitors.{Monitor}
 use Rattle.query_parser.specs.Reading.{IsFileOf}
@@ -11,8 +9,7 @@ use Rattle.query_syntax.specs.Programs.{Program}
 use Rattle.query_syntax.specs.Queries as q
 use Rattle.query_syntax.specs.Queries.{Query}
 use Rattle.query_syntax.specs.Spans.{query_span}
-use Rattle.separating_word.specs.Separations.{Separates}
-use Rattle.separating_word.specs.Telling.{separation_text}
+use Rattle.separating_word.specs.Separations.{IsShortest, Separates}
 use Rattle.separating_word.specs.declared.separation.Separation.{Separation}
 use Rattle.sqre_run.specs.Compiled.{Compiles}
 use Rattle.type_checker.specs.Judged.{accepted}
@@ -27,10 +24,10 @@ alone text program place =
     between text 0 (query_span program.main.query).from ++ between text place.from place.to
     ++ between text (query_span program.main.query).to (length text)
 
--- the lines tell a query apart from that of a text which a run takes
+-- the lines tell a query apart from that of a text which a run takes, by a shortest word in the rate of one alone
 abbrev pub SeparatesFrom : Monitor → List ℕ → Separation → Type 0
-SeparatesFrom first right found =
-    (second : Monitor) × Compiles right (accepted second) × Separates first second found
+SeparatesFrom first right found = (second : Monitor) × Compiles right (accepted second)
+    × Separates first second found × IsShortest first second found
 
 -- the same of the queries of two texts
 abbrev pub SeparatesTexts : List ℕ → List ℕ → Separation → Type 0
@@ -52,15 +49,3 @@ SeparatesOperands text program _ found = ⊥
 abbrev pub SeparatesMain : List ℕ → Separation → Type 0
 SeparatesMain text found = (program : Program) × IsFileOf text (program_terms program)
     × SeparatesOperands text program program.main.query found
-
--- What is found of the refusal of a text that writes this program: of a combination, since its operands have not the
--- same words, what tells these apart where it is the main query.
-abbrev pub IsApart : List ℕ → Program → Refusal → Option Separation → Type 0
-IsApart text program refusal (Some found) =
-    (refusal.rule ≡ Rates) × SeparatesMain (alone text program refusal.span) found
-IsApart text program refusal None = Unit {0}
-
--- the lines, where some are found
-abbrev pub found_text : Option Separation → List ℕ
-found_text (Some found) = separation_text found.side found.lines.items
-found_text None = []

@@ -1,25 +1,24 @@
 -- Statement. What the explanation of a text is.
-use Rattle.std.specs.Prelude.{◌≡◌, ◌⊎◌, ◌++◌, ℕ, List, Option}
+use Rattle.std.specs.Prelude.{◌≡◌, ◌⊎◌, ◌++◌, ℕ, List}
 use Rattle.language_base.specs.declared.refusal.Refusal.{Refusal}
 use Rattle.query_model.specs.Monitors.{Monitor}
 use Rattle.query_parser.specs.Reading.{IsFileOf, IsRefused}
 use Rattle.query_syntax.specs.Files.{program_terms}
 use Rattle.query_syntax.specs.Programs.{Program}
-use Rattle.separating_word.specs.declared.separation.Separation.{Separation}
 use Rattle.explanation.specs.Explanations.{program_explanation, text_explanation}
 use Rattle.sqre_run.specs.Compiled.{Compiles}
 use Rattle.type_checker.specs.Judged.{accepted, refused}
-use Rattle.explain_run.specs.Apart.{IsApart, found_text}
+use Rattle.explain_run.specs.Appended.{IsFound, found_text}
+use Rattle.explain_run.specs.declared.found.Found.{Found}
 
 -- a run compiles the text to a query
 abbrev pub IsAccepted : List ℕ → Type 0
 IsAccepted text = (monitor : Monitor) × Compiles text (accepted monitor)
 
--- the explanation of the refusal of the program that a text writes, and behind it the lines that tell the operands of
--- a combination apart, where some are found
+-- the explanation of the refusal of the program that a text writes, and after it what is found of words
 abbrev pub ExplainsProgram : List ℕ → List ℕ → Program → Refusal → List ℕ → Type 0
 ExplainsProgram name text program refusal shown =
-    (found : Option Separation) × IsApart text program refusal found
+    (found : Found) × IsFound text program refusal found
     × (shown ≡ program_explanation name text program refusal ++ found_text found)
 
 -- the explanation of the refusal of this text, which is called by this name: that of the program which it writes, or

@@ -1,19 +1,22 @@
 //! Lines that tell the operands of a refused combination apart.
-ghost use Rattle.std.specs.Prelude.{◌≡◌, ◌++◌, IfOk, IfSome, OnOk};
+ghost use Rattle.std.specs.Prelude.{IfOk, IfSome};
 ghost use Rattle.query_model.specs.Monitors.{monitor_of};
 ghost use Rattle.query_parser.specs.Reading.{IsFileOf};
 ghost use Rattle.query_syntax.specs.Files.{program_terms};
 ghost use Rattle.query_syntax.specs.Plain.{plain_program};
 ghost use Rattle.sqre_run.specs.Compiled.{Compiles};
+ghost use Rattle.type_checker.specs.Blames.{ForbidsTwoReadings};
 ghost use Rattle.type_checker.specs.Judged.{accepted};
-ghost use Rattle.explain_run.specs.Apart.{IsApart, SeparatesFrom, SeparatesMain, SeparatesParts, SeparatesTexts, found_text};
+ghost use Rattle.explain_run.specs.Apart.{SeparatesFrom, SeparatesMain, SeparatesParts, SeparatesTexts};
+ghost use Rattle.explain_run.specs.Appended.{IsFound};
 
 use crate::alone::alone;
+use crate::found::Found;
 use language_base::{Refusal, Rule, Span};
 use query_model::Checked;
 use query_parser::ReadStop;
 use query_syntax::{Program, Query, read_syntax};
-use separating_word::{Separation, push_separation, tell_apart};
+use separating_word::{Separation, tell_apart};
 use std::alloc::{AllocError, Global};
 use type_checker::{CheckStop, check};
 
@@ -24,25 +27,19 @@ pub(crate) fn found_apart(
     text: &[u8],
     program: &Program,
     refusal: Refusal,
-) -> Result<Option<Separation>, AllocError>
-    ensures { IfOk result (IsApart text.now (plain_program program.now) refusal) }
+) -> Result<Found, AllocError>
+    requires { ForbidsTwoReadings refusal.rule → ⊥ }
+    ensures { IfOk result (IsFound text.now (plain_program program.now) refusal) }
 {
     match refusal.rule {
         Rule::Rates => {
             let whole = alone(alloc, text, program, refusal.span)?;
-            text_apart(alloc, whole.as_slice())
+            match text_apart(alloc, whole.as_slice())? {
+                Some(separation) => Ok(Found::Apart(separation)),
+                None => Ok(Found::Nothing),
+            }
         }
-        _ => Ok(None),
-    }
-}
-
-/// Appends the lines, where some are found.
-pub(crate) fn push_found(found: Option<Separation>, shown: &mut Vec<u8>) -> Result<(), AllocError>
-    ensures { OnOk result (shown.new.items ≡ shown.old.items ++ found_text found) }
-{
-    match found {
-        Some(found) => push_separation(&found, shown),
-        None => Ok(()),
+        _ => Ok(Found::Nothing),
     }
 }
 

@@ -4,7 +4,10 @@
 mod alone;
 mod apart;
 mod call;
+mod explained;
+mod found;
 mod query;
+mod readings;
 mod status;
 
 pub use call::explain;

@@ -1,19 +1,18 @@
 //! The query: compiled, and explained if it is refused.
-ghost use Rattle.std.specs.Prelude.{◌≡◌, ◌++◌, IfOk, MatchOption};
+ghost use Rattle.std.specs.Prelude.{IfOk, MatchOption};
 ghost use Rattle.query_parser.specs.Reading.{IsFileOf};
 ghost use Rattle.query_syntax.specs.Files.{program_terms};
 ghost use Rattle.query_syntax.specs.Plain.{plain_program};
-ghost use Rattle.explain_run.specs.Apart.{found_text};
-ghost use Rattle.explain_run.specs.Explained.{Explains, ExplainsProgram, IsAccepted};
+ghost use Rattle.type_checker.specs.Judgments.{IsJudgmentOf};
+ghost use Rattle.explain_run.specs.Explained.{Explains, IsAccepted};
 
-use crate::apart::{found_apart, push_found};
-use explanation::{program_explanation, text_explanation};
-use language_base::{Bytes, Refusal};
+use crate::explained::{blame_explained, refusal_explained};
+use explanation::text_explanation;
+use language_base::Bytes;
 use query_parser::ReadStop;
 use query_syntax::{Program, read_syntax};
-use separating_word::Separation;
 use std::alloc::{AllocError, Global};
-use type_checker::{CheckStop, check};
+use type_checker::{Judgment, judge};
 
 /// The explanation of the refusal of a text, which is a whole query; nothing if a run takes it.
 pub fn explanation_of(alloc: Global, name: &str, text: &[u8]) -> Result<Option<Bytes>, AllocError>
@@ -40,40 +39,30 @@ fn explanation_in(
     ensures { IfOk result (λ shown.
         MatchOption shown (IsAccepted text.now) (Explains name.now text.now)) }
 {
-    match check(alloc, program) {
-        Ok(_checked) => Ok(None),
-        Err(CheckStop::Refused(refusal)) => {
-            Ok(Some(explained(alloc, name, text, program, refusal)?))
-        }
-        Err(CheckStop::Memory) => Err(AllocError),
-    }
+    let judgment = judge(alloc, program)?;
+    explanation_by(alloc, name, text, program, &judgment)
 }
 
-// The explanation of the refusal of a program, and the lines that tell the operands of a
-// combination apart.
-fn explained(
+// The same of a program that is judged so.
+fn explanation_by(
     alloc: Global,
     name: &str,
     text: &[u8],
     program: &Program,
-    refusal: Refusal,
-) -> Result<Bytes, AllocError>
-    ensures { IfOk result (ExplainsProgram name.now text.now (plain_program program.now) refusal) }
+    judgment: &Judgment,
+) -> Result<Option<Bytes>, AllocError>
+    requires file { IsFileOf text.now (program_terms (plain_program program.now)) }
+    requires judged { IsJudgmentOf (plain_program program.now) judgment.now }
+    ensures { IfOk result (λ shown.
+        MatchOption shown (IsAccepted text.now) (Explains name.now text.now)) }
 {
-    let explanation = program_explanation(alloc, name, text, program, refusal)?;
-    let found = found_apart(alloc, text, program, refusal)?;
-    with_found(alloc, &explanation, found)
-}
-
-// The explanation, and after it the lines, where some are found.
-fn with_found(
-    alloc: Global,
-    explanation: &Bytes,
-    found: Option<Separation>,
-) -> Result<Bytes, AllocError>
-    ensures { IfOk result (λ shown. shown ≡ explanation.now ++ found_text found) }
-{
-    let mut shown = Vec::from_slice(alloc, explanation.as_slice())?;
-    push_found(found, &mut shown)?;
-    Ok(Bytes::from_vec(shown))
+    match judgment {
+        Judgment::Accepted(_checked) => Ok(None),
+        Judgment::Refused(refusal) => {
+            Ok(Some(refusal_explained(alloc, name, text, program, *refusal)?))
+        }
+        Judgment::Ambiguous(blame) => {
+            Ok(Some(blame_explained(alloc, name, text, program, blame)?))
+        }
+    }
 }

@@ -1,0 +1,8 @@
+use Rattle.query_model.specs.Monitors.{monitor_of}
+use Rattle.explain_run.proofs.Parting.{from_taken}
+use Rattle.explain_run.proofs.apart.apart_from.Goals as goal
+
+pub returns-in-Some : goal.returns-in-Some
+returns-in-Some c = from_taken (monitor_of c.args.left.now) (monitor_of c.in-Some.query) c.args.right.now
+    c.tell_apart.result (rw c.in-Some.is at c.in_ok-query.ensures) c.tell_apart.ensures.found
+    c.tell_apart.ensures.shortest
