@@ -7,6 +7,7 @@ use item_drill::{Drill, drilled_bytes_have_lines, drilled_lines_have_items};
 use item_schema::{Column, Kind, Schema, read_item};
 use language_base::Bytes;
 use std::alloc::{AllocError, Global};
+use std::process::Abort;
 use std::test::Fail;
 use value_ops::Field;
 
@@ -34,6 +35,29 @@ fn lines_have_a_field_for_each_column(rt: HostRuntime) -> Result<(), Fail> {
     Ok(())
 }
 
+fn has_header(
+    rt: &impl Abort,
+    alloc: Global,
+    drill: &Drill<'_>,
+    wanted: &[u8],
+) -> Result<(), AllocError> {
+    let header = drill.header(alloc)?;
+    same(rt, header.as_slice(), wanted);
+    Ok(())
+}
+
+// 335903614 is 6 above a multiple of 8.
+fn is_read_as_drawn(rt: &impl Abort, alloc: Global, schema: &Schema, line: &[u8]) {
+    same(rt, line, b"k6,-4.38\n".as_slice());
+    let text = line.strip_suffix(b"\n").unwrap_or(line);
+    let item = read_item(alloc, schema, text).ok();
+    let is_drawn = item.is_some_and(|item| matches!(
+        item.fields(),
+        [Field::Text(_), Field::Int(-438)]
+    ));
+    same(rt, is_drawn, true);
+}
+
 #[test]
 fn a_header_has_the_names(rt: HostRuntime) -> Result<(), Fail> {
     let mut columns = Vec::new(rt.alloc());
@@ -41,19 +65,9 @@ fn a_header_has_the_names(rt: HostRuntime) -> Result<(), Fail> {
     columns.push(column(rt.alloc(), b"rain", Kind::Fixed(2))?)?;
     let schema = Schema::new(true, columns);
     let mut drill = Drill::new(&schema, 0);
-    same(
-        &rt,
-        drill.header(rt.alloc())?.as_slice(),
-        b"gauge,rain\n".as_slice(),
-    );
-    // 335903614 is 6 above a multiple of 8.
+    has_header(&rt, rt.alloc(), &drill, b"gauge,rain\n")?;
     let line = drill.line(rt.alloc())?;
-    assert!(rt; line.as_slice() == b"k6,-4.38\n".as_slice());
-    let text = &line.as_slice()[..line.as_slice().len() - 1];
-    let item = read_item(rt.alloc(), &schema, text).ok();
-    assert!(rt;
-        item.is_some_and(|item| matches!(item.fields(), [Field::Text(_), Field::Int(-438)]))
-    );
+    is_read_as_drawn(&rt, rt.alloc(), &schema, line.as_slice());
     Ok(())
 }
 

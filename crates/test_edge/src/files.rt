@@ -7,7 +7,8 @@ use std::test::Fail;
 #[test]
 fn a_file_is_opened_at_a_read_and_read_to_its_first_end(rt: HostRuntime) -> Result<(), Fail> {
     let _ = fs::remove_file(&rt, "later");
-    let mut file = LazyFile::new(rt, rt.alloc(), "later")?;
+    let file = LazyFile::new(rt, rt.alloc(), "later")?;
+    let mut file = Box::new(rt.alloc(), file)?;
     let mut buf = [0; 4];
     same(&rt, file.read(&mut []), Ok(0));
     same(&rt, file.read(&mut buf), Err(Failed));

@@ -39,20 +39,22 @@ fn answers_of(
     answers(alloc, &mut Lines::new(alloc)?, &mut source)
 }
 
+// Bytes, and their lines.
+const LINES: &[(&[u8], &[u8])] = &[
+    (b"5\n7\n-2\n", b"5|7|-2|"),
+    (b"", b""),
+    (b"\n\na", b"||a|"),
+    (b"a\r\nb\r", b"a|b\r|"),
+    (b"\r\n\r", b"|\r|"),
+    (b"\r\r\r", b"\r\r\r|"),
+    (b"\r\r\n", b"\r|"),
+    (b"a\rb\n", b"a\rb|"),
+    (b"1\n2", b"1|2|"),
+];
+
 #[test]
 fn lines_are_the_same_in_every_cut(rt: HostRuntime) -> Result<(), Fail> {
-    let table: [(&[u8], &[u8]); 9] = [
-        (b"5\n7\n-2\n", b"5|7|-2|"),
-        (b"", b""),
-        (b"\n\na", b"||a|"),
-        (b"a\r\nb\r", b"a|b\r|"),
-        (b"\r\n\r", b"|\r|"),
-        (b"\r\r\r", b"\r\r\r|"),
-        (b"\r\r\n", b"\r|"),
-        (b"a\rb\n", b"a\rb|"),
-        (b"1\n2", b"1|2|"),
-    ];
-    for (bytes, want) in table {
+    for &(bytes, want) in LINES {
         for cut in 1..9 {
             let got = answers_of(rt.alloc(), bytes, &[cut; 9], &[])?;
             same_at(&rt, cut, got.as_slice(), want);
@@ -81,22 +83,24 @@ fn a_read_comes_only_for_a_line_and_a_failed_one_loses_no_byte(
     Ok(())
 }
 
+// So many bytes, what comes after them, and how many bytes the line has, if it is none that is too long.
+const LENGTHS: &[(usize, &[u8], Option<usize>)] = &[
+    (65_535, b"\n", Some(65_535)),
+    (65_536, b"\n", Some(65_536)),
+    (65_537, b"\n", None),
+    (65_535, b"\r\n", Some(65_535)),
+    (65_536, b"\r\n", None),
+    (65_537, b"\r\n", None),
+    (65_536, b"", Some(65_536)),
+    (65_537, b"", None),
+    (65_535, b"\r", Some(65_536)),
+    (65_536, b"\r", None),
+];
+
 // A line has at most 65,536 bytes before its LF, and a CR there is one of them.
 #[test]
 fn a_line_is_long_from_65_537_bytes(rt: HostRuntime) -> Result<(), Fail> {
-    let table: [(usize, &[u8], Option<usize>); 10] = [
-        (65_535, b"\n", Some(65_535)),
-        (65_536, b"\n", Some(65_536)),
-        (65_537, b"\n", None),
-        (65_535, b"\r\n", Some(65_535)),
-        (65_536, b"\r\n", None),
-        (65_537, b"\r\n", None),
-        (65_536, b"", Some(65_536)),
-        (65_537, b"", None),
-        (65_535, b"\r", Some(65_536)),
-        (65_536, b"\r", None),
-    ];
-    for (count, end, shown) in table {
+    for &(count, end, shown) in LENGTHS {
         let mut bytes = vec![in rt.alloc(); b'x'; count]?;
         bytes.extend_from_slice(end)?;
         let got = answers_of(rt.alloc(), &bytes, &[], &[])?;

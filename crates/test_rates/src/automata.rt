@@ -1,10 +1,11 @@
-// What no clause says: that automata and copies are made at all, and what they answer behind a word. The program
+// What no clause says: that automata and copies are made at all, and what they answer after a word. The program
 // cases_rates goes through a table of rates and words.
-use crate::given::{boxed, item, items};
-use crate::one_number::{cells_under, numbers};
+use crate::assertions::{holds, same};
+use crate::given::{boxed, item, items, sets_of};
+use crate::one_number::{any_item, cells_under, nfa_of, numbers};
 use item_schema::Item;
 use predicate_cells::{CellStop, Cells, Pred, Preds};
-use rate_expr::{MAX_POSITIONS, Positions, Rate};
+use rate_expr::{Positions, Rate};
 use std::alloc::{AllocError, Global};
 use std::process::Abort;
 use std::rc::Rc;
@@ -14,92 +15,133 @@ use symbolic_nfa::{
 };
 use value_ops::Field;
 
-// The cells of a stream of numbers, made with the predicate and another.
-fn cells_with(rt: &impl Abort, alloc: Global, pred: &Pred) -> Result<Rc<Cells>, CellStop> {
+fn add_test(preds: &mut Preds, number: i64) -> Result<(), AllocError> {
+    let test = Pred::Eq(0, number);
+    preds.add(&test)
+}
+
+// Whether it is an item, and whether it is the number.
+fn preds(alloc: Global, number: i64) -> Result<Preds, AllocError> {
+    let mut preds = any_item(alloc)?;
+    add_test(&mut preds, number)?;
+    Ok(preds)
+}
+
+// The cells of a stream of numbers, by which one is told from all others.
+fn cells_with(rt: &impl Abort, alloc: Global, number: i64) -> Result<Rc<Cells>, CellStop> {
     let schema = numbers(alloc)?;
-    let mut preds = Preds::new(alloc);
-    preds.add(&Pred::Any)?;
-    preds.add(pred)?;
+    let preds = preds(alloc, number)?;
     cells_under(rt, alloc, &schema, &preds)
 }
 
-// The positions of words that end with 1.
-fn positions(rt: &impl Abort, alloc: Global) -> Result<Positions, AllocError> {
+// Words that end with 1.
+fn rate(alloc: Global) -> Result<Box<Rate>, AllocError> {
     let items = items(alloc)?;
     let one = item(alloc, Pred::Eq(0, 1))?;
-    let rate = boxed(alloc, Rate::Seq(items, one))?;
-    assert!(rt; rate.positions() <= MAX_POSITIONS);
-    Positions::of(alloc, &rate)
+    boxed(alloc, Rate::Seq(items, one))
 }
 
-fn held(alloc: Global, nfa: Nfa) -> Result<Box<Nfa>, AllocError> {
-    Ok(Box::new(alloc, nfa)?)
+fn positions(rt: &impl Abort, alloc: Global) -> Result<Box<Positions>, AllocError> {
+    let rate = rate(alloc)?;
+    sets_of(rt, alloc, &rate)
 }
 
-fn nfa(rt: &impl Abort, alloc: Global) -> Result<Box<Nfa>, CellStop> {
-    let cells = cells_with(rt, alloc, &Pred::Eq(0, 1))?;
-    let positions = positions(rt, alloc)?;
-    assert!(rt; Nfa::can_read(&positions, cells.as_ref()));
-    Ok(held(alloc, Nfa::new(alloc, positions, &cells)?)?)
+fn nfa(rt: &impl Abort, alloc: Global) -> Result<Nfa, CellStop> {
+    let rate = rate(alloc)?;
+    let cells = cells_with(rt, alloc, 1)?;
+    Ok(nfa_of(rt, alloc, &cells, &rate)?)
 }
 
 // A copy of the automaton, which is gone by then.
-fn copied(rt: &impl Abort, alloc: Global) -> Result<Box<Nfa>, CellStop> {
+fn copied(rt: &impl Abort, alloc: Global) -> Result<Nfa, CellStop> {
     let nfa = nfa(rt, alloc)?;
-    Ok(held(alloc, nfa.try_copy(alloc)?)?)
+    Ok(nfa.try_copy(alloc)?)
+}
+
+fn item_of(alloc: Global, number: i64) -> Result<Item, AllocError> {
+    let mut fields = Vec::new(alloc);
+    fields.push(Field::Int(number))?;
+    Ok(Item::from_fields(fields))
 }
 
 // The cell of items of the number.
 fn cell_of(alloc: Global, nfa: &Nfa, number: i64) -> Result<u32, AllocError> {
-    let mut fields = Vec::new(alloc);
-    fields.push(Field::Int(number))?;
-    Ok(nfa.cells().of(&Item::from_fields(fields)))
+    let item = item_of(alloc, number)?;
+    Ok(nfa.cells().of(&item))
 }
 
 #[test]
 fn cells_are_read_where_they_know_each_predicate(rt: HostRuntime) -> Result<(), Fail> {
     let positions = positions(&rt, rt.alloc())?;
-    let cells = cells_with(&rt, rt.alloc(), &Pred::Eq(0, 2))?;
-    assert!(rt; !Nfa::can_read(&positions, cells.as_ref()));
+    let cells = cells_with(&rt, rt.alloc(), 2)?;
+    same(&rt, Nfa::can_read(&positions, cells.as_ref()), false);
     Ok(())
+}
+
+// The state after an item of the cell.
+fn state_after(rt: &impl Abort, nfa: &Nfa, cell: u32) -> State {
+    holds(rt, cell < nfa.cells().count());
+    holds(rt, nfa.has_state(State::Initial));
+    nfa.step(State::Initial, cell)
 }
 
 #[test]
 fn states_answer_for_the_words_behind_them(rt: HostRuntime) -> Result<(), Fail> {
     let nfa = nfa(&rt, rt.alloc())?;
     let cell = cell_of(rt.alloc(), &nfa, 1)?;
-    assert!(rt; cell < nfa.cells().count() && nfa.has_state(State::Initial));
-    let state = nfa.step(State::Initial, cell);
-    assert!(rt; !nfa.accepts(State::Initial) && nfa.accepts(state) && nfa.extends(state));
+    let state = state_after(&rt, &nfa, cell);
+    let accepted = (nfa.accepts(State::Initial), nfa.accepts(state));
+    same(&rt, accepted, (false, true));
+    same(&rt, nfa.extends(state), true);
     Ok(())
 }
 
-// Words go on in both positions, and items of 2 are in the first alone.
+// Words go on in both positions, and items of the cell are in the first alone.
+fn goes_on_in_the_first(rt: &impl Abort, nfa: &Nfa, cell: u32) {
+    holds(rt, nfa.has_state(State::Initial));
+    let ways = nfa.ways_on(State::Initial);
+    same(rt, ways, 0b_11);
+    holds(rt, cell < nfa.cells().count());
+    same(rt, nfa.step_along(ways, cell), State::At(0b_01));
+}
+
 #[test]
 fn ways_on_are_found_once_for_all_items(rt: HostRuntime) -> Result<(), Fail> {
     let nfa = nfa(&rt, rt.alloc())?;
-    assert!(rt; nfa.has_state(State::Initial));
-    let ways = nfa.ways_on(State::Initial);
     let cell = cell_of(rt.alloc(), &nfa, 2)?;
-    assert!(rt; ways == 0b_11 && cell < nfa.cells().count());
-    assert_eq!(rt; nfa.step_along(ways, cell), State::At(0b_01));
+    goes_on_in_the_first(&rt, &nfa, cell);
     Ok(())
+}
+
+// There are two positions, and items of the cell meet both.
+fn has_two_positions(rt: &impl Abort, nfa: &Nfa, cell: u32) {
+    holds(rt, cell < nfa.cells().count());
+    same(rt, nfa.met_by(cell), 0b_11);
+    let states = (
+        nfa.has_state(State::At(0b_11)),
+        nfa.has_state(State::At(0b_100)),
+    );
+    same(rt, states, (true, false));
+    same(rt, (nfa.count(), nfa.positions().count()), (2, 2));
 }
 
 #[test]
 fn a_copy_has_the_same_positions_and_cells(rt: HostRuntime) -> Result<(), Fail> {
     let copy = copied(&rt, rt.alloc())?;
     let cell = cell_of(rt.alloc(), &copy, 1)?;
-    assert!(rt; cell < copy.cells().count() && copy.met_by(cell) == 0b_11);
-    assert!(rt; copy.has_state(State::At(0b_11)) && !copy.has_state(State::At(0b_100)));
-    assert_eq!(rt; (copy.count(), copy.positions().count()), (2, 2));
+    has_two_positions(&rt, &copy, cell);
     Ok(())
+}
+
+fn ends_of(nfa: Nfa) -> (u128, u128) {
+    let positions = nfa.into_positions();
+    (positions.first(), positions.last())
 }
 
 #[test]
 fn an_automaton_gives_its_positions_back(rt: HostRuntime) -> Result<(), Fail> {
-    let positions = Box::into_inner(nfa(&rt, rt.alloc())?).into_positions();
-    assert_eq!(rt; (positions.first(), positions.last()), (0b_11, 0b_10));
+    let ends = ends_of(nfa(&rt, rt.alloc())?);
+    same(&rt, ends, (0b_11, 0b_10));
     Ok(())
 }
 

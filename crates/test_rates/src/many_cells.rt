@@ -1,4 +1,5 @@
 // Cells that no position tells apart: searches over what the items of cells meet see them as one.
+use crate::assertions::{holds, same};
 use crate::given::item;
 use crate::one_number::{cells_under, nfa_of};
 use item_schema::{Column, Kind, Schema, are_columns};
@@ -23,7 +24,7 @@ fn texts(rt: &impl Abort, alloc: Global) -> Result<Schema, AllocError> {
             kind: Kind::Text,
         })?;
     }
-    assert!(rt; are_columns(&columns));
+    holds(rt, are_columns(&columns));
     Ok(Schema::new(false, columns))
 }
 
@@ -48,17 +49,22 @@ fn rate(alloc: Global) -> Result<Box<Rate>, AllocError> {
     item(alloc, pred)
 }
 
+fn preds(alloc: Global) -> Result<Preds, AllocError> {
+    let test = all_are_v(alloc)?;
+    let mut preds = Preds::new(alloc);
+    preds.add(&test)?;
+    Ok(preds)
+}
+
 fn cells(rt: &impl Abort, alloc: Global) -> Result<Rc<Cells>, CellStop> {
     let schema = texts(rt, alloc)?;
-    let mut preds = Preds::new(alloc);
-    let test = all_are_v(alloc)?;
-    preds.add(&test)?;
+    let preds = preds(alloc)?;
     cells_under(rt, alloc, &schema, &preds)
 }
 
 fn nfa(rt: &impl Abort, alloc: Global) -> Result<Nfa, CellStop> {
-    let cells = cells(rt, alloc)?;
     let rate = rate(alloc)?;
+    let cells = cells(rt, alloc)?;
     Ok(nfa_of(rt, alloc, &cells, &rate)?)
 }
 
@@ -78,6 +84,6 @@ fn met_by_cells(alloc: Global, nfa: &Nfa) -> Result<Vec<u128>, AllocError> {
 fn the_cells_of_a_test_of_twelve_columns_meet_two_sets(rt: HostRuntime) -> Result<(), Fail> {
     let nfa = nfa(&rt, rt.alloc())?;
     let met = met_by_cells(rt.alloc(), &nfa)?;
-    assert_eq!(rt; (nfa.cells().count(), met.len()), (4_096, 2));
+    same(&rt, (nfa.cells().count(), met.len()), (4_096, 2));
     Ok(())
 }

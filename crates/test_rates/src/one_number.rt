@@ -1,6 +1,7 @@
 // A stream of items of one number, the cells of such a stream, and automata over them.
 ghost use Rattle.std.specs.Prelude.{◌≡◌, IfOk};
 
+use crate::assertions::holds;
 use item_schema::{Column, Kind, Schema};
 use predicate_cells::{CellStop, Cells, Pred, Preds};
 use rate_expr::{MAX_POSITIONS, Positions, Rate};
@@ -30,15 +31,20 @@ pub(crate) fn cells_under(
     schema: &Schema,
     preds: &Preds,
 ) -> Result<Rc<Cells>, CellStop> {
-    assert!(rt; preds.fit(schema));
+    holds(rt, preds.fit(schema));
     Ok(shared(alloc, Cells::new(alloc, schema, preds)?)?)
 }
 
-// One cell of all items.
-pub(crate) fn cells(rt: &impl Abort, alloc: Global) -> Result<Rc<Cells>, CellStop> {
-    let schema = numbers(alloc)?;
+pub(crate) fn any_item(alloc: Global) -> Result<Preds, AllocError> {
     let mut preds = Preds::new(alloc);
     preds.add(&Pred::Any)?;
+    Ok(preds)
+}
+
+// One cell of all items.
+fn cells(rt: &impl Abort, alloc: Global) -> Result<Rc<Cells>, CellStop> {
+    let schema = numbers(alloc)?;
+    let preds = any_item(alloc)?;
     cells_under(rt, alloc, &schema, &preds)
 }
 
@@ -50,8 +56,46 @@ pub(crate) fn nfa_of(
 ) -> Result<Nfa, AllocError>
     ensures { IfOk result (λ nfa. nfa.cells ≡ cells.now.value) }
 {
-    assert!(rt; rate.positions() <= MAX_POSITIONS);
+    holds(rt, rate.positions() <= MAX_POSITIONS);
     let positions = Positions::of(alloc, rate)?;
-    assert!(rt; Nfa::can_read(&positions, cells.as_ref()));
+    holds(rt, Nfa::can_read(&positions, cells.as_ref()));
     Nfa::new(alloc, positions, cells)
+}
+
+pub(crate) fn nfa(rt: &impl Abort, alloc: Global, rate: &Rate) -> Result<Nfa, CellStop> {
+    let cells = cells(rt, alloc)?;
+    Ok(nfa_of(rt, alloc, &cells, rate)?)
+}
+
+// Two automata over the same cells.
+#[derive(Drop)]
+pub(crate) struct Automata {
+    pub(crate) first: Nfa,
+    pub(crate) second: Nfa,
+}
+
+fn automata_over(
+    rt: &impl Abort,
+    alloc: Global,
+    cells: &Rc<Cells>,
+    first: &Rate,
+    second: &Rate,
+) -> Result<Automata, AllocError>
+    ensures { IfOk result (λ automata. automata.first.cells ≡ automata.second.cells) }
+{
+    let first = nfa_of(rt, alloc, cells, first)?;
+    let second = nfa_of(rt, alloc, cells, second)?;
+    Ok(Automata { first, second })
+}
+
+pub(crate) fn automata_of(
+    rt: &impl Abort,
+    alloc: Global,
+    first: &Rate,
+    second: &Rate,
+) -> Result<Automata, CellStop>
+    ensures { IfOk result (λ automata. automata.first.cells ≡ automata.second.cells) }
+{
+    let cells = cells(rt, alloc)?;
+    Ok(automata_over(rt, alloc, &cells, first, second)?)
 }

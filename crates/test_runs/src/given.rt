@@ -54,10 +54,19 @@ pub fn words_of(alloc: Global, line: &str) -> Result<Vec<String>, AllocError> {
 // The status of the run and the bytes that it wrote.
 pub fn outcome(alloc: Global, given: Given<'_>) -> Result<(Status, Vec<u8>), AllocError> {
     let words = words_of(alloc, given.words)?;
+    let mut out = MemorySink::with_cuts(alloc, given.room, given.write_cuts, given.writes_fail)?;
+    let status = run(alloc, &words, given, &mut out)?;
+    Ok((status, Vec::from_slice(alloc, out.bytes())?))
+}
+
+fn run(
+    alloc: Global,
+    words: &[String],
+    given: Given<'_>,
+    out: &mut MemorySink,
+) -> Result<Status, AllocError> {
     let cuts = [given.cut; READS];
     let mut query = MemorySource::new(alloc, given.query, &cuts, given.query_fails)?;
     let mut items = MemorySource::new(alloc, given.items, &cuts, given.item_fails)?;
-    let mut out = MemorySink::with_cuts(alloc, given.room, given.write_cuts, given.writes_fail)?;
-    let status = sqre(alloc, &words, &mut query, &mut items, &mut out);
-    Ok((status, Vec::from_slice(alloc, out.bytes())?))
+    Ok(sqre(alloc, words, &mut query, &mut items, out))
 }

@@ -21,6 +21,8 @@ mod handing;
 #[cfg(test)]
 mod long_runs;
 #[cfg(test)]
+mod reasons;
+#[cfg(test)]
 mod refusals;
 #[cfg(test)]
 mod runs;

@@ -11,6 +11,7 @@ use language_base::Bytes;
 use query_model::Follower;
 use sqre_run::{Reply, Session, Status};
 use std::alloc::{AllocError, Global};
+use std::process::Abort;
 use std::test::Fail;
 use value_ops::Field;
 
@@ -66,36 +67,81 @@ fn lines_in(bytes: &[u8]) -> u64 {
     lines
 }
 
-#[test]
-fn a_million_items_are_summed(rt: HostRuntime) -> Result<(), Fail> {
-    let alloc = rt.alloc();
+// Lines, and the sum of the numbers on them.
+#[derive(Drop)]
+struct Drawn {
+    lines: Vec<u8>,
+    sum: i64,
+}
+
+fn draw_line(
+    alloc: Global,
+    schema: &Schema,
+    drill: &mut Drill<'_>,
+    drawn: &mut Drawn,
+) -> Result<(), AllocError> {
+    let line = drill.line(alloc)?;
+    let number = number_on(alloc, schema, line.as_slice());
+    drawn.sum = drawn.sum.wrapping_add(number);
+    drawn.lines.extend_from_slice(line.as_slice())
+}
+
+fn million_lines(alloc: Global) -> Result<Drawn, AllocError> {
     let columns = vec![in alloc; column(alloc)?]?;
     let schema = Schema::new(false, columns);
     let mut drill = Drill::new(&schema, 0);
-    let mut items = Vec::new(alloc);
-    let mut sum: i64 = 0;
-    for _ in 0..1_000_000 {
-        let line = drill.line(alloc)?;
-        sum = sum.wrapping_add(number_on(alloc, &schema, line.as_slice()));
-        items.extend_from_slice(line.as_slice())?;
-    }
-    let given = Given {
-        room: 16_777_216,
-        ..sum_over(&items)
+    let mut drawn = Drawn {
+        lines: Vec::new(alloc),
+        sum: 0,
     };
+    for _ in 0..1_000_000 {
+        draw_line(alloc, &schema, &mut drill, &mut drawn)?;
+    }
+    Ok(drawn)
+}
+
+// A line for each of a million items, the last of which has the sum.
+fn answers_with_sum(
+    rt: &impl Abort,
+    alloc: Global,
+    given: Given<'_>,
+    sum: i64,
+) -> Result<(), AllocError> {
     let (status, bytes) = outcome(alloc, given)?;
     let last = format!(in alloc; "\n{sum}\n")?;
-    same(&rt, status, Status::Done);
-    same(&rt, lines_in(&bytes), 1_000_000);
-    assert!(rt; bytes.ends_with(last.as_bytes()));
+    same(rt, status, Status::Done);
+    same(rt, lines_in(&bytes), 1_000_000);
+    same(rt, bytes.ends_with(last.as_bytes()), true);
+    Ok(())
+}
+
+fn drills_to_sum(
+    rt: &impl Abort,
+    alloc: Global,
+    given: Given<'_>,
+    sum: i64,
+) -> Result<(), AllocError> {
+    let (status, bytes) = outcome(alloc, given)?;
+    let line = format!(in alloc; "items 1000000 defined 1000000 last {sum}\n")?;
+    same(rt, status, Status::Done);
+    same(rt, bytes.as_slice(), line.as_bytes());
+    Ok(())
+}
+
+#[test]
+fn a_million_items_are_summed(rt: HostRuntime) -> Result<(), Fail> {
+    let alloc = rt.alloc();
+    let drawn = million_lines(alloc)?;
+    let given = Given {
+        room: 16_777_216,
+        ..sum_over(&drawn.lines)
+    };
+    answers_with_sum(&rt, alloc, given, drawn.sum)?;
     let given = Given {
         words: "drill q 1000000 0",
         ..given
     };
-    let (status, bytes) = outcome(alloc, given)?;
-    let line = format!(in alloc; "items 1000000 defined 1000000 last {sum}\n")?;
-    same(&rt, status, Status::Done);
-    same(&rt, bytes.as_slice(), line.as_bytes());
+    drills_to_sum(&rt, alloc, given, drawn.sum)?;
     Ok(())
 }
 

@@ -38,26 +38,28 @@ fn a_run_needs_no_source_that_fails(rt: HostRuntime) -> Result<(), Fail> {
     Ok(())
 }
 
+// The words, the query and the reads of it that fail, the status and what is written.
+const NOT_BEGUN: &[(&str, &[u8], &[u64], Status, &[u8])] = &[
+    ("run q", SUM, &[1], Status::Usage, b""),
+    ("run q - x", SUM, &[1], Status::Usage, b""),
+    ("check q -", SUM, &[1], Status::Usage, b""),
+    ("slow q", SUM, &[1], Status::Usage, b""),
+    ("run q -", SUM, &[1], Status::QueryFault, b""),
+    ("run q -", b"", &[], Status::Refused, b"refused form 0..0\n"),
+    ("slow q -", SUM, &[1], Status::QueryFault, b""),
+    (
+        "slow q -",
+        b"",
+        &[],
+        Status::Refused,
+        b"refused form 0..0\n",
+    ),
+];
+
 // Where it is read at all, the source fails at once.
 #[test]
 fn a_run_that_is_not_begun_reads_nothing(rt: HostRuntime) -> Result<(), Fail> {
-    let table: [(&str, &[u8], &[u64], Status, &[u8]); 8] = [
-        ("run q", SUM, &[1], Status::Usage, b""),
-        ("run q - x", SUM, &[1], Status::Usage, b""),
-        ("check q -", SUM, &[1], Status::Usage, b""),
-        ("slow q", SUM, &[1], Status::Usage, b""),
-        ("run q -", SUM, &[1], Status::QueryFault, b""),
-        ("run q -", b"", &[], Status::Refused, b"refused form 0..0\n"),
-        ("slow q -", SUM, &[1], Status::QueryFault, b""),
-        (
-            "slow q -",
-            b"",
-            &[],
-            Status::Refused,
-            b"refused form 0..0\n",
-        ),
-    ];
-    for (words, query, query_fails, wanted, written) in table {
+    for &(words, query, query_fails, wanted, written) in NOT_BEGUN {
         let given = Given {
             words,
             query,

@@ -4,6 +4,7 @@ use crate::assertions::same;
 use language_base::Bytes;
 use query_parser::{ReadStop, print_file, read_file};
 use std::alloc::{AllocError, Global};
+use std::process::Abort;
 use std::test::Fail;
 
 /// The number of the rule that refuses the text, and its place.
@@ -39,6 +40,24 @@ fn a_text_has_65_536_bytes_at_the_most(rt: HostRuntime) -> Result<(), Fail> {
     Ok(())
 }
 
+/// The canonical text of what the text is read to.
+fn canonical(alloc: Global, text: &[u8]) -> Result<Option<Bytes>, AllocError> {
+    match read_file(alloc, text) {
+        Ok(file) => Ok(Some(print_file(alloc, &file)?)),
+        Err(_) => Ok(None),
+    }
+}
+
+fn printed(alloc: Global, text: &[u8]) -> Result<Bytes, Fail> {
+    Ok(canonical(alloc, text)?.ok_or("the text is refused")?)
+}
+
+fn is_printed_as(rt: &impl Abort, alloc: Global, text: &[u8], wanted: &[u8]) -> Result<(), Fail> {
+    let printed = printed(alloc, text)?;
+    same(rt, printed.as_slice(), wanted);
+    Ok(())
+}
+
 #[test]
 fn prints_the_canonical_text(rt: HostRuntime) -> Result<(), Fail> {
     let cases = [
@@ -51,52 +70,41 @@ fn prints_the_canonical_text(rt: HostRuntime) -> Result<(), Fail> {
             b"stream(plain, col(a, text))\nmain(atom(eq(a, \"\\x0A\\x22\\x5C~\\x7F\\xFF\"), -5))\n",
         ),
     ];
-    for (text, printed) in cases {
-        match read_file(rt.alloc(), text) {
-            Ok(file) => {
-                same(&rt, print_file(rt.alloc(), &file)?.as_slice(), printed);
-            }
-            Err(stop) => panic!(rt; "{stop:?}"),
-        }
+    for (text, wanted) in cases {
+        is_printed_as(&rt, rt.alloc(), text, wanted)?;
     }
     Ok(())
 }
 
-/// The canonical text of what the text is read to.
-fn canonical(alloc: Global, text: &[u8]) -> Result<Option<Bytes>, AllocError> {
-    match read_file(alloc, text) {
-        Ok(file) => Ok(Some(print_file(alloc, &file)?)),
-        Err(_) => Ok(None),
-    }
+// So many x between two parts.
+fn filled(alloc: Global, before: &[u8], count: u32, after: &[u8]) -> Result<Vec<u8>, AllocError> {
+    let filling = repeated(alloc, b"x", count)?;
+    let mut text = Vec::from_slice(alloc, before)?;
+    text.extend_from_slice(&filling)?;
+    text.extend_from_slice(after)?;
+    Ok(text)
 }
 
 #[test]
 fn a_text_of_65_536_bytes_is_read_and_printed_and_read_again(rt: HostRuntime) -> Result<(), Fail> {
     let alloc = rt.alloc();
-    let mut text = Vec::from_slice(alloc, b"stream(plain, col(a, text))\nmain(atom(eq(a, \"")?;
-    text.extend_from_slice(&repeated(alloc, b"x", 65_483)?)?;
-    text.extend_from_slice(b"\"), 1))\n")?;
+    let before = b"stream(plain, col(a, text))\nmain(atom(eq(a, \"";
+    let text = filled(alloc, before, 65_483, b"\"), 1))\n")?;
     same(&rt, text.len(), 65_536);
-    let printed = canonical(alloc, &text)?.ok_or("the text is refused")?;
+    let printed = printed(alloc, &text)?;
     same(&rt, printed.as_slice(), text.as_slice());
-    let again = canonical(alloc, printed.as_slice())?.ok_or("the canonical text is refused")?;
-    same(&rt, again.as_slice(), text.as_slice());
-    Ok(())
+    is_printed_as(&rt, alloc, printed.as_slice(), &text)
 }
 
 #[test]
 fn a_comment_may_go_up_to_65_536_bytes(rt: HostRuntime) -> Result<(), Fail> {
     let alloc = rt.alloc();
-    let mut text = Vec::from_slice(alloc, b"stream(plain,col(a,int))main(atom(any,a))#")?;
-    text.extend_from_slice(&repeated(alloc, b"x", 65_494)?)?;
+    let before = b"stream(plain,col(a,int))main(atom(any,a))#";
+    let text = filled(alloc, before, 65_494, b"")?;
     same(&rt, text.len(), 65_536);
-    let printed = canonical(alloc, &text)?.ok_or("the text is refused")?;
-    same(
-        &rt,
-        printed.as_slice(),
-        b"stream(plain, col(a, int))\nmain(atom(any, a))\n".as_slice(),
-    );
-    text.extend_from_slice(b"x")?;
-    same(&rt, refusal_of(alloc, &text), Some((1, 65_536, 65_537)));
+    let wanted = b"stream(plain, col(a, int))\nmain(atom(any, a))\n";
+    is_printed_as(&rt, alloc, &text, wanted)?;
+    let longer = filled(alloc, before, 65_494, b"x")?;
+    same(&rt, refusal_of(alloc, &longer), Some((1, 65_536, 65_537)));
     Ok(())
 }

@@ -1,6 +1,7 @@
 // What no clause says: that the tables of the language hold what its users write.
-ghost use Rattle.std.specs.Prelude.{◌≡◌};
+ghost use Rattle.std.specs.Prelude.{◌≡◌, [], ◌∷◌, IfOk};
 ghost use Rattle.query_tokens.specs.declared.token.TokenKind.TheVariants.{Word};
+ghost use Rattle.query_forms.specs.Terms.{AreOf};
 ghost use Rattle.query_trees.specs.Trees.{Trees, call, tree_before, trees_of};
 
 use crate::assertions::same;
@@ -9,6 +10,8 @@ use query_forms::Place::*;
 use query_forms::{Place, first_large, fits_number, fits_text, fits_word, places_of, unfit_file};
 use query_tokens::{Token, TokenKind};
 use query_trees::Tree;
+use std::alloc::{AllocError, Global};
+use std::process::Abort;
 use std::test::Fail;
 
 fn token(kind: TokenKind, from: u32, to: u32) -> Token
@@ -32,6 +35,30 @@ fn call(head: Token, arguments: Vec<Tree>, to: u32) -> Tree
 {
     let from = head.span.from;
     Tree::Call(head, arguments, Span { from, to })
+}
+
+fn call_with(alloc: Global, head: Token, argument: Tree, to: u32) -> Result<Tree, AllocError>
+    ensures { IfOk result (λ tree. (others : Trees) → tree_before tree others
+        ≡ call head (trees_of (argument ∷ []))
+        (record { from = head.span.from; to = to }) others) }
+{
+    let arguments = Vec::from_array(alloc, [argument])?;
+    Ok(call(head, arguments, to))
+}
+
+fn call_with_both(
+    alloc: Global,
+    head: Token,
+    first: Tree,
+    second: Tree,
+    to: u32,
+) -> Result<Tree, AllocError>
+    ensures { IfOk result (λ tree. (others : Trees) → tree_before tree others
+        ≡ call head (trees_of (first ∷ second ∷ []))
+        (record { from = head.span.from; to = to }) others) }
+{
+    let arguments = Vec::from_array(alloc, [first, second])?;
+    Ok(call(head, arguments, to))
 }
 
 // The calls of the language, as its definition lists them.
@@ -96,8 +123,7 @@ fn each_call_has_a_form_at_its_place_alone(rt: HostRuntime) {
     }
 }
 
-#[test]
-fn each_place_has_its_words_numbers_and_strings(rt: HostRuntime) {
+fn have_words(rt: &impl Abort) {
     let places = [
         (Mode, b"plain".as_slice(), false, false),
         (Mode, b"header", false, false),
@@ -110,16 +136,22 @@ fn each_place_has_its_words_numbers_and_strings(rt: HostRuntime) {
         (Name, b"stream", false, false),
     ];
     for (place, word, number, string) in places {
-        assert!(rt; fits_word(place, word));
-        same(&rt, fits_number(place, b"5"), number);
-        same(&rt, fits_text(place), string);
+        same(rt, fits_word(place, word), true);
+        same(rt, fits_number(place, b"5"), number);
+        same(rt, fits_text(place), string);
     }
+}
+
+fn have_no_words(rt: &impl Abort) {
     for place in [
         Mode, Column, Kind, Rate, Pred, Literal, Compare, Number, Text, Digits,
     ] {
-        assert!(rt; !fits_word(place, b"fixed"));
+        same(rt, fits_word(place, b"fixed"), false);
     }
-    assert!(rt; fits_text(Literal) && fits_text(Text));
+    same(rt, (fits_text(Literal), fits_text(Text)), (true, true));
+}
+
+fn have_numbers(rt: &impl Abort) {
     for (raw, fits) in [
         (b"1".as_slice(), true),
         (b"+9", true),
@@ -127,9 +159,17 @@ fn each_place_has_its_words_numbers_and_strings(rt: HostRuntime) {
         (b"10", false),
         (b"-1", false),
     ] {
-        same(&rt, fits_number(Digits, raw), fits);
-        assert!(rt; fits_number(Number, raw) && fits_number(Literal, raw));
+        same(rt, fits_number(Digits, raw), fits);
+        same(rt, fits_number(Number, raw), true);
+        same(rt, fits_number(Literal, raw), true);
     }
+}
+
+#[test]
+fn each_place_has_its_words_numbers_and_strings(rt: HostRuntime) {
+    have_words(&rt);
+    have_no_words(&rt);
+    have_numbers(&rt);
 }
 
 #[test]
@@ -145,20 +185,25 @@ fn the_first_term_must_be_a_stream(rt: HostRuntime) {
     same(&rt, first_large(text, &trees), Some(number.span));
 }
 
+// The trees of the text are a file, all numbers of which fit.
+fn is_file(rt: &impl Abort, text: &[u8], trees: &[Tree], end: u32)
+    requires { AreOf text.now (trees_of trees.now) }
+{
+    same(rt, unfit_file(text, trees, end), None);
+    same(rt, first_large(text, trees), None);
+}
+
 #[test]
 fn a_stream_and_a_main_query_and_no_more_are_a_file(rt: HostRuntime) -> Result<(), Fail> {
+    let alloc = rt.alloc();
     let text = b"stream(plain, col(a, int)) main(a) x";
-    let name_and_kind = Vec::from_array(rt.alloc(), [word(18, 19), word(21, 24)])?;
-    let column = call(token(TokenKind::Word, 14, 17), name_and_kind, 25);
-    let mode_and_column = Vec::from_array(rt.alloc(), [word(7, 12), column])?;
-    let stream = call(token(TokenKind::Word, 0, 6), mode_and_column, 26);
-    let query = Vec::from_array(rt.alloc(), [word(32, 33)])?;
-    let main = call(token(TokenKind::Word, 27, 31), query, 34);
-    let file = [stream, main];
-    same(&rt, unfit_file(text, &file, 36), None);
-    same(&rt, first_large(text, &file), None);
-    let [stream, main] = file;
+    let column = token(TokenKind::Word, 14, 17);
+    let column = call_with_both(alloc, column, word(18, 19), word(21, 24), 25)?;
+    let stream = token(TokenKind::Word, 0, 6);
+    let stream = call_with_both(alloc, stream, word(7, 12), column, 26)?;
+    let main = call_with(alloc, token(TokenKind::Word, 27, 31), word(32, 33), 34)?;
     let trees = [stream, main, word(35, 36)];
+    is_file(&rt, text, &trees[..2], 36);
     same(
         &rt,
         unfit_file(text, &trees, 36),
@@ -169,19 +214,13 @@ fn a_stream_and_a_main_query_and_no_more_are_a_file(rt: HostRuntime) -> Result<(
 
 #[test]
 fn a_call_without_a_form_is_named_before_what_stands_in_it(rt: HostRuntime) -> Result<(), Fail> {
+    let alloc = rt.alloc();
     let text = b"stream(plain, col(b(c)))";
-    let inner = call(
-        token(TokenKind::Word, 18, 19),
-        Vec::from_array(rt.alloc(), [word(20, 21)])?,
-        22,
-    );
-    let outer = call(
-        token(TokenKind::Word, 14, 17),
-        Vec::from_array(rt.alloc(), [inner])?,
-        23,
-    );
-    let mode_and_column = Vec::from_array(rt.alloc(), [word(7, 12), outer])?;
-    let trees = [call(token(TokenKind::Word, 0, 6), mode_and_column, 24)];
+    let inner = token(TokenKind::Word, 18, 19);
+    let inner = call_with(alloc, inner, word(20, 21), 22)?;
+    let outer = call_with(alloc, token(TokenKind::Word, 14, 17), inner, 23)?;
+    let stream = token(TokenKind::Word, 0, 6);
+    let trees = [call_with_both(alloc, stream, word(7, 12), outer, 24)?];
     same(
         &rt,
         unfit_file(text, &trees, 24),

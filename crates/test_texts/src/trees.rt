@@ -70,6 +70,31 @@ fn deep_at(read: &Result<Vec<Tree>, TreeStop>) -> Option<(u32, u32)> {
     }
 }
 
+fn terms_in(alloc: Global, text: &str) -> Result<Option<usize>, AllocError> {
+    let read = read(alloc, text)?;
+    Ok(number_of_terms(&read))
+}
+
+fn terms_in_nested(alloc: Global, levels: u32, inner: &str) -> Result<Option<usize>, AllocError> {
+    let text = nested(alloc, levels, inner)?;
+    terms_in(alloc, text.as_str())
+}
+
+fn no_list_in(alloc: Global, text: &str) -> Result<Option<(u32, u32)>, AllocError> {
+    let read = read(alloc, text)?;
+    Ok(no_list_at(&read))
+}
+
+fn deep_in_nested(
+    alloc: Global,
+    levels: u32,
+    inner: &str,
+) -> Result<Option<(u32, u32)>, AllocError> {
+    let text = nested(alloc, levels, inner)?;
+    let read = read(alloc, text.as_str())?;
+    Ok(deep_at(&read))
+}
+
 #[test]
 fn lists_of_terms_are_read(rt: HostRuntime) -> Result<(), Fail> {
     for (text, count) in [
@@ -79,62 +104,49 @@ fn lists_of_terms_are_read(rt: HostRuntime) -> Result<(), Fail> {
         ("a(b,c)d", 2),
         ("a(b(5),\")", 1),
     ] {
-        same_at(
-            &rt,
-            text,
-            number_of_terms(&read(rt.alloc(), text)?),
-            Some(count),
-        );
+        let found = terms_in(rt.alloc(), text)?;
+        same_at(&rt, text, found, Some(count));
     }
     Ok(())
 }
+
+// Texts that are no list of terms, and where that shows.
+const NO_LISTS: &[(&str, u32, u32)] = &[
+    ("a(", 9999, 9999),
+    ("a(b", 9999, 9999),
+    ("a()", 2, 3),
+    ("a(,)", 2, 3),
+    (")", 0, 1),
+    ("a(bc)", 3, 4),
+    ("a(b,)", 4, 5),
+    ("a,b", 1, 2),
+    ("5(a)", 1, 2),
+    ("a((", 2, 3),
+];
 
 #[test]
 fn the_first_misplaced_token_is_told(rt: HostRuntime) -> Result<(), Fail> {
-    for (text, from, to) in [
-        ("a(", 9999, 9999),
-        ("a(b", 9999, 9999),
-        ("a()", 2, 3),
-        ("a(,)", 2, 3),
-        (")", 0, 1),
-        ("a(bc)", 3, 4),
-        ("a(b,)", 4, 5),
-        ("a,b", 1, 2),
-        ("5(a)", 1, 2),
-        ("a((", 2, 3),
-    ] {
-        same_at(
-            &rt,
-            text,
-            no_list_at(&read(rt.alloc(), text)?),
-            Some((from, to)),
-        );
+    for &(text, from, to) in NO_LISTS {
+        let place = no_list_in(rt.alloc(), text)?;
+        same_at(&rt, text, place, Some((from, to)));
     }
     Ok(())
 }
 
+// Calls around a text, and where these are too many.
+const DEEP: &[(u32, &str, u32, u32)] = &[
+    (64, "b", 128, 129),
+    (64, "b(c(5),c)", 128, 137),
+    (20_000, "b", 128, 59_937),
+];
+
 #[test]
 fn terms_have_64_levels(rt: HostRuntime) -> Result<(), Fail> {
-    let alloc = rt.alloc();
-    same(
-        &rt,
-        number_of_terms(&read(alloc, &nested(alloc, 63, "b")?)?),
-        Some(1),
-    );
-    same(
-        &rt,
-        deep_at(&read(alloc, &nested(alloc, 64, "b")?)?),
-        Some((128, 129)),
-    );
-    same(
-        &rt,
-        deep_at(&read(alloc, &nested(alloc, 64, "b(c(5),c)")?)?),
-        Some((128, 137)),
-    );
-    same(
-        &rt,
-        deep_at(&read(alloc, &nested(alloc, 20_000, "b")?)?),
-        Some((128, 59_937)),
-    );
+    let found = terms_in_nested(rt.alloc(), 63, "b")?;
+    same(&rt, found, Some(1));
+    for &(levels, inner, from, to) in DEEP {
+        let place = deep_in_nested(rt.alloc(), levels, inner)?;
+        same_at(&rt, (levels, inner), place, Some((from, to)));
+    }
     Ok(())
 }

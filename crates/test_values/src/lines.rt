@@ -29,7 +29,7 @@ fn one_column(alloc: Global, kind: Kind) -> Result<Schema, Fail>
     Ok(Schema::new(false, columns))
 }
 
-fn two_columns(alloc: Global, first: Kind, second: Kind) -> Result<Schema, Fail>
+pub(crate) fn two_columns(alloc: Global, first: Kind, second: Kind) -> Result<Schema, Fail>
     requires first_digits { IsTrue (has_digits first) }
     requires first_read { IsTrue (is_read first) }
     requires second_digits { IsTrue (has_digits second) }

@@ -1,0 +1,214 @@
+// What no clause says: that the lines of items and the plainest items of cells are made at all. Expected lines are worked
+// out by hand.
+use crate::assertions::same;
+use crate::lines::two_columns;
+use item_lines::{is_shown, shown_line, shown_lines_are_read_to_their_items};
+use item_schema::{Item, Kind, Schema, read_item};
+use language_base::Bytes;
+use plain_items::plain_item;
+use predicate_cells::{Cells, Pred, Preds};
+use std::alloc::{AllocError, Global};
+use std::test::Fail;
+use value_ops::{Scalar, Table, Value, ValueType};
+
+fn is_line(line: &Option<Bytes>, wanted: Option<&[u8]>) -> bool {
+    match (line, wanted) {
+        (Some(line), Some(wanted)) => line.as_slice() == wanted,
+        (None, None) => true,
+        _ => false,
+    }
+}
+
+// Whether the item of the line is shown so.
+fn shows(alloc: Global, schema: &Schema, line: &[u8], wanted: Option<&[u8]>) -> Result<bool, Fail> {
+    let item = Box::new(alloc, read_item(alloc, schema, line)?)?;
+    let shown = shown_line(alloc, schema, &item)?;
+    Ok(is_line(&shown, wanted))
+}
+
+// The first line whose item is shown otherwise than it should be.
+fn misshown<'a>(
+    alloc: Global,
+    schema: &Schema,
+    cases: &[(&'a [u8], &[u8])],
+) -> Result<Option<&'a [u8]>, Fail> {
+    for (line, wanted) in cases {
+        if !shows(alloc, schema, line, Some(*wanted))? {
+            return Ok(Some(*line));
+        }
+    }
+    Ok(None)
+}
+
+const TYPED: [(&'static [u8], &'static [u8]); 5] = [
+    (b"+007.5,north", b"7.50,north"),
+    (b"-0.05,north east", b"-0.05,north east"),
+    (b"0, a ", b"0.00, a "),
+    (b"0,caf\xC3\xA9", b"0.00,caf\xC3\xA9"),
+    (b"-92233720368547758.08,x", b"-92233720368547758.08,x"),
+];
+
+#[test]
+fn an_item_is_shown_as_a_person_types_it(rt: HostRuntime) -> Result<(), Fail> {
+    let schema = two_columns(rt.alloc(), Kind::Fixed(2), Kind::Text)?;
+    same(&rt, misshown(rt.alloc(), &schema, &TYPED)?, None);
+    shown_lines_are_read_to_their_items();
+    Ok(())
+}
+
+const QUOTED: [(&'static [u8], &'static [u8]); 4] = [
+    (b"12,", b"12,\"\""),
+    (b"0,\"a,b\"", b"0,\"a,b\""),
+    (b"0,5\" pipe", b"0,\"5\"\" pipe\""),
+    (b"0,\xEF\xBB\xBFa", b"0,\"\xEF\xBB\xBFa\""),
+];
+
+#[test]
+fn a_text_is_shown_between_quotes_where_it_needs_them(rt: HostRuntime) -> Result<(), Fail> {
+    let schema = two_columns(rt.alloc(), Kind::Int, Kind::Text)?;
+    same(&rt, misshown(rt.alloc(), &schema, &QUOTED)?, None);
+    Ok(())
+}
+
+// The first line whose item is shown.
+fn shown<'a>(alloc: Global, schema: &Schema, lines: &[&'a [u8]]) -> Result<Option<&'a [u8]>, Fail> {
+    for line in lines {
+        if !shows(alloc, schema, line, None)? {
+            return Ok(Some(*line));
+        }
+    }
+    Ok(None)
+}
+
+// No texts, and characters that move the cursor.
+const LEFT_OUT: [&'static [u8]; 4] = [b"0,a\tb", b"0,\x1B[2J", b"0,\xC2\x9B2J", b"0,\xFF"];
+
+#[test]
+fn a_line_that_is_no_plain_text_is_not_shown(rt: HostRuntime) -> Result<(), Fail> {
+    let schema = two_columns(rt.alloc(), Kind::Int, Kind::Text)?;
+    same(&rt, shown(rt.alloc(), &schema, &LEFT_OUT)?, None);
+    Ok(())
+}
+
+#[test]
+fn a_line_of_96_bytes_is_shown(rt: HostRuntime) {
+    let bytes = [b'x'; 97];
+    assert!(rt; is_shown(b""));
+    assert!(rt; is_shown(&bytes[..96]));
+    assert!(rt; !is_shown(&bytes));
+}
+
+fn one_entry(alloc: Global) -> Result<Box<Table>, AllocError> {
+    let mut table = Box::new(alloc, Table::new(alloc))?;
+    table.push(b"a\"b", Scalar::Number(7))?;
+    Ok(table)
+}
+
+// Whether the value that a query reads is shown so.
+fn value_shows(alloc: Global, ty: ValueType, value: Value, wanted: &[u8]) -> Result<bool, Fail> {
+    let schema = Schema::derived(alloc, ty)?;
+    let item = Box::new(alloc, Item::from_value(value))?;
+    let shown = shown_line(alloc, &schema, &item)?;
+    Ok(is_line(&shown, Some(wanted)))
+}
+
+fn scalar_shows(alloc: Global, scalar: Scalar, wanted: &[u8]) -> Result<bool, Fail> {
+    value_shows(alloc, ValueType::Number, Value::Scalar(scalar), wanted)
+}
+
+#[test]
+fn a_value_is_shown_as_an_answer(rt: HostRuntime) -> Result<(), Fail> {
+    for (scalar, wanted) in [
+        (Scalar::Number(-7), b"-7".as_slice()),
+        (Scalar::Overflow, b"overflow"),
+        (Scalar::DivZero, b"divzero"),
+    ] {
+        same(&rt, scalar_shows(rt.alloc(), scalar, wanted)?, true);
+    }
+    Ok(())
+}
+
+#[test]
+fn a_table_is_shown_as_an_answer(rt: HostRuntime) -> Result<(), Fail> {
+    let table = Value::Table(Box::into_inner(one_entry(rt.alloc())?));
+    let is_shown_so = value_shows(rt.alloc(), ValueType::Table, table, b"{\"a\\x22b\":7}")?;
+    same(&rt, is_shown_so, true);
+    Ok(())
+}
+
+fn add(alloc: Global, pred: Pred, preds: &mut Preds) -> Result<(), AllocError> {
+    let pred = Box::new(alloc, pred)?;
+    preds.add(&pred)
+}
+
+// Below -7, from 10 to 20, and a text.
+fn add_tests(alloc: Global, preds: &mut Preds) -> Result<(), AllocError> {
+    add(alloc, Pred::Lt(0, -7), preds)?;
+    add(alloc, Pred::Between(0, 10, 20), preds)?;
+    add(
+        alloc,
+        Pred::EqText(1, Bytes::from_slice(alloc, b"north")?),
+        preds,
+    )
+}
+
+// The cells of these tests; none where they do not fit.
+fn cells_under(alloc: Global, schema: &Schema) -> Result<Option<Box<Cells>>, Fail> {
+    let mut preds = Preds::new(alloc);
+    add_tests(alloc, &mut preds)?;
+    if !preds.fit(schema) {
+        return Ok(None);
+    }
+    Ok(Some(Box::new(alloc, Cells::new(alloc, schema, &preds)?)?))
+}
+
+// The plainest item of the line's cell.
+fn plainest(alloc: Global, cells: &Cells, line: &[u8]) -> Result<Box<Item>, Fail> {
+    let item = Box::new(alloc, read_item(alloc, cells.schema(), line)?)?;
+    Ok(Box::new(alloc, plain_item(alloc, cells, cells.of(&item))?)?)
+}
+
+// Whether it is shown so.
+fn is_plainest(alloc: Global, cells: &Cells, line: &[u8], wanted: &[u8]) -> Result<bool, Fail> {
+    let plain = plainest(alloc, cells, line)?;
+    let shown = shown_line(alloc, cells.schema(), &plain)?;
+    Ok(is_line(&shown, Some(wanted)))
+}
+
+// The first line whose cell has another plainest item.
+fn mischosen<'a>(
+    alloc: Global,
+    cells: &Cells,
+    cases: &[(&'a [u8], &[u8])],
+) -> Result<Option<&'a [u8]>, Fail> {
+    for (line, wanted) in cases {
+        if !is_plainest(alloc, cells, line, wanted)? {
+            return Ok(Some(*line));
+        }
+    }
+    Ok(None)
+}
+
+// The same of the lines below.
+fn mischosen_under(alloc: Global, schema: &Schema) -> Result<Option<&'static [u8]>, Fail> {
+    match cells_under(alloc, schema)? {
+        None => Ok(Some(b"no cells")),
+        Some(cells) => mischosen(alloc, &cells, &PLAINEST),
+    }
+}
+
+const PLAINEST: [(&'static [u8], &'static [u8]); 6] = [
+    (b"-100,south", b"-8,other"),
+    (b"9,north", b"0,north"),
+    (b"-7,", b"0,other"),
+    (b"20,NORTH", b"10,other"),
+    (b"9223372036854775807,x", b"21,other"),
+    (b"-9223372036854775808,north", b"-8,north"),
+];
+
+#[test]
+fn the_plainest_item_has_numbers_near_zero(rt: HostRuntime) -> Result<(), Fail> {
+    let schema = two_columns(rt.alloc(), Kind::Int, Kind::Text)?;
+    same(&rt, mischosen_under(rt.alloc(), &schema)?, None);
+    Ok(())
+}
