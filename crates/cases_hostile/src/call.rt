@@ -6,7 +6,7 @@ use crate::case::Case;
 use crate::stop::{Finding, Stop};
 use io_edge::{MemorySink, MemorySource};
 use sqre_run::{Status, sqre};
-use std::alloc::Global;
+use std::alloc::{AllocError, Global};
 use std::str;
 
 /// More bytes than a call writes: the answers to some lines, each with the keys of all of them.
@@ -51,11 +51,25 @@ pub(crate) fn run_slowly(alloc: Global, case: &Case) -> Result<Outcome, Stop> {
 
 fn outcome_of(alloc: Global, words: &[&str], case: &Case, cuts: &[usize]) -> Result<Outcome, Stop> {
     let words = owned(alloc, words)?;
+    let mut out = MemorySink::with_cuts(alloc, ROOM, cuts, &[])?;
+    let status = call(alloc, &words, case, cuts, &mut out)?;
+    outcome_with(alloc, status, out.bytes())
+}
+
+fn call(
+    alloc: Global,
+    words: &[String],
+    case: &Case,
+    cuts: &[usize],
+    out: &mut MemorySink,
+) -> Result<Status, AllocError> {
     let mut query = MemorySource::new(alloc, case.query(), cuts, &[])?;
     let mut items = MemorySource::new(alloc, case.items(), cuts, &[])?;
-    let mut out = MemorySink::with_cuts(alloc, ROOM, cuts, &[])?;
-    let status = sqre(alloc, &words, &mut query, &mut items, &mut out);
-    match str::from_utf8(out.bytes()) {
+    Ok(sqre(alloc, words, &mut query, &mut items, out))
+}
+
+fn outcome_with(alloc: Global, status: Status, bytes: &[u8]) -> Result<Outcome, Stop> {
+    match str::from_utf8(bytes) {
         Ok(text) if text.is_ascii() => Ok(Outcome {
             status,
             text: String::from_str(alloc, text)?,

@@ -36,20 +36,26 @@ use std::{env, fs, io};
 
 /// The words are how many cases there are, and the seed of the first; each later one has the next.
 fn main(rt: HostRuntime) -> io::Result<()> {
-    let alloc = rt.alloc();
-    let words: Vec<String> = env::args(&rt)?.skip(1).collect(alloc)?;
-    let (count, first) = (number(&words, 0), number(&words, 1));
+    let words: Vec<String> = env::args(&rt)?.skip(1).collect(rt.alloc())?;
+    judge_cases(rt, number(&words, 0), number(&words, 1))
+}
+
+fn judge_cases(rt: HostRuntime, count: u64, first: u64) -> io::Result<()> {
     let text = fs::read_to_string(&rt, "grammar")?;
-    let Some(grammar) = grammar_of(alloc, text.as_str())? else {
-        return println!(rt; "the grammar has a line that is no rule, or a name of none");
-    };
+    match grammar_of(rt.alloc(), text.as_str())? {
+        Some(grammar) => judge_drawn(rt, &grammar, count, first),
+        None => println!(rt; "the grammar has a line that is no rule, or a name of none"),
+    }
+}
+
+fn judge_drawn(rt: HostRuntime, grammar: &Grammar, count: u64, first: u64) -> io::Result<()> {
     let mut tally = Tally::new();
     for number in 0..count {
         let seed = first.wrapping_add(number);
-        let told = told_of(alloc, &grammar, seed, &mut tally)?;
+        let told = told_of(rt.alloc(), grammar, seed, &mut tally)?;
         print!(rt; "{told}")?;
     }
-    let summary = tally.summary(alloc)?;
+    let summary = tally.summary(rt.alloc())?;
     print!(rt; "{summary}")
 }
 

@@ -1,7 +1,7 @@
 //! Lines read by `csv`'s reader and to items.
 
 use csv::{ByteRecord, Error, ReaderBuilder};
-use io_edge::{LazyFile, Line, Lines};
+use io_edge::{LazyFile, Line, Lines, Source};
 use item_schema::{Column, Item, ItemStop, Kind, Schema, are_columns, read_item};
 use language_base::Bytes;
 use std::alloc::{AllocError, Global};
@@ -16,20 +16,31 @@ const LINES: u32 = 1_000;
 
 /// Tells the fields of each line by the one, and whether the other has them.
 pub(crate) fn read_lines(rt: HostRuntime, path: &str) -> io::Result<()> {
-    let alloc = rt.alloc();
-    let mut source = LazyFile::new(rt, alloc, path)?;
-    let mut lines = Lines::new(alloc)?;
+    let mut source = LazyFile::new(rt, rt.alloc(), path)?;
+    read_source(rt, &mut source)
+}
+
+fn read_source<S: Source>(rt: HostRuntime, source: &mut S) -> io::Result<()> {
+    let mut lines = Lines::new(rt.alloc())?;
+    read_each(rt, &mut lines, source)
+}
+
+fn read_each<S: Source>(rt: HostRuntime, lines: &mut Lines, source: &mut S) -> io::Result<()> {
     for number in 1..LINES {
-        let Ok(Line::Whole(line)) = lines.next(&mut source) else {
+        let Ok(Line::Whole(line)) = lines.next(source) else {
             return Ok(());
         };
-        let Ok(row) = csv_row(alloc, line) else {
+        let Ok(row) = csv_row(rt.alloc(), line) else {
             return println!(rt; "{number}: want of memory");
         };
-        let text = told(alloc, &row, line)?;
-        println!(rt; "{number}: {text}")?;
+        tell(rt, number, &row, line)?;
     }
     Ok(())
+}
+
+fn tell(rt: HostRuntime, number: u32, row: &ByteRecord, line: &[u8]) -> io::Result<()> {
+    let text = told(rt.alloc(), row, line)?;
+    println!(rt; "{number}: {text}")
 }
 
 /// The first row of the line by `csv`; where there is none, one without fields.

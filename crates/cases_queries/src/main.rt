@@ -47,17 +47,25 @@ fn main(rt: HostRuntime) -> io::Result<()> {
         ("limits", Question::Verdict),
         ("runs", Question::Run),
     ] {
-        let table = fs::read_to_string(&rt, name)?;
-        let text = report(rt.alloc(), question, table.as_str())?;
-        println!(rt; "{name}")?;
-        print!(rt; "{text}")?;
+        tell(rt, name, question)?;
     }
+    tell_of_trees(rt)?;
+    read_lines(rt, "lines.csv")
+}
+
+fn tell(rt: HostRuntime, name: &str, question: Question) -> io::Result<()> {
+    let table = fs::read_to_string(&rt, name)?;
+    let text = report(rt.alloc(), question, table.as_str())?;
+    println!(rt; "{name}")?;
+    print!(rt; "{text}")
+}
+
+fn tell_of_trees(rt: HostRuntime) -> io::Result<()> {
     let table = fs::read_to_string(&rt, "trees")?;
     match trees::report(rt.alloc(), table.as_str()) {
-        Ok(text) => print!(rt; "{text}")?,
-        Err(stop) => println!(rt; "{stop}")?,
+        Ok(text) => print!(rt; "{text}"),
+        Err(stop) => println!(rt; "{stop}"),
     }
-    read_lines(rt, "lines.csv")
 }
 
 /// A line for each case.

@@ -11,15 +11,24 @@ use symbolic_nfa::Nfa;
 
 /// The cells of items under all tests of the lets.
 pub(crate) fn cells_of(alloc: Global, scope: &Scope) -> Result<Rc<Cells>, Stop> {
+    let tests = tests_of(alloc, scope)?;
+    if !tests.fit(&scope.schema) {
+        return Err(Stop::Test);
+    }
+    Ok(shared(alloc, Cells::new(alloc, &scope.schema, &tests)?)?)
+}
+
+fn shared(alloc: Global, cells: Cells) -> Result<Rc<Cells>, AllocError> {
+    Ok(Rc::new(alloc, cells)?)
+}
+
+fn tests_of(alloc: Global, scope: &Scope) -> Result<Preds, AllocError> {
     let mut tests = Preds::new(alloc);
     for named in &scope.lets {
         let rate = Box::new(alloc, named.query.rate(alloc)?)?;
         add_tests(&rate, &mut tests)?;
     }
-    if !tests.fit(&scope.schema) {
-        return Err(Stop::Test);
-    }
-    Ok(Rc::new(alloc, Cells::new(alloc, &scope.schema, &tests)?)?)
+    Ok(tests)
 }
 
 /// Adds the tests of the rate that are not there yet.
@@ -57,4 +66,24 @@ pub(crate) fn nfa_of(alloc: Global, cells: &Rc<Cells>, rate: &Rate) -> Result<Nf
         return Err(Stop::Test);
     }
     Ok(Nfa::new(alloc, positions, cells)?)
+}
+
+/// The automata of two rates.
+#[derive(Drop)]
+pub(crate) struct Automata {
+    pub(crate) first: Nfa,
+    pub(crate) second: Nfa,
+}
+
+pub(crate) fn automata_of(
+    alloc: Global,
+    cells: &Rc<Cells>,
+    first: &Rate,
+    second: &Rate,
+) -> Result<Automata, Stop>
+    ensures { IfOk result (λ automata. automata.first.cells ≡ automata.second.cells) }
+{
+    let first = nfa_of(alloc, cells, first)?;
+    let second = nfa_of(alloc, cells, second)?;
+    Ok(Automata { first, second })
 }

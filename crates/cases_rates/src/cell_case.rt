@@ -1,10 +1,13 @@
 //! What is found of one test.
 
+ghost use Rattle.std.specs.Prelude.{◌<◌};
+ghost use Rattle.predicate_cells.specs.Cells.{cell_count};
+
 use crate::items::Stream;
 use crate::scope::Scope;
 use crate::stop::Stop;
 use item_schema::Schema;
-use predicate_cells::{Cells, Pred, Preds, holds};
+use predicate_cells::{CellSet, Cells, Pred, Preds, holds};
 use query_model::{Query, Shape};
 use std::alloc::{AllocError, Global};
 
@@ -22,11 +25,10 @@ impl<'t> Case<'t> {
             return Err(Stop::Line);
         };
         let stream = Stream::of(alloc, stream)?;
-        let atom = format!(in alloc; "atom({test}, 0)")?;
-        let query = stream.scope.query(alloc, atom.as_str())?;
+        let test = test_of(alloc, &stream.scope, test)?;
         Ok(Case {
-            test: test_in(alloc, &query)?,
             stream,
+            test,
             items,
         })
     }
@@ -37,11 +39,23 @@ impl<'t> Case<'t> {
         let cells = cells_of(alloc, &self.stream.scope.schema, test)?;
         let mut told = String::new(alloc);
         push_cells(alloc, &mut told, &cells, test)?;
-        for word in self.items.split(' ').skip(1) {
-            push_item(alloc, &mut told, &cells, test, &self.stream, word)?;
-        }
+        self.push_items(alloc, &mut told, &cells)?;
         Ok(told)
     }
+
+    fn push_items(&self, alloc: Global, told: &mut String, cells: &Cells) -> Result<(), Stop> {
+        for word in self.items.split(' ').skip(1) {
+            push_item(alloc, told, cells, self.test.as_ref(), &self.stream, word)?;
+        }
+        Ok(())
+    }
+}
+
+/// The test that is written so.
+fn test_of(alloc: Global, scope: &Scope, text: &str) -> Result<Box<Pred>, Stop> {
+    let atom = format!(in alloc; "atom({text}, 0)")?;
+    let query = scope.query(alloc, atom.as_str())?;
+    test_in(alloc, &query)
 }
 
 fn test_in(alloc: Global, query: &Query) -> Result<Box<Pred>, Stop> {
@@ -69,12 +83,19 @@ fn push_cells(
     let count = cells.count();
     write!(told, "{count} cells")?;
     for cell in 0..count {
-        if cells.of(&cells.sample(alloc, cell)?) != cell {
+        if !has_its_sample(alloc, cells, cell)? {
             write!(told, ", the sample of {cell} in another")?;
         }
     }
     told.push_str(", met by")?;
     push_met(told, cells, test)
+}
+
+fn has_its_sample(alloc: Global, cells: &Cells, cell: u32) -> Result<bool, AllocError>
+    requires { cell < cell_count cells.now }
+{
+    let sample = cells.sample(alloc, cell)?;
+    Ok(cells.of(&sample) == cell)
 }
 
 /// Appends the cells that meet the test, as ranges.
@@ -86,7 +107,11 @@ fn push_met(told: &mut String, cells: &Cells, test: &Pred) -> Result<(), AllocEr
     if met.is_empty() {
         return told.push_str(" none");
     }
-    for cell in 0..cells.count() {
+    push_ranges(told, met, cells.count())
+}
+
+fn push_ranges(told: &mut String, met: &CellSet, count: u32) -> Result<(), AllocError> {
+    for cell in 0..count {
         let begins = cell == 0 || !met.has(cell - 1);
         if met.has(cell) && begins {
             write!(told, " {cell}")?;

@@ -21,6 +21,10 @@ pub(crate) fn report(alloc: Global, table: &str) -> Result<String, Stop> {
 
 fn add_case(alloc: Global, text: &mut String, stream: &str, line: &str) -> Result<(), Stop> {
     let case = Case::of(alloc, stream, line)?;
+    add_answer(alloc, text, line, &case)
+}
+
+fn add_answer(alloc: Global, text: &mut String, line: &str, case: &Case<'_>) -> Result<(), Stop> {
     match case.answer(alloc) {
         Ok(told) => Ok(writeln!(text, "{line}: {told}")?),
         Err(Stop::Size) => Ok(writeln!(text, "{line}: too many cells")?),

@@ -1,6 +1,8 @@
 //! What is decided of rates.
 
-use crate::automata::nfa_of;
+ghost use Rattle.std.specs.Prelude.{◌≡◌};
+
+use crate::automata::{Automata, automata_of};
 use crate::stop::Stop;
 use ambiguity_check::{disjoint, one_factoring, one_split};
 use predicate_cells::Cells;
@@ -29,14 +31,20 @@ impl Decision {
         first: &Rate,
         second: &Rate,
     ) -> Result<bool, Stop> {
-        let first = nfa_of(alloc, cells, first)?;
-        let second = nfa_of(alloc, cells, second)?;
+        let automata = automata_of(alloc, cells, first, second)?;
+        self.on_automata(alloc, &automata)
+    }
+
+    fn on_automata(self, alloc: Global, automata: &Automata) -> Result<bool, Stop>
+        requires { automata.now.first.cells ≡ automata.now.second.cells }
+    {
+        let (first, second) = (&automata.first, &automata.second);
         match self {
-            Decision::Disjoint => Ok(disjoint(alloc, &first, &second)?),
-            Decision::OneSplit => Ok(one_split(alloc, &first, &second)?),
-            Decision::OneFactoring => Ok(one_factoring(alloc, &first)?),
-            Decision::Same => Ok(same(alloc, &first, &second)?),
-            Decision::AllButEmpty => Ok(all_but_empty(alloc, &first)?),
+            Decision::Disjoint => Ok(disjoint(alloc, first, second)?),
+            Decision::OneSplit => Ok(one_split(alloc, first, second)?),
+            Decision::OneFactoring => Ok(one_factoring(alloc, first)?),
+            Decision::Same => Ok(same(alloc, first, second)?),
+            Decision::AllButEmpty => Ok(all_but_empty(alloc, first)?),
         }
     }
 

@@ -2,6 +2,7 @@
 
 use crate::automata::rate_of;
 use crate::membership::contains;
+use crate::scope::Scope;
 use crate::stop::Stop;
 use crate::table::Table;
 use crate::words::short_words;
@@ -34,20 +35,29 @@ pub(crate) fn entries_of<'t>(
 ) -> Result<Vec<Entry<'t>>, Stop> {
     let short = short_words(alloc, cells)?;
     let mut entries = Vec::new(alloc);
-    for line in &table.cases {
-        let Some((words, written)) = line.split_once(": ") else {
-            return Err(Stop::Line);
-        };
-        let rate = rate_of(alloc, &table.scope, written)?;
-        let members = members_of(alloc, &rate, &short)?;
-        entries.push(Entry {
-            words,
-            written,
-            rate,
-            members,
-        })?;
+    for &line in &table.cases {
+        entries.push(entry_of(alloc, &table.scope, line, &short)?)?;
     }
     Ok(entries)
+}
+
+fn entry_of<'t>(
+    alloc: Global,
+    scope: &Scope,
+    line: &'t str,
+    short: &[Vec<Item>],
+) -> Result<Entry<'t>, Stop> {
+    let Some((words, written)) = line.split_once(": ") else {
+        return Err(Stop::Line);
+    };
+    let rate = rate_of(alloc, scope, written)?;
+    let members = members_of(alloc, &rate, short)?;
+    Ok(Entry {
+        words,
+        written,
+        rate,
+        members,
+    })
 }
 
 fn members_of(alloc: Global, rate: &Rate, short: &[Vec<Item>]) -> Result<Vec<bool>, AllocError> {

@@ -5,7 +5,9 @@ use crate::entry::{Entry, entries_of};
 use crate::finding::Finding;
 use crate::stop::Stop;
 use crate::table::table_of;
+use predicate_cells::Cells;
 use std::alloc::{AllocError, Global};
+use std::rc::Rc;
 
 const HEAD: &str = "same  by words   all_but_empty  by words   its words\n";
 
@@ -14,16 +16,29 @@ pub(crate) fn report(alloc: Global, table: &str) -> Result<String, Stop> {
     let table = table_of(alloc, table)?;
     let cells = cells_of(alloc, &table.scope)?;
     let entries = entries_of(alloc, cells.as_ref(), &table)?;
+    report_on(alloc, &cells, &entries)
+}
+
+fn report_on(alloc: Global, cells: &Rc<Cells>, entries: &[Entry<'_>]) -> Result<String, Stop> {
     let mut text = String::from_str(alloc, HEAD)?;
     let mut agreed = Agreed { pairs: 0, rates: 0 };
     for (at, entry) in entries.iter().enumerate() {
-        let finding = Finding::of(alloc, &cells, at, entry, &entries)?;
-        add_rate(&mut text, entry, &finding)?;
-        add_disputes(&mut text, entry, &entries, &finding)?;
+        let finding = Finding::of(alloc, cells, at, entry, entries)?;
+        add_finding(&mut text, entry, entries, &finding)?;
         agreed.add(&finding);
     }
     add_totals(&mut text, entries.len(), agreed)?;
     Ok(text)
+}
+
+fn add_finding(
+    text: &mut String,
+    entry: &Entry<'_>,
+    others: &[Entry<'_>],
+    finding: &Finding,
+) -> Result<(), AllocError> {
+    add_rate(text, entry, finding)?;
+    add_disputes(text, entry, others, finding)
 }
 
 /// On how many pairs, and on how many rates alone, all agree.

@@ -1,6 +1,6 @@
 //! The nodes that no shorter walk of a graph leads to, behind each number of items.
 
-use crate::automata::nfa_of;
+use crate::automata::automata_of;
 use crate::stop::Stop;
 use ambiguity_check::{Graph, Marks, Pairs, Phase, Search, Splits};
 use predicate_cells::Cells;
@@ -26,9 +26,9 @@ pub(crate) fn levels_of_pairs(
     first: &Rate,
     second: &Rate,
 ) -> Result<String, Stop> {
-    let first = nfa_of(alloc, cells, first)?;
-    let second = nfa_of(alloc, cells, second)?;
-    Ok(levels(alloc, &Pairs::new(alloc, &first, &second)?)?)
+    let automata = automata_of(alloc, cells, first, second)?;
+    let pairs = Pairs::new(alloc, &automata.first, &automata.second)?;
+    Ok(levels(alloc, &pairs)?)
 }
 
 /// The levels of the search for a word with two splits.
@@ -38,25 +38,35 @@ pub(crate) fn levels_of_splits(
     first: &Rate,
     second: &Rate,
 ) -> Result<String, Stop> {
-    let first = nfa_of(alloc, cells, first)?;
-    let second = nfa_of(alloc, cells, second)?;
-    Ok(levels(alloc, &Splits::new(alloc, &first, &second)?)?)
+    let automata = automata_of(alloc, cells, first, second)?;
+    let splits = Splits::new(alloc, &automata.first, &automata.second)?;
+    Ok(levels(alloc, &splits)?)
 }
 
 fn levels<G: Graph>(alloc: Global, graph: &G) -> Result<String, AllocError> {
     let mut search = Search::begin(alloc, graph)?;
     let mut told = String::new(alloc);
+    push_levels(&mut told, &mut search, graph)?;
+    Ok(told)
+}
+
+/// Appends each level, up to the last one with a node.
+fn push_levels<G: Graph>(
+    told: &mut String,
+    search: &mut Search,
+    graph: &G,
+) -> Result<(), AllocError> {
     for level in 1..=NODES {
         if search.is_over() {
-            return Ok(told);
+            return Ok(());
         }
         if level > 1 {
             told.push_str(" /")?;
         }
-        push_nodes(&mut told, search.latest())?;
+        push_nodes(told, search.latest())?;
         search.advance(graph);
     }
-    Ok(told)
+    Ok(())
 }
 
 fn push_nodes(told: &mut String, nodes: &Marks) -> Result<(), AllocError> {

@@ -51,13 +51,17 @@ fn main(rt: HostRuntime) -> io::Result<()> {
         ("pairs", Report::Pairs),
         ("equal", Report::Equal),
     ] {
-        let table = fs::read_to_string(&rt, name)?;
-        match report.on(rt.alloc(), table.as_str()) {
-            Ok(text) => print!(rt; "{text}")?,
-            Err(stop) => println!(rt; "{name}: {stop}")?,
-        }
+        print_report(rt, name, report)?;
     }
     Ok(())
+}
+
+fn print_report(rt: HostRuntime, name: &str, report: Report) -> io::Result<()> {
+    let table = fs::read_to_string(&rt, name)?;
+    match report.on(rt.alloc(), table.as_str()) {
+        Ok(text) => print!(rt; "{text}"),
+        Err(stop) => println!(rt; "{name}: {stop}"),
+    }
 }
 
 impl Report {

@@ -3,7 +3,7 @@
 use crate::automata::{cells_of, rate_of};
 use crate::decision::Decision;
 use crate::stop::Stop;
-use crate::table::table_of;
+use crate::table::{Table, table_of};
 use predicate_cells::Cells;
 use rate_expr::Rate;
 use std::alloc::Global;
@@ -13,16 +13,32 @@ use std::rc::Rc;
 pub(crate) fn report(alloc: Global, table: &str) -> Result<String, Stop> {
     let table = table_of(alloc, table)?;
     let cells = cells_of(alloc, &table.scope)?;
+    let rates = rates_of(alloc, &table)?;
+    let mut text = String::new(alloc);
+    add_rates(&mut text, alloc, &cells, &table.cases, &rates)?;
+    Ok(text)
+}
+
+fn rates_of(alloc: Global, table: &Table<'_>) -> Result<Vec<Box<Rate>>, Stop> {
     let mut rates = Vec::new(alloc);
     for line in &table.cases {
         rates.push(rate_of(alloc, &table.scope, line)?)?;
     }
-    let mut text = String::new(alloc);
-    for (line, rate) in table.cases.iter().zip(&rates) {
-        add_rate(&mut text, alloc, &cells, rate, &rates)?;
+    Ok(rates)
+}
+
+fn add_rates(
+    text: &mut String,
+    alloc: Global,
+    cells: &Rc<Cells>,
+    lines: &[&str],
+    rates: &[Box<Rate>],
+) -> Result<(), Stop> {
+    for (line, rate) in lines.iter().zip(rates) {
+        add_rate(text, alloc, cells, rate, rates)?;
         writeln!(text, " {line}")?;
     }
-    Ok(text)
+    Ok(())
 }
 
 fn add_rate(

@@ -7,35 +7,58 @@ use std::alloc::Global;
 
 /// Whether the parts of the first rate make the positions of the second.
 pub(crate) fn make(alloc: Global, first: &Rate, second: &Rate) -> Result<&'static str, Stop> {
-    if are_same(&made_of_parts(alloc, first)?, &positions_of(alloc, second)?) {
+    let made = made_of_parts(alloc, first)?;
+    let found = positions_of(alloc, second)?;
+    if are_same(&made, &found) {
         Ok("yes")
     } else {
         Ok("no")
     }
 }
 
-fn made_of_parts(alloc: Global, rate: &Rate) -> Result<Positions, Stop> {
+fn made_of_parts(alloc: Global, rate: &Rate) -> Result<Box<Positions>, Stop> {
     match rate {
-        Rate::Empty => Ok(Positions::empty(alloc)),
-        Rate::One(test) => Ok(Positions::one(alloc, test)?),
+        Rate::Empty => held(alloc, Positions::empty(alloc)),
+        Rate::One(test) => held(alloc, Positions::one(alloc, test)?),
         Rate::Seq(first, second) => {
             let first = made_of_parts(alloc, first)?;
-            let second = made_of_parts(alloc, second)?;
-            if first.count() + second.count() > MAX_POSITIONS {
-                return Err(Stop::Size);
-            }
-            Ok(first.then(second)?)
+            in_sequence(alloc, first, made_of_parts(alloc, second)?)
         }
         Rate::Alt(first, second) => {
             let first = made_of_parts(alloc, first)?;
-            let second = made_of_parts(alloc, second)?;
-            if first.count() + second.count() > MAX_POSITIONS {
-                return Err(Stop::Size);
-            }
-            Ok(first.or(second)?)
+            in_choice(alloc, first, made_of_parts(alloc, second)?)
         }
-        Rate::Star(inner) => Ok(made_of_parts(alloc, inner)?.star()),
+        Rate::Star(inner) => {
+            let inner = made_of_parts(alloc, inner)?;
+            held(alloc, Box::into_inner(inner).star())
+        }
     }
+}
+
+fn held(alloc: Global, sets: Positions) -> Result<Box<Positions>, Stop> {
+    Ok(Box::new(alloc, sets)?)
+}
+
+fn in_sequence(
+    alloc: Global,
+    first: Box<Positions>,
+    second: Box<Positions>,
+) -> Result<Box<Positions>, Stop> {
+    if first.count() + second.count() > MAX_POSITIONS {
+        return Err(Stop::Size);
+    }
+    held(alloc, Box::into_inner(first).then(Box::into_inner(second))?)
+}
+
+fn in_choice(
+    alloc: Global,
+    first: Box<Positions>,
+    second: Box<Positions>,
+) -> Result<Box<Positions>, Stop> {
+    if first.count() + second.count() > MAX_POSITIONS {
+        return Err(Stop::Size);
+    }
+    held(alloc, Box::into_inner(first).or(Box::into_inner(second))?)
 }
 
 /// Whether both have the same sets, and keep the same tests at the same places.

@@ -4,7 +4,10 @@ use crate::predicate::pred_over;
 use crate::rate::rate_over;
 use crate::scope::Scope;
 use crate::stop::Stop;
+use predicate_cells::Pred;
 use query_model::{Query, Shape, Span};
+use query_syntax::{Name, Predicate};
+use rate_expr::Rate;
 use std::alloc::Global;
 use value_ops::{Expr, Var};
 
@@ -22,51 +25,138 @@ pub(crate) fn query_over(
 #[cycle(query)]
 fn shape_over(alloc: Global, scope: &Scope, query: &query_syntax::Query) -> Result<Shape, Stop> {
     match query {
-        query_syntax::Query::Name(name) => Ok(scope.named(name)?.try_copy(alloc)?.shape),
-        query_syntax::Query::Atom { predicate, .. } => {
-            Ok(Shape::Atom(pred_over(alloc, scope, predicate)?, value()))
-        }
+        query_syntax::Query::Name(name) => named_shape(alloc, scope, name),
+        query_syntax::Query::Atom { predicate, .. } => atom_over(alloc, scope, predicate),
         query_syntax::Query::Eps { value, .. } => Ok(Shape::Eps(value.value)),
-        query_syntax::Query::Or { left, right, .. } => {
-            let first = query_over(alloc, scope, left)?;
-            let second = query_over(alloc, scope, right)?;
-            Ok(Shape::Or(first, second))
-        }
-        query_syntax::Query::Split { left, right, .. } => {
-            let first = query_over(alloc, scope, left)?;
-            let second = query_over(alloc, scope, right)?;
-            Ok(Shape::Split(first, second, value()))
-        }
+        query_syntax::Query::Or { left, right, .. } => choice_over(alloc, scope, left, right),
+        query_syntax::Query::Split { left, right, .. } => split_over(alloc, scope, left, right),
         query_syntax::Query::Combine { left, right, .. } => {
-            let first = query_over(alloc, scope, left)?;
-            let second = query_over(alloc, scope, right)?;
-            Ok(Shape::Combine(first, second, value()))
+            combination_over(alloc, scope, left, right)
         }
         query_syntax::Query::Compose { left, right, .. } => {
-            let first = query_over(alloc, scope, left)?;
-            let second = query_over(alloc, scope, right)?;
-            Ok(Shape::Compose(first, second))
+            composition_over(alloc, scope, left, right)
         }
         query_syntax::Query::Iter { operand, first, .. } => {
-            let inner = query_over(alloc, scope, operand)?;
-            Ok(Shape::Iter(inner, first.value, value()))
+            iteration_over(alloc, scope, operand, first.value)
         }
-        query_syntax::Query::Apply { operand, .. } => {
-            Ok(Shape::Apply(query_over(alloc, scope, operand)?, value()))
-        }
+        query_syntax::Query::Apply { operand, .. } => application_over(alloc, scope, operand),
         query_syntax::Query::Collect {
             key,
             sync,
             rate,
             body,
             ..
-        } => {
-            let key = scope.column(key)?;
-            let inner = query_over(alloc, scope, body)?;
-            let sync = pred_over(alloc, scope, sync)?;
-            Ok(Shape::Collect(key, sync, rate_over(alloc, scope, rate)?, inner))
-        }
+        } => collection_over(alloc, scope, key, sync, rate, body),
     }
+}
+
+fn named_shape(alloc: Global, scope: &Scope, name: &Name) -> Result<Shape, Stop> {
+    Ok(scope.named(name)?.try_copy(alloc)?.shape)
+}
+
+fn atom_over(alloc: Global, scope: &Scope, predicate: &Predicate) -> Result<Shape, Stop> {
+    Ok(Shape::Atom(pred_over(alloc, scope, predicate)?, value()))
+}
+
+#[cycle(query)]
+fn both_over(
+    alloc: Global,
+    scope: &Scope,
+    left: &query_syntax::Query,
+    right: &query_syntax::Query,
+) -> Result<(Box<Query>, Box<Query>), Stop> {
+    let first = query_over(alloc, scope, left)?;
+    Ok((first, query_over(alloc, scope, right)?))
+}
+
+#[cycle(query)]
+fn choice_over(
+    alloc: Global,
+    scope: &Scope,
+    left: &query_syntax::Query,
+    right: &query_syntax::Query,
+) -> Result<Shape, Stop> {
+    let (first, second) = both_over(alloc, scope, left, right)?;
+    Ok(Shape::Or(first, second))
+}
+
+#[cycle(query)]
+fn split_over(
+    alloc: Global,
+    scope: &Scope,
+    left: &query_syntax::Query,
+    right: &query_syntax::Query,
+) -> Result<Shape, Stop> {
+    let (first, second) = both_over(alloc, scope, left, right)?;
+    Ok(Shape::Split(first, second, value()))
+}
+
+#[cycle(query)]
+fn combination_over(
+    alloc: Global,
+    scope: &Scope,
+    left: &query_syntax::Query,
+    right: &query_syntax::Query,
+) -> Result<Shape, Stop> {
+    let (first, second) = both_over(alloc, scope, left, right)?;
+    Ok(Shape::Combine(first, second, value()))
+}
+
+#[cycle(query)]
+fn composition_over(
+    alloc: Global,
+    scope: &Scope,
+    left: &query_syntax::Query,
+    right: &query_syntax::Query,
+) -> Result<Shape, Stop> {
+    let (first, second) = both_over(alloc, scope, left, right)?;
+    Ok(Shape::Compose(first, second))
+}
+
+#[cycle(query)]
+fn iteration_over(
+    alloc: Global,
+    scope: &Scope,
+    operand: &query_syntax::Query,
+    first: i64,
+) -> Result<Shape, Stop> {
+    let inner = query_over(alloc, scope, operand)?;
+    Ok(Shape::Iter(inner, first, value()))
+}
+
+#[cycle(query)]
+fn application_over(
+    alloc: Global,
+    scope: &Scope,
+    operand: &query_syntax::Query,
+) -> Result<Shape, Stop> {
+    Ok(Shape::Apply(query_over(alloc, scope, operand)?, value()))
+}
+
+#[cycle(query)]
+fn collection_over(
+    alloc: Global,
+    scope: &Scope,
+    key: &Name,
+    sync: &Predicate,
+    rate: &query_syntax::Rate,
+    body: &query_syntax::Query,
+) -> Result<Shape, Stop> {
+    let key = scope.column(key)?;
+    let inner = query_over(alloc, scope, body)?;
+    let (sync, rate) = keys_over(alloc, scope, sync, rate)?;
+    Ok(Shape::Collect(key, sync, rate, inner))
+}
+
+/// The items of all keys, and the rate of each.
+fn keys_over(
+    alloc: Global,
+    scope: &Scope,
+    sync: &Predicate,
+    rate: &query_syntax::Rate,
+) -> Result<(Pred, Rate), Stop> {
+    let sync = pred_over(alloc, scope, sync)?;
+    Ok((sync, rate_over(alloc, scope, rate)?))
 }
 
 fn value() -> Expr {

@@ -8,7 +8,7 @@ use crate::scope::Scope;
 use crate::sets::sets_of;
 use crate::states::states;
 use crate::stop::Stop;
-use crate::table::table_of;
+use crate::table::{Table, table_of};
 use predicate_cells::Cells;
 use rate_expr::Rate;
 use std::alloc::Global;
@@ -79,9 +79,13 @@ impl OfTwo {
 pub(crate) fn report(alloc: Global, table: &str) -> Result<String, Stop> {
     let table = table_of(alloc, table)?;
     let cells = cells_of(alloc, &table.scope)?;
+    answers(alloc, &table, &cells)
+}
+
+fn answers(alloc: Global, table: &Table<'_>, cells: &Rc<Cells>) -> Result<String, Stop> {
     let mut text = String::new(alloc);
     for line in &table.cases {
-        let answer = answer(alloc, &table.scope, &cells, line)?;
+        let answer = answer(alloc, &table.scope, cells, line)?;
         writeln!(text, "{line}: {answer}")?;
     }
     Ok(text)

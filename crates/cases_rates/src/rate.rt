@@ -3,7 +3,7 @@
 use crate::predicate::pred_over;
 use crate::scope::Scope;
 use crate::stop::Stop;
-use query_syntax::Join;
+use query_syntax::{Join, Predicate};
 use rate_expr::Rate;
 use std::alloc::Global;
 
@@ -15,30 +15,44 @@ pub(crate) fn rate_over(
 ) -> Result<Rate, Stop> {
     match rate {
         query_syntax::Rate::Eps(_) => Ok(Rate::Empty),
-        query_syntax::Rate::Item { predicate, .. } => {
-            Ok(Rate::One(pred_over(alloc, scope, predicate)?))
-        }
+        query_syntax::Rate::Item { predicate, .. } => item_over(alloc, scope, predicate),
         query_syntax::Rate::Joined {
             join,
             left,
             right,
             ..
-        } => {
-            let left = boxed(alloc, scope, left)?;
-            let right = boxed(alloc, scope, right)?;
-            Ok(match join {
-                Join::Seq => Rate::Seq(left, right),
-                Join::Alt => Rate::Alt(left, right),
-            })
-        }
-        query_syntax::Rate::Star { operand, .. } => {
-            Ok(Rate::Star(boxed(alloc, scope, operand)?))
-        }
+        } => joined_over(alloc, scope, *join, left, right),
+        query_syntax::Rate::Star { operand, .. } => star_over(alloc, scope, operand),
     }
 }
 
+fn item_over(alloc: Global, scope: &Scope, predicate: &Predicate) -> Result<Rate, Stop> {
+    Ok(Rate::One(pred_over(alloc, scope, predicate)?))
+}
+
 #[cycle(rate)]
-fn boxed(alloc: Global, scope: &Scope, rate: &query_syntax::Rate) -> Result<Box<Rate>, Stop> {
+fn boxed_over(alloc: Global, scope: &Scope, rate: &query_syntax::Rate) -> Result<Box<Rate>, Stop> {
     let rate = rate_over(alloc, scope, rate)?;
     Ok(Box::new(alloc, rate)?)
+}
+
+#[cycle(rate)]
+fn joined_over(
+    alloc: Global,
+    scope: &Scope,
+    join: Join,
+    left: &query_syntax::Rate,
+    right: &query_syntax::Rate,
+) -> Result<Rate, Stop> {
+    let left = boxed_over(alloc, scope, left)?;
+    let right = boxed_over(alloc, scope, right)?;
+    Ok(match join {
+        Join::Seq => Rate::Seq(left, right),
+        Join::Alt => Rate::Alt(left, right),
+    })
+}
+
+#[cycle(rate)]
+fn star_over(alloc: Global, scope: &Scope, operand: &query_syntax::Rate) -> Result<Rate, Stop> {
+    Ok(Rate::Star(boxed_over(alloc, scope, operand)?))
 }

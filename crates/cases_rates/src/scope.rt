@@ -26,16 +26,25 @@ impl Scope {
     /// The stream and the lets of a text.
     pub(crate) fn of(alloc: Global, head: &str) -> Result<Scope, Stop> {
         let program = read(alloc, head, "eps(0)")?;
+        Scope::of_program(alloc, &program)
+    }
+
+    fn of_program(alloc: Global, program: &Program) -> Result<Scope, Stop> {
         let mut scope = Scope {
             schema: schema_of(alloc, &program.stream)?,
             lets: Vec::new(alloc),
         };
         for written in &program.lets {
-            let query = query_over(alloc, &scope, &written.query)?;
-            let name = written.name.bytes.try_copy(alloc)?;
-            scope.lets.push(Let { name, query })?;
+            scope.add(alloc, written)?;
         }
         Ok(scope)
+    }
+
+    fn add(&mut self, alloc: Global, written: &query_syntax::Let) -> Result<(), Stop> {
+        let query = query_over(alloc, self, &written.query)?;
+        let name = written.name.bytes.try_copy(alloc)?;
+        self.lets.push(Let { name, query })?;
+        Ok(())
     }
 
     /// The query that is written so.
@@ -68,7 +77,8 @@ impl Scope {
     }
 }
 
-fn read(alloc: Global, head: &str, main: &str) -> Result<Program, Stop> {
+fn read(alloc: Global, head: &str, main: &str) -> Result<Box<Program>, Stop> {
     let text = format!(in alloc; "{head} main({main})")?;
-    Ok(read_syntax(alloc, text.as_bytes())?)
+    let program = read_syntax(alloc, text.as_bytes())?;
+    Ok(Box::new(alloc, program)?)
 }

@@ -10,10 +10,14 @@ pub(crate) const ITEMS: u32 = 6;
 /// All words of up to six items, one item a cell, shorter ones first.
 pub(crate) fn short_words(alloc: Global, cells: &Cells) -> Result<Vec<Vec<Item>>, AllocError> {
     let items = samples(alloc, cells)?;
+    words_of(alloc, &items)
+}
+
+fn words_of(alloc: Global, items: &[Item]) -> Result<Vec<Vec<Item>>, AllocError> {
     let mut words = Vec::new(alloc);
     let mut longest = vec![in alloc; Vec::new(alloc)]?;
     for _ in 0..ITEMS {
-        let longer = longer_words(alloc, &longest, &items)?;
+        let longer = longer_words(alloc, &longest, items)?;
         words.append(&mut longest)?;
         longest = longer;
     }
