@@ -1,8 +1,9 @@
 //! Runs the examples, one after the other: each is a folder with a query and its readings.
 #![tactic(auto)]
 
-use io_edge::{LazyFile, WriterSink};
+use io_edge::{LazyFile, Source, WriterSink};
 use sqre_run::{Status, sqre};
+use std::alloc::{AllocError, Global};
 use std::{fs, io};
 
 fn main(rt: HostRuntime) -> io::Result<()> {
@@ -28,12 +29,40 @@ fn folders(rt: &HostRuntime) -> io::Result<Vec<String>> {
 }
 
 fn run(rt: HostRuntime, name: &str) -> io::Result<Status> {
-    let alloc = rt.alloc();
-    let query_path = format!(in alloc; "{name}/query.sqre")?;
-    let items_path = format!(in alloc; "{name}/readings.csv")?;
-    let mut query = LazyFile::new(rt, alloc, query_path.as_str())?;
-    let mut items = LazyFile::new(rt, alloc, items_path.as_str())?;
-    let mut out = WriterSink::new(io::writer(&rt), alloc)?;
-    let words = vec![in alloc; String::from_str(alloc, "run")?, query_path, items_path]?;
-    Ok(sqre(alloc, &words, &mut query, &mut items, &mut out))
+    let words = words(rt.alloc(), name)?;
+    run_with(rt, &words)
+}
+
+/// The words of a run over the files of the folder.
+fn words(alloc: Global, name: &str) -> Result<Vec<String>, AllocError> {
+    let mut words = Vec::new(alloc);
+    words.push(String::from_str(alloc, "run")?)?;
+    words.push(format!(in alloc; "{name}/query.sqre")?)?;
+    words.push(format!(in alloc; "{name}/readings.csv")?)?;
+    Ok(words)
+}
+
+// Each value is made in a function of its own, since it is dropped at each later step that fails.
+fn run_with(rt: HostRuntime, words: &[String]) -> io::Result<Status> {
+    let mut query = LazyFile::new(rt, rt.alloc(), word(words, 1))?;
+    run_query(rt, words, &mut query)
+}
+
+fn run_query<Q: Source>(rt: HostRuntime, words: &[String], query: &mut Q) -> io::Result<Status> {
+    let mut items = LazyFile::new(rt, rt.alloc(), word(words, 2))?;
+    run_over(rt, words, query, &mut items)
+}
+
+fn run_over<Q: Source, S: Source>(
+    rt: HostRuntime,
+    words: &[String],
+    query: &mut Q,
+    items: &mut S,
+) -> io::Result<Status> {
+    let mut out = WriterSink::new(io::writer(&rt), rt.alloc())?;
+    Ok(sqre(rt.alloc(), words, query, items, &mut out))
+}
+
+fn word(words: &[String], at: usize) -> &str {
+    words.get(at).map_or("-", |word| word.as_str())
 }
