@@ -460,6 +460,36 @@ status 0" "$(answer without_rt "$fresh/sqre" --install "$folder")"
     same 'nothing else is left there' 'sqre' "$(ls -A "$folder/two")"
 }
 
+# An explanation that stands in for one with a second place, and reads what it explains.
+make_long_explanation() {
+    cat <<END
+#!$tools/sh
+[ \$# -gt 0 ] || exit 2
+case \$(cat) in
+    fine) exit 0 ;;
+    none) exit 6 ;;
+esac
+printf '%s\n' "\$1:2:11 (the column in bytes): refused name 42..58" '    a "line"' '      ^^^^' 'It says "so".' 'Mend it.' \
+    "\$1:3:4 (the column in bytes): it is used here" '    line' '    ^^' '    5\6'
+exit 1
+END
+}
+
+test_json() {
+    make_long_explanation >"$top/crates/explain/out/explain"
+    wanted='"line": 2, "column": 11, "length": 16, "rule": "name", "sentence": "It says \"so\".", "help": ["Mend it.", "    5\\6"], "also": [{"line": 3, "column": 4, "length": 2, "sentence": "it is used here"}]}]
+status 1'
+    echo fine >"$room/fine.sqre"
+    echo none >"$room/none.sqre"
+    same 'JSON of an accepted query' '[]
+status 0' "$(answer without_rt "$top/sqre" check --json "$room/fine.sqre")"
+    same 'JSON of a refused query' "[{\"file\": \"$room/bad.sqre\", $wanted" "$(answer without_rt "$top/sqre" check --json "$room/bad.sqre")"
+    same 'JSON of standard input' "[{\"file\": \"-\", $wanted" "$(echo bad | answer without_rt "$top/sqre" check --json -)"
+    same 'no JSON where memory is wanting' 'status 6' "$(answer without_rt "$top/sqre" check --json "$room/none.sqre")"
+    same 'no JSON of nothing' 'status 3' "$(answer without_rt "$top/sqre" check --json "$room/nothing.sqre")"
+    has 'no JSON of nothing: why' 'which is not there' "$(cat "$room/errors")"
+}
+
 make_tools
 make_rt
 make_checkout "$top"
@@ -479,4 +509,5 @@ test_copy_alone
 test_input_and_output
 test_statuses
 test_install
+test_json
 tell
