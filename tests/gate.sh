@@ -20,10 +20,13 @@ stand_in() {
     chmod +x "$1"
 }
 
-# With an rt ci, a comparison of the release, and tests that end so, the last line and the status of the gate are these.
+# With an rt ci, a comparison of the release, and tests that end so, the last line and the status of the gate are these. The comparison of
+# the page ends with $page_status.
+page_status=0
 gate() {
     stand_in "$room/kit/rt" "$2" "$3"
     stand_in "$top/.ci/release" 'of the release' "$4"
+    stand_in "$top/.ci/page" 'of the page' "$page_status"
     stand_in "$top/.ci/test" "$5" "$6"
     same "the gate: $1" "$7" "$(PATH=$room/kit:$PATH "$top/.ci/run" >"$room/told" 2>&1; status=$?; tail -n 1 "$room/told"; echo "status $status")"
     has "the gate: $1: what rt wrote" "$2" "$(cat "$room/told")"
@@ -65,20 +68,24 @@ same 'its list' 'crates/low/specs/Bytes.antt
 crates/low/specs/Lines.antt
 crates/sqre_run/specs/Call.antt
 status 0' "$(order --list)"
-gate 'all is well' '3 passed, 0 failed (a note)' 0 0 '5 passed, 0 failed' 0 '10 passed, 0 failed
+gate 'all is well' '3 passed, 0 failed (a note)' 0 0 '5 passed, 0 failed' 0 '11 passed, 0 failed
 status 0'
-gate 'rt ci fails' '2 passed, 1 failed' 1 0 '5 passed, 0 failed' 0 '9 passed, 1 failed
+gate 'rt ci fails' '2 passed, 1 failed' 1 0 '5 passed, 0 failed' 0 '10 passed, 1 failed
 status 1'
-gate 'rt ci ends early' 'it has ended' 2 0 '5 passed, 0 failed' 0 '7 passed, 1 failed
+gate 'rt ci ends early' 'it has ended' 2 0 '5 passed, 0 failed' 0 '8 passed, 1 failed
 status 1'
-gate 'the release is stale' '3 passed, 0 failed' 0 1 '5 passed, 0 failed' 0 '9 passed, 1 failed
+gate 'the release is stale' '3 passed, 0 failed' 0 1 '5 passed, 0 failed' 0 '10 passed, 1 failed
 status 1'
-gate 'a test fails' '3 passed, 0 failed' 0 0 '4 passed, 1 failed' 1 '9 passed, 1 failed
+page_status=1
+gate 'the page is stale' '3 passed, 0 failed' 0 0 '5 passed, 0 failed' 0 '10 passed, 1 failed
+status 1'
+page_status=0
+gate 'a test fails' '3 passed, 0 failed' 0 0 '4 passed, 1 failed' 1 '10 passed, 1 failed
 status 1'
 printf '#!/bin/sh\necho "$@" >>"%s"\n' "$room/packages" >"$room/kit/apt-get"
 chmod +x "$room/kit/apt-get"
 printf '%s\n' sh no_such_command >"$top/.ci/packages"
-gate 'a package is absent' '3 passed, 0 failed' 0 0 '5 passed, 0 failed' 0 '10 passed, 0 failed
+gate 'a package is absent' '3 passed, 0 failed' 0 0 '5 passed, 0 failed' 0 '11 passed, 0 failed
 status 0'
 wanted=
 [ "$(id -u)" -ne 0 ] || wanted=no_such_command
@@ -88,7 +95,7 @@ cp "$room/page" "$top/docs/PROOF.md"
 has 'a link too few' 'low/specs/Lines.antt is not linked' "$(order)"
 has 'a link too many' 'low/specs/Other.antt is linked, and' "$(order)"
 has 'another reading order: its status' 'status 1' "$(order)"
-gate 'the reading order differs' '3 passed, 0 failed' 0 0 '5 passed, 0 failed' 0 '9 passed, 1 failed
+gate 'the reading order differs' '3 passed, 0 failed' 0 0 '5 passed, 0 failed' 0 '10 passed, 1 failed
 status 1'
 rm "$top/crates/low/specs/Bytes.antt"
 has 'an import of no file' 'no file for the import of low.specs.Bytes' "$(order)"

@@ -485,7 +485,7 @@ status 1'
 status 0' "$(answer without_rt "$top/sqre" check --json "$room/fine.sqre")"
     same 'JSON of a refused query' "[{\"file\": \"$room/bad.sqre\", $wanted" "$(answer without_rt "$top/sqre" check --json "$room/bad.sqre")"
     same 'JSON of standard input' "[{\"file\": \"-\", $wanted" "$(echo bad | answer without_rt "$top/sqre" check --json -)"
-    same 'no JSON where memory is wanting' 'status 6' "$(answer without_rt "$top/sqre" check --json "$room/none.sqre")"
+    same 'no JSON where there is no memory' 'status 6' "$(answer without_rt "$top/sqre" check --json "$room/none.sqre")"
     same 'no JSON of nothing' 'status 3' "$(answer without_rt "$top/sqre" check --json "$room/nothing.sqre")"
     has 'no JSON of nothing: why' 'which is not there' "$(cat "$room/errors")"
 }

@@ -6,7 +6,7 @@ here=${here%/tests/*}
 . "$here/tests/shared"
 
 cd "$here" || exit 1
-for file in sqre .ci/* tests/* bench/*; do
+for file in sqre .ci/* tests/* bench/* web/*; do
     [ "$(head -n 1 "$file" 2>/dev/null)" = '#!/bin/sh' ] || continue
     holds "shellcheck of $file" shellcheck "$file"
 done

@@ -4,6 +4,6 @@ if exists('b:did_ftplugin')
 endif
 let b:did_ftplugin = 1
 setlocal commentstring=#\ %s
-setlocal makeprg=sqre\ check\ %:S
+let &l:makeprg = executable('sqre-explain') ? 'sqre-explain %:S' : 'sqre check %:S'
 setlocal errorformat=%f:%l:%c\ (the\ column\ in\ bytes):\ %m,%-G%.%#
 let b:undo_ftplugin = 'setlocal commentstring< makeprg< errorformat<'
