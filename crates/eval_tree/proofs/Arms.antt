@@ -13,7 +13,8 @@ use Rattle.split_eval.specs.Entries.{Contents}
 use Rattle.eval_tree.specs.declared.hit.Hit.{Hit}
 use Rattle.eval_tree.specs.declared.node.Node.{Node}
 use Rattle.eval_tree.specs.declared.progress.Progress.{Progress}
-use Rattle.eval_tree.specs.Calls.{Found, HasStarted, HasStepped}
+use Rattle.std.specs.declared.alloc.AllocError.{AllocError}
+use Rattle.eval_tree.specs.Calls.{Found, found_in, HasStarted, HasStepped}
 use Rattle.eval_tree.specs.Holdings.{Holding}
 use Rattle.eval_tree.specs.Lefts.{IsEnded}
 use Rattle.eval_tree.specs.Live.{live_of}
@@ -72,18 +73,20 @@ stepped_as q q' h h' k k' now item result result' query before after results is 
     (subst (λ (x : Holding Progress). HasStepped seen_of q h now item x result') (sym after)
     (subst (λ (x : Found). HasStepped seen_of q h now item k x) (sym results) is))
 
--- what the last call gives is the result, and where it gives a hit this is known
-pub when_started : (q : Qre) (h k : Holding Progress) (at : ℕ) (result : Found) (P : Option Hit → Type 0)
-    → ((hit : Option Hit) → P hit → HasStarted seen_of q h at k (Ok hit)) → IfOk result P
-    → (StartsNumbers seen_of q h at → IsOk result) → HasStarted seen_of q h at k result
-when_started q h k at (Ok hit) P each is free = each hit is
-when_started q h k at (Err e) P each is free = record { word = tt; sound = tt; no_memory = free }
+-- the last call ends this one, and where there is memory what it promises of the hit in its place is known
+pub when_started : {A : Type 0} → (q : Qre) (h k : Holding Progress) (at : ℕ) (result : Result A AllocError)
+    (hit : Option Hit) (P : Type 0) → (P → HasStarted seen_of q h at k (Ok hit))
+    → IfOk result (λ done. P) → (StartsNumbers seen_of q h at → IsOk result)
+    → HasStarted seen_of q h at k (found_in result hit)
+when_started q h k at (Ok done) hit P each is free = each is
+when_started q h k at (Err e) hit P each is free = record { word = tt; sound = tt; no_memory = free }
 
-pub when_stepped : (q : Qre) (h k : Holding Progress) (now : ℕ) (item : List Field) (result : Found)
-    (P : Option Hit → Type 0) → ((hit : Option Hit) → P hit → HasStepped seen_of q h now item k (Ok hit))
-    → IfOk result P → (StepsNumbers seen_of q h now item → IsOk result) → HasStepped seen_of q h now item k result
-when_stepped q h k now item (Ok hit) P each is free = each hit is
-when_stepped q h k now item (Err e) P each is free = record { word = tt; sound = tt; no_memory = free }
+pub when_stepped : {A : Type 0} → (q : Qre) (h k : Holding Progress) (now : ℕ) (item : List Field)
+    (result : Result A AllocError) (hit : Option Hit) (P : Type 0)
+    → (P → HasStepped seen_of q h now item k (Ok hit)) → IfOk result (λ done. P)
+    → (StepsNumbers seen_of q h now item → IsOk result) → HasStepped seen_of q h now item k (found_in result hit)
+when_stepped q h k now item (Ok done) hit P each is free = each is
+when_stepped q h k now item (Err e) hit P each is free = record { word = tt; sound = tt; no_memory = free }
 
 -- memory is wanting, but not in a number query
 pub start_fails : (q q' : Qre) (h h' k : Holding Progress) (at : ℕ) (result : Found) → IsErr result → q' ≡ q → h' ≡ h

@@ -1,6 +1,6 @@
 -- Statement. What a start and a step of a node promise: what stood for a word stands for the longer
 -- one, what was sound stays sound, and for a number query they are never out of memory.
-use Rattle.std.specs.Prelude.{ℕ, List, Option, Result, IfOk, IsOk}
+use Rattle.std.specs.Prelude.{ℕ, List, Option, Result, Ok, Err, IfOk, IsOk}
 use Rattle.std.specs.declared.alloc.AllocError.{AllocError}
 use Rattle.value_ops.specs.declared.field.Field.{Field}
 use Rattle.query_model.specs.Queries.{Qre}
@@ -12,6 +12,11 @@ use Rattle.eval_tree.specs.Steps.{Starts, StartsSoundly, Steps, StepsSoundly}
 -- a hit, if there is one, or want of memory
 abbrev pub Found : Type 0
 Found = Result (Option Hit) AllocError
+
+-- it is what stands in the place of the hit, where memory was not wanting
+abbrev pub found_in : {A : Type 0} → Result A AllocError → Option Hit → Found
+found_in (Ok done) hit = Ok hit
+found_in (Err error) hit = Err error
 
 module _ {R : Type 0} (seen : R → Seen R) where
   -- a start is added behind so many items

@@ -1,7 +1,7 @@
 -- For the prover. What the calls of an operand promise whose value is joined with a left value:
 -- with one that waits, where an item goes by, and with one that was just found, where a start is
 -- added. Where a piece of an iteration is added, the value so far waits for it.
-use Rattle.std.specs.Prelude.{◌≡◌, ◌==◌, ◌&&◌, ℕ, Bool, not, List, Option, Some, Ok}
+use Rattle.std.specs.Prelude.{◌≡◌, ◌==◌, ◌&&◌, ℕ, Bool, not, List, Option, Ok}
 use Rattle.value_ops.specs.declared.field.Field.{Field}
 use Rattle.value_ops.specs.declared.value.Value.{Value}
 use Rattle.value_ops.specs.Expressions.{Expression}
@@ -67,9 +67,8 @@ module _ {R : Type 0} (seen : R → Seen R) where
 
   -- a piece of an iteration began behind a value so far, which waits for it where it can go on
   pub record GoesOn (operand : Qre) (hit : Hit) (old : Holding R) (waiting : Contents Value)
-      (at : ℕ) (new : Holding R) (more : Contents Value) (result : Option Hit) : Type 0 where
+      (at : ℕ) (new : Holding R) (more : Contents Value) : Type 0 where
     pub begun : Option Hit
     pub started : HasStarted seen operand old at new (Ok begun)
     pub put : IsPut (live_of operand new at) waiting
         (record { inner = at; outer = hit.start; value = hit.value }) more
-    pub same : result ≡ Some hit

@@ -1,12 +1,14 @@
 //! The calls of an apply: those of the operand, with the expression on its value.
+ghost use Rattle.std.specs.Prelude.{◌≡◌, None};
 ghost use Rattle.value_ops.specs.Expressions as values;
 ghost use Rattle.query_model.specs.Queries.{apply, plain_of};
-ghost use Rattle.eval_tree.specs.Calls.{HasStarted, HasStepped};
+ghost use Rattle.eval_tree.specs.Calls.{HasStarted, HasStepped, found_in};
 ghost use Rattle.eval_tree.specs.Plain.{holding_of, seen_of};
 ghost use Rattle.eval_tree.specs.Steps.{CanStart, CanStep};
 
-use crate::lefts::applied;
-use crate::{Hit, Node, State, start, step};
+use crate::lefts::apply_to;
+use crate::steps::{start_into, step_into};
+use crate::{Hit, Node, State};
 use item_schema::Item;
 use query_model::Query;
 use std::alloc::{AllocError, Global};
@@ -20,16 +22,19 @@ pub(crate) fn start_apply(
     node: &mut Node,
     alloc: Global,
     at: u64,
-) -> Result<Option<Hit>, AllocError>
-    requires { CanStart seen_of (apply (plain_of inner.now.shape) (values.plain_of expression.now))
+    hit: &mut Option<Hit>,
+) -> Result<(), AllocError>
+    requires none { hit.old ≡ None }
+    requires can { CanStart seen_of
+        (apply (plain_of inner.now.shape) (values.plain_of expression.now))
         (holding_of node.old.state) at }
     ensures { HasStarted seen_of (apply (plain_of inner.now.shape) (values.plain_of expression.now))
-        (holding_of node.old.state) at (holding_of node.new.state) result }
+        (holding_of node.old.state) at (holding_of node.new.state) (found_in result hit.new) }
 {
     match &mut node.state {
         State::Apply(a) => {
-            let hit = start(inner, a, alloc, at)?;
-            applied(alloc, expression, hit)
+            start_into(inner, a, alloc, at, hit)?;
+            apply_to(alloc, expression, hit)
         }
         _ => unreachable!(),
     }
@@ -44,16 +49,20 @@ pub(crate) fn step_apply(
     alloc: Global,
     now: u64,
     item: &Item,
-) -> Result<Option<Hit>, AllocError>
-    requires { CanStep seen_of (apply (plain_of inner.now.shape) (values.plain_of expression.now))
+    hit: &mut Option<Hit>,
+) -> Result<(), AllocError>
+    requires none { hit.old ≡ None }
+    requires can { CanStep seen_of
+        (apply (plain_of inner.now.shape) (values.plain_of expression.now))
         (holding_of node.old.state) now item.now }
     ensures { HasStepped seen_of (apply (plain_of inner.now.shape) (values.plain_of expression.now))
-        (holding_of node.old.state) now item.now (holding_of node.new.state) result }
+        (holding_of node.old.state) now item.now (holding_of node.new.state)
+        (found_in result hit.new) }
 {
     match &mut node.state {
         State::Apply(a) => {
-            let hit = step(inner, a, alloc, now, item)?;
-            applied(alloc, expression, hit)
+            step_into(inner, a, alloc, now, item, hit)?;
+            apply_to(alloc, expression, hit)
         }
         _ => unreachable!(),
     }

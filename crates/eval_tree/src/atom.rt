@@ -1,10 +1,10 @@
 //! The calls of an atom: it keeps the start at the end of the word.
-ghost use Rattle.std.specs.Prelude.{ℕ, None, Ok};
+ghost use Rattle.std.specs.Prelude.{◌≡◌, ℕ, None, Ok};
 ghost use Rattle.predicate_cells.specs.Plain as predicates;
 ghost use Rattle.predicate_cells.specs.Predicates.{Predicate};
 ghost use Rattle.value_ops.specs.Expressions as values;
 ghost use Rattle.query_model.specs.Queries.{atom};
-ghost use Rattle.eval_tree.specs.Calls.{HasStarted, HasStepped};
+ghost use Rattle.eval_tree.specs.Calls.{HasStarted, HasStepped, found_in};
 ghost use Rattle.eval_tree.specs.Plain.{holding_of, seen_of};
 ghost use Rattle.eval_tree.specs.Steps.{CanStart, CanStep};
 
@@ -38,21 +38,25 @@ pub(crate) fn step_atom(
     node: &mut Node,
     alloc: Global,
     item: &Item,
-) -> Result<Option<Hit>, AllocError>
-    requires { (now : ℕ) × CanStep seen_of
+    hit: &mut Option<Hit>,
+) -> Result<(), AllocError>
+    requires none { hit.old ≡ None }
+    requires can { (now : ℕ) × CanStep seen_of
         (atom (predicates.plain_of pred.now) (values.plain_of expression.now))
         (holding_of node.old.state) now item.now }
     ensures { (now : ℕ) → HasStepped seen_of
         (atom (predicates.plain_of pred.now) (values.plain_of expression.now))
-        (holding_of node.old.state) now item.now (holding_of node.new.state) result }
+        (holding_of node.old.state) now item.now (holding_of node.new.state)
+        (found_in result hit.new) }
 {
     match &mut node.state {
         State::Atom(found) => match found.take() {
             Some(start) if holds(pred, item) => {
                 let value = expression.eval(alloc, item.fields(), None, None)?;
-                Ok(Some(Hit { start, value }))
+                *hit = Some(Hit { start, value });
+                Ok(())
             }
-            _ => Ok(None),
+            _ => Ok(()),
         },
         _ => unreachable!(),
     }

@@ -1,10 +1,13 @@
 //! The calls of a choice: those of both operands, which have no word in common.
+ghost use Rattle.std.specs.Prelude.{◌≡◌, None};
 ghost use Rattle.query_model.specs.Queries.{choice, plain_of};
-ghost use Rattle.eval_tree.specs.Calls.{HasStarted, HasStepped};
+ghost use Rattle.eval_tree.specs.Calls.{HasStarted, HasStepped, found_in};
 ghost use Rattle.eval_tree.specs.Plain.{holding_of, seen_of};
 ghost use Rattle.eval_tree.specs.Steps.{CanStart, CanStep};
 
-use crate::{Hit, Node, State, start, step};
+use crate::hit::put_if_none;
+use crate::steps::{start_into, step_into};
+use crate::{Hit, Node, State};
 use item_schema::Item;
 use query_model::Query;
 use std::alloc::{AllocError, Global};
@@ -17,17 +20,21 @@ pub(crate) fn start_choice(
     node: &mut Node,
     alloc: Global,
     at: u64,
-) -> Result<Option<Hit>, AllocError>
-    requires { CanStart seen_of (choice (plain_of first.now.shape) (plain_of second.now.shape))
+    hit: &mut Option<Hit>,
+) -> Result<(), AllocError>
+    requires none { hit.old ≡ None }
+    requires can { CanStart seen_of (choice (plain_of first.now.shape) (plain_of second.now.shape))
         (holding_of node.old.state) at }
     ensures { HasStarted seen_of (choice (plain_of first.now.shape) (plain_of second.now.shape))
-        (holding_of node.old.state) at (holding_of node.new.state) result }
+        (holding_of node.old.state) at (holding_of node.new.state) (found_in result hit.new) }
 {
     match &mut node.state {
         State::Or(a, b) => {
-            let left = start(first, a, alloc, at)?;
-            let right = start(second, b, alloc, at)?;
-            Ok(left.or(right))
+            start_into(first, a, alloc, at, hit)?;
+            let mut right = None;
+            start_into(second, b, alloc, at, &mut right)?;
+            put_if_none(hit, right);
+            Ok(())
         }
         _ => unreachable!(),
     }
@@ -42,17 +49,22 @@ pub(crate) fn step_choice(
     alloc: Global,
     now: u64,
     item: &Item,
-) -> Result<Option<Hit>, AllocError>
-    requires { CanStep seen_of (choice (plain_of first.now.shape) (plain_of second.now.shape))
+    hit: &mut Option<Hit>,
+) -> Result<(), AllocError>
+    requires none { hit.old ≡ None }
+    requires can { CanStep seen_of (choice (plain_of first.now.shape) (plain_of second.now.shape))
         (holding_of node.old.state) now item.now }
     ensures { HasStepped seen_of (choice (plain_of first.now.shape) (plain_of second.now.shape))
-        (holding_of node.old.state) now item.now (holding_of node.new.state) result }
+        (holding_of node.old.state) now item.now (holding_of node.new.state)
+        (found_in result hit.new) }
 {
     match &mut node.state {
         State::Or(a, b) => {
-            let left = step(first, a, alloc, now, item)?;
-            let right = step(second, b, alloc, now, item)?;
-            Ok(left.or(right))
+            step_into(first, a, alloc, now, item, hit)?;
+            let mut right = None;
+            step_into(second, b, alloc, now, item, &mut right)?;
+            put_if_none(hit, right);
+            Ok(())
         }
         _ => unreachable!(),
     }

@@ -1,18 +1,19 @@
 //! The calls of a collect, and its starts.
-ghost use Rattle.std.specs.Prelude.{◌≡◌, ◌↔◌, ℕ, IfOk, IsTrue};
+ghost use Rattle.std.specs.Prelude.{◌≡◌, ◌↔◌, ℕ, None, IfOk, IsTrue};
 ghost use Rattle.predicate_cells.specs.Plain as predicates;
 ghost use Rattle.predicate_cells.specs.Predicates.{Predicate};
 ghost use Rattle.rate_expr.specs.Rates as rates;
 ghost use Rattle.query_model.specs.Queries.{collect, plain_of};
-ghost use Rattle.eval_tree.specs.Calls.{HasStarted, HasStepped};
+ghost use Rattle.eval_tree.specs.Calls.{HasStarted, HasStepped, found_in};
 ghost use Rattle.eval_tree.specs.Plain.{holding_of, seen_of};
 ghost use Rattle.eval_tree.specs.Pushes.{AddsStart, ArePushed, BeginsAt, CanMake, CanPassBy, CanPushAll, CanTrack, IsNew, PassesBy};
 ghost use Rattle.eval_tree.specs.Steps.{CanStart, CanStep};
 
 use crate::keys::keys_push;
 use crate::progress::value_of;
+use crate::steps::start_into;
 use crate::tables::{first_table, tabled};
-use crate::{Hit, Node, Progress, State, start};
+use crate::{Hit, Node, Progress, State};
 use item_schema::Item;
 use map_collect::{Keys, Tracks};
 use predicate_cells::Pred;
@@ -27,15 +28,17 @@ pub(crate) fn start_collect(
     node: &mut Node,
     alloc: Global,
     at: u64,
-) -> Result<Option<Hit>, AllocError>
-    requires { (column : ℕ) × (sync : Predicate) × (rate : rates.Expression) × CanStart seen_of
+    hit: &mut Option<Hit>,
+) -> Result<(), AllocError>
+    requires none { hit.old ≡ None }
+    requires can { (column : ℕ) × (sync : Predicate) × (rate : rates.Expression) × CanStart seen_of
         (collect column sync rate (plain_of inner.now.shape)) (holding_of node.old.state) at }
     ensures { (column : ℕ) (sync : Predicate) (rate : rates.Expression) → HasStarted seen_of
         (collect column sync rate (plain_of inner.now.shape)) (holding_of node.old.state) at
-        (holding_of node.new.state) result }
+        (holding_of node.new.state) (found_in result hit.new) }
 {
     match &mut node.state {
-        State::Collect(tracks) => begin_at(inner, tracks, alloc, at),
+        State::Collect(tracks) => begin_at(inner, tracks, alloc, at, hit),
         _ => unreachable!(),
     }
 }
@@ -49,16 +52,19 @@ pub(crate) fn step_collect(
     node: &mut Node,
     alloc: Global,
     item: &Item,
-) -> Result<Option<Hit>, AllocError>
-    requires { (rate : rates.Expression) × (now : ℕ) × CanStep seen_of
+    hit: &mut Option<Hit>,
+) -> Result<(), AllocError>
+    requires none { hit.old ≡ None }
+    requires can { (rate : rates.Expression) × (now : ℕ) × CanStep seen_of
         (collect column (predicates.plain_of sync.now) rate (plain_of inner.now.shape))
         (holding_of node.old.state) now item.now }
     ensures { (rate : rates.Expression) (now : ℕ) → HasStepped seen_of
         (collect column (predicates.plain_of sync.now) rate (plain_of inner.now.shape))
-        (holding_of node.old.state) now item.now (holding_of node.new.state) result }
+        (holding_of node.old.state) now item.now (holding_of node.new.state)
+        (found_in result hit.new) }
 {
     match &mut node.state {
-        State::Collect(tracks) => pass_by(inner, tracks, alloc, column, sync, item),
+        State::Collect(tracks) => pass_by(inner, tracks, alloc, column, sync, item, hit),
         _ => unreachable!(),
     }
 }
@@ -73,17 +79,19 @@ fn pass_by(
     column: u32,
     sync: &Pred,
     item: &Item,
-) -> Result<Option<Hit>, AllocError>
-    requires { CanPassBy seen_of (plain_of query.now.shape) tracks.old item.now }
-    ensures { IfOk result (PassesBy seen_of (plain_of query.now.shape) column
-        (predicates.plain_of sync.now) item.now tracks.old tracks.new) }
+    hit: &mut Option<Hit>,
+) -> Result<(), AllocError>
+    requires none { hit.old ≡ None }
+    requires can { CanPassBy seen_of (plain_of query.now.shape) tracks.old item.now }
+    ensures { IfOk result (λ done. PassesBy seen_of (plain_of query.now.shape) column
+        (predicates.plain_of sync.now) item.now tracks.old tracks.new hit.new) }
 {
     tracks.advance(item);
     push_all(query, tracks, alloc, column, sync, item)?;
     // A start may end here, so its table is made before what can't go on is given up.
-    let hit = tabled(tracks, alloc)?;
+    *hit = tabled(tracks, alloc)?;
     tracks.keep();
-    Ok(hit)
+    Ok(())
 }
 
 /// The item goes by at the keys of each start.
@@ -114,12 +122,16 @@ fn begin_at(
     tracks: &mut Tracks<Progress>,
     alloc: Global,
     at: u64,
-) -> Result<Option<Hit>, AllocError>
-    requires { CanMake (plain_of query.now.shape) }
-    ensures { IfOk result (BeginsAt seen_of (plain_of query.now.shape) tracks.old at tracks.new) }
+    hit: &mut Option<Hit>,
+) -> Result<(), AllocError>
+    requires none { hit.old ≡ None }
+    requires can { CanMake (plain_of query.now.shape) }
+    ensures { IfOk result (λ done. BeginsAt seen_of (plain_of query.now.shape) tracks.old at
+        tracks.new hit.new) }
 {
     track(query, tracks, alloc, at)?;
-    Ok(first_table(tracks, alloc, at))
+    *hit = first_table(tracks, alloc, at);
+    Ok(())
 }
 
 /// It is put where a word can begin. Where the starts are apart it is not there yet.
@@ -156,8 +168,9 @@ fn new_runner(query: &Query, alloc: Global) -> Result<Progress, AllocError>
     ensures { IfOk result (IsNew seen_of (plain_of query.now.shape)) }
 {
     let mut node = Node::new(alloc, query, None)?;
-    match start(query, &mut node, alloc, 0) {
-        Ok(hit) => Ok(Progress {
+    let mut hit = None;
+    match start_into(query, &mut node, alloc, 0, &mut hit) {
+        Ok(()) => Ok(Progress {
             node,
             position: 0,
             answer: value_of(hit),

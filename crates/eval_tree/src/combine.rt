@@ -1,12 +1,14 @@
 //! The calls of a combine: those of both operands, whose values are joined.
+ghost use Rattle.std.specs.Prelude.{◌≡◌, None};
 ghost use Rattle.value_ops.specs.Expressions as values;
 ghost use Rattle.query_model.specs.Queries.{combine, plain_of};
-ghost use Rattle.eval_tree.specs.Calls.{HasStarted, HasStepped};
+ghost use Rattle.eval_tree.specs.Calls.{HasStarted, HasStepped, found_in};
 ghost use Rattle.eval_tree.specs.Plain.{holding_of, seen_of};
 ghost use Rattle.eval_tree.specs.Steps.{CanStart, CanStep};
 
-use crate::lefts::combined;
-use crate::{Hit, Node, State, start, step};
+use crate::lefts::combine_with;
+use crate::steps::{start_into, step_into};
+use crate::{Hit, Node, State};
 use item_schema::Item;
 use query_model::Query;
 use std::alloc::{AllocError, Global};
@@ -21,18 +23,21 @@ pub(crate) fn start_combine(
     node: &mut Node,
     alloc: Global,
     at: u64,
-) -> Result<Option<Hit>, AllocError>
-    requires { CanStart seen_of (combine (plain_of first.now.shape) (plain_of second.now.shape)
+    hit: &mut Option<Hit>,
+) -> Result<(), AllocError>
+    requires none { hit.old ≡ None }
+    requires can { CanStart seen_of (combine (plain_of first.now.shape) (plain_of second.now.shape)
         (values.plain_of expression.now)) (holding_of node.old.state) at }
     ensures { HasStarted seen_of (combine (plain_of first.now.shape) (plain_of second.now.shape)
         (values.plain_of expression.now)) (holding_of node.old.state) at
-        (holding_of node.new.state) result }
+        (holding_of node.new.state) (found_in result hit.new) }
 {
     match &mut node.state {
         State::Combine(a, b) => {
-            let left = start(first, a, alloc, at)?;
-            let right = start(second, b, alloc, at)?;
-            combined(alloc, expression, left, right)
+            start_into(first, a, alloc, at, hit)?;
+            let mut right = None;
+            start_into(second, b, alloc, at, &mut right)?;
+            combine_with(alloc, expression, hit, right)
         }
         _ => unreachable!(),
     }
@@ -48,18 +53,21 @@ pub(crate) fn step_combine(
     alloc: Global,
     now: u64,
     item: &Item,
-) -> Result<Option<Hit>, AllocError>
-    requires { CanStep seen_of (combine (plain_of first.now.shape) (plain_of second.now.shape)
+    hit: &mut Option<Hit>,
+) -> Result<(), AllocError>
+    requires none { hit.old ≡ None }
+    requires can { CanStep seen_of (combine (plain_of first.now.shape) (plain_of second.now.shape)
         (values.plain_of expression.now)) (holding_of node.old.state) now item.now }
     ensures { HasStepped seen_of (combine (plain_of first.now.shape) (plain_of second.now.shape)
         (values.plain_of expression.now)) (holding_of node.old.state) now item.now
-        (holding_of node.new.state) result }
+        (holding_of node.new.state) (found_in result hit.new) }
 {
     match &mut node.state {
         State::Combine(a, b) => {
-            let left = step(first, a, alloc, now, item)?;
-            let right = step(second, b, alloc, now, item)?;
-            combined(alloc, expression, left, right)
+            step_into(first, a, alloc, now, item, hit)?;
+            let mut right = None;
+            step_into(second, b, alloc, now, item, &mut right)?;
+            combine_with(alloc, expression, hit, right)
         }
         _ => unreachable!(),
     }

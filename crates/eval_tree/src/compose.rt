@@ -1,15 +1,16 @@
 //! The calls of a compose: the values of its left operand go to the runners of the right one.
-ghost use Rattle.std.specs.Prelude.{◌≡◌, ◌++◌};
+ghost use Rattle.std.specs.Prelude.{◌≡◌, ◌++◌, None};
 ghost use Rattle.compose_eval.specs.Followers.{live_instances, retired};
 ghost use Rattle.query_model.specs.Queries.{compose, plain_of};
-ghost use Rattle.eval_tree.specs.Calls.{HasStarted, HasStepped};
+ghost use Rattle.eval_tree.specs.Calls.{HasStarted, HasStepped, found_in};
 ghost use Rattle.eval_tree.specs.Live.{live_of};
 ghost use Rattle.eval_tree.specs.Plain.{holding_of, seen_of};
 ghost use Rattle.eval_tree.specs.Steps.{CanStart, CanStep};
 
 use crate::feeds::{feed, pass_on};
 use crate::live::is_live;
-use crate::{Hit, Node, Progress, State, start, step};
+use crate::steps::{start_into, step_into};
+use crate::{Hit, Node, Progress, State};
 use compose_eval::Instances;
 use item_schema::Item;
 use query_model::Query;
@@ -23,16 +24,19 @@ pub(crate) fn start_compose(
     node: &mut Node,
     alloc: Global,
     at: u64,
-) -> Result<Option<Hit>, AllocError>
-    requires { CanStart seen_of (compose (plain_of first.now.shape) (plain_of second.now.shape))
+    hit: &mut Option<Hit>,
+) -> Result<(), AllocError>
+    requires none { hit.old ≡ None }
+    requires can { CanStart seen_of (compose (plain_of first.now.shape) (plain_of second.now.shape))
         (holding_of node.old.state) at }
     ensures { HasStarted seen_of (compose (plain_of first.now.shape) (plain_of second.now.shape))
-        (holding_of node.old.state) at (holding_of node.new.state) result }
+        (holding_of node.old.state) at (holding_of node.new.state) (found_in result hit.new) }
 {
     match &mut node.state {
         State::Compose(a, runners) => {
-            let left = start(first, a, alloc, at)?;
-            feed(second, runners, alloc, is_live(first, a, at), at, left)
+            let mut left = None;
+            start_into(first, a, alloc, at, &mut left)?;
+            feed(second, runners, alloc, is_live(first, a, at), at, left, hit)
         }
         _ => unreachable!(),
     }
@@ -46,19 +50,23 @@ pub(crate) fn step_compose(
     alloc: Global,
     now: u64,
     item: &Item,
-) -> Result<Option<Hit>, AllocError>
-    requires { CanStep seen_of (compose (plain_of first.now.shape) (plain_of second.now.shape))
+    hit: &mut Option<Hit>,
+) -> Result<(), AllocError>
+    requires none { hit.old ≡ None }
+    requires can { CanStep seen_of (compose (plain_of first.now.shape) (plain_of second.now.shape))
         (holding_of node.old.state) now item.now }
     ensures { HasStepped seen_of (compose (plain_of first.now.shape) (plain_of second.now.shape))
-        (holding_of node.old.state) now item.now (holding_of node.new.state) result }
+        (holding_of node.old.state) now item.now (holding_of node.new.state)
+        (found_in result hit.new) }
 {
     match &mut node.state {
         State::Compose(a, runners) => {
-            let left = step(first, a, alloc, now, item)?;
+            let mut left = None;
+            step_into(first, a, alloc, now, item, &mut left)?;
             // A runner may come to rest that has just taken a value, so its answer is taken before.
-            let hit = pass_on(second, runners, alloc, left)?;
+            pass_on(second, runners, alloc, left, hit)?;
             retire(first, a, runners);
-            Ok(hit)
+            Ok(())
         }
         _ => unreachable!(),
     }

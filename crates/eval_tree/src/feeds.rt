@@ -1,5 +1,5 @@
 //! Runners of the right operand of a compose. The values of the left operand are their items.
-ghost use Rattle.std.specs.Prelude.{IfOk, None, IsOk};
+ghost use Rattle.std.specs.Prelude.{◌≡◌, IfOk, None, IsOk};
 ghost use Rattle.query_model.specs.Queries.{plain_of};
 ghost use Rattle.eval_tree.specs.Feeds.{CanBegin, CanCarry, CanFeed, CanPassOn, Feeds, IsBegun, IsCarried, IsRenewed, IsTold, PassesOn, item_of};
 ghost use Rattle.eval_tree.specs.Numbers.{BeginsNumbers, CarriesNumbers, FeedsNumbers, PassesNumbers};
@@ -7,7 +7,8 @@ ghost use Rattle.eval_tree.specs.Plain.{seen_of};
 
 use crate::clear::clear;
 use crate::progress::value_of;
-use crate::{Hit, Progress, start, step};
+use crate::steps::{start_into, step_into};
+use crate::{Hit, Progress};
 use compose_eval::Instances;
 use item_schema::Item;
 use query_model::Query;
@@ -23,22 +24,24 @@ pub(crate) fn feed(
     live: bool,
     at: u64,
     left: Option<Hit>,
-) -> Result<Option<Hit>, AllocError>
-    requires { CanFeed seen_of (plain_of query.now.shape) runners.old left }
-    ensures fed { IfOk result (Feeds seen_of (plain_of query.now.shape) runners.old live at left
-        runners.new) }
+    hit: &mut Option<Hit>,
+) -> Result<(), AllocError>
+    requires none { hit.old ≡ None }
+    requires can { CanFeed seen_of (plain_of query.now.shape) runners.old left }
+    ensures fed { IfOk result (λ done. Feeds seen_of (plain_of query.now.shape) runners.old live at
+        left runners.new hit.new) }
     ensures no_memory { FeedsNumbers seen_of (plain_of query.now.shape) runners.old left
         → IsOk result }
 {
     if runners.idle() == 0 || runners.place(at).is_some() {
-        return Ok(None);
+        return Ok(());
     }
     let last = runners.idle() - 1;
-    let hit = begin(query, runners.resting_mut(last), alloc, left)?;
+    begin(query, runners.resting_mut(last), alloc, left, hit)?;
     if live {
         runners.wake(at);
     }
-    Ok(hit)
+    Ok(())
 }
 
 /// The runner that is fed from the start of a hit takes its value, and its answer is the hit of the
@@ -49,19 +52,21 @@ pub(crate) fn pass_on(
     runners: &mut Instances<Progress>,
     alloc: Global,
     left: Option<Hit>,
-) -> Result<Option<Hit>, AllocError>
-    requires { CanPassOn seen_of (plain_of query.now.shape) runners.old left }
-    ensures passed { IfOk result (PassesOn seen_of (plain_of query.now.shape) runners.old left
-        runners.new) }
+    hit: &mut Option<Hit>,
+) -> Result<(), AllocError>
+    requires none { hit.old ≡ None }
+    requires can { CanPassOn seen_of (plain_of query.now.shape) runners.old left }
+    ensures passed { IfOk result (λ done. PassesOn seen_of (plain_of query.now.shape) runners.old
+        left runners.new hit.new) }
     ensures no_memory { PassesNumbers seen_of (plain_of query.now.shape) runners.old left
         → IsOk result }
 {
     match left {
-        Some(hit) => match runners.place(hit.start) {
-            Some(place) => tell(query, runners.follower_mut(place), alloc, hit),
-            None => Ok(None),
+        Some(left) => match runners.place(left.start) {
+            Some(place) => tell(query, runners.follower_mut(place), alloc, left, hit),
+            None => Ok(()),
         },
-        None => Ok(None),
+        None => Ok(()),
     }
 }
 
@@ -71,17 +76,19 @@ fn begin(
     runner: &mut Progress,
     alloc: Global,
     left: Option<Hit>,
-) -> Result<Option<Hit>, AllocError>
-    requires { CanBegin seen_of (plain_of query.now.shape) runner.old left }
-    ensures begun { IfOk result (IsBegun seen_of (plain_of query.now.shape) runner.old left
-        runner.new) }
+    hit: &mut Option<Hit>,
+) -> Result<(), AllocError>
+    requires none { hit.old ≡ None }
+    requires can { CanBegin seen_of (plain_of query.now.shape) runner.old left }
+    ensures begun { IfOk result (λ done. IsBegun seen_of (plain_of query.now.shape) runner.old left
+        runner.new hit.new) }
     ensures no_memory { BeginsNumbers seen_of (plain_of query.now.shape) runner.old left
         → IsOk result }
 {
     renew(query, runner, alloc)?;
     match left {
-        Some(hit) => tell(query, runner, alloc, hit),
-        None => Ok(None),
+        Some(left) => tell(query, runner, alloc, left, hit),
+        None => Ok(()),
     }
 }
 
@@ -91,10 +98,12 @@ fn tell(
     runner: &mut Progress,
     alloc: Global,
     left: Hit,
-) -> Result<Option<Hit>, AllocError>
-    requires { CanCarry seen_of (plain_of query.now.shape) runner.old (item_of left.value) }
-    ensures told { IfOk result (IsTold seen_of (plain_of query.now.shape) runner.old left
-        runner.new) }
+    hit: &mut Option<Hit>,
+) -> Result<(), AllocError>
+    requires none { hit.old ≡ None }
+    requires can { CanCarry seen_of (plain_of query.now.shape) runner.old (item_of left.value) }
+    ensures told { IfOk result (λ done. IsTold seen_of (plain_of query.now.shape) runner.old left
+        runner.new hit.new) }
     ensures no_memory { CarriesNumbers seen_of (plain_of query.now.shape) runner.old
         (item_of left.value) → IsOk result }
 {
@@ -103,9 +112,10 @@ fn tell(
     match &runner.answer {
         Some(value) => {
             let value = value.try_copy(alloc)?;
-            Ok(Some(Hit { start, value }))
+            *hit = Some(Hit { start, value });
+            Ok(())
         }
-        None => Ok(None),
+        None => Ok(()),
     }
 }
 
@@ -124,7 +134,8 @@ pub(crate) fn carry(
         → IsOk result }
 {
     let now = runner.position + 1;
-    let hit = step(query, &mut runner.node, alloc, now, item)?;
+    let mut hit = None;
+    step_into(query, &mut runner.node, alloc, now, item, &mut hit)?;
     runner.position = now;
     runner.answer = value_of(hit);
     Ok(())
@@ -140,7 +151,8 @@ pub(crate) fn renew(query: &Query, runner: &mut Progress, alloc: Global) -> Resu
         → IsOk result }
 {
     clear(query, &mut runner.node);
-    let hit = start(query, &mut runner.node, alloc, 0)?;
+    let mut hit = None;
+    start_into(query, &mut runner.node, alloc, 0, &mut hit)?;
     runner.position = 0;
     runner.answer = value_of(hit);
     Ok(())

@@ -1,5 +1,6 @@
 //! Where a piece of the word has a value.
 ghost use Rattle.std.specs.Prelude.{◌≡◌};
+ghost use Rattle.std.specs.Option.{option_or};
 ghost use Rattle.value_ops.specs.declared.scalar.Scalar.TheVariants as scalar;
 ghost use Rattle.value_ops.specs.Types.{IsTable};
 ghost use Rattle.value_ops.specs.declared.value.Value.TheVariants as value;
@@ -49,5 +50,15 @@ impl Hit {
         // Its type tells that its entries are those of a table.
         let _type = value.ty();
         Hit { start, value }
+    }
+}
+
+/// Puts the other hit into the place where there is none.
+#[inline(always)]
+pub(crate) fn put_if_none(hit: &mut Option<Hit>, other: Option<Hit>)
+    ensures { hit.new ≡ option_or hit.old other }
+{
+    if hit.is_none() {
+        *hit = other;
     }
 }

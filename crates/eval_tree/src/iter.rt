@@ -4,7 +4,7 @@ ghost use Rattle.split_eval.specs.Entries.{entry_at};
 ghost use Rattle.value_ops.specs.Expressions as values;
 ghost use Rattle.value_ops.specs.Values.{IsNoTable};
 ghost use Rattle.query_model.specs.Queries.{iter, plain_of};
-ghost use Rattle.eval_tree.specs.Calls.{HasStarted, HasStepped};
+ghost use Rattle.eval_tree.specs.Calls.{HasStarted, HasStepped, found_in};
 ghost use Rattle.eval_tree.specs.Numbers.{StartsNumbers};
 ghost use Rattle.eval_tree.specs.Operands.{GoesOn};
 ghost use Rattle.eval_tree.specs.Plain.{holding_of, seen_of};
@@ -13,7 +13,8 @@ ghost use Rattle.eval_tree.specs.Steps.{CanStart, CanStep};
 use crate::folds::{go_on, go_on_if_new};
 use crate::live::is_live;
 use crate::operands::step_and_end;
-use crate::{Hit, Node, State, start};
+use crate::steps::start_only;
+use crate::{Hit, Node, State};
 use item_schema::Item;
 use iter_eval::Chain;
 use query_model::Query;
@@ -28,20 +29,23 @@ pub(crate) fn start_iter(
     node: &mut Node,
     alloc: Global,
     at: u64,
-) -> Result<Option<Hit>, AllocError>
-    requires { (fold : values.Expression) × CanStart seen_of
+    hit: &mut Option<Hit>,
+) -> Result<(), AllocError>
+    requires none { hit.old ≡ None }
+    requires can { (fold : values.Expression) × CanStart seen_of
         (iter (plain_of inner.now.shape) number fold) (holding_of node.old.state) at }
     ensures { (fold : values.Expression) → HasStarted seen_of
         (iter (plain_of inner.now.shape) number fold) (holding_of node.old.state) at
-        (holding_of node.new.state) result }
+        (holding_of node.new.state) (found_in result hit.new) }
 {
     match &mut node.state {
         State::Iter(a, so_far) => {
             // No piece is empty, so the operand has no hit here.
-            start(inner, a, alloc, at)?;
-            let hit = Hit::of_number(at, number);
-            go_on_if_new(alloc, so_far, is_live(inner, a, at), at, &hit)?;
-            Ok(Some(hit))
+            start_only(inner, a, alloc, at)?;
+            let begun = Hit::of_number(at, number);
+            go_on_if_new(alloc, so_far, is_live(inner, a, at), at, &begun)?;
+            *hit = Some(begun);
+            Ok(())
         }
         _ => unreachable!(),
     }
@@ -56,24 +60,27 @@ pub(crate) fn step_iter(
     alloc: Global,
     now: u64,
     item: &Item,
-) -> Result<Option<Hit>, AllocError>
-    requires { (number : ℤ) × CanStep seen_of
+    hit: &mut Option<Hit>,
+) -> Result<(), AllocError>
+    requires none { hit.old ≡ None }
+    requires can { (number : ℤ) × CanStep seen_of
         (iter (plain_of inner.now.shape) number (values.plain_of expression.now))
         (holding_of node.old.state) now item.now }
     ensures { (number : ℤ) → HasStepped seen_of
         (iter (plain_of inner.now.shape) number (values.plain_of expression.now))
-        (holding_of node.old.state) now item.now (holding_of node.new.state) result }
+        (holding_of node.old.state) now item.now (holding_of node.new.state)
+        (found_in result hit.new) }
 {
     match &mut node.state {
         State::Iter(a, so_far) => {
             // The value before the piece is looked up before what can't go on is given up.
             let held = so_far.as_pending();
-            let hit = step_and_end(inner, a, expression, held, alloc, now, item)?;
+            step_and_end(inner, a, expression, held, alloc, now, item, hit)?;
             let node = &**a;
             so_far.keep(|start| start != now && is_live(inner, node, start));
-            match hit {
-                Some(hit) => next_piece(inner, a, so_far, alloc, now, hit),
-                None => Ok(None),
+            match &*hit {
+                Some(found) => next_piece(inner, a, so_far, alloc, now, found),
+                None => Ok(()),
             }
         }
         _ => unreachable!(),
@@ -89,16 +96,15 @@ fn next_piece(
     so_far: &mut Chain<Value>,
     alloc: Global,
     at: u64,
-    hit: Hit,
-) -> Result<Option<Hit>, AllocError>
+    hit: &Hit,
+) -> Result<(), AllocError>
     requires can { CanStart seen_of (plain_of inner.now.shape) (holding_of a.old.state) at }
     requires fresh { entry_at so_far.old.entries at ≡ None }
-    ensures goes_on { IfOk result (GoesOn seen_of (plain_of inner.now.shape) hit
+    ensures goes_on { IfOk result (λ done. GoesOn seen_of (plain_of inner.now.shape) hit.now
         (holding_of a.old.state) so_far.old at (holding_of a.new.state) so_far.new) }
     ensures no_memory { StartsNumbers seen_of (plain_of inner.now.shape) (holding_of a.old.state) at
-        → IsNoTable hit.value → IsOk result }
+        → IsNoTable hit.now.value → IsOk result }
 {
-    start(inner, a, alloc, at)?;
-    go_on(alloc, so_far, is_live(inner, a, at), at, &hit)?;
-    Ok(Some(hit))
+    start_only(inner, a, alloc, at)?;
+    go_on(alloc, so_far, is_live(inner, a, at), at, hit)
 }

@@ -1,9 +1,9 @@
 //! Left values of a split: they wait, and are joined with the right values behind them.
-ghost use Rattle.std.specs.Prelude.{◌≡◌, ◌<◌, ◌++◌, ◌∷◌, [], ℕ, Bool, None, length, IfOk, IsOk};
+ghost use Rattle.std.specs.Prelude.{◌≡◌, ◌<◌, ◌++◌, ◌∷◌, [], ℕ, Bool, None, Some, length, IfOk, IsOk};
 ghost use Rattle.std.specs.Option.{option_copied};
 ghost use Rattle.value_ops.specs.Expressions.{plain_of};
 ghost use Rattle.split_eval.specs.Entries.{entry_at};
-ghost use Rattle.eval_tree.specs.Lefts.{AreCombined, AreTypedOnHits, AreTypedWith, IsApplied, IsEnded, IsJoined, IsPut, IsTypedOnHit, IsTypedWith, AreNumbersOnHits, AreNumbersWith, IsNumberOnHit, IsNumberWith};
+ghost use Rattle.eval_tree.specs.Lefts.{AreCombined, AreNumbersOnHits, AreNumbersWith, AreTypedOnHits, AreTypedWith, IsApplied, IsEnded, IsJoined, IsNumberOnBoth, IsNumberOnHit, IsNumberWith, IsPut, IsTypedOnBoth, IsTypedOnHit, IsTypedWith};
 ghost use Rattle.eval_tree.specs.Live.{is_outer};
 
 use crate::Hit;
@@ -46,99 +46,116 @@ pub(crate) fn wait_if_new(held: &mut Pending<Value>, live: bool, at: u64, left: 
     }
 }
 
-/// What the expression gives on the value of a hit.
-pub(crate) fn applied(
+/// The hit has what the expression gives on its value.
+pub(crate) fn apply_to(
     alloc: Global,
     expression: &Expr,
-    inner: Option<Hit>,
-) -> Result<Option<Hit>, AllocError>
-    requires { IsTypedOnHit (plain_of expression.now) inner }
-    ensures applied { IfOk result (IsApplied (plain_of expression.now) inner) }
-    ensures no_memory { IsNumberOnHit (plain_of expression.now) inner → IsOk result }
+    hit: &mut Option<Hit>,
+) -> Result<(), AllocError>
+    requires { IsTypedOnHit (plain_of expression.now) hit.old }
+    ensures applied { IfOk result (λ done. IsApplied (plain_of expression.now) hit.old hit.new) }
+    ensures no_memory { IsNumberOnHit (plain_of expression.now) hit.old → IsOk result }
 {
-    match inner {
-        Some(hit) => {
-            let value = expression.eval(alloc, &[], Some(&hit.value), None)?;
-            Ok(Some(Hit {
-                start: hit.start,
-                value,
-            }))
+    match hit {
+        Some(found) => {
+            found.value = expression.eval(alloc, &[], Some(&found.value), None)?;
+            Ok(())
         }
-        None => Ok(None),
+        None => Ok(()),
     }
 }
 
-/// The hit where both operands have one, from the same start.
-pub(crate) fn combined(
+/// The hit where both operands have one, from the same start. That of the left operand stands in
+/// its place.
+pub(crate) fn combine_with(
     alloc: Global,
     expression: &Expr,
-    left: Option<Hit>,
+    hit: &mut Option<Hit>,
     right: Option<Hit>,
-) -> Result<Option<Hit>, AllocError>
-    requires { AreTypedOnHits (plain_of expression.now) left right }
-    ensures combined { IfOk result (AreCombined (plain_of expression.now) left right) }
-    ensures no_memory { AreNumbersOnHits (plain_of expression.now) left right → IsOk result }
+) -> Result<(), AllocError>
+    requires { AreTypedOnHits (plain_of expression.now) hit.old right }
+    ensures combined { IfOk result (λ done. AreCombined (plain_of expression.now) hit.old right
+        hit.new) }
+    ensures no_memory { AreNumbersOnHits (plain_of expression.now) hit.old right → IsOk result }
 {
-    match left {
-        Some(left) => joined(alloc, expression, &left, right),
-        None => Ok(None),
+    match hit {
+        Some(left) => match right {
+            Some(right) => {
+                let value = expression.eval(alloc, &[], Some(&left.value), Some(&right.value))?;
+                left.value = value;
+                Ok(())
+            }
+            None => {
+                *hit = None;
+                Ok(())
+            }
+        },
+        None => Ok(()),
     }
 }
 
-/// The hit of the whole whose left value was just found.
-pub(crate) fn joined(
+/// The hit of the whole whose left value was just found. That of the right operand stands in its
+/// place.
+pub(crate) fn join_to(
     alloc: Global,
     expression: &Expr,
     left: &Hit,
-    right: Option<Hit>,
-) -> Result<Option<Hit>, AllocError>
-    requires { IsTypedWith (plain_of expression.now) left.now.value right }
-    ensures joined { IfOk result
-        (IsJoined (plain_of expression.now) left.now.start left.now.value right) }
-    ensures no_memory { IsNumberWith (plain_of expression.now) left.now.value right → IsOk result }
-{
-    with_left(alloc, expression, left.start, &left.value, right)
-}
-
-/// The hit of the whole whose left value waited.
-#[inline(always)]
-pub(crate) fn ended(
-    alloc: Global,
-    expression: &Expr,
-    held: &Pending<Value>,
-    right: Option<Hit>,
-) -> Result<Option<Hit>, AllocError>
-    requires { AreTypedWith (plain_of expression.now) held.now.entries right }
-    ensures ended { IfOk result (IsEnded (plain_of expression.now) held.now.entries right) }
-    ensures no_memory { AreNumbersWith (plain_of expression.now) held.now.entries right
+    hit: &mut Option<Hit>,
+) -> Result<(), AllocError>
+    requires { IsTypedWith (plain_of expression.now) left.now.value hit.old }
+    ensures joined { IfOk result (λ done. IsJoined (plain_of expression.now) left.now.start
+        left.now.value hit.old hit.new) }
+    ensures no_memory { IsNumberWith (plain_of expression.now) left.now.value hit.old
         → IsOk result }
 {
-    match right {
-        Some(hit) => match held.find(hit.start) {
-            Some(entry) => with_left(alloc, expression, entry.outer, &entry.value, Some(hit)),
-            None => Ok(None),
-        },
-        None => Ok(None),
+    match hit {
+        Some(right) => with_left(alloc, expression, left.start, &left.value, right),
+        None => Ok(()),
     }
 }
 
+/// The hit of the whole whose left value waited. That of the right operand stands in its place.
+#[inline(always)]
+pub(crate) fn end_waiting(
+    alloc: Global,
+    expression: &Expr,
+    held: &Pending<Value>,
+    hit: &mut Option<Hit>,
+) -> Result<(), AllocError>
+    requires { AreTypedWith (plain_of expression.now) held.now.entries hit.old }
+    ensures ended { IfOk result (λ done. IsEnded (plain_of expression.now) held.now.entries hit.old
+        hit.new) }
+    ensures no_memory { AreNumbersWith (plain_of expression.now) held.now.entries hit.old
+        → IsOk result }
+{
+    match hit {
+        Some(right) => match held.find(right.start) {
+            Some(entry) => with_left(alloc, expression, entry.outer, &entry.value, right),
+            None => {
+                *hit = None;
+                Ok(())
+            }
+        },
+        None => Ok(()),
+    }
+}
+
+// The right hit becomes that of the whole, with the start and the value of the left one.
 #[inline(always)]
 fn with_left(
     alloc: Global,
     expression: &Expr,
     start: u64,
     left: &Value,
-    right: Option<Hit>,
-) -> Result<Option<Hit>, AllocError>
-    requires { IsTypedWith (plain_of expression.now) left.now right }
-    ensures joined { IfOk result (IsJoined (plain_of expression.now) start left.now right) }
-    ensures no_memory { IsNumberWith (plain_of expression.now) left.now right → IsOk result }
+    hit: &mut Hit,
+) -> Result<(), AllocError>
+    requires { IsTypedOnBoth (plain_of expression.now) left.now hit.old.value }
+    ensures joined { IfOk result (λ done. IsJoined (plain_of expression.now) start left.now
+        (Some hit.old) (Some hit.new)) }
+    ensures no_memory { IsNumberOnBoth (plain_of expression.now) left.now hit.old.value
+        → IsOk result }
 {
-    match right {
-        Some(hit) => {
-            let value = expression.eval(alloc, &[], Some(left), Some(&hit.value))?;
-            Ok(Some(Hit { start, value }))
-        }
-        None => Ok(None),
-    }
+    hit.value = expression.eval(alloc, &[], Some(left), Some(&hit.value))?;
+    hit.start = start;
+    Ok(())
 }

@@ -5,6 +5,7 @@
 mod apply;
 mod atom;
 mod automaton;
+mod calls;
 mod choice;
 mod clear;
 mod collect;
@@ -34,6 +35,7 @@ mod steps;
 mod stream_cells;
 mod tables;
 
+pub use calls::{start, step};
 pub use copies::copy;
 pub use counts::stored;
 pub use hit::Hit;
@@ -43,5 +45,4 @@ pub use live::is_live;
 pub use node::{Node, State};
 pub use progress::Progress;
 pub use runner::Runner;
-pub use steps::{start, step};
 pub use tables::keys_table;

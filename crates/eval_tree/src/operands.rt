@@ -1,12 +1,13 @@
 //! The calls of an operand whose value is joined with a left value.
-ghost use Rattle.std.specs.Prelude.{IfOk, IsOk};
+ghost use Rattle.std.specs.Prelude.{◌≡◌, None, IfOk, IsOk};
 ghost use Rattle.value_ops.specs.Expressions as values;
 ghost use Rattle.query_model.specs.Queries.{plain_of};
 ghost use Rattle.eval_tree.specs.Operands.{CanEnd, CanJoin, EndsNumbers, HasEnded, HasJoined, JoinsNumbers};
 ghost use Rattle.eval_tree.specs.Plain.{holding_of, seen_of};
 
-use crate::lefts::{ended, joined};
-use crate::{Hit, Node, start, step};
+use crate::lefts::{end_waiting, join_to};
+use crate::steps::{start_into, step_into};
+use crate::{Hit, Node};
 use item_schema::Item;
 use query_model::Query;
 use split_eval::Pending;
@@ -24,18 +25,20 @@ pub(crate) fn step_and_end(
     alloc: Global,
     now: u64,
     item: &Item,
-) -> Result<Option<Hit>, AllocError>
-    requires { CanEnd seen_of (plain_of operand.now.shape) (values.plain_of expression.now)
+    hit: &mut Option<Hit>,
+) -> Result<(), AllocError>
+    requires none { hit.old ≡ None }
+    requires can { CanEnd seen_of (plain_of operand.now.shape) (values.plain_of expression.now)
         held.now.entries (holding_of node.old.state) now item.now }
-    ensures ended { IfOk result (HasEnded seen_of (plain_of operand.now.shape)
+    ensures ended { IfOk result (λ done. HasEnded seen_of (plain_of operand.now.shape)
         (values.plain_of expression.now) held.now.entries (holding_of node.old.state) now item.now
-        (holding_of node.new.state)) }
+        (holding_of node.new.state) hit.new) }
     ensures no_memory { EndsNumbers seen_of (plain_of operand.now.shape)
         (values.plain_of expression.now) held.now.entries (holding_of node.old.state) now item.now
         → IsOk result }
 {
-    let right = step(operand, node, alloc, now, item)?;
-    ended(alloc, expression, held, right)
+    step_into(operand, node, alloc, now, item, hit)?;
+    end_waiting(alloc, expression, held, hit)
 }
 
 /// Its value on the empty word, if it has one, is joined with a left value that was just found.
@@ -48,15 +51,17 @@ pub(crate) fn start_and_join(
     left: &Hit,
     alloc: Global,
     at: u64,
-) -> Result<Option<Hit>, AllocError>
-    requires { CanJoin seen_of (plain_of operand.now.shape) (values.plain_of expression.now)
+    hit: &mut Option<Hit>,
+) -> Result<(), AllocError>
+    requires none { hit.old ≡ None }
+    requires can { CanJoin seen_of (plain_of operand.now.shape) (values.plain_of expression.now)
         left.now (holding_of node.old.state) at }
-    ensures joined { IfOk result (HasJoined seen_of (plain_of operand.now.shape)
+    ensures joined { IfOk result (λ done. HasJoined seen_of (plain_of operand.now.shape)
         (values.plain_of expression.now) left.now (holding_of node.old.state) at
-        (holding_of node.new.state)) }
+        (holding_of node.new.state) hit.new) }
     ensures no_memory { JoinsNumbers seen_of (plain_of operand.now.shape)
         (values.plain_of expression.now) left.now (holding_of node.old.state) at → IsOk result }
 {
-    let right = start(operand, node, alloc, at)?;
-    joined(alloc, expression, left, right)
+    start_into(operand, node, alloc, at, hit)?;
+    join_to(alloc, expression, left, hit)
 }

@@ -3,17 +3,19 @@ ghost use Rattle.std.specs.Prelude.{◌≡◌, None, IfOk, IsOk};
 ghost use Rattle.split_eval.specs.Entries.{entry_at};
 ghost use Rattle.value_ops.specs.Expressions as values;
 ghost use Rattle.query_model.specs.Queries.{plain_of, split};
-ghost use Rattle.eval_tree.specs.Calls.{HasStarted, HasStepped};
+ghost use Rattle.eval_tree.specs.Calls.{HasStarted, HasStepped, found_in};
 ghost use Rattle.eval_tree.specs.Lefts.{IsPut};
 ghost use Rattle.eval_tree.specs.Live.{live_of};
 ghost use Rattle.eval_tree.specs.Operands.{CanEnd, CanJoin, EndsNumbers, HasEnded, HasJoined, JoinsNumbers, KeepsLive};
 ghost use Rattle.eval_tree.specs.Plain.{holding_of, seen_of};
 ghost use Rattle.eval_tree.specs.Steps.{CanStart, CanStep};
 
+use crate::hit::put_if_none;
 use crate::lefts::{wait, wait_if_new};
 use crate::live::is_live;
 use crate::operands::{start_and_join, step_and_end};
-use crate::{Hit, Node, State, start, step};
+use crate::steps::{start_into, step_into};
+use crate::{Hit, Node, State};
 use item_schema::Item;
 use query_model::Query;
 use split_eval::Pending;
@@ -28,22 +30,28 @@ pub(crate) fn start_split(
     node: &mut Node,
     alloc: Global,
     at: u64,
-) -> Result<Option<Hit>, AllocError>
-    requires { CanStart seen_of (split (plain_of first.now.shape) (plain_of second.now.shape)
+    hit: &mut Option<Hit>,
+) -> Result<(), AllocError>
+    requires none { hit.old ≡ None }
+    requires can { CanStart seen_of (split (plain_of first.now.shape) (plain_of second.now.shape)
         (values.plain_of expression.now)) (holding_of node.old.state) at }
     ensures { HasStarted seen_of (split (plain_of first.now.shape) (plain_of second.now.shape)
         (values.plain_of expression.now)) (holding_of node.old.state) at
-        (holding_of node.new.state) result }
+        (holding_of node.new.state) (found_in result hit.new) }
 {
     match &mut node.state {
-        State::Split(a, b, held) => match start(first, a, alloc, at)? {
-            Some(left) => {
-                let hit = start_and_join(second, b, expression, &left, alloc, at)?;
-                wait_if_new(held, is_live(second, b, at), at, left);
-                Ok(hit)
+        State::Split(a, b, held) => {
+            let mut left = None;
+            start_into(first, a, alloc, at, &mut left)?;
+            match left {
+                Some(left) => {
+                    start_and_join(second, b, expression, &left, alloc, at, hit)?;
+                    wait_if_new(held, is_live(second, b, at), at, left);
+                    Ok(())
+                }
+                None => Ok(()),
             }
-            None => Ok(None),
-        },
+        }
         _ => unreachable!(),
     }
 }
@@ -57,23 +65,28 @@ pub(crate) fn step_split(
     alloc: Global,
     now: u64,
     item: &Item,
-) -> Result<Option<Hit>, AllocError>
-    requires { CanStep seen_of (split (plain_of first.now.shape) (plain_of second.now.shape)
+    hit: &mut Option<Hit>,
+) -> Result<(), AllocError>
+    requires none { hit.old ≡ None }
+    requires can { CanStep seen_of (split (plain_of first.now.shape) (plain_of second.now.shape)
         (values.plain_of expression.now)) (holding_of node.old.state) now item.now }
     ensures { HasStepped seen_of (split (plain_of first.now.shape) (plain_of second.now.shape)
         (values.plain_of expression.now)) (holding_of node.old.state) now item.now
-        (holding_of node.new.state) result }
+        (holding_of node.new.state) (found_in result hit.new) }
 {
     match &mut node.state {
         State::Split(a, b, held) => {
-            let left = step(first, a, alloc, now, item)?;
-            let hit = end_right(second, b, expression, held, alloc, now, item)?;
+            end_right(second, b, expression, held, alloc, now, item, hit)?;
+            let mut left = None;
+            step_into(first, a, alloc, now, item, &mut left)?;
             match left {
                 Some(left) => {
-                    let begun = begin_right(second, b, expression, held, alloc, now, left)?;
-                    Ok(hit.or(begun))
+                    let mut begun = None;
+                    begin_right(second, b, expression, held, alloc, now, left, &mut begun)?;
+                    put_if_none(hit, begun);
+                    Ok(())
                 }
-                None => Ok(hit),
+                None => Ok(()),
             }
         }
         _ => unreachable!(),
@@ -92,13 +105,15 @@ fn end_right(
     alloc: Global,
     now: u64,
     item: &Item,
-) -> Result<Option<Hit>, AllocError>
-    requires { CanEnd seen_of (plain_of second.now.shape) (values.plain_of expression.now)
+    hit: &mut Option<Hit>,
+) -> Result<(), AllocError>
+    requires none { hit.old ≡ None }
+    requires can { CanEnd seen_of (plain_of second.now.shape) (values.plain_of expression.now)
         held.old.entries (holding_of b.old.state) now item.now }
-    ensures ended { IfOk result (HasEnded seen_of (plain_of second.now.shape)
+    ensures ended { IfOk result (λ done. HasEnded seen_of (plain_of second.now.shape)
         (values.plain_of expression.now) held.old.entries (holding_of b.old.state) now item.now
-        (holding_of b.new.state)) }
-    ensures kept { IfOk result (λ hit. KeepsLive (live_of (plain_of second.now.shape)
+        (holding_of b.new.state) hit.new) }
+    ensures kept { IfOk result (λ done. KeepsLive (live_of (plain_of second.now.shape)
         (holding_of b.new.state)) now held.old held.new) }
     ensures no_memory { EndsNumbers seen_of (plain_of second.now.shape)
         (values.plain_of expression.now) held.old.entries (holding_of b.old.state) now item.now
@@ -106,10 +121,10 @@ fn end_right(
 {
     // What waits for a right value is looked up before what can't go on is given up. None waits at
     // the end yet, so what is put there needs no look.
-    let hit = step_and_end(second, b, expression, held, alloc, now, item)?;
+    step_and_end(second, b, expression, held, alloc, now, item, hit)?;
     let node = &*b;
     held.keep(|start| start != now && is_live(second, node, start));
-    Ok(hit)
+    Ok(())
 }
 
 /// A left value was just found: its right piece begins, and it waits where this can go on.
@@ -123,20 +138,22 @@ fn begin_right(
     alloc: Global,
     at: u64,
     left: Hit,
-) -> Result<Option<Hit>, AllocError>
+    hit: &mut Option<Hit>,
+) -> Result<(), AllocError>
+    requires none { hit.old ≡ None }
     requires can { CanJoin seen_of (plain_of second.now.shape) (values.plain_of expression.now)
         left (holding_of b.old.state) at }
     requires fresh { entry_at held.old.entries at ≡ None }
-    ensures joined { IfOk result (HasJoined seen_of (plain_of second.now.shape)
+    ensures joined { IfOk result (λ done. HasJoined seen_of (plain_of second.now.shape)
         (values.plain_of expression.now) left (holding_of b.old.state) at
-        (holding_of b.new.state)) }
-    ensures waits { IfOk result (λ hit. IsPut (live_of (plain_of second.now.shape)
+        (holding_of b.new.state) hit.new) }
+    ensures waits { IfOk result (λ done. IsPut (live_of (plain_of second.now.shape)
         (holding_of b.new.state) at) held.old
         (record { inner = at; outer = left.start; value = left.value }) held.new) }
     ensures no_memory { JoinsNumbers seen_of (plain_of second.now.shape)
         (values.plain_of expression.now) left (holding_of b.old.state) at → IsOk result }
 {
-    let hit = start_and_join(second, b, expression, &left, alloc, at)?;
+    start_and_join(second, b, expression, &left, alloc, at, hit)?;
     wait(held, is_live(second, b, at), at, left);
-    Ok(hit)
+    Ok(())
 }

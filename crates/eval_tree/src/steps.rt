@@ -1,8 +1,10 @@
-//! The calls that carry a node along its word.
+//! The calls that carry a node along its word. A hit is put into its place, which has none before.
+ghost use Rattle.std.specs.Prelude.{◌≡◌, None, Option};
 ghost use Rattle.query_model.specs.Queries.{plain_of};
-ghost use Rattle.eval_tree.specs.Calls.{HasStarted, HasStepped};
+ghost use Rattle.eval_tree.specs.Calls.{HasStarted, HasStepped, found_in};
 ghost use Rattle.eval_tree.specs.Plain.{holding_of, seen_of};
 ghost use Rattle.eval_tree.specs.Steps.{CanStart, CanStep};
+ghost use Rattle.eval_tree.specs.declared.hit.Hit.{Hit};
 
 use crate::apply::{start_apply, step_apply};
 use crate::atom::{start_atom, step_atom};
@@ -19,64 +21,93 @@ use std::alloc::{AllocError, Global};
 
 /// Adds the start at the end of the word, behind `at` items.
 #[cycle(step)]
-pub fn start(
+pub(crate) fn start_into(
     query: &Query,
     node: &mut Node,
     alloc: Global,
     at: u64,
-) -> Result<Option<Hit>, AllocError>
-    requires { CanStart seen_of (plain_of query.now.shape) (holding_of node.old.state) at }
+    hit: &mut Option<Hit>,
+) -> Result<(), AllocError>
+    requires none { hit.old ≡ None }
+    requires can { CanStart seen_of (plain_of query.now.shape) (holding_of node.old.state) at }
     ensures { HasStarted seen_of (plain_of query.now.shape) (holding_of node.old.state) at
-        (holding_of node.new.state) result }
+        (holding_of node.new.state) (found_in result hit.new) }
 {
     match &query.shape {
         Shape::Atom(..) => {
             start_atom(node, at);
-            Ok(None)
+            Ok(())
         }
-        Shape::Eps(number) => Ok(Some(Hit::of_number(at, *number))),
-        Shape::Or(first, second) => start_choice(first, second, node, alloc, at),
-        Shape::Apply(inner, expression) => start_apply(inner, expression, node, alloc, at),
+        Shape::Eps(number) => {
+            *hit = Some(Hit::of_number(at, *number));
+            Ok(())
+        }
+        Shape::Or(first, second) => start_choice(first, second, node, alloc, at, hit),
+        Shape::Apply(inner, expression) => start_apply(inner, expression, node, alloc, at, hit),
         Shape::Split(first, second, expression) => {
-            start_split(first, second, expression, node, alloc, at)
+            start_split(first, second, expression, node, alloc, at, hit)
         }
         Shape::Combine(first, second, expression) => {
-            start_combine(first, second, expression, node, alloc, at)
+            start_combine(first, second, expression, node, alloc, at, hit)
         }
-        Shape::Iter(inner, number, _) => start_iter(inner, *number, node, alloc, at),
-        Shape::Compose(first, second) => start_compose(first, second, node, alloc, at),
-        Shape::Collect(_, _, _, inner) => start_collect(inner, node, alloc, at),
+        Shape::Iter(inner, number, _) => start_iter(inner, *number, node, alloc, at, hit),
+        Shape::Compose(first, second) => start_compose(first, second, node, alloc, at, hit),
+        Shape::Collect(_, _, _, inner) => start_collect(inner, node, alloc, at, hit),
     }
 }
 
 /// Carries all starts over one more item, behind which there are `now`.
 #[cycle(step)]
-pub fn step(
+pub(crate) fn step_into(
     query: &Query,
     node: &mut Node,
     alloc: Global,
     now: u64,
     item: &Item,
-) -> Result<Option<Hit>, AllocError>
-    requires { CanStep seen_of (plain_of query.now.shape) (holding_of node.old.state) now item.now }
+    hit: &mut Option<Hit>,
+) -> Result<(), AllocError>
+    requires none { hit.old ≡ None }
+    requires can { CanStep seen_of (plain_of query.now.shape) (holding_of node.old.state) now
+        item.now }
     ensures { HasStepped seen_of (plain_of query.now.shape) (holding_of node.old.state) now item.now
-        (holding_of node.new.state) result }
+        (holding_of node.new.state) (found_in result hit.new) }
 {
     match &query.shape {
-        Shape::Atom(pred, expression) => step_atom(pred, expression, node, alloc, item),
-        Shape::Eps(_) => Ok(None),
-        Shape::Or(first, second) => step_choice(first, second, node, alloc, now, item),
-        Shape::Apply(inner, expression) => step_apply(inner, expression, node, alloc, now, item),
+        Shape::Atom(pred, expression) => step_atom(pred, expression, node, alloc, item, hit),
+        Shape::Eps(_) => Ok(()),
+        Shape::Or(first, second) => step_choice(first, second, node, alloc, now, item, hit),
+        Shape::Apply(inner, expression) => step_apply(
+            inner, expression, node, alloc, now, item, hit,
+        ),
         Shape::Split(first, second, expression) => {
-            step_split(first, second, expression, node, alloc, now, item)
+            step_split(first, second, expression, node, alloc, now, item, hit)
         }
         Shape::Combine(first, second, expression) => {
-            step_combine(first, second, expression, node, alloc, now, item)
+            step_combine(first, second, expression, node, alloc, now, item, hit)
         }
-        Shape::Iter(inner, _, expression) => step_iter(inner, expression, node, alloc, now, item),
-        Shape::Compose(first, second) => step_compose(first, second, node, alloc, now, item),
+        Shape::Iter(inner, _, expression) => step_iter(
+            inner, expression, node, alloc, now, item, hit,
+        ),
+        Shape::Compose(first, second) => step_compose(first, second, node, alloc, now, item, hit),
         Shape::Collect(column, sync, _, inner) => {
-            step_collect(inner, *column, sync, node, alloc, item)
+            step_collect(inner, *column, sync, node, alloc, item, hit)
         }
     }
+}
+
+/// Adds the start where no hit is wanted.
+#[cycle(step)]
+#[inline(always)]
+pub(crate) fn start_only(
+    query: &Query,
+    node: &mut Node,
+    alloc: Global,
+    at: u64,
+) -> Result<(), AllocError>
+    requires { CanStart seen_of (plain_of query.now.shape) (holding_of node.old.state) at }
+    ensures { (hit : Option Hit) × HasStarted seen_of (plain_of query.now.shape)
+        (holding_of node.old.state) at (holding_of node.new.state) (found_in result hit) }
+{
+    let mut hit = None;
+    start_into(query, node, alloc, at, &mut hit)
 }

@@ -25,11 +25,14 @@ invariant-collect::push_all-starts l =
     × (length l.tracks.tracks ≡ length l.fn.tracks.tracks)
 
 -- how deep the query is; at one query those that call others stand above them
-abbrev pub decreases-steps::start : goal.decreases-steps::start
-decreases-steps::start l = 8 * size-Query l.query.now
+abbrev pub decreases-steps::start_into : goal.decreases-steps::start_into
+decreases-steps::start_into l = 8 * size-Query l.query.now
 
-abbrev pub decreases-steps::step : goal.decreases-steps::step
-decreases-steps::step l = 8 * size-Query l.query.now
+abbrev pub decreases-steps::step_into : goal.decreases-steps::step_into
+decreases-steps::step_into l = 8 * size-Query l.query.now
+
+abbrev pub decreases-steps::start_only : goal.decreases-steps::start_only
+decreases-steps::start_only l = 8 * size-Query l.query.now + 1
 
 abbrev pub decreases-operands::step_and_end : goal.decreases-operands::step_and_end
 decreases-operands::step_and_end l = 8 * size-Query l.operand.now + 1
@@ -122,7 +125,7 @@ abbrev pub decreases-collect::step_collect : goal.decreases-collect::step_collec
 decreases-collect::step_collect l = 8 * size-Query l.inner.now + 7
 
 abbrev pub decreases-iter::next_piece : goal.decreases-iter::next_piece
-decreases-iter::next_piece l = 8 * size-Query l.inner.now + 1
+decreases-iter::next_piece l = 8 * size-Query l.inner.now + 2
 
 abbrev pub decreases-split::end_right : goal.decreases-split::end_right
 decreases-split::end_right l = 8 * size-Query l.second.now + 2

@@ -20,24 +20,24 @@ apply::start_apply-returns t c =
     let f = plain_of c.args.inner.now.shape in
     let a = holding_of s.a.value.state in
     let first = started_from _ _ (holding_of c.deref_mut.result.now.state) a
-    (holding_of c.start.new.node.state) c.args.at _
-    refl (search rules) c.in_ok-hit-in-Apply.ensures in
-    when_started _ _ _ c.args.at c.applied.result _ (λ hit applied. started_as _ _ _ _
-    (apply_held (holding_of c.start.new.node.state)) _ c.args.at _ _ refl
+    (holding_of c.start_into.new.node.state) c.args.at _
+    refl (search rules) c.in_ok-start_into-in-Apply.ensures in
+    when_started _ _ _ c.args.at c.apply_to.result c.apply_to.new.hit _ (λ applied. started_as _ _ _ _
+    (apply_held (holding_of c.start_into.new.node.state)) _ c.args.at _ _ refl
     (ap holding_of s.is) (rw s.is refl) refl
-    (apply_starts f (values.plain_of c.args.expression.now) a (holding_of c.start.new.node.state) c.args.at
-    c.in_ok-hit-in-Apply.hit hit first applied)) c.applied.ensures.applied
-    (λ free. c.applied.ensures.no_memory (applied_started seen_of f (values.plain_of c.args.expression.now) a
-    (holding_of c.start.new.node.state) c.args.at c.in_ok-hit-in-Apply.hit
+    (apply_starts f (values.plain_of c.args.expression.now) a (holding_of c.start_into.new.node.state) c.args.at
+    c.start_into.new.hit c.apply_to.new.hit first applied)) c.apply_to.ensures.applied
+    (λ free. c.apply_to.ensures.no_memory (applied_started seen_of f (values.plain_of c.args.expression.now) a
+    (holding_of c.start_into.new.node.state) c.args.at c.start_into.new.hit
     (numbers_start_as _ _ _ _ c.args.at refl (sym (ap holding_of s.is)) free) first.sound))
 
-pub apply::start_apply-returns-in_err-hit-in-Apply : goal.apply::start_apply-returns-in_err-hit-in-Apply
-apply::start_apply-returns-in_err-hit-in-Apply t c =
+pub apply::start_apply-returns-in_err-start_into-in-Apply : goal.apply::start_apply-returns-in_err-start_into-in-Apply
+apply::start_apply-returns-in_err-start_into-in-Apply t c =
     let s = c.in-Apply in
     let same : holding_of s.a.value.state ≡ holding_of c.deref_mut.result.now.state = search rules
     in
     start_fails _ _ _ _ _ c.args.at _ (search rules) refl (ap holding_of s.is)
-    (λ free. false≢true (c.in_err-hit-in-Apply.ensures.no_memory
+    (λ free. false≢true (c.in_err-start_into-in-Apply.ensures.no_memory
     (numbers_start_as _ _ _ _ c.args.at refl (sym same)
     (operand_starts seen_of (plain_of c.args.inner.now.shape) (values.plain_of c.args.expression.now)
     (holding_of s.a.value.state) c.args.at free))))
@@ -49,25 +49,25 @@ apply::step_apply-returns t c =
     let f = plain_of c.args.inner.now.shape in
     let a = holding_of s.a.value.state in
     let first = stepped_from _ _ (holding_of c.deref_mut.result.now.state) a
-    (holding_of c.step.new.node.state) c.args.now c.args.item.now _
-    refl (search rules) c.in_ok-hit-in-Apply.ensures in
-    when_stepped _ _ _ c.args.now c.args.item.now c.applied.result _ (λ hit applied. stepped_as _ _ _ _
-    (apply_held (holding_of c.step.new.node.state)) _ c.args.now c.args.item.now _ _
+    (holding_of c.step_into.new.node.state) c.args.now c.args.item.now _
+    refl (search rules) c.in_ok-step_into-in-Apply.ensures in
+    when_stepped _ _ _ c.args.now c.args.item.now c.apply_to.result c.apply_to.new.hit _ (λ applied. stepped_as _ _ _ _
+    (apply_held (holding_of c.step_into.new.node.state)) _ c.args.now c.args.item.now _ _
     refl (ap holding_of s.is) (rw s.is refl) refl
-    (apply_steps f (values.plain_of c.args.expression.now) a (holding_of c.step.new.node.state) c.args.now
-    c.args.item.now c.in_ok-hit-in-Apply.hit hit first applied)) c.applied.ensures.applied
-    (λ free. c.applied.ensures.no_memory (applied_stepped seen_of f (values.plain_of c.args.expression.now) a
-    (holding_of c.step.new.node.state) c.args.now c.args.item.now c.in_ok-hit-in-Apply.hit
+    (apply_steps f (values.plain_of c.args.expression.now) a (holding_of c.step_into.new.node.state) c.args.now
+    c.args.item.now c.step_into.new.hit c.apply_to.new.hit first applied)) c.apply_to.ensures.applied
+    (λ free. c.apply_to.ensures.no_memory (applied_stepped seen_of f (values.plain_of c.args.expression.now) a
+    (holding_of c.step_into.new.node.state) c.args.now c.args.item.now c.step_into.new.hit
     (numbers_step_as _ _ _ _ c.args.now c.args.item.now refl (sym (ap holding_of s.is))
     free) first.sound))
 
-pub apply::step_apply-returns-in_err-hit-in-Apply : goal.apply::step_apply-returns-in_err-hit-in-Apply
-apply::step_apply-returns-in_err-hit-in-Apply t c =
+pub apply::step_apply-returns-in_err-step_into-in-Apply : goal.apply::step_apply-returns-in_err-step_into-in-Apply
+apply::step_apply-returns-in_err-step_into-in-Apply t c =
     let s = c.in-Apply in
     let same : holding_of s.a.value.state ≡ holding_of c.deref_mut.result.now.state = search rules
     in
     step_fails _ _ _ _ _ c.args.now c.args.item.now _ (search rules) refl (ap holding_of s.is)
-    (λ free. false≢true (c.in_err-hit-in-Apply.ensures.no_memory
+    (λ free. false≢true (c.in_err-step_into-in-Apply.ensures.no_memory
     (numbers_step_as _ _ _ _ c.args.now c.args.item.now refl
     (sym same)
     (operand_steps seen_of (plain_of c.args.inner.now.shape) (values.plain_of c.args.expression.now)
@@ -75,12 +75,12 @@ apply::step_apply-returns-in_err-hit-in-Apply t c =
 
 pub apply::start_apply-unreachable-requires : goal.apply::start_apply-unreachable-requires
 apply::start_apply-unreachable-requires t c =
-    unsound_apply c.requires.columns c.args.at _ c.args.node.now.state _ (values.plain_of c.args.expression.now)
+    unsound_apply c.requires.can.columns c.args.at _ c.args.node.now.state _ (values.plain_of c.args.expression.now)
     refl c.in_default.not-Apply
-    c.requires.sound
+    c.requires.can.sound
 
 pub apply::step_apply-unreachable-requires : goal.apply::step_apply-unreachable-requires
 apply::step_apply-unreachable-requires t c =
-    unsound_apply c.requires.columns c.requires.position _ c.args.node.now.state _ (values.plain_of c.args.expression.now)
+    unsound_apply c.requires.can.columns c.requires.can.position _ c.args.node.now.state _ (values.plain_of c.args.expression.now)
     refl c.in_default.not-Apply
-    c.requires.sound
+    c.requires.can.sound

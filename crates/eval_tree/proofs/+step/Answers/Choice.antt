@@ -13,31 +13,31 @@ use Rattle.eval_tree.proofs.+step.Goals as goal
 pub choice::start_choice-returns : goal.choice::start_choice-returns
 choice::start_choice-returns t c =
     let s = c.in-Or in
-    started_as _ _ _ _ _ _ c.args.at _ _ refl (ap holding_of s.is) refl (ap Ok c.or.ensures)
+    started_as _ _ _ _ _ _ c.args.at _ _ refl (ap holding_of s.is) refl (ap Ok c.put_if_none.ensures)
     (choice_starts (plain_of c.args.first.now.shape) (plain_of c.args.second.now.shape) (holding_of s.a.value.state)
-    (holding_of s.b.value.state) (holding_of c.start.new.node.state) (holding_of c.start-in-Or.new.node.state)
-    c.args.at c.in_ok-left-in-Or.left c.in_ok-right-in-Or.right
+    (holding_of s.b.value.state) (holding_of c.start_into.new.node.state) (holding_of c.start_into-in-Or.new.node.state)
+    c.args.at c.start_into.new.hit c.start_into-in-Or.new.hit
     (started_from _ _ (holding_of c.deref_mut.result.now.state) (holding_of s.a.value.state) _ c.args.at _
-    refl (search rules) c.in_ok-left-in-Or.ensures)
+    refl (search rules) c.in_ok-start_into-in-Or.ensures)
     (started_from _ _ (holding_of c.deref_mut-in-Or.result.now.state) (holding_of s.b.value.state) _ c.args.at _
-    refl (search rules) c.in_ok-right-in-Or.ensures))
+    refl (search rules) c.in_ok-start_into-in-Or-2.ensures))
 
-pub choice::start_choice-returns-in_err-left-in-Or : goal.choice::start_choice-returns-in_err-left-in-Or
-choice::start_choice-returns-in_err-left-in-Or t c =
+pub choice::start_choice-returns-in_err-start_into-in-Or : goal.choice::start_choice-returns-in_err-start_into-in-Or
+choice::start_choice-returns-in_err-start_into-in-Or t c =
     let s = c.in-Or in
     let same : holding_of s.a.value.state ≡ holding_of c.deref_mut.result.now.state = search rules in
     start_fails _ _ _ _ _ c.args.at _ (search rules) refl (ap holding_of s.is)
-    (λ free. false≢true (c.in_err-left-in-Or.ensures.no_memory
+    (λ free. false≢true (c.in_err-start_into-in-Or.ensures.no_memory
     (numbers_start_as _ _ _ _ c.args.at refl (sym same)
     (first_starts seen_of (plain_of c.args.first.now.shape) (plain_of c.args.second.now.shape)
     (holding_of s.a.value.state) (holding_of s.b.value.state) c.args.at free))))
 
-pub choice::start_choice-returns-in_err-right-in-Or : goal.choice::start_choice-returns-in_err-right-in-Or
-choice::start_choice-returns-in_err-right-in-Or t c =
+pub choice::start_choice-returns-in_err-start_into-in-Or-2 : goal.choice::start_choice-returns-in_err-start_into-in-Or-2
+choice::start_choice-returns-in_err-start_into-in-Or-2 t c =
     let s = c.in-Or in
     let same : holding_of s.b.value.state ≡ holding_of c.deref_mut-in-Or.result.now.state = search rules in
     start_fails _ _ _ _ _ c.args.at _ (search rules) refl (ap holding_of s.is)
-    (λ free. false≢true (c.in_err-right-in-Or.ensures.no_memory
+    (λ free. false≢true (c.in_err-start_into-in-Or-2.ensures.no_memory
     (numbers_start_as _ _ _ _ c.args.at refl (sym same)
     (second_starts seen_of (plain_of c.args.first.now.shape) (plain_of c.args.second.now.shape)
     (holding_of s.a.value.state) (holding_of s.b.value.state) c.args.at free))))
@@ -47,42 +47,42 @@ unfolding roll-State out-State denote.Hole.Carrier.roll denote.Hole.Carrier.out
 choice::step_choice-returns t c =
     let s = c.in-Or in
     stepped_as _ _ _ _ _ _ c.args.now c.args.item.now _ _ refl (ap holding_of s.is) refl
-    (ap Ok c.or.ensures)
+    (ap Ok c.put_if_none.ensures)
     (choice_steps (plain_of c.args.first.now.shape) (plain_of c.args.second.now.shape) (holding_of s.a.value.state)
-    (holding_of s.b.value.state) (holding_of c.step.new.node.state) (holding_of c.step-in-Or.new.node.state)
-    c.args.now c.args.item.now c.in_ok-left-in-Or.left c.in_ok-right-in-Or.right
+    (holding_of s.b.value.state) (holding_of c.step_into.new.node.state) (holding_of c.step_into-in-Or.new.node.state)
+    c.args.now c.args.item.now c.step_into.new.hit c.step_into-in-Or.new.hit
     (stepped_from _ _ (holding_of c.deref_mut.result.now.state) (holding_of s.a.value.state) _ c.args.now
-    c.args.item.now _ refl (search rules) c.in_ok-left-in-Or.ensures)
+    c.args.item.now _ refl (search rules) c.in_ok-step_into-in-Or.ensures)
     (stepped_from _ _ (holding_of c.deref_mut-in-Or.result.now.state) (holding_of s.b.value.state) _ c.args.now
     c.args.item.now _ refl (search rules)
-    c.in_ok-right-in-Or.ensures))
+    c.in_ok-step_into-in-Or-2.ensures))
 
-pub choice::step_choice-returns-in_err-left-in-Or : goal.choice::step_choice-returns-in_err-left-in-Or
-choice::step_choice-returns-in_err-left-in-Or t c =
+pub choice::step_choice-returns-in_err-step_into-in-Or : goal.choice::step_choice-returns-in_err-step_into-in-Or
+choice::step_choice-returns-in_err-step_into-in-Or t c =
     let s = c.in-Or in
     let same : holding_of s.a.value.state ≡ holding_of c.deref_mut.result.now.state = search rules in
     step_fails _ _ _ _ _ c.args.now c.args.item.now _ (search rules) refl (ap holding_of s.is)
-    (λ free. false≢true (c.in_err-left-in-Or.ensures.no_memory
+    (λ free. false≢true (c.in_err-step_into-in-Or.ensures.no_memory
     (numbers_step_as _ _ _ _ c.args.now c.args.item.now refl (sym same)
     (first_steps seen_of (plain_of c.args.first.now.shape) (plain_of c.args.second.now.shape) (holding_of s.a.value.state)
     (holding_of s.b.value.state) c.args.now c.args.item.now free))))
 
-pub choice::step_choice-returns-in_err-right-in-Or : goal.choice::step_choice-returns-in_err-right-in-Or
-choice::step_choice-returns-in_err-right-in-Or t c =
+pub choice::step_choice-returns-in_err-step_into-in-Or-2 : goal.choice::step_choice-returns-in_err-step_into-in-Or-2
+choice::step_choice-returns-in_err-step_into-in-Or-2 t c =
     let s = c.in-Or in
     let same : holding_of s.b.value.state ≡ holding_of c.deref_mut-in-Or.result.now.state = search rules in
     step_fails _ _ _ _ _ c.args.now c.args.item.now _ (search rules) refl (ap holding_of s.is)
-    (λ free. false≢true (c.in_err-right-in-Or.ensures.no_memory
+    (λ free. false≢true (c.in_err-step_into-in-Or-2.ensures.no_memory
     (numbers_step_as _ _ _ _ c.args.now c.args.item.now refl (sym same)
     (second_steps seen_of (plain_of c.args.first.now.shape) (plain_of c.args.second.now.shape)
     (holding_of s.a.value.state) (holding_of s.b.value.state) c.args.now c.args.item.now free))))
 
 pub choice::start_choice-unreachable-requires : goal.choice::start_choice-unreachable-requires
 choice::start_choice-unreachable-requires t c =
-    unsound_choice c.requires.columns c.args.at _ c.args.node.now.state _ _ refl c.in_default.not-Or
-    c.requires.sound
+    unsound_choice c.requires.can.columns c.args.at _ c.args.node.now.state _ _ refl c.in_default.not-Or
+    c.requires.can.sound
 
 pub choice::step_choice-unreachable-requires : goal.choice::step_choice-unreachable-requires
 choice::step_choice-unreachable-requires t c =
-    unsound_choice c.requires.columns c.requires.position _ c.args.node.now.state _ _ refl c.in_default.not-Or
-    c.requires.sound
+    unsound_choice c.requires.can.columns c.requires.can.position _ c.args.node.now.state _ _ refl c.in_default.not-Or
+    c.requires.can.sound

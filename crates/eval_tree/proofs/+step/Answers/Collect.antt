@@ -10,7 +10,7 @@ use Rattle.eval_tree.specs.declared.node.State.TheViews.{out-State, roll-State}
 use Rattle.eval_tree.specs.declared.progress.Progress.{Progress}
 use Rattle.symbolic_nfa.specs.Automata.{Automaton}
 use Rattle.map_collect.specs.Tracks as tracks
-use Rattle.eval_tree.specs.Pushes.{BeginsAt, CanMake, IsFirstTable, IsNew, CanPassBy, IsTabled, PassesBy}
+use Rattle.eval_tree.specs.Pushes.{BeginsAt, IsFirstTable, IsNew, CanPassBy, IsTabled, PassesBy}
 use Rattle.eval_tree.proofs.CollectAllowed.{make_allowed, advanced_allowed, pass_allowed, push_allowed, pushed_end, pushed_next, with_length}
 use Rattle.eval_tree.proofs.CollectArms.{collect_starts, collect_steps, tracked_is, tracks_are}
 use Rattle.eval_tree.proofs.CollectBegun.{made_new, start_made}
@@ -27,8 +27,11 @@ unfolding roll-State out-State denote.Hole.Carrier.roll denote.Hole.Carrier.out
 collect::start_collect-begin_at-requires t c =
     let s = c.in-Collect in (
       search rules,
-      make_allowed seen_of _ _ _ (plain_of c.args.inner.now.shape) s.tracks c.args.at
-          (can_start_as _ _ _ _ c.args.at refl (sym (ap holding_of s.is ∙ tracked_is s.tracks)) c.requires.3),
+      (
+        c.requires.none,
+        make_allowed seen_of _ _ _ (plain_of c.args.inner.now.shape) s.tracks c.args.at
+            (can_start_as _ _ _ _ c.args.at refl (sym (ap holding_of s.is ∙ tracked_is s.tracks)) c.requires.can.3),
+      ),
     )
 
 pub collect::start_collect-returns : goal.collect::start_collect-returns
@@ -36,13 +39,13 @@ unfolding roll-State out-State denote.Hole.Carrier.roll denote.Hole.Carrier.out
 collect::start_collect-returns t c = λ column sync rate.
     let s = c.in-Collect in
     let f = plain_of c.args.inner.now.shape in
-    when_started _ _ _ c.args.at c.begin_at.result
-    (BeginsAt seen_of f (tracks_of (out-State (Collect s.tracks))) c.args.at c.begin_at.new.tracks)
-    (λ hit begins. started_as _ _ _ _ (collect_held c.begin_at.new.tracks) _ c.args.at _ _ refl
+    when_started _ _ _ c.args.at c.begin_at.result c.begin_at.new.hit
+    (BeginsAt seen_of f (tracks_of (out-State (Collect s.tracks))) c.args.at c.begin_at.new.tracks c.begin_at.new.hit)
+    (λ begins. started_as _ _ _ _ (collect_held c.begin_at.new.tracks) _ c.args.at _ _ refl
     (ap holding_of s.is ∙ tracked_is s.tracks) (rw s.is (tracked_is c.begin_at.new.tracks)) refl
-    (collect_starts column sync rate f s.tracks c.begin_at.new.tracks c.args.at hit
-    (subst (λ (all : Tracks). BeginsAt seen_of f all c.args.at c.begin_at.new.tracks hit) (tracks_are s.tracks)
-    begins))) (rw s.is at c.begin_at.ensures) (λ free. absurd free.1.no_collect)
+    (collect_starts column sync rate f s.tracks c.begin_at.new.tracks c.args.at c.begin_at.new.hit
+    (subst (λ (all : Tracks). BeginsAt seen_of f all c.args.at c.begin_at.new.tracks c.begin_at.new.hit)
+    (tracks_are s.tracks) begins))) (rw s.is at c.begin_at.ensures) (λ free. absurd free.1.no_collect)
 
 pub collect::begin_at-returns : goal.collect::begin_at-returns
 collect::begin_at-returns t c = record {
@@ -76,16 +79,19 @@ pub collect::new_runner-new-requires-clause-cells : goal.collect::new_runner-new
 collect::new_runner-new-requires-clause-cells t c =
     without_collect (plain_of c.args.query.now.shape) c.requires.no_collect
 
-pub collect::new_runner-start-requires : goal.collect::new_runner-start-requires
-collect::new_runner-start-requires t c = (
+pub collect::new_runner-start_into-requires : goal.collect::new_runner-start_into-requires
+collect::new_runner-start_into-requires t c = (
   search rules,
-  start_made (plain_of c.args.query.now.shape) (holding_of c.in_ok-node.node.state) c.requires
-      (λ columns. c.in_ok-node.ensures.sound columns tt),
+  (
+    refl,
+    start_made (plain_of c.args.query.now.shape) (holding_of c.in_ok-node.node.state) c.requires
+        (λ columns. c.in_ok-node.ensures.sound columns tt),
+  ),
 )
 
 pub collect::new_runner-returns-in-Ok : goal.collect::new_runner-returns-in-Ok
 collect::new_runner-returns-in-Ok t c =
-    made_new (plain_of c.args.query.now.shape) (holding_of c.in_ok-node.node.state) _ c.in-Ok.hit
+    made_new (plain_of c.args.query.now.shape) (holding_of c.in_ok-node.node.state) _ c.start_into.new.hit
     (λ columns. c.in_ok-node.ensures.word columns tt) (λ columns. c.in_ok-node.ensures.sound columns tt)
     c.in-Ok.ensures.word c.in-Ok.ensures.sound refl c.value_of.ensures
 
@@ -94,11 +100,15 @@ unfolding roll-State out-State denote.Hole.Carrier.roll denote.Hole.Carrier.out
 collect::step_collect-pass_by-requires t c =
     let s = c.in-Collect in
     let f = plain_of c.args.inner.now.shape in
-    let now = c.requires.1 in (
+    let now = c.requires.can.1 in (
       search rules,
-      rw s.is (subst (λ (all : Tracks). CanPassBy seen_of f all c.args.item.now) (sym (tracks_are s.tracks))
-          (pass_allowed seen_of _ _ _ f s.tracks now c.args.item.now
-          (can_step_as _ _ _ _ now c.args.item.now refl (sym (ap holding_of s.is ∙ tracked_is s.tracks)) c.requires.2))),
+      (
+        c.requires.none,
+        rw s.is (subst (λ (all : Tracks). CanPassBy seen_of f all c.args.item.now) (sym (tracks_are s.tracks))
+            (pass_allowed seen_of _ _ _ f s.tracks now c.args.item.now
+            (can_step_as _ _ _ _ now c.args.item.now refl (sym (ap holding_of s.is ∙ tracked_is s.tracks))
+            c.requires.can.2))),
+      ),
     )
 
 pub collect::step_collect-returns : goal.collect::step_collect-returns
@@ -107,20 +117,21 @@ collect::step_collect-returns t c = λ rate now.
     let s = c.in-Collect in
     let f = plain_of c.args.inner.now.shape in
     let sync = predicates.plain_of c.args.sync.now in
-    when_stepped _ _ _ now c.args.item.now c.pass_by.result
+    when_stepped _ _ _ now c.args.item.now c.pass_by.result c.pass_by.new.hit
     (PassesBy seen_of f c.args.column sync c.args.item.now (tracks_of (out-State (Collect s.tracks)))
-    c.pass_by.new.tracks)
-    (λ hit passes. stepped_as _ _ _ _ (collect_held c.pass_by.new.tracks) _ now c.args.item.now _ _ refl
+    c.pass_by.new.tracks c.pass_by.new.hit)
+    (λ passes. stepped_as _ _ _ _ (collect_held c.pass_by.new.tracks) _ now c.args.item.now _ _ refl
     (ap holding_of s.is ∙ tracked_is s.tracks) (rw s.is (tracked_is c.pass_by.new.tracks)) refl
-    (collect_steps c.args.column sync rate f s.tracks c.pass_by.new.tracks now c.args.item.now hit
-    (subst (λ (all : Tracks). PassesBy seen_of f c.args.column sync c.args.item.now all c.pass_by.new.tracks hit)
+    (collect_steps c.args.column sync rate f s.tracks c.pass_by.new.tracks now c.args.item.now c.pass_by.new.hit
+    (subst (λ (all : Tracks). PassesBy seen_of f c.args.column sync c.args.item.now all c.pass_by.new.tracks
+    c.pass_by.new.hit)
     (tracks_are s.tracks) passes))) (rw s.is at c.pass_by.ensures) (λ free. absurd free.1.no_collect)
 
 pub collect::pass_by-push_all-requires : goal.collect::pass_by-push_all-requires
 collect::pass_by-push_all-requires t c = (
   search rules,
   advanced_allowed seen_of (plain_of c.args.query.now.shape) c.args.item.now c.args.tracks.now.nfa.sets
-      c.args.tracks.now.tracks c.advance.new.self.tracks c.requires.keys c.advance.ensures.advanced,
+      c.args.tracks.now.tracks c.advance.new.self.tracks c.requires.can.keys c.advance.ensures.advanced,
 )
 
 pub collect::pass_by-returns : goal.collect::pass_by-returns
@@ -132,7 +143,7 @@ collect::pass_by-returns t c =
       pushed = pushed.tracks;
       advances = c.advance.ensures.advanced;
       pushes = c.in_ok-push_all.ensures.pushed;
-      tabled = subst (λ (nfa : Automaton). IsTabled seen_of (record { nfa = nfa; tracks = pushed.tracks }) c.in_ok-hit.hit)
+      tabled = subst (λ (nfa : Automaton). IsTabled seen_of (record { nfa = nfa; tracks = pushed.tracks }) c.in_ok-hit.field-0)
           same c.in_ok-hit.ensures;
       keeps = subst (λ (nfa : Automaton). KeepsExtending nfa pushed.tracks c.keep.new.self.tracks) same c.keep.ensures.kept;
       nfa = c.keep.ensures.nfa ∙ same;
@@ -167,16 +178,16 @@ collect::push_all-returns-clause-pushed t c =
     c.args.item.now c.starts.i c.args.tracks.now.tracks c.starts.tracks.tracks before.0 (omega (arith, over, end, many))
 
 pub collect::pass_by-advance-requires : goal.collect::pass_by-advance-requires
-collect::pass_by-advance-requires t c = c.requires.is_item
+collect::pass_by-advance-requires t c = c.requires.can.is_item
 
 pub collect::start_collect-unreachable-requires : goal.collect::start_collect-unreachable-requires
 collect::start_collect-unreachable-requires t c =
-    let can = c.requires.3 in
-    unsound_collect can.columns c.args.at _ c.args.node.now.state c.requires.0 c.requires.1 c.requires.2
+    let can = c.requires.can.3 in
+    unsound_collect can.columns c.args.at _ c.args.node.now.state c.requires.can.0 c.requires.can.1 c.requires.can.2
     (plain_of c.args.inner.now.shape) refl c.in_default.not-Collect can.sound
 
 pub collect::step_collect-unreachable-requires : goal.collect::step_collect-unreachable-requires
 collect::step_collect-unreachable-requires t c =
-    let can = c.requires.2 in
+    let can = c.requires.can.2 in
     unsound_collect can.columns can.position _ c.args.node.now.state c.args.column (predicates.plain_of c.args.sync.now)
-    c.requires.0 (plain_of c.args.inner.now.shape) refl c.in_default.not-Collect can.sound
+    c.requires.can.0 (plain_of c.args.inner.now.shape) refl c.in_default.not-Collect can.sound

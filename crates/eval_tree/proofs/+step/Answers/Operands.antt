@@ -4,44 +4,44 @@ use Rattle.std.proofs.lemmas.Bool.{false≢true}
 use Rattle.eval_tree.proofs.Arms.{where_ok}
 use Rattle.eval_tree.proofs.+step.Goals as goal
 
-pub operands::step_and_end-step-requires : goal.operands::step_and_end-step-requires
-operands::step_and_end-step-requires t c = (search rules, c.requires.can)
+pub operands::step_and_end-step_into-requires : goal.operands::step_and_end-step_into-requires
+operands::step_and_end-step_into-requires t c = (search rules, (c.requires.none, c.requires.can.can))
 
-pub operands::step_and_end-ended-requires : goal.operands::step_and_end-ended-requires
-operands::step_and_end-ended-requires t c = c.requires.typed _ _ c.in_ok-right.ensures.sound
+pub operands::step_and_end-end_waiting-requires : goal.operands::step_and_end-end_waiting-requires
+operands::step_and_end-end_waiting-requires t c = c.requires.can.typed _ _ c.in_ok-step_into.ensures.sound
 
 pub operands::step_and_end-returns-clause-ended : goal.operands::step_and_end-returns-clause-ended
 operands::step_and_end-returns-clause-ended t c =
-    where_ok c.ended.result _ _
-    (λ whole ended. record { right = c.in_ok-right.right; stepped = c.in_ok-right.ensures; ended = ended })
-    c.ended.ensures.ended
+    where_ok c.end_waiting.result _ _
+    (λ whole ended. record { right = c.step_into.new.hit; stepped = c.in_ok-step_into.ensures; ended = ended })
+    c.end_waiting.ensures.ended
 
 pub operands::step_and_end-returns-clause-no_memory : goal.operands::step_and_end-returns-clause-no_memory
 operands::step_and_end-returns-clause-no_memory t c = λ free.
-    c.ended.ensures.no_memory (free.ends _ _ c.in_ok-right.ensures.sound)
+    c.end_waiting.ensures.no_memory (free.ends _ _ c.in_ok-step_into.ensures.sound)
 
-pub operands::step_and_end-returns-in_err-right-clause-no_memory :
-    goal.operands::step_and_end-returns-in_err-right-clause-no_memory
-operands::step_and_end-returns-in_err-right-clause-no_memory t c = λ free.
-    absurd (false≢true (c.in_err-right.ensures.no_memory free.steps))
+pub operands::step_and_end-returns-in_err-step_into-clause-no_memory :
+    goal.operands::step_and_end-returns-in_err-step_into-clause-no_memory
+operands::step_and_end-returns-in_err-step_into-clause-no_memory t c = λ free.
+    absurd (false≢true (c.in_err-step_into.ensures.no_memory free.steps))
 
-pub operands::start_and_join-start-requires : goal.operands::start_and_join-start-requires
-operands::start_and_join-start-requires t c = (search rules, c.requires.can)
+pub operands::start_and_join-start_into-requires : goal.operands::start_and_join-start_into-requires
+operands::start_and_join-start_into-requires t c = (search rules, (c.requires.none, c.requires.can.can))
 
-pub operands::start_and_join-joined-requires : goal.operands::start_and_join-joined-requires
-operands::start_and_join-joined-requires t c = c.requires.typed _ _ c.in_ok-right.ensures.sound
+pub operands::start_and_join-join_to-requires : goal.operands::start_and_join-join_to-requires
+operands::start_and_join-join_to-requires t c = c.requires.can.typed _ _ c.in_ok-start_into.ensures.sound
 
 pub operands::start_and_join-returns-clause-joined : goal.operands::start_and_join-returns-clause-joined
 operands::start_and_join-returns-clause-joined t c =
-    where_ok c.joined.result _ _
-    (λ whole joined. record { right = c.in_ok-right.right; started = c.in_ok-right.ensures; joined = joined })
-    c.joined.ensures.joined
+    where_ok c.join_to.result _ _
+    (λ whole joined. record { right = c.start_into.new.hit; started = c.in_ok-start_into.ensures; joined = joined })
+    c.join_to.ensures.joined
 
 pub operands::start_and_join-returns-clause-no_memory : goal.operands::start_and_join-returns-clause-no_memory
 operands::start_and_join-returns-clause-no_memory t c = λ free.
-    c.joined.ensures.no_memory (free.joins _ _ c.in_ok-right.ensures.sound)
+    c.join_to.ensures.no_memory (free.joins _ _ c.in_ok-start_into.ensures.sound)
 
-pub operands::start_and_join-returns-in_err-right-clause-no_memory :
-    goal.operands::start_and_join-returns-in_err-right-clause-no_memory
-operands::start_and_join-returns-in_err-right-clause-no_memory t c = λ free.
-    absurd (false≢true (c.in_err-right.ensures.no_memory free.starts))
+pub operands::start_and_join-returns-in_err-start_into-clause-no_memory :
+    goal.operands::start_and_join-returns-in_err-start_into-clause-no_memory
+operands::start_and_join-returns-in_err-start_into-clause-no_memory t c = λ free.
+    absurd (false≢true (c.in_err-start_into.ensures.no_memory free.starts))

@@ -8,9 +8,7 @@ use Rattle.eval_tree.specs.declared.hit.Hit.{Hit}
 use Rattle.eval_tree.specs.Plain.{holding_of, seen_of}
 use Rattle.eval_tree.proofs.Arms.{where_ok}
 use Rattle.value_ops.specs.declared.field.Field.{Field}
-use Rattle.eval_tree.specs.declared.progress.Progress.{Progress}
 use Rattle.value_ops.specs.declared.value.Value.{Value}
-use Rattle.compose_eval.specs.Followers as followers
 use Rattle.compose_eval.specs.Followers.{instance_at, with_follower, IsAt}
 use Rattle.eval_tree.specs.Feeds.{CanBegin, CanCarry, CanPassOn, Feeds, HasIdle, IsBegun, IsCarried, PassesOn, hit_at, item_of}
 use Rattle.eval_tree.proofs.ComposeAllowed.{carry_begun, start_cleared, step_carried}
@@ -20,10 +18,7 @@ use Rattle.eval_tree.specs.Numbers.{BeginsNumbers, CarriesNumbers, PassesNumbers
 use Rattle.eval_tree.proofs.NumbersAllowed.{begun_carries, cleared_starts, last_begins, place_tells, runner_renews, runner_steps}
 use Rattle.eval_tree.proofs.NumbersTyped.{answer_no_table}
 use Rattle.eval_tree.proofs.+step.Goals as goal
-use Rattle.eval_tree.proofs.+step.Goals.{feeds::feed-then-idle-eq0-via-then-idle-eq0, feeds::feed-then-idle-eq0-via-else-idle-eq0+then-is_some, feeds::feed-then-live, feeds::feed-else-live}
-
-abbrev Runners : Type 0
-Runners = followers.Contents Progress
+use Rattle.eval_tree.proofs.+step.Goals.{feeds::feed-then-idle-eq0-via-then-idle-eq0, feeds::feed-then-idle-eq0-via-else-idle-eq0+then-is_some}
 
 -- what is said of a place that is there, and where there is none
 there_is : (place : Option ℕ) (P : ℕ → Type 0) → is_some place ≡ true → IfSome place P → (i : ℕ) × P i
@@ -34,35 +29,38 @@ there_is_none : (place : Option ℕ) (A : Type 0) → is_some place ≡ false �
 there_is_none None A none is = is
 there_is_none (Some i) A none is = absurd (false≢true (sym none))
 
-pub feeds::renew-start-requires : goal.feeds::renew-start-requires
-feeds::renew-start-requires t c = (
+pub feeds::renew-start_into-requires : goal.feeds::renew-start_into-requires
+feeds::renew-start_into-requires t c = (
   search rules,
-  start_cleared seen_of (plain_of c.args.query.now.shape) c.args.runner.now None (holding_of c.clear.new.node.state)
-      c.requires c.clear.ensures,
+  (
+    refl,
+    start_cleared seen_of (plain_of c.args.query.now.shape) c.args.runner.now None (holding_of c.clear.new.node.state)
+        c.requires c.clear.ensures,
+  ),
 )
 
 pub feeds::renew-returns-clause-renewed : goal.feeds::renew-returns-clause-renewed
 feeds::renew-returns-clause-renewed t c =
     begun_anew seen_of (plain_of c.args.query.now.shape) c.args.runner.now _ (holding_of c.clear.new.node.state)
-    c.in_ok-hit.hit c.requires.columns c.requires.no_collect c.requires.sound c.clear.ensures
-    c.in_ok-hit.ensures.word c.in_ok-hit.ensures.sound refl c.value_of.ensures
+    c.start_into.new.hit c.requires.columns c.requires.no_collect c.requires.sound c.clear.ensures
+    c.in_ok-start_into.ensures.word c.in_ok-start_into.ensures.sound refl c.value_of.ensures
 
-pub feeds::carry-step-requires : goal.feeds::carry-step-requires
-feeds::carry-step-requires t c = (
+pub feeds::carry-step_into-requires : goal.feeds::carry-step_into-requires
+feeds::carry-step_into-requires t c = (
   search rules,
-  step_carried seen_of (plain_of c.args.query.now.shape) c.args.runner.now c.args.item.now c.requires,
+  (refl, step_carried seen_of (plain_of c.args.query.now.shape) c.args.runner.now c.args.item.now c.requires),
 )
 
 pub feeds::carry-returns-clause-carried : goal.feeds::carry-returns-clause-carried
 feeds::carry-returns-clause-carried t c =
-    carried_on seen_of (plain_of c.args.query.now.shape) c.args.runner.now _ c.args.item.now c.in_ok-hit.hit
-    c.in_ok-hit.ensures.word c.in_ok-hit.ensures.sound refl c.value_of.ensures
+    carried_on seen_of (plain_of c.args.query.now.shape) c.args.runner.now _ c.args.item.now c.step_into.new.hit
+    c.in_ok-step_into.ensures.word c.in_ok-step_into.ensures.sound refl c.value_of.ensures
 
 pub feeds::tell-carry-requires : goal.feeds::tell-carry-requires
 feeds::tell-carry-requires t c = (
   search rules,
   subst (CanCarry seen_of (plain_of c.args.query.now.shape) c.args.runner.now)
-      (sym (c.from_value.ensures ∙ ap item_of c.into_parts-start.ensures.value)) c.requires,
+      (sym (c.from_value.ensures ∙ ap item_of c.into_parts-start.ensures.value)) c.requires.can,
 )
 
 pub feeds::tell-returns-in_ok-value-in-Some-clause-told : goal.feeds::tell-returns-in_ok-value-in-Some-clause-told
@@ -81,66 +79,78 @@ feeds::tell-returns-in-None-clause-told t c = record {
   carried = subst (λ (item : List Field). IsCarried seen_of (plain_of c.args.query.now.shape) c.args.runner.now item
       c.carry-2.new.runner) (c.from_value.ensures ∙ ap item_of c.into_parts-start.ensures.value)
       c.in_ok-carry.ensures.carried;
-  answers = ap (hit_at c.args.left.start) (sym c.in-None.is);
+  answers = c.requires.none ∙ ap (hit_at c.args.left.start) (sym c.in-None.is);
 }
 
 pub feeds::begin-renew-requires : goal.feeds::begin-renew-requires
 feeds::begin-renew-requires t c = (
   search rules,
-  renew_allowed seen_of (plain_of c.args.query.now.shape) c.args.runner.now c.args.left c.requires,
+  renew_allowed seen_of (plain_of c.args.query.now.shape) c.args.runner.now c.args.left c.requires.can,
 )
 
 pub feeds::begin-tell-requires : goal.feeds::begin-tell-requires
 feeds::begin-tell-requires t c = (
   search rules,
-  carry_begun seen_of (plain_of c.args.query.now.shape) c.args.runner.now c.renew.new.runner c.in-Some.hit
-      (subst (CanBegin seen_of (plain_of c.args.query.now.shape) c.args.runner.now) c.in-Some.is c.requires)
-      c.in_ok-renew.ensures.renewed,
+  (
+    c.requires.none,
+    carry_begun seen_of (plain_of c.args.query.now.shape) c.args.runner.now c.renew.new.runner c.in-Some.left
+        (subst (CanBegin seen_of (plain_of c.args.query.now.shape) c.args.runner.now) c.in-Some.is c.requires.can)
+        c.in_ok-renew.ensures.renewed,
+  ),
 )
 
 pub feeds::begin-returns-in-Some-clause-begun : goal.feeds::begin-returns-in-Some-clause-begun
 feeds::begin-returns-in-Some-clause-begun t c =
-    where_ok c.tell.result _ _ (λ hit told. subst (λ (left : Option Hit).
-    IsBegun seen_of (plain_of c.args.query.now.shape) c.args.runner.now left c.tell.new.runner hit) (sym c.in-Some.is)
+    where_ok c.tell.result _ _ (λ done told. subst (λ (left : Option Hit).
+    IsBegun seen_of (plain_of c.args.query.now.shape) c.args.runner.now left c.tell.new.runner c.tell.new.hit)
+    (sym c.in-Some.is)
     (c.renew.new.runner, c.in_ok-renew.ensures.renewed, told)) c.tell.ensures.told
 
 pub feeds::begin-returns-in-None-clause-begun : goal.feeds::begin-returns-in-None-clause-begun
 feeds::begin-returns-in-None-clause-begun t c =
     subst (λ (left : Option Hit). IsBegun seen_of (plain_of c.args.query.now.shape) c.args.runner.now left
-    c.renew.new.runner None) (sym c.in-None.is) (c.in_ok-renew.ensures.renewed, refl)
+    c.renew.new.runner c.args.hit.now) (sym c.in-None.is) (c.in_ok-renew.ensures.renewed, c.requires.none)
 
 pub feeds::pass_on-tell-requires : goal.feeds::pass_on-tell-requires
 feeds::pass_on-tell-requires t c = (
   search rules,
-  tell_allowed seen_of (plain_of c.args.query.now.shape) c.args.runners.now c.in-Some.hit c.in-Some-place.place
-      c.follower_mut.result.now
-      (subst (CanPassOn seen_of (plain_of c.args.query.now.shape) c.args.runners.now) c.in-Some.is c.requires)
-      c.follower_mut.ensures.value,
+  (
+    c.requires.none,
+    tell_allowed seen_of (plain_of c.args.query.now.shape) c.args.runners.now c.in-Some.left c.in-Some-place.place
+        c.follower_mut.result.now
+        (subst (CanPassOn seen_of (plain_of c.args.query.now.shape) c.args.runners.now) c.in-Some.is c.requires.can)
+        c.follower_mut.ensures.value,
+  ),
 )
 
 pub feeds::pass_on-returns-in-Some-place-clause-passed : goal.feeds::pass_on-returns-in-Some-place-clause-passed
 feeds::pass_on-returns-in-Some-place-clause-passed t c =
-    where_ok c.tell.result _ _ (λ hit tells. subst (λ (left : Option Hit).
+    where_ok c.tell.result _ _ (λ done tells. subst (λ (left : Option Hit).
     PassesOn seen_of (plain_of c.args.query.now.shape) c.args.runners.now left (record {
       live = with_follower c.args.runners.now.live c.in-Some-place.place c.tell.new.runner;
       idle = c.args.runners.now.idle;
       room = c.args.runners.now.room;
-    }) hit) (sym c.in-Some.is)
-    (inl (passed_one seen_of (plain_of c.args.query.now.shape) c.args.runners.now c.in-Some.hit c.in-Some-place.place
-    c.follower_mut.result.now c.tell.new.runner hit c.in-Some-place.ensures.there c.follower_mut.ensures.value tells)))
+    }) c.tell.new.hit) (sym c.in-Some.is)
+    (inl (passed_one seen_of (plain_of c.args.query.now.shape) c.args.runners.now c.in-Some.left c.in-Some-place.place
+    c.follower_mut.result.now c.tell.new.runner c.tell.new.hit c.in-Some-place.ensures.there c.follower_mut.ensures.value tells)))
     c.tell.ensures.told
 
 pub feeds::feed-begin-requires : goal.feeds::feed-begin-requires
 feeds::feed-begin-requires t c = (
   search rules,
-  begin_last seen_of (plain_of c.args.query.now.shape) c.args.runners.now c.args.left _ c.resting_mut.result.now
-      c.requires c.resting_mut.ensures.value,
+  (
+    c.requires.none,
+    begin_last seen_of (plain_of c.args.query.now.shape) c.args.runners.now c.args.left _ c.resting_mut.result.now
+        c.requires.can c.resting_mut.ensures.value,
+  ),
 )
 
 pub feeds::feed-returns-then-idle-eq0-clause-fed : goal.feeds::feed-returns-then-idle-eq0-clause-fed
 feeds::feed-returns-then-idle-eq0-clause-fed t c =
     let count = c.idle.ensures in
-    elim c.then-idle-eq0.branch [
+    subst (λ (hit : Option Hit). Feeds seen_of (plain_of c.args.query.now.shape) c.args.runners.now c.args.live c.args.at
+    c.args.left c.args.runners.now hit) (sym c.requires.none)
+    (elim c.then-idle-eq0.branch [
       | feeds::feed-then-idle-eq0-via-then-idle-eq0 w ↦
           feeds_none seen_of (plain_of c.args.query.now.shape) c.args.runners.now c.args.live c.args.at c.args.left
           (λ has. let some = has.idle in let none = w.if-idle-eq0.true in omega (arith, some, none, count))
@@ -149,11 +159,10 @@ feeds::feed-returns-then-idle-eq0-clause-fed t c =
           (λ has. let found = there_is w.place.result (λ i. IsAt c.args.runners.now.live i c.args.at)
           (sym w.is_some.ensures ∙ w.if-is_some.true) w.place.ensures.there in
           fed_already c.args.runners.now.live found.0 c.args.at found.1 has.fresh)
-    ]
+    ])
 
-pub feeds::feed-returns-clause-fed : goal.feeds::feed-returns-clause-fed
-feeds::feed-returns-clause-fed t c =
-    let q = plain_of c.args.query.now.shape in
+pub feeds::feed-returns-then-live-clause-fed : goal.feeds::feed-returns-then-live-clause-fed
+feeds::feed-returns-then-live-clause-fed t c =
     let old = c.args.runners.now in
     let count = c.idle.ensures in
     let last = c.idle-last.ensures in
@@ -163,30 +172,36 @@ feeds::feed-returns-clause-fed t c =
       fresh = there_is_none c.place.result (instance_at old.live c.args.at ≡ None)
           (sym c.is_some.ensures ∙ c.if-is_some.false) c.place.ensures.none;
     } in
-    elim c.if-live.branch [
-      | feeds::feed-then-live w ↦ subst (λ (new : Runners). Feeds seen_of q old c.args.live c.args.at c.args.left new
-          c.in_ok-hit.hit) (sym w.runners-is)
-          (feeds_awake seen_of q old w.wake.new.self c.args.live c.args.at _ c.args.left c.in_ok-hit.hit
-          c.resting_mut.result.now c.begin.new.runner w.if-live.true has (ap (λ (n : ℕ). n - 1) last)
-          c.resting_mut.ensures.value c.in_ok-hit.ensures.begun w.wake.ensures.wakes w.wake.ensures.room)
-      | feeds::feed-else-live w ↦ subst (λ (new : Runners). Feeds seen_of q old c.args.live c.args.at c.args.left new
-          c.in_ok-hit.hit) (sym w.runners-is)
-          (feeds_at_rest seen_of q old c.args.live c.args.at _ c.args.left c.in_ok-hit.hit
-          c.resting_mut.result.now c.begin.new.runner w.if-live.false has (ap (λ (n : ℕ). n - 1) last)
-          c.resting_mut.ensures.value c.in_ok-hit.ensures.begun)
-    ]
+    feeds_awake seen_of (plain_of c.args.query.now.shape) old c.wake.new.self c.args.live c.args.at _ c.args.left
+    c.begin.new.hit c.resting_mut.result.now c.begin.new.runner c.if-live.true has (ap (λ (n : ℕ). n - 1) last)
+    c.resting_mut.ensures.value c.in_ok-begin.ensures.begun c.wake.ensures.wakes c.wake.ensures.room
 
-pub feeds::renew-returns-in_err-hit-clause-no_memory :
-    goal.feeds::renew-returns-in_err-hit-clause-no_memory
-feeds::renew-returns-in_err-hit-clause-no_memory t c = λ free.
-    absurd (false≢true (c.in_err-hit.ensures.no_memory
+pub feeds::feed-returns-else-live-clause-fed : goal.feeds::feed-returns-else-live-clause-fed
+feeds::feed-returns-else-live-clause-fed t c =
+    let old = c.args.runners.now in
+    let count = c.idle.ensures in
+    let last = c.idle-last.ensures in
+    let some = c.if-idle-eq0.false in
+    let has : HasIdle old c.args.at = record {
+      idle = omega (arith, count, some);
+      fresh = there_is_none c.place.result (instance_at old.live c.args.at ≡ None)
+          (sym c.is_some.ensures ∙ c.if-is_some.false) c.place.ensures.none;
+    } in
+    feeds_at_rest seen_of (plain_of c.args.query.now.shape) old c.args.live c.args.at _ c.args.left c.begin.new.hit
+    c.resting_mut.result.now c.begin.new.runner c.if-live.false has (ap (λ (n : ℕ). n - 1) last)
+    c.resting_mut.ensures.value c.in_ok-begin.ensures.begun
+
+pub feeds::renew-returns-in_err-start_into-clause-no_memory :
+    goal.feeds::renew-returns-in_err-start_into-clause-no_memory
+feeds::renew-returns-in_err-start_into-clause-no_memory t c = λ free.
+    absurd (false≢true (c.in_err-start_into.ensures.no_memory
     (cleared_starts seen_of (plain_of c.args.query.now.shape) c.args.runner.now None
     (holding_of c.clear.new.node.state) free c.clear.ensures)))
 
-pub feeds::carry-returns-in_err-hit-clause-no_memory :
-    goal.feeds::carry-returns-in_err-hit-clause-no_memory
-feeds::carry-returns-in_err-hit-clause-no_memory t c = λ free.
-    absurd (false≢true (c.in_err-hit.ensures.no_memory
+pub feeds::carry-returns-in_err-step_into-clause-no_memory :
+    goal.feeds::carry-returns-in_err-step_into-clause-no_memory
+feeds::carry-returns-in_err-step_into-clause-no_memory t c = λ free.
+    absurd (false≢true (c.in_err-step_into.ensures.no_memory
     (runner_steps seen_of (plain_of c.args.query.now.shape) c.args.runner.now c.args.item.now free)))
 
 pub feeds::tell-returns-in_err-carry-clause-no_memory :
@@ -216,7 +231,7 @@ pub feeds::begin-returns-in-Some-clause-no_memory :
     goal.feeds::begin-returns-in-Some-clause-no_memory
 feeds::begin-returns-in-Some-clause-no_memory t c = λ free.
     c.tell.ensures.no_memory
-    (begun_carries seen_of (plain_of c.args.query.now.shape) c.args.runner.now c.renew.new.runner c.in-Some.hit
+    (begun_carries seen_of (plain_of c.args.query.now.shape) c.args.runner.now c.renew.new.runner c.in-Some.left
     (subst (BeginsNumbers seen_of (plain_of c.args.query.now.shape) c.args.runner.now) c.in-Some.is free)
     c.in_ok-renew.ensures.renewed)
 
@@ -224,15 +239,15 @@ pub feeds::pass_on-returns-in-Some-place-clause-no_memory :
     goal.feeds::pass_on-returns-in-Some-place-clause-no_memory
 feeds::pass_on-returns-in-Some-place-clause-no_memory t c = λ free.
     c.tell.ensures.no_memory
-    (place_tells seen_of (plain_of c.args.query.now.shape) c.args.runners.now c.in-Some.hit c.in-Some-place.place
+    (place_tells seen_of (plain_of c.args.query.now.shape) c.args.runners.now c.in-Some.left c.in-Some-place.place
     c.follower_mut.result.now
     (subst (PassesNumbers seen_of (plain_of c.args.query.now.shape) c.args.runners.now) c.in-Some.is free)
     c.follower_mut.ensures.value)
 
-pub feeds::feed-returns-in_err-hit-clause-no_memory :
-    goal.feeds::feed-returns-in_err-hit-clause-no_memory
-feeds::feed-returns-in_err-hit-clause-no_memory t c = λ free.
-    absurd (false≢true (c.in_err-hit.ensures.no_memory
+pub feeds::feed-returns-in_err-begin-clause-no_memory :
+    goal.feeds::feed-returns-in_err-begin-clause-no_memory
+feeds::feed-returns-in_err-begin-clause-no_memory t c = λ free.
+    absurd (false≢true (c.in_err-begin.ensures.no_memory
     (last_begins seen_of (plain_of c.args.query.now.shape) c.args.runners.now c.args.left _ c.resting_mut.result.now
     free
     c.resting_mut.ensures.value)))

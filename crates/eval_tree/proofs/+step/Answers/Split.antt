@@ -7,7 +7,6 @@ use Rattle.eval_tree.specs.Holdings.{split_held}
 use Rattle.eval_tree.specs.Lefts.{IsPut}
 use Rattle.eval_tree.specs.Live.{live_of}
 use Rattle.eval_tree.specs.Plain.{holding_of, seen_of}
-use Rattle.eval_tree.specs.Steps.{CanStart, CanStep}
 use Rattle.eval_tree.specs.declared.node.State.TheViews.{out-State, roll-State}
 use Rattle.eval_tree.proofs.Allowed.{start_behind, start_right, started_split, step_right, stepped_ended, stepped_joined}
 use Rattle.eval_tree.proofs.Arms.{can_start_as, can_step_as, live_as, numbers_start_as, numbers_step_as, soundly_started_as, soundly_stepped_as, start_fails, started_as, started_from, step_fails, stepped_as, stepped_from}
@@ -27,31 +26,34 @@ split::start_split-start_and_join-requires t c =
     let a = holding_of s.a.value.state in
     let b = holding_of s.b.value.state in
     let can = can_start_as _ (split f g e) _ (split_held a b s.held) c.args.at refl (sym (ap holding_of s.is))
-    c.requires in
+    c.requires.can in
     let same : b ≡ holding_of c.deref_mut-in-Some.result.now.state = search rules in (
       search rules,
-      record {
-        can = can_start_as _ _ _ _ c.args.at refl (sym same) (start_right seen_of f g e a b s.held c.args.at can);
-        typed = λ new right second. started_split seen_of f g e a b (holding_of c.start.new.node.state) new s.held
-            c.args.at c.in-Some.left right can
-            (soundly_started_as _ _ (holding_of c.deref_mut.result.now.state) a _ _ c.args.at _ _ refl (search rules)
-            refl (sym c.in-Some.is) c.in_ok-left-in-Split.ensures.sound)
-            (soundly_started_as _ _ _ b _ _ c.args.at _ _ refl same refl refl second);
-      },
+      (
+        c.requires.none,
+        record {
+          can = can_start_as _ _ _ _ c.args.at refl (sym same) (start_right seen_of f g e a b s.held c.args.at can);
+          typed = λ new right second. started_split seen_of f g e a b (holding_of c.start_into.new.node.state) new s.held
+              c.args.at c.in-Some.left right can
+              (soundly_started_as _ _ (holding_of c.deref_mut.result.now.state) a _ _ c.args.at _ _ refl (search rules)
+              refl (sym c.in-Some.is) c.in_ok-start_into-in-Split.ensures.sound)
+              (soundly_started_as _ _ _ b _ _ c.args.at _ _ refl same refl refl second);
+        },
+      ),
     )
 
-pub split::start_split-returns-in_ok-hit-in-Some : goal.split::start_split-returns-in_ok-hit-in-Some
+pub split::start_split-returns-in_ok-start_and_join-in-Some : goal.split::start_split-returns-in_ok-start_and_join-in-Some
 unfolding roll-State out-State denote.Hole.Carrier.roll denote.Hole.Carrier.out
-split::start_split-returns-in_ok-hit-in-Some t c =
+split::start_split-returns-in_ok-start_and_join-in-Some t c =
     let s = c.in-Split in
-    let right = c.in_ok-hit-in-Some.ensures.joined in
+    let right = c.in_ok-start_and_join-in-Some.ensures.joined in
     started_as _ _ _ _ _ _ c.args.at _ _ refl (ap holding_of s.is) refl refl
     (split_starts (plain_of c.args.first.now.shape) (plain_of c.args.second.now.shape)
     (values.plain_of c.args.expression.now) (holding_of s.a.value.state) (holding_of s.b.value.state)
-    (holding_of c.start.new.node.state) (holding_of c.start_and_join.new.node.state) s.held c.wait_if_new.new.held
-    c.args.at c.in-Some.left right.right c.in_ok-hit-in-Some.hit c.is_live.result
+    (holding_of c.start_into.new.node.state) (holding_of c.start_and_join.new.node.state) s.held c.wait_if_new.new.held
+    c.args.at c.in-Some.left right.right c.start_and_join.new.hit c.is_live.result
     (started_as _ _ (holding_of c.deref_mut.result.now.state) (holding_of s.a.value.state) _ _ c.args.at _ _ refl
-    (search rules) refl (ap Ok (sym c.in-Some.is)) c.in_ok-left-in-Split.ensures)
+    (search rules) refl (ap Ok (sym c.in-Some.is)) c.in_ok-start_into-in-Split.ensures)
     (started_from _ _ (holding_of c.deref_mut-in-Some.result.now.state) (holding_of s.b.value.state) _ c.args.at _ refl
     (search rules) right.started)
     right.joined (live_as c.args.second.now c.args.second.now _ _ c.args.at c.is_live.result refl c.deref.ensures c.is_live.ensures.read)
@@ -61,26 +63,26 @@ pub split::start_split-returns-in-None : goal.split::start_split-returns-in-None
 unfolding roll-State out-State denote.Hole.Carrier.roll denote.Hole.Carrier.out
 split::start_split-returns-in-None t c =
     let s = c.in-Split in
-    started_as _ _ _ _ (split_held (holding_of c.start.new.node.state) (holding_of s.b.value.state) s.held) _ c.args.at
-    _ _ refl (ap holding_of s.is) (rw s.is refl) refl
+    started_as _ _ _ _ (split_held (holding_of c.start_into.new.node.state) (holding_of s.b.value.state) s.held) _ c.args.at
+    _ _ refl (ap holding_of s.is) (rw s.is refl) (ap Ok c.requires.none)
     (split_starts_none (plain_of c.args.first.now.shape) (plain_of c.args.second.now.shape)
     (values.plain_of c.args.expression.now) (holding_of s.a.value.state) (holding_of s.b.value.state)
-    (holding_of c.start.new.node.state) (holding_of s.b.value.state) s.held c.args.at
+    (holding_of c.start_into.new.node.state) (holding_of s.b.value.state) s.held c.args.at
     (started_as _ _ (holding_of c.deref_mut.result.now.state) (holding_of s.a.value.state) _ _ c.args.at _ _ refl
-    (search rules) refl (ap Ok (sym c.in-None.is)) c.in_ok-left-in-Split.ensures))
+    (search rules) refl (ap Ok (sym c.in-None.is)) c.in_ok-start_into-in-Split.ensures))
 
-pub split::start_split-returns-in_err-left-in-Split : goal.split::start_split-returns-in_err-left-in-Split
-split::start_split-returns-in_err-left-in-Split t c =
+pub split::start_split-returns-in_err-start_into-in-Split : goal.split::start_split-returns-in_err-start_into-in-Split
+split::start_split-returns-in_err-start_into-in-Split t c =
     let s = c.in-Split in
     let same : holding_of s.a.value.state ≡ holding_of c.deref_mut.result.now.state = search rules in
     start_fails _ _ _ _ _ c.args.at _ (search rules) refl (ap holding_of s.is)
-    (λ free. false≢true (c.in_err-left-in-Split.ensures.no_memory (numbers_start_as _ _ _ _ c.args.at refl (sym same)
+    (λ free. false≢true (c.in_err-start_into-in-Split.ensures.no_memory (numbers_start_as _ _ _ _ c.args.at refl (sym same)
     (left_starts seen_of (plain_of c.args.first.now.shape) (plain_of c.args.second.now.shape)
     (values.plain_of c.args.expression.now) (holding_of s.a.value.state) (holding_of s.b.value.state) s.held
     c.args.at free))))
 
-pub split::start_split-returns-in_err-hit-in-Some : goal.split::start_split-returns-in_err-hit-in-Some
-split::start_split-returns-in_err-hit-in-Some t c =
+pub split::start_split-returns-in_err-start_and_join-in-Some : goal.split::start_split-returns-in_err-start_and_join-in-Some
+split::start_split-returns-in_err-start_and_join-in-Some t c =
     let s = c.in-Split in
     let f = plain_of c.args.first.now.shape in
     let g = plain_of c.args.second.now.shape in
@@ -89,12 +91,12 @@ split::start_split-returns-in_err-hit-in-Some t c =
     let b = holding_of s.b.value.state in
     let same : b ≡ holding_of c.deref_mut-in-Some.result.now.state = search rules in
     start_fails _ _ _ _ _ c.args.at _ (search rules) refl (ap holding_of s.is)
-    (λ free. false≢true (c.in_err-hit-in-Some.ensures.no_memory (record {
+    (λ free. false≢true (c.in_err-start_and_join-in-Some.ensures.no_memory (record {
       starts = numbers_start_as _ _ _ _ c.args.at refl (sym same) (right_starts seen_of f g e a b s.held c.args.at free);
-      joins = λ new right second. joined_started seen_of f g e a b (holding_of c.start.new.node.state) new s.held c.args.at
+      joins = λ new right second. joined_started seen_of f g e a b (holding_of c.start_into.new.node.state) new s.held c.args.at
           c.in-Some.left right free
           (soundly_started_as _ _ (holding_of c.deref_mut.result.now.state) a _ _ c.args.at _ _ refl (search rules) refl
-          (sym c.in-Some.is) c.in_ok-left-in-Split.ensures.sound)
+          (sym c.in-Some.is) c.in_ok-start_into-in-Split.ensures.sound)
           (soundly_started_as _ _ _ b _ _ c.args.at _ _ refl same refl refl second);
     })))
 
@@ -108,15 +110,18 @@ split::step_split-end_right-requires t c =
     let a = holding_of s.a.value.state in
     let b = holding_of s.b.value.state in
     let can = can_step_as _ (split f g e) _ (split_held a b s.held) c.args.now c.args.item.now refl
-    (sym (ap holding_of s.is)) c.requires in
-    let same : b ≡ holding_of c.deref_mut-in-Split.result.now.state = search rules in (
+    (sym (ap holding_of s.is)) c.requires.can in
+    let same : b ≡ holding_of c.deref_mut.result.now.state = search rules in (
       search rules,
-      rw s.is (record {
-        can = can_step_as _ _ _ _ c.args.now c.args.item.now refl (sym same)
-            (step_right seen_of f g e a b s.held c.args.now c.args.item.now can);
-        typed = λ new right second. stepped_ended seen_of f g e a b new s.held c.args.now c.args.item.now right can
-            (soundly_stepped_as _ _ _ b _ _ c.args.now c.args.item.now _ _ refl same refl refl second);
-      }),
+      (
+        c.requires.none,
+        rw s.is (record {
+          can = can_step_as _ _ _ _ c.args.now c.args.item.now refl (sym same)
+              (step_right seen_of f g e a b s.held c.args.now c.args.item.now can);
+          typed = λ new right second. stepped_ended seen_of f g e a b new s.held c.args.now c.args.item.now right can
+              (soundly_stepped_as _ _ _ b _ _ c.args.now c.args.item.now _ _ refl same refl refl second);
+        }),
+      ),
     )
 
 pub split::step_split-begin_right-requires : goal.split::step_split-begin_right-requires
@@ -129,98 +134,102 @@ split::step_split-begin_right-requires t c =
     let a = holding_of s.a.value.state in
     let b = holding_of s.b.value.state in
     let next = holding_of c.end_right.new.b.state in
-    let ended = c.in_ok-hit-in-Split.ensures.ended in
+    let ended = c.in_ok-end_right-in-Split.ensures.ended in
     let can = can_step_as _ (split f g e) _ (split_held a b s.held) c.args.now c.args.item.now refl
-    (sym (ap holding_of s.is)) c.requires in
+    (sym (ap holding_of s.is)) c.requires.can in
     let same : next ≡ holding_of c.deref_mut-in-Some.result.now.state = search rules in
-    let second = soundly_stepped_as _ _ (holding_of c.deref_mut-in-Split.result.now.state) b _ next c.args.now
+    let second = soundly_stepped_as _ _ (holding_of c.deref_mut.result.now.state) b _ next c.args.now
     c.args.item.now _ _ refl (search rules) refl refl ended.stepped.sound in (
       search rules,
       (
-        record {
-          can = can_start_as _ _ _ _ c.args.now refl (sym same)
-              (start_behind seen_of f g e a b next s.held c.args.now c.args.item.now ended.right can second);
-          typed = λ new right third. stepped_joined seen_of f g e a b (holding_of c.step.new.node.state) next new s.held
-              c.args.now c.args.item.now c.in-Some.left ended.right right can
-              (soundly_stepped_as _ _ (holding_of c.deref_mut.result.now.state) a _ _ c.args.now c.args.item.now _ _ refl
-              (search rules) refl (sym c.in-Some.is) c.in_ok-left-in-Split.ensures.sound)
-              second (soundly_started_as _ _ _ next _ _ c.args.now _ _ refl same refl refl third);
-        },
-        fresh_elsewhere c.args.now (live_of g next) s.held c.end_right.new.held
-            (rw s.is at c.in_ok-hit-in-Split.ensures.kept.0),
+        refl,
+        (
+          record {
+            can = can_start_as _ _ _ _ c.args.now refl (sym same)
+                (start_behind seen_of f g e a b next s.held c.args.now c.args.item.now ended.right can second);
+            typed = λ new right third. stepped_joined seen_of f g e a b (holding_of c.step_into.new.node.state) next new
+                s.held c.args.now c.args.item.now c.in-Some.left ended.right right can
+                (soundly_stepped_as _ _ (holding_of c.deref_mut-in-Split.result.now.state) a _ _ c.args.now
+                c.args.item.now _ _ refl (search rules) refl (sym c.in-Some.is)
+                c.in_ok-step_into-in-Split.ensures.sound)
+                second (soundly_started_as _ _ _ next _ _ c.args.now _ _ refl same refl refl third);
+          },
+          fresh_elsewhere c.args.now (live_of g next) s.held c.end_right.new.held
+              (rw s.is at c.in_ok-end_right-in-Split.ensures.kept.0),
+        ),
       ),
     )
 
-pub split::step_split-returns-in_ok-begun-in-Some : goal.split::step_split-returns-in_ok-begun-in-Some
+pub split::step_split-returns-in_ok-begin_right-in-Some : goal.split::step_split-returns-in_ok-begin_right-in-Some
 unfolding roll-State out-State denote.Hole.Carrier.roll denote.Hole.Carrier.out
-split::step_split-returns-in_ok-begun-in-Some t c =
+split::step_split-returns-in_ok-begin_right-in-Some t c =
     let s = c.in-Split in
-    let ended = c.in_ok-hit-in-Split.ensures.ended in
-    let begun = c.in_ok-begun-in-Some.ensures.joined in
-    stepped_as _ _ _ _ _ _ c.args.now c.args.item.now _ _ refl (ap holding_of s.is) refl (ap Ok c.or.ensures)
+    let ended = c.in_ok-end_right-in-Split.ensures.ended in
+    let begun = c.in_ok-begin_right-in-Some.ensures.joined in
+    stepped_as _ _ _ _ _ _ c.args.now c.args.item.now _ _ refl (ap holding_of s.is) refl (ap Ok c.put_if_none.ensures)
     (split_steps_some (plain_of c.args.first.now.shape) (plain_of c.args.second.now.shape)
     (values.plain_of c.args.expression.now) (holding_of s.a.value.state) (holding_of s.b.value.state)
-    (holding_of c.step.new.node.state) (holding_of c.end_right.new.b.state)
+    (holding_of c.step_into.new.node.state) (holding_of c.end_right.new.b.state)
     (holding_of c.begin_right.new.b.state) s.held c.end_right.new.held c.begin_right.new.held c.args.now c.args.item.now
-    c.in-Some.left ended.right begun.right c.in_ok-hit-in-Split.hit c.in_ok-begun-in-Some.begun _
-    (stepped_as _ _ (holding_of c.deref_mut.result.now.state) (holding_of s.a.value.state) _ _ c.args.now
-    c.args.item.now _ _ refl (search rules) refl (ap Ok (sym c.in-Some.is)) c.in_ok-left-in-Split.ensures)
-    (stepped_from _ _ (holding_of c.deref_mut-in-Split.result.now.state) (holding_of s.b.value.state) _ c.args.now
+    c.in-Some.left ended.right begun.right c.end_right.new.hit c.begin_right.new.hit _
+    (stepped_as _ _ (holding_of c.deref_mut-in-Split.result.now.state) (holding_of s.a.value.state) _ _ c.args.now
+    c.args.item.now _ _ refl (search rules) refl (ap Ok (sym c.in-Some.is)) c.in_ok-step_into-in-Split.ensures)
+    (stepped_from _ _ (holding_of c.deref_mut.result.now.state) (holding_of s.b.value.state) _ c.args.now
     c.args.item.now _ refl (search rules) ended.stepped)
-    (rw s.is at ended.ended) (rw s.is at c.in_ok-hit-in-Split.ensures.kept.0)
-    (rw s.is at c.in_ok-hit-in-Split.ensures.kept.1)
+    (rw s.is at ended.ended) (rw s.is at c.in_ok-end_right-in-Split.ensures.kept.0)
+    (rw s.is at c.in_ok-end_right-in-Split.ensures.kept.1)
     (started_from _ _ (holding_of c.deref_mut-in-Some.result.now.state) _ _ c.args.now _ refl (search rules)
     begun.started)
-    begun.joined refl c.in_ok-begun-in-Some.ensures.waits)
+    begun.joined refl c.in_ok-begin_right-in-Some.ensures.waits)
 
 pub split::step_split-returns-in-None : goal.split::step_split-returns-in-None
 unfolding roll-State out-State denote.Hole.Carrier.roll denote.Hole.Carrier.out
 split::step_split-returns-in-None t c =
     let s = c.in-Split in
-    let ended = c.in_ok-hit-in-Split.ensures.ended in
+    let ended = c.in_ok-end_right-in-Split.ensures.ended in
     stepped_as _ _ _ _ _ _ c.args.now c.args.item.now _ _ refl (ap holding_of s.is) refl refl
     (split_steps_none (plain_of c.args.first.now.shape) (plain_of c.args.second.now.shape)
     (values.plain_of c.args.expression.now) (holding_of s.a.value.state) (holding_of s.b.value.state)
-    (holding_of c.step.new.node.state) (holding_of c.end_right.new.b.state) s.held c.end_right.new.held c.args.now
-    c.args.item.now ended.right c.in_ok-hit-in-Split.hit
-    (stepped_as _ _ (holding_of c.deref_mut.result.now.state) (holding_of s.a.value.state) _ _ c.args.now
-    c.args.item.now _ _ refl (search rules) refl (ap Ok (sym c.in-None.is)) c.in_ok-left-in-Split.ensures)
-    (stepped_from _ _ (holding_of c.deref_mut-in-Split.result.now.state) (holding_of s.b.value.state) _ c.args.now
+    (holding_of c.step_into.new.node.state) (holding_of c.end_right.new.b.state) s.held c.end_right.new.held c.args.now
+    c.args.item.now ended.right c.end_right.new.hit
+    (stepped_as _ _ (holding_of c.deref_mut-in-Split.result.now.state) (holding_of s.a.value.state) _ _ c.args.now
+    c.args.item.now _ _ refl (search rules) refl (ap Ok (sym c.in-None.is)) c.in_ok-step_into-in-Split.ensures)
+    (stepped_from _ _ (holding_of c.deref_mut.result.now.state) (holding_of s.b.value.state) _ c.args.now
     c.args.item.now _ refl (search rules) ended.stepped)
     (rw s.is at ended.ended)
-    (rw s.is at c.in_ok-hit-in-Split.ensures.kept.0) (rw s.is at c.in_ok-hit-in-Split.ensures.kept.1))
+    (rw s.is at c.in_ok-end_right-in-Split.ensures.kept.0) (rw s.is at c.in_ok-end_right-in-Split.ensures.kept.1))
 
-pub split::step_split-returns-in_err-left-in-Split : goal.split::step_split-returns-in_err-left-in-Split
-split::step_split-returns-in_err-left-in-Split t c =
+pub split::step_split-returns-in_err-step_into-in-Split : goal.split::step_split-returns-in_err-step_into-in-Split
+split::step_split-returns-in_err-step_into-in-Split t c =
     let s = c.in-Split in
-    let same : holding_of s.a.value.state ≡ holding_of c.deref_mut.result.now.state = search rules in
+    let same : holding_of s.a.value.state ≡ holding_of c.deref_mut-in-Split.result.now.state = search rules in
     step_fails _ _ _ _ _ c.args.now c.args.item.now _ (search rules) refl (ap holding_of s.is)
-    (λ free. false≢true (c.in_err-left-in-Split.ensures.no_memory
+    (λ free. false≢true (c.in_err-step_into-in-Split.ensures.no_memory
     (numbers_step_as _ _ _ _ c.args.now c.args.item.now refl (sym same)
     (left_steps seen_of (plain_of c.args.first.now.shape) (plain_of c.args.second.now.shape)
     (values.plain_of c.args.expression.now) (holding_of s.a.value.state) (holding_of s.b.value.state) s.held
     c.args.now c.args.item.now free))))
 
-pub split::step_split-returns-in_err-hit-in-Split : goal.split::step_split-returns-in_err-hit-in-Split
+pub split::step_split-returns-in_err-end_right-in-Split : goal.split::step_split-returns-in_err-end_right-in-Split
 unfolding out-State denote.Hole.Carrier.out
-split::step_split-returns-in_err-hit-in-Split t c =
+split::step_split-returns-in_err-end_right-in-Split t c =
     let s = c.in-Split in
     let f = plain_of c.args.first.now.shape in
     let g = plain_of c.args.second.now.shape in
     let e = values.plain_of c.args.expression.now in
     let a = holding_of s.a.value.state in
     let b = holding_of s.b.value.state in
-    let same : b ≡ holding_of c.deref_mut-in-Split.result.now.state = search rules in
+    let same : b ≡ holding_of c.deref_mut.result.now.state = search rules in
     step_fails _ _ _ _ _ c.args.now c.args.item.now _ (search rules) refl (ap holding_of s.is)
-    (λ free. false≢true ((rw s.is at c.in_err-hit-in-Split.ensures.no_memory) (record {
+    (λ free. false≢true ((rw s.is at c.in_err-end_right-in-Split.ensures.no_memory) (record {
       steps = numbers_step_as _ _ _ _ c.args.now c.args.item.now refl (sym same)
           (right_steps seen_of f g e a b s.held c.args.now c.args.item.now free);
       ends = λ new right second. ended_stepped seen_of f g e a b new s.held c.args.now c.args.item.now right free
           (soundly_stepped_as _ _ _ b _ _ c.args.now c.args.item.now _ _ refl same refl refl second);
     })))
 
-pub split::step_split-returns-in_err-begun-in-Some : goal.split::step_split-returns-in_err-begun-in-Some
-split::step_split-returns-in_err-begun-in-Some t c =
+pub split::step_split-returns-in_err-begin_right-in-Some : goal.split::step_split-returns-in_err-begin_right-in-Some
+split::step_split-returns-in_err-begin_right-in-Some t c =
     let s = c.in-Split in
     let f = plain_of c.args.first.now.shape in
     let g = plain_of c.args.second.now.shape in
@@ -228,23 +237,23 @@ split::step_split-returns-in_err-begun-in-Some t c =
     let a = holding_of s.a.value.state in
     let b = holding_of s.b.value.state in
     let next = holding_of c.end_right.new.b.state in
-    let ended = c.in_ok-hit-in-Split.ensures.ended in
+    let ended = c.in_ok-end_right-in-Split.ensures.ended in
     let same : next ≡ holding_of c.deref_mut-in-Some.result.now.state = search rules in
-    let second = soundly_stepped_as _ _ (holding_of c.deref_mut-in-Split.result.now.state) b _ next c.args.now
+    let second = soundly_stepped_as _ _ (holding_of c.deref_mut.result.now.state) b _ next c.args.now
     c.args.item.now _ _ refl (search rules) refl refl ended.stepped.sound in
     step_fails _ _ _ _ _ c.args.now c.args.item.now _ (search rules) refl (ap holding_of s.is)
-    (λ free. false≢true (c.in_err-begun-in-Some.ensures.no_memory (record {
+    (λ free. false≢true (c.in_err-begin_right-in-Some.ensures.no_memory (record {
       starts = numbers_start_as _ _ _ _ c.args.now refl (sym same)
           (right_begins seen_of f g e a b next s.held c.args.now c.args.item.now ended.right free second);
-      joins = λ new right third. joined_stepped seen_of f g e a b (holding_of c.step.new.node.state) next new s.held
+      joins = λ new right third. joined_stepped seen_of f g e a b (holding_of c.step_into.new.node.state) next new s.held
           c.args.now c.args.item.now c.in-Some.left ended.right right free
-          (soundly_stepped_as _ _ (holding_of c.deref_mut.result.now.state) a _ _ c.args.now c.args.item.now _ _ refl
-          (search rules) refl (sym c.in-Some.is) c.in_ok-left-in-Split.ensures.sound)
+          (soundly_stepped_as _ _ (holding_of c.deref_mut-in-Split.result.now.state) a _ _ c.args.now c.args.item.now _ _ refl
+          (search rules) refl (sym c.in-Some.is) c.in_ok-step_into-in-Split.ensures.sound)
           second (soundly_started_as _ _ _ next _ _ c.args.now _ _ refl same refl refl third);
     })))
 
 pub split::end_right-step_and_end-requires : goal.split::end_right-step_and_end-requires
-split::end_right-step_and_end-requires t c = (search rules, c.requires)
+split::end_right-step_and_end-requires t c = (search rules, (c.requires.none, c.requires.can))
 
 pub split::end_right-returns-clause-kept : goal.split::end_right-returns-clause-kept
 split::end_right-returns-clause-kept t c = (
@@ -255,7 +264,7 @@ split::end_right-returns-clause-kept t c = (
 )
 
 pub split::begin_right-start_and_join-requires : goal.split::begin_right-start_and_join-requires
-split::begin_right-start_and_join-requires t c = (search rules, c.requires.can)
+split::begin_right-start_and_join-requires t c = (search rules, (c.requires.none, c.requires.can))
 
 pub split::begin_right-returns-clause-waits : goal.split::begin_right-returns-clause-waits
 split::begin_right-returns-clause-waits t c =
@@ -265,12 +274,12 @@ split::begin_right-returns-clause-waits t c =
 
 pub split::start_split-unreachable-requires : goal.split::start_split-unreachable-requires
 split::start_split-unreachable-requires t c =
-    unsound_split c.requires.columns c.args.at _ c.args.node.now.state _ _
+    unsound_split c.requires.can.columns c.args.at _ c.args.node.now.state _ _
     (values.plain_of c.args.expression.now) refl c.in_default.not-Split
-    c.requires.sound
+    c.requires.can.sound
 
 pub split::step_split-unreachable-requires : goal.split::step_split-unreachable-requires
 split::step_split-unreachable-requires t c =
-    unsound_split c.requires.columns c.requires.position _ c.args.node.now.state _ _
+    unsound_split c.requires.can.columns c.requires.can.position _ c.args.node.now.state _ _
     (values.plain_of c.args.expression.now) refl c.in_default.not-Split
-    c.requires.sound
+    c.requires.can.sound

@@ -1,4 +1,4 @@
-use Rattle.std.proofs.Common.{List, None, Option, Some, ap, refl, rules, subst, sym, ℕ, ◌∙◌, ◌≡◌}
+use Rattle.std.proofs.Common.{List, None, Ok, Option, Some, ap, refl, rules, subst, sym, ℕ, ◌∙◌, ◌≡◌}
 use Rattle.std.proofs.lemmas.Bool.{false≢true}
 use Rattle.value_ops.specs.declared.field.Field.{Field}
 use Rattle.value_ops.specs.declared.value.ValueType.{ValueType}
@@ -16,15 +16,14 @@ use Rattle.eval_tree.proofs.NumbersTyped.{given_stepped}
 use Rattle.eval_tree.proofs.PlainArms.{atom_steps, atom_steps_none, atom_steps_other}
 use Rattle.eval_tree.proofs.Unsound.{unsound_atom}
 use Rattle.eval_tree.proofs.atom.step_atom.Goals as goal
-use Rattle.eval_tree.proofs.atom.step_atom.Goals.{in_default-take-via-in-Some+else-holds, in_default-take-via-in_default-take}
 
 pub eval-requires : goal.eval-requires
 eval-requires c =
     let s = c.in-Atom in
     subst (λ (fields : List Field). (type : ValueType)
     × HasType (types_of (given fields None None)) (values.plain_of c.args.expression.now) type) (sym c.fields.ensures)
-    (stepped_atom seen_of (predicates.plain_of c.args.pred.now) (values.plain_of c.args.expression.now) _ c.requires.0 c.args.item.now
-    (can_step_as _ _ _ _ c.requires.0 c.args.item.now refl (sym (ap holding_of s.is)) c.requires.1))
+    (stepped_atom seen_of (predicates.plain_of c.args.pred.now) (values.plain_of c.args.expression.now) _ c.requires.can.0 c.args.item.now
+    (can_step_as _ _ _ _ c.requires.can.0 c.args.item.now refl (sym (ap holding_of s.is)) c.requires.can.1))
 
 pub returns-in_ok-value-in-Some : goal.returns-in_ok-value-in-Some
 unfolding roll-State out-State denote.Hole.Carrier.roll denote.Hole.Carrier.out
@@ -55,24 +54,25 @@ pub returns-in_default-take : goal.returns-in_default-take
 unfolding roll-State out-State denote.Hole.Carrier.roll denote.Hole.Carrier.out
 returns-in_default-take c =
     let s = c.in-Atom in
-    elim c.in_default-take.branch [
-      | in_default-take-via-in-Some+else-holds w ↦
-          λ now. stepped_as _ _ _ _ (atom_held None) _ now c.args.item.now _ _ refl
-          (ap holding_of s.is ∙ ap (λ (start : Option ℕ). atom_held start)
-          (sym (rw s.is at c.take.ensures.value) ∙ w.in-Some.is))
-          (rw s.is (ap (λ (start : Option ℕ). atom_held start) c.take.ensures.after)) refl
-          (atom_steps_other (predicates.plain_of c.args.pred.now) (values.plain_of c.args.expression.now) w.in-Some.start now
-          c.args.item.now (sym w.holds.ensures ∙ w.if-holds.false))
-      | in_default-take-via-in_default-take w ↦
-          λ now. stepped_as _ _ _ _ (atom_held None) _ now c.args.item.now _ _ refl
-          (ap holding_of s.is ∙ ap (λ (start : Option ℕ). atom_held start)
-          (sym (rw s.is at c.take.ensures.value) ∙ w.in_default-take.is))
-          (rw s.is (ap (λ (start : Option ℕ). atom_held start) c.take.ensures.after)) refl
-          (atom_steps_none (predicates.plain_of c.args.pred.now) (values.plain_of c.args.expression.now) now c.args.item.now)
-    ]
+    λ now. stepped_as _ _ _ _ (atom_held None) _ now c.args.item.now _ _ refl
+    (ap holding_of s.is ∙ ap (λ (start : Option ℕ). atom_held start)
+    (sym (rw s.is at c.take.ensures.value) ∙ c.in-Some.is))
+    (rw s.is (ap (λ (start : Option ℕ). atom_held start) c.take.ensures.after)) (ap Ok c.requires.none)
+    (atom_steps_other (predicates.plain_of c.args.pred.now) (values.plain_of c.args.expression.now) c.in-Some.start now
+    c.args.item.now (sym c.holds.ensures ∙ c.if-holds.false))
+
+pub returns-in_default-take-2 : goal.returns-in_default-take-2
+unfolding roll-State out-State denote.Hole.Carrier.roll denote.Hole.Carrier.out
+returns-in_default-take-2 c =
+    let s = c.in-Atom in
+    λ now. stepped_as _ _ _ _ (atom_held None) _ now c.args.item.now _ _ refl
+    (ap holding_of s.is ∙ ap (λ (start : Option ℕ). atom_held start)
+    (sym (rw s.is at c.take.ensures.value) ∙ c.in_default-take.is))
+    (rw s.is (ap (λ (start : Option ℕ). atom_held start) c.take.ensures.after)) (ap Ok c.requires.none)
+    (atom_steps_none (predicates.plain_of c.args.pred.now) (values.plain_of c.args.expression.now) now c.args.item.now)
 
 pub unreachable-requires : goal.unreachable-requires
 unreachable-requires c =
-    let can = c.requires.1 in
+    let can = c.requires.can.1 in
     unsound_atom can.columns can.position _ c.args.node.now.state (predicates.plain_of c.args.pred.now)
     (values.plain_of c.args.expression.now) refl c.in_default.not-Atom can.sound
