@@ -1,6 +1,8 @@
 // What no clause says: that lines are made at all, and what they are, written out. The first two
 // draws of the seed 0 are 335903614 and 436792849.
-ghost use Rattle.std.specs.Prelude.{◌≡◌, IfOk};
+ghost use Rattle.std.specs.Prelude.{◌≡◌, [], ◌∷◌, IfOk, IsTrue};
+ghost use Rattle.std.specs.List.{list_all};
+ghost use Rattle.item_schema.specs.Layout.{has_digits, is_read};
 
 use crate::assertions::same;
 use item_drill::{Drill, drilled_bytes_have_lines, drilled_lines_have_items};
@@ -18,21 +20,15 @@ fn column(alloc: Global, name: &[u8], kind: Kind) -> Result<Column, AllocError>
     Ok(Column { name, kind })
 }
 
-#[test]
-fn lines_have_a_field_for_each_column(rt: HostRuntime) -> Result<(), Fail> {
-    let columns = vec![in rt.alloc(); column(rt.alloc(), b"a", Kind::Int)?]?;
-    let schema = Schema::new(false, columns);
-    let mut drill = Drill::new(&schema, 0);
-    same(&rt, drill.header(rt.alloc())?.as_slice(), b"".as_slice());
-    same(&rt, drill.line(rt.alloc())?.as_slice(), b"747\n".as_slice());
-    same(
-        &rt,
-        drill.line(rt.alloc())?.as_slice(),
-        b"-438\n".as_slice(),
-    );
-    drilled_lines_have_items();
-    drilled_bytes_have_lines();
-    Ok(())
+// A stream of lines of one number.
+fn one_number(alloc: Global, kind: Kind) -> Result<Box<Schema>, AllocError>
+    requires digits { IsTrue (has_digits kind) }
+    requires read { IsTrue (is_read kind) }
+    ensures { IfOk result (λ schema.
+        schema.value.columns ≡ record { name = 97 ∷ []; kind = kind } ∷ []) }
+{
+    let columns = vec![in alloc; column(alloc, b"a", kind)?]?;
+    Ok(Box::new(alloc, Schema::new(false, columns))?)
 }
 
 fn has_header(
@@ -43,6 +39,30 @@ fn has_header(
 ) -> Result<(), AllocError> {
     let header = drill.header(alloc)?;
     same(rt, header.as_slice(), wanted);
+    Ok(())
+}
+
+fn has_line(
+    rt: &impl Abort,
+    alloc: Global,
+    drill: &mut Drill<'_>,
+    wanted: &[u8],
+) -> Result<(), AllocError> {
+    let line = drill.line(alloc)?;
+    same(rt, line.as_slice(), wanted);
+    Ok(())
+}
+
+#[test]
+fn lines_have_a_field_for_each_column(rt: HostRuntime) -> Result<(), Fail> {
+    let alloc = rt.alloc();
+    let schema = one_number(alloc, Kind::Int)?;
+    let mut drill = Drill::new(&schema, 0);
+    has_header(&rt, alloc, &drill, b"")?;
+    has_line(&rt, alloc, &mut drill, b"747\n")?;
+    has_line(&rt, alloc, &mut drill, b"-438\n")?;
+    drilled_lines_have_items();
+    drilled_bytes_have_lines();
     Ok(())
 }
 
@@ -58,36 +78,53 @@ fn is_read_as_drawn(rt: &impl Abort, alloc: Global, schema: &Schema, line: &[u8]
     same(rt, is_drawn, true);
 }
 
+fn draws_what_is_read(rt: &impl Abort, alloc: Global, schema: &Schema) -> Result<(), AllocError>
+    requires { IsTrue (list_all (λ c. is_read c.kind) schema.now.columns) }
+{
+    let mut drill = Drill::new(schema, 0);
+    has_header(rt, alloc, &drill, b"gauge,rain\n")?;
+    let line = drill.line(alloc)?;
+    is_read_as_drawn(rt, alloc, schema, line.as_slice());
+    Ok(())
+}
+
 #[test]
 fn a_header_has_the_names(rt: HostRuntime) -> Result<(), Fail> {
     let mut columns = Vec::new(rt.alloc());
     columns.push(column(rt.alloc(), b"gauge", Kind::Text)?)?;
     columns.push(column(rt.alloc(), b"rain", Kind::Fixed(2))?)?;
     let schema = Schema::new(true, columns);
-    let mut drill = Drill::new(&schema, 0);
-    has_header(&rt, rt.alloc(), &drill, b"gauge,rain\n")?;
-    let line = drill.line(rt.alloc())?;
-    is_read_as_drawn(&rt, rt.alloc(), &schema, line.as_slice());
+    draws_what_is_read(&rt, rt.alloc(), &schema)?;
     Ok(())
 }
 
-// Whose first draw is so many above a multiple of 2001, and their number 1000 below that.
+// So many places, a number whose first draw is so many above a multiple of 2001, and their number
+// 1000 below that.
+const NUMBERS: &[(u8, u64, &[u8])] = &[
+    (1, 11_066_951_453_180_645_397, b"-100.0\n"),
+    (2, 2_361_664_772_733_358_101, b"-0.01\n"),
+    (2, 6_009_062_210_084_753_429, b"0.00\n"),
+    (3, 5_799_305_323_132_178_453, b"0.005\n"),
+    (3, 951_172_966_988_861_461, b"1.000\n"),
+    (9, 13_315_719_062_904_590_357, b"-0.000000438\n"),
+];
+
+fn has_places(
+    rt: &impl Abort,
+    alloc: Global,
+    places: u8,
+    seed: u64,
+    wanted: &[u8],
+) -> Result<(), AllocError> {
+    assert!(rt; places >= 1 && places <= 9);
+    let schema = one_number(alloc, Kind::Fixed(places))?;
+    has_line(rt, alloc, &mut Drill::new(&schema, seed), wanted)
+}
+
 #[test]
 fn numbers_with_a_point_have_all_places(rt: HostRuntime) -> Result<(), Fail> {
-    for (places, seed, wanted) in [
-        (1, 11_066_951_453_180_645_397, "-100.0\n"),
-        (2, 2_361_664_772_733_358_101, "-0.01\n"),
-        (2, 6_009_062_210_084_753_429, "0.00\n"),
-        (3, 5_799_305_323_132_178_453, "0.005\n"),
-        (3, 951_172_966_988_861_461, "1.000\n"),
-        (9, 13_315_719_062_904_590_357, "-0.000000438\n"),
-    ] {
-        assert!(rt; places >= 1 && places <= 9);
-        let columns = vec![in rt.alloc(); column(rt.alloc(), b"a", Kind::Fixed(places))?]?;
-        let schema = Schema::new(false, columns);
-        let mut drill = Drill::new(&schema, seed);
-        let line = drill.line(rt.alloc())?;
-        same(&rt, line.as_slice(), wanted.as_bytes());
+    for &(places, seed, wanted) in NUMBERS {
+        has_places(&rt, rt.alloc(), places, seed, wanted)?;
     }
     Ok(())
 }

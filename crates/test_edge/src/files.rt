@@ -1,25 +1,52 @@
 // A file of the system, which comes, is read and changes.
 use crate::assertions::same;
 use io_edge::{Failed, LazyFile, Source};
+use std::alloc::AllocError;
 use std::fs;
+use std::process::Abort;
 use std::test::Fail;
+
+const PATH: &str = "later";
+
+fn write(rt: &HostRuntime, text: &str) -> Result<(), Fail> {
+    fs::write(rt, PATH, text)?;
+    Ok(())
+}
+
+// A read into a room of four bytes, what it gives, and what stands there then.
+fn reads<S: Source>(
+    rt: &impl Abort,
+    source: &mut S,
+    room: &mut [u8; 4],
+    wanted: Result<usize, Failed>,
+    filled: &[u8],
+) {
+    same(rt, source.read(&mut []), Ok(0));
+    same(rt, source.read(room), wanted);
+    same(rt, room.as_slice(), filled);
+}
+
+fn is_read_to_its_end<S: Source>(rt: &impl Abort, source: &mut S) {
+    let mut room = [0; 4];
+    reads(rt, source, &mut room, Ok(4), b"hell");
+    reads(rt, source, &mut room, Ok(1), b"oell");
+    reads(rt, source, &mut room, Ok(0), b"oell");
+}
+
+fn file(rt: HostRuntime) -> Result<Box<LazyFile<HostRuntime>>, AllocError> {
+    let file = LazyFile::new(rt, rt.alloc(), PATH)?;
+    Ok(Box::new(rt.alloc(), file)?)
+}
 
 #[test]
 fn a_file_is_opened_at_a_read_and_read_to_its_first_end(rt: HostRuntime) -> Result<(), Fail> {
-    let _ = fs::remove_file(&rt, "later");
-    let file = LazyFile::new(rt, rt.alloc(), "later")?;
-    let mut file = Box::new(rt.alloc(), file)?;
-    let mut buf = [0; 4];
-    same(&rt, file.read(&mut []), Ok(0));
-    same(&rt, file.read(&mut buf), Err(Failed));
-    fs::write(&rt, "later", "hello")?;
-    same(&rt, file.read(&mut buf), Ok(4));
-    same(&rt, buf.as_slice(), b"hell".as_slice());
-    same(&rt, file.read(&mut buf), Ok(1));
-    same(&rt, buf.as_slice(), b"oell".as_slice());
-    same(&rt, file.read(&mut buf), Ok(0));
-    fs::write(&rt, "later", "hello again")?;
-    same(&rt, file.read(&mut buf), Ok(0));
-    fs::remove_file(&rt, "later")?;
+    let _ = fs::remove_file(&rt, PATH);
+    let mut file = file(rt)?;
+    reads(&rt, &mut *file, &mut [0; 4], Err(Failed), b"\0\0\0\0");
+    write(&rt, "hello")?;
+    is_read_to_its_end(&rt, &mut *file);
+    write(&rt, "hello again")?;
+    reads(&rt, &mut *file, &mut [0; 4], Ok(0), b"\0\0\0\0");
+    fs::remove_file(&rt, PATH)?;
     Ok(())
 }

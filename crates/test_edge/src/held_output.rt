@@ -1,10 +1,11 @@
 // What no clause says of an output that tells no bytes: that all come to it, once and in their order.
 use crate::assertions::{same, same_at};
 use io_edge::{Sink, WriterSink};
-use std::alloc::Global;
+use std::alloc::{AllocError, Global};
 use std::cell::{Cell, RefCell};
 use std::fmt::Display;
 use std::io::{self, ErrorKind};
+use std::process::Abort;
 use std::test::Fail;
 
 // The most bytes that are held back.
@@ -53,51 +54,97 @@ impl Print for ShortOutput {
     }
 }
 
+// What is held back comes to the output at a flush, or at the next where it is interrupted.
+fn is_flushed<S: Sink>(rt: &impl Abort, sink: &mut S, most: usize) {
+    let is_whole = sink.flush().is_ok();
+    same_at(rt, most, is_whole, most >= 5);
+    same(rt, sink.write(b"\n5"), Ok(2));
+    same_at(rt, most, sink.flush().is_ok(), !is_whole);
+    same_at(rt, most, sink.flush(), Ok(()));
+}
+
+fn has_taken(rt: &impl Abort, output: &ShortOutput, wanted: &[u8]) -> Result<(), Fail> {
+    let taken = output.bytes.try_borrow()?;
+    same_at(rt, output.most, taken.as_slice(), wanted);
+    Ok(())
+}
+
+// Five bytes are held back, and two more come after a flush.
+fn are_handed_on(rt: &impl Abort, alloc: Global, output: &ShortOutput) -> Result<(), AllocError> {
+    let mut sink = WriterSink::new(io::writer(output), alloc)?;
+    same(rt, sink.write(b"12\n34"), Ok(5));
+    same(rt, output.writes.get(), 0);
+    is_flushed(rt, &mut sink, output.most);
+    Ok(())
+}
+
 #[test]
 fn bytes_are_handed_on_once_and_in_order(rt: HostRuntime) -> Result<(), Fail> {
     for most in 1..9 {
-        let output = short_output(rt.alloc(), most);
-        let mut sink = WriterSink::new(io::writer(&output), rt.alloc())?;
-        same(&rt, sink.write(b"12\n34"), Ok(5));
-        same(&rt, output.writes.get(), 0);
-        let is_whole = sink.flush().is_ok();
-        same_at(&rt, most, is_whole, most >= 5);
-        same(&rt, sink.write(b"\n5"), Ok(2));
-        same_at(&rt, most, sink.flush().is_ok(), !is_whole);
-        same_at(&rt, most, sink.flush(), Ok(()));
-        same_at(
-            &rt,
-            most,
-            output.bytes.try_borrow()?.as_slice(),
-            b"12\n34\n5".as_slice(),
-        );
+        let output = Box::new(rt.alloc(), short_output(rt.alloc(), most))?;
+        are_handed_on(&rt, rt.alloc(), &output)?;
+        has_taken(&rt, &output, b"12\n34\n5")?;
     }
+    Ok(())
+}
+
+// A text that fills the buffer but for one byte before it waits for that one.
+fn is_filled<S: Sink>(rt: &impl Abort, alloc: Global, sink: &mut S) -> Result<(), AllocError> {
+    let text = vec![in alloc; b'x'; MAX_HELD - 1]?;
+    same(rt, sink.write(b"a"), Ok(1));
+    same(rt, sink.write(&text), Ok(MAX_HELD - 1));
+    Ok(())
+}
+
+fn waits_for_room(rt: &impl Abort, alloc: Global, output: &ShortOutput) -> Result<(), AllocError> {
+    let mut sink = WriterSink::new(io::writer(output), alloc)?;
+    is_filled(rt, alloc, &mut sink)?;
+    same(rt, output.writes.get(), 0);
+    same(rt, sink.write(b"b"), Ok(1));
+    Ok(())
+}
+
+// How much the output took, and the first byte of that.
+fn has_taken_from(
+    rt: &impl Abort,
+    output: &ShortOutput,
+    count: usize,
+    first: u8,
+) -> Result<(), Fail> {
+    let taken = output.bytes.try_borrow()?;
+    same(rt, taken.len(), count);
+    same(rt, taken.first(), Some(&first));
     Ok(())
 }
 
 #[test]
 fn what_does_not_fit_waits_for_what_was_held_before(rt: HostRuntime) -> Result<(), Fail> {
-    let output = short_output(rt.alloc(), usize::MAX);
-    let mut sink = WriterSink::new(io::writer(&output), rt.alloc())?;
-    let text = vec![in rt.alloc(); b'x'; MAX_HELD]?;
-    same(&rt, sink.write(b"a"), Ok(1));
-    same(&rt, sink.write(&text[1..]), Ok(MAX_HELD - 1));
-    same(&rt, output.writes.get(), 0);
-    same(&rt, sink.write(b"b"), Ok(1));
-    let taken = output.bytes.try_borrow()?;
-    same(&rt, (output.writes.get(), taken.len()), (1, MAX_HELD));
-    same(&rt, taken.first(), Some(&b'a'));
+    let output = Box::new(rt.alloc(), short_output(rt.alloc(), usize::MAX))?;
+    waits_for_room(&rt, rt.alloc(), &output)?;
+    same(&rt, output.writes.get(), 1);
+    has_taken_from(&rt, &output, MAX_HELD, b'a')
+}
+
+// A text that is larger than the buffer by three bytes, and three of which the last finds no room.
+fn is_taken_in_parts<S: Sink>(
+    rt: &impl Abort,
+    alloc: Global,
+    sink: &mut S,
+) -> Result<(), AllocError> {
+    let text = vec![in alloc; b'x'; MAX_HELD + 3]?;
+    same(rt, sink.write(&text), Ok(MAX_HELD));
+    same(rt, sink.write(b"yyz"), Ok(3));
     Ok(())
+}
+
+fn writes_in_parts(rt: &impl Abort, alloc: Global, output: &ShortOutput) -> Result<(), AllocError> {
+    let mut sink = WriterSink::new(io::writer(output), alloc)?;
+    is_taken_in_parts(rt, alloc, &mut sink)
 }
 
 #[test]
 fn a_text_larger_than_the_buffer_is_taken_in_parts(rt: HostRuntime) -> Result<(), Fail> {
-    let output = short_output(rt.alloc(), usize::MAX);
-    let mut sink = WriterSink::new(io::writer(&output), rt.alloc())?;
-    let text = vec![in rt.alloc(); b'x'; MAX_HELD + 3]?;
-    same(&rt, sink.write(&text), Ok(MAX_HELD));
-    same(&rt, sink.write(b"yyz"), Ok(3));
-    let taken = output.bytes.try_borrow()?;
-    same(&rt, taken.len(), MAX_HELD);
-    Ok(())
+    let output = Box::new(rt.alloc(), short_output(rt.alloc(), usize::MAX))?;
+    writes_in_parts(&rt, rt.alloc(), &output)?;
+    has_taken_from(&rt, &output, MAX_HELD, b'x')
 }

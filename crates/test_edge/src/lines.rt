@@ -3,9 +3,30 @@ use crate::assertions::{same, same_at};
 use crate::resumed_source::ResumedSource;
 use io_edge::{Line, LineStop, Lines, MemorySource, Source};
 use std::alloc::{AllocError, Global};
+use std::process::Abort;
 use std::test::Fail;
 
-/// What the calls answer until the end or the limit, with a `|` behind each line.
+/// Adds what a call answers, with a `|` behind a line, and says whether more may come.
+fn push_next<S: Source>(
+    lines: &mut Lines,
+    source: &mut S,
+    text: &mut Vec<u8>,
+) -> Result<bool, AllocError> {
+    let (answer, goes_on): (&[u8], bool) = match lines.next(source) {
+        Ok(Line::Whole(line)) => (line, true),
+        Ok(Line::Long) => (b"long", true),
+        Ok(Line::End) => (b"", false),
+        Err(LineStop::Failed) => (b"failed", true),
+        Err(LineStop::Limit) => (b"limit", false),
+    };
+    text.extend_from_slice(answer)?;
+    if goes_on {
+        text.push(b'|')?;
+    }
+    Ok(goes_on)
+}
+
+/// What the calls answer until the end or the limit.
 fn answers<S: Source>(
     alloc: Global,
     lines: &mut Lines,
@@ -13,17 +34,9 @@ fn answers<S: Source>(
 ) -> Result<Vec<u8>, AllocError> {
     let mut text = Vec::new(alloc);
     for _ in 0..10 {
-        match lines.next(source) {
-            Ok(Line::Whole(line)) => text.extend_from_slice(line)?,
-            Ok(Line::Long) => text.extend_from_slice(b"long")?,
-            Ok(Line::End) => return Ok(text),
-            Err(LineStop::Failed) => text.extend_from_slice(b"failed")?,
-            Err(LineStop::Limit) => {
-                text.extend_from_slice(b"limit")?;
-                return Ok(text);
-            }
+        if !push_next(lines, source, &mut text)? {
+            break;
         }
-        text.push(b'|')?;
     }
     Ok(text)
 }
@@ -97,48 +110,93 @@ const LENGTHS: &[(usize, &[u8], Option<usize>)] = &[
     (65_536, b"\r", None),
 ];
 
+fn has_length(
+    rt: &impl Abort,
+    alloc: Global,
+    count: usize,
+    end: &[u8],
+    wanted: usize,
+) -> Result<(), AllocError> {
+    let mut bytes = vec![in alloc; b'x'; count]?;
+    bytes.extend_from_slice(end)?;
+    let got = answers_of(alloc, &bytes, &[], &[])?;
+    same_at(rt, count, got.len(), wanted);
+    Ok(())
+}
+
 // A line has at most 65,536 bytes before its LF, and a CR there is one of them.
 #[test]
 fn a_line_is_long_from_65_537_bytes(rt: HostRuntime) -> Result<(), Fail> {
     for &(count, end, shown) in LENGTHS {
-        let mut bytes = vec![in rt.alloc(); b'x'; count]?;
-        bytes.extend_from_slice(end)?;
-        let got = answers_of(rt.alloc(), &bytes, &[], &[])?;
-        let want = shown.unwrap_or(b"long".len()).saturating_add(1);
-        same_at(&rt, count, got.len(), want);
+        let wanted = shown.unwrap_or(b"long".len()).saturating_add(1);
+        has_length(&rt, rt.alloc(), count, end, wanted)?;
     }
+    Ok(())
+}
+
+fn boxed_lines(alloc: Global) -> Result<Box<Lines>, AllocError> {
+    Ok(Box::new(alloc, Lines::new(alloc)?)?)
+}
+
+// What the calls answer of a source that has met its end once.
+fn answer_to_the_end(
+    rt: &impl Abort,
+    alloc: Global,
+    lines: &mut Lines,
+    source: &mut ResumedSource,
+    wanted: &[u8],
+) -> Result<(), AllocError> {
+    let got = answers(alloc, lines, source)?;
+    same(rt, got.as_slice(), wanted);
+    same(rt, source.ends, 1);
     Ok(())
 }
 
 #[test]
 fn the_first_end_is_the_end(rt: HostRuntime) -> Result<(), Fail> {
-    let mut source = ResumedSource::new(rt.alloc(), b"ab\ncd", b"ef\n")?;
-    let mut lines = Lines::new(rt.alloc())?;
-    for want in [b"ab|cd|".as_slice(), b""] {
-        let got = answers(rt.alloc(), &mut lines, &mut source)?;
-        same(&rt, got.as_slice(), want);
-        same(&rt, source.ends, 1);
-    }
+    let alloc = rt.alloc();
+    let source = ResumedSource::new(alloc, b"ab\ncd", b"ef\n")?;
+    let mut source = Box::new(alloc, source)?;
+    let mut lines = boxed_lines(alloc)?;
+    answer_to_the_end(&rt, alloc, &mut lines, &mut source, b"ab|cd|")?;
+    answer_to_the_end(&rt, alloc, &mut lines, &mut source, b"")?;
     Ok(())
 }
 
-// At the start, behind a line that was cut off, and behind the last one.
+// Bytes, how many a read gives, and whether calls find an answer ready: at the start, behind a line that was cut off,
+// and behind the last one.
+const READY: &[(&[u8], usize, [bool; 3])] = &[
+    (b"a\nb\n", 1, [false, false, false]),
+    (b"a\nb\n", 2, [false, false, false]),
+    (b"a\nb\nc", 3, [false, false, false]),
+    (b"a\nb\n", 9, [false, true, false]),
+    (b"a\nb", 9, [false, false, true]),
+];
+
+fn are_ready<S: Source>(rt: &impl Abort, lines: &mut Lines, source: &mut S, wanted: &[bool]) {
+    for want in wanted {
+        same(rt, lines.is_ready(), *want);
+        let _line = lines.next(source);
+    }
+}
+
+fn are_ready_in(
+    rt: &impl Abort,
+    alloc: Global,
+    bytes: &[u8],
+    cut: usize,
+    wanted: &[bool],
+) -> Result<(), AllocError> {
+    let mut source = MemorySource::new(alloc, bytes, &[cut; 9], &[])?;
+    let mut lines = boxed_lines(alloc)?;
+    are_ready(rt, &mut lines, &mut source, wanted);
+    Ok(())
+}
+
 #[test]
 fn a_call_reads_where_no_answer_is_ready(rt: HostRuntime) -> Result<(), Fail> {
-    let table: [(&[u8], usize, &[bool]); 5] = [
-        (b"a\nb\n", 1, &[false, false, false]),
-        (b"a\nb\n", 2, &[false, false, false]),
-        (b"a\nb\nc", 3, &[false, false, false]),
-        (b"a\nb\n", 9, &[false, true, false]),
-        (b"a\nb", 9, &[false, false, true]),
-    ];
-    for (bytes, cut, wanted) in table {
-        let mut source = MemorySource::new(rt.alloc(), bytes, &[cut; 9], &[])?;
-        let mut lines = Lines::new(rt.alloc())?;
-        for want in wanted {
-            same_at(&rt, (bytes, cut), lines.is_ready(), *want);
-            let _line = lines.next(&mut source);
-        }
+    for (bytes, cut, wanted) in READY {
+        are_ready_in(&rt, rt.alloc(), bytes, *cut, wanted.as_slice())?;
     }
     Ok(())
 }

@@ -2,6 +2,7 @@
 use crate::assertions::same_at;
 use place_in_text::{Position, bytes_between, locate, push_marked_line};
 use std::alloc::{AllocError, Global};
+use std::process::Abort;
 use std::test::Fail;
 
 #[test]
@@ -54,23 +55,38 @@ fn long_line(alloc: Global) -> Result<Vec<u8>, AllocError> {
     Ok(line)
 }
 
+fn count_of(text: &[u8], letter: u8) -> usize {
+    text.iter().filter(|byte| **byte == letter).count()
+}
+
+// How much of each letter is shown of the line around the place.
+fn shows(
+    rt: &impl Abort,
+    alloc: Global,
+    line: &[u8],
+    place: usize,
+    wanted: (usize, usize, usize),
+) -> Result<(), AllocError> {
+    let shown = marked(alloc, line, place, place)?;
+    let counts = (
+        count_of(&shown, b'a'),
+        count_of(&shown, b'b'),
+        count_of(&shown, b'c'),
+    );
+    same_at(rt, place, counts, wanted);
+    Ok(())
+}
+
 #[test]
 fn of_a_long_line_100_bytes_around_the_place_are_shown(rt: HostRuntime) -> Result<(), Fail> {
     let line = long_line(rt.alloc())?;
-    for (place, a, b, c) in [
-        (0, 50, 50, 0),
-        (60, 40, 50, 10),
-        (100, 0, 50, 50),
-        (140, 0, 50, 50),
+    for (place, wanted) in [
+        (0, (50, 50, 0)),
+        (60, (40, 50, 10)),
+        (100, (0, 50, 50)),
+        (140, (0, 50, 50)),
     ] {
-        let shown = marked(rt.alloc(), &line, place, place)?;
-        let count = |byte: u8| shown.iter().filter(|other| **other == byte).count();
-        same_at(
-            &rt,
-            place,
-            (count(b'a'), count(b'b'), count(b'c')),
-            (a, b, c),
-        );
+        shows(&rt, rt.alloc(), &line, place, wanted)?;
     }
     Ok(())
 }

@@ -1,68 +1,85 @@
 // What no clause says: that texts are made at all, and how they look, written out.
 use crate::assertions::same;
 use item_schema::{Cause, Skip};
-use language_base::{Refusal, Rule, Span};
+use language_base::{Bytes, Refusal, Rule, Span};
 use report_writer::{bound_text, check_text, drill_text, push_answer, push_skip, refusal_text};
 use std::alloc::{AllocError, Global};
+use std::process::Abort;
 use std::test::Fail;
 use value_ops::{Scalar, Table, Value};
 
+fn boxed(alloc: Global, value: Value) -> Result<Box<Value>, AllocError> {
+    Ok(Box::new(alloc, value)?)
+}
+
+fn is_written(
+    rt: &impl Abort,
+    alloc: Global,
+    value: &Value,
+    wanted: &[u8],
+) -> Result<(), AllocError> {
+    let mut text = Vec::new(alloc);
+    push_answer(Some(value), &mut text)?;
+    same(rt, text.as_slice(), wanted);
+    Ok(())
+}
+
+const SCALARS: &[(Scalar, &[u8])] = &[
+    (Scalar::Number(i64::MIN), b"-9223372036854775808\n"),
+    (Scalar::Number(i64::MAX), b"9223372036854775807\n"),
+    (Scalar::Number(0), b"0\n"),
+    (Scalar::Overflow, b"overflow\n"),
+    (Scalar::DivZero, b"divzero\n"),
+];
+
 #[test]
 fn answers_are_scalars_or_none(rt: HostRuntime) -> Result<(), Fail> {
-    let mut text = Vec::new(rt.alloc());
-    for (scalar, wanted) in [
-        (Scalar::Number(i64::MIN), "-9223372036854775808\n"),
-        (Scalar::Number(i64::MAX), "9223372036854775807\n"),
-        (Scalar::Number(0), "0\n"),
-        (Scalar::Overflow, "overflow\n"),
-        (Scalar::DivZero, "divzero\n"),
-    ] {
-        text.clear();
-        push_answer(Some(&Value::Scalar(scalar)), &mut text)?;
-        same(&rt, text.as_slice(), wanted.as_bytes());
+    for &(scalar, wanted) in SCALARS {
+        let value = boxed(rt.alloc(), Value::Scalar(scalar))?;
+        is_written(&rt, rt.alloc(), &value, wanted)?;
     }
+    let mut text = Vec::from_slice(rt.alloc(), b"divzero\n")?;
     push_answer(None, &mut text)?;
     same(&rt, text.as_slice(), b"divzero\nundefined\n".as_slice());
     Ok(())
 }
 
 // The table of these entries, but for keys that come again.
-fn table_of(alloc: Global, entries: &[(&[u8], Scalar)]) -> Result<Value, AllocError> {
+fn table_of(alloc: Global, entries: &[(&[u8], Scalar)]) -> Result<Box<Value>, AllocError> {
     let mut table = Table::new(alloc);
     for (key, scalar) in entries {
         if table.get(key).is_none() {
             table.push(key, *scalar)?;
         }
     }
-    Ok(Value::Table(table))
+    boxed(alloc, Value::Table(table))
 }
+
+const TABLES: &[(&[(&[u8], Scalar)], &[u8])] = &[
+    (&[], b"{}\n"),
+    (&[(b"north", Scalar::Number(-3))], b"{\"north\":-3}\n"),
+    (
+        &[
+            (b"b", Scalar::Overflow),
+            (b"", Scalar::Number(i64::MIN)),
+            (b"a", Scalar::DivZero),
+        ],
+        b"{\"b\":overflow,\"\":-9223372036854775808,\"a\":divzero}\n",
+    ),
+    (
+        &[
+            (b"\"\\ ~!", Scalar::Number(1)),
+            (b"\x00\x1f\x7f\x80\xff,:", Scalar::Number(i64::MAX)),
+        ],
+        b"{\"\\x22\\x5C ~!\":1,\"\\x00\\x1F\\x7F\\x80\\xFF,:\":9223372036854775807}\n",
+    ),
+];
 
 #[test]
 fn tables_are_entries_in_braces(rt: HostRuntime) -> Result<(), Fail> {
-    let table: [(&[(&[u8], Scalar)], &[u8]); 4] = [
-        (&[], b"{}\n"),
-        (&[(b"north", Scalar::Number(-3))], b"{\"north\":-3}\n"),
-        (
-            &[
-                (b"b", Scalar::Overflow),
-                (b"", Scalar::Number(i64::MIN)),
-                (b"a", Scalar::DivZero),
-            ],
-            b"{\"b\":overflow,\"\":-9223372036854775808,\"a\":divzero}\n",
-        ),
-        (
-            &[
-                (b"\"\\ ~!", Scalar::Number(1)),
-                (b"\x00\x1f\x7f\x80\xff,:", Scalar::Number(i64::MAX)),
-            ],
-            b"{\"\\x22\\x5C ~!\":1,\"\\x00\\x1F\\x7F\\x80\\xFF,:\":9223372036854775807}\n",
-        ),
-    ];
-    for (entries, wanted) in table {
+    for &(entries, wanted) in TABLES {
         let value = table_of(rt.alloc(), entries)?;
-        let mut text = Vec::new(rt.alloc());
-        push_answer(Some(&value), &mut text)?;
-        same(&rt, text.as_slice(), wanted);
+        is_written(&rt, rt.alloc(), &value, wanted)?;
     }
     Ok(())
 }
@@ -98,20 +115,37 @@ fn a_refusal_names_its_rule_and_place(rt: HostRuntime) -> Result<(), Fail> {
     Ok(())
 }
 
+fn is_line(
+    rt: &impl Abort,
+    line: Result<Bytes, AllocError>,
+    wanted: &[u8],
+) -> Result<(), AllocError> {
+    let line = line?;
+    same(rt, line.as_slice(), wanted);
+    Ok(())
+}
+
+// The line of a drill of so many items, half of which have a value.
+fn has_drilled(
+    rt: &impl Abort,
+    alloc: Global,
+    items: u32,
+    last: Option<&Value>,
+    wanted: &[u8],
+) -> Result<(), AllocError> {
+    is_line(rt, drill_text(alloc, items, items / 2, last), wanted)
+}
+
 #[test]
 fn commands_write_one_line(rt: HostRuntime) -> Result<(), Fail> {
-    same(&rt, check_text(rt.alloc())?.as_slice(), b"ok\n".as_slice());
-    let text = bound_text(rt.alloc(), 3, 29)?;
-    same(&rt, text.as_slice(), b"places 3 slots 29\n".as_slice());
-    let last = Value::Scalar(Scalar::Number(309));
-    for (items, last, wanted) in [
-        (2, Some(&last), "items 2 defined 1 last 309\n"),
-        (2, None, "items 2 defined 1 last undefined\n"),
-        (0, None, "items 0 defined 0 last none\n"),
-        (0, Some(&last), "items 0 defined 0 last none\n"),
-    ] {
-        let text = drill_text(rt.alloc(), items, items / 2, last)?;
-        same(&rt, text.as_slice(), wanted.as_bytes());
-    }
+    let alloc = rt.alloc();
+    is_line(&rt, check_text(alloc), b"ok\n")?;
+    is_line(&rt, bound_text(alloc, 3, 29), b"places 3 slots 29\n")?;
+    let last = boxed(alloc, Value::Scalar(Scalar::Number(309)))?;
+    let last = Some(&*last);
+    has_drilled(&rt, alloc, 2, last, b"items 2 defined 1 last 309\n")?;
+    has_drilled(&rt, alloc, 2, None, b"items 2 defined 1 last undefined\n")?;
+    has_drilled(&rt, alloc, 0, None, b"items 0 defined 0 last none\n")?;
+    has_drilled(&rt, alloc, 0, last, b"items 0 defined 0 last none\n")?;
     Ok(())
 }

@@ -27,15 +27,17 @@ fn writes_are_cut_by_their_numbers(rt: HostRuntime) -> Result<(), Fail> {
     Ok(())
 }
 
+// The room, which writes fail, what comes of writing all, and what is taken then.
+const WRITES: &[(usize, &[u64], Result<(), Failed>, &[u8])] = &[
+    (5, &[], Ok(()), b"12\n34"),
+    (9, &[2], Ok(()), b"12\n34"),
+    (3, &[2], Err(Failed), b"12\n"),
+    (9, &[1], Err(Failed), b""),
+];
+
 #[test]
 fn all_is_written_or_a_part_from_the_front(rt: HostRuntime) -> Result<(), Fail> {
-    let cases: [(usize, &[u64], Result<(), Failed>, &[u8]); 4] = [
-        (5, &[], Ok(()), b"12\n34"),
-        (9, &[2], Ok(()), b"12\n34"),
-        (3, &[2], Err(Failed), b"12\n"),
-        (9, &[1], Err(Failed), b""),
-    ];
-    for (room, fail_at, want, taken) in cases {
+    for &(room, fail_at, want, taken) in WRITES {
         let mut out = MemorySink::new(rt.alloc(), room, fail_at)?;
         same(&rt, write_all(&mut out, b"12\n34"), want);
         same_at(&rt, room, out.bytes(), taken);

@@ -1,23 +1,30 @@
 // What sources in memory give at each read.
-use crate::assertions::{same, same_at};
+use crate::assertions::same;
 use io_edge::{Failed, MemorySource, Source, SteadySource};
+use std::process::Abort;
 use std::test::Fail;
+
+// How many bytes reads give, which fail, and what comes of four reads.
+const READS: &[(&[usize], &[u64], [Result<usize, Failed>; 4])] = &[
+    (&[], &[], [Ok(4), Ok(3), Ok(0), Ok(0)]),
+    (&[3, 0], &[], [Ok(3), Ok(1), Ok(3), Ok(0)]),
+    (&[9, 2], &[], [Ok(4), Ok(2), Ok(1), Ok(0)]),
+    (&[1, 2, 3], &[2], [Ok(1), Err(Failed), Ok(3), Ok(3)]),
+    (&[], &[1, 4], [Err(Failed), Ok(4), Ok(3), Err(Failed)]),
+];
+
+fn read_as(rt: &impl Abort, source: &mut MemorySource, wanted: &[Result<usize, Failed>]) {
+    for want in wanted {
+        same(rt, source.read(&mut []), Ok(0));
+        same(rt, source.read(&mut [0; 4]), *want);
+    }
+}
 
 #[test]
 fn reads_are_cut_and_fail_by_their_numbers(rt: HostRuntime) -> Result<(), Fail> {
-    let cases: [(&[usize], &[u64], [Result<usize, Failed>; 4]); 5] = [
-        (&[], &[], [Ok(4), Ok(3), Ok(0), Ok(0)]),
-        (&[3, 0], &[], [Ok(3), Ok(1), Ok(3), Ok(0)]),
-        (&[9, 2], &[], [Ok(4), Ok(2), Ok(1), Ok(0)]),
-        (&[1, 2, 3], &[2], [Ok(1), Err(Failed), Ok(3), Ok(3)]),
-        (&[], &[1, 4], [Err(Failed), Ok(4), Ok(3), Err(Failed)]),
-    ];
-    for (cuts, fail_at, wanted) in cases {
+    for (cuts, fail_at, wanted) in READS {
         let mut source = MemorySource::new(rt.alloc(), b"1\n23\n45", cuts, fail_at)?;
-        for want in wanted {
-            same(&rt, source.read(&mut []), Ok(0));
-            same_at(&rt, (cuts, fail_at), source.read(&mut [0; 4]), want);
-        }
+        read_as(&rt, &mut source, wanted.as_slice());
     }
     Ok(())
 }

@@ -2,23 +2,29 @@
 use crate::assertions::{same, same_at};
 use crate::resumed_source::ResumedSource;
 use io_edge::{MemorySource, TakeStop, read_to_limit};
+use std::alloc::Global;
 use std::test::Fail;
+
+// The first bytes of a source that gives so many at a read.
+fn first_bytes(alloc: Global, cut: usize, limit: usize) -> Result<Vec<u8>, Fail> {
+    let mut source = MemorySource::new(alloc, b"12345", &[cut; 9], &[])?;
+    let bytes = read_to_limit(alloc, &mut source, limit).ok();
+    Ok(bytes.ok_or("no bytes")?)
+}
+
+const FIRST: &[(usize, &[u8])] = &[
+    (0, b""),
+    (3, b"123"),
+    (4, b"1234"),
+    (5, b"12345"),
+    (6, b"12345"),
+];
 
 #[test]
 fn the_first_bytes_are_read_up_to_the_limit(rt: HostRuntime) -> Result<(), Fail> {
-    let table: [(usize, &[u8]); 5] = [
-        (0, b""),
-        (3, b"123"),
-        (4, b"1234"),
-        (5, b"12345"),
-        (6, b"12345"),
-    ];
-    for (limit, taken) in table {
+    for &(limit, taken) in FIRST {
         for cut in 1..7 {
-            let mut source = MemorySource::new(rt.alloc(), b"12345", &[cut; 9], &[])?;
-            let bytes = read_to_limit(rt.alloc(), &mut source, limit)
-                .ok()
-                .ok_or("no bytes")?;
+            let bytes = first_bytes(rt.alloc(), cut, limit)?;
             same_at(&rt, (limit, cut), bytes.as_slice(), taken);
         }
     }
