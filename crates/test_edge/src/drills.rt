@@ -2,7 +2,7 @@
 // draws of the seed 0 are 335903614 and 436792849.
 ghost use Rattle.std.specs.Prelude.{◌≡◌, [], ◌∷◌, IfOk, IsTrue};
 ghost use Rattle.std.specs.List.{list_all};
-ghost use Rattle.item_schema.specs.Layout.{has_digits, is_read};
+ghost use Rattle.item_schema.specs.Layout.{are_columns, has_digits, is_read};
 
 use crate::assertions::same;
 use item_drill::{Drill, drilled_bytes_have_lines, drilled_lines_have_items};
@@ -53,14 +53,19 @@ fn has_line(
     Ok(())
 }
 
+fn draws_whole_numbers(rt: &impl Abort, alloc: Global, schema: &Schema) -> Result<(), AllocError>
+    requires { IsTrue (list_all (λ c. is_read c.kind) schema.now.columns) }
+{
+    let mut drill = Drill::new(schema, 0);
+    has_header(rt, alloc, &drill, b"")?;
+    has_line(rt, alloc, &mut drill, b"747\n")?;
+    has_line(rt, alloc, &mut drill, b"-438\n")
+}
+
 #[test]
 fn lines_have_a_field_for_each_column(rt: HostRuntime) -> Result<(), Fail> {
-    let alloc = rt.alloc();
-    let schema = one_number(alloc, Kind::Int)?;
-    let mut drill = Drill::new(&schema, 0);
-    has_header(&rt, alloc, &drill, b"")?;
-    has_line(&rt, alloc, &mut drill, b"747\n")?;
-    has_line(&rt, alloc, &mut drill, b"-438\n")?;
+    let schema = one_number(rt.alloc(), Kind::Int)?;
+    draws_whole_numbers(&rt, rt.alloc(), &schema)?;
     drilled_lines_have_items();
     drilled_bytes_have_lines();
     Ok(())
@@ -88,12 +93,21 @@ fn draws_what_is_read(rt: &impl Abort, alloc: Global, schema: &Schema) -> Result
     Ok(())
 }
 
+fn gauge_and_rain(alloc: Global) -> Result<Vec<Column>, AllocError>
+    ensures columns { IfOk result (λ columns. IsTrue (are_columns columns.items)) }
+    ensures read { IfOk result (λ columns.
+        IsTrue (list_all (λ c. is_read c.kind) columns.items)) }
+{
+    Ok(vec![in alloc;
+        column(alloc, b"gauge", Kind::Text)?,
+        column(alloc, b"rain", Kind::Fixed(2))?,
+    ]?)
+}
+
 #[test]
 fn a_header_has_the_names(rt: HostRuntime) -> Result<(), Fail> {
-    let mut columns = Vec::new(rt.alloc());
-    columns.push(column(rt.alloc(), b"gauge", Kind::Text)?)?;
-    columns.push(column(rt.alloc(), b"rain", Kind::Fixed(2))?)?;
-    let schema = Schema::new(true, columns);
+    let columns = gauge_and_rain(rt.alloc())?;
+    let schema = Box::new(rt.alloc(), Schema::new(true, columns))?;
     draws_what_is_read(&rt, rt.alloc(), &schema)?;
     Ok(())
 }

@@ -4,14 +4,10 @@ use io_edge::{Failed, LazyFile, Source};
 use std::alloc::AllocError;
 use std::fs;
 use std::process::Abort;
+use std::rt::Files;
 use std::test::Fail;
 
 const PATH: &str = "later";
-
-fn write(rt: &HostRuntime, text: &str) -> Result<(), Fail> {
-    fs::write(rt, PATH, text)?;
-    Ok(())
-}
 
 // A read into a room of four bytes, what it gives, and what stands there then.
 fn reads<S: Source>(
@@ -33,20 +29,30 @@ fn is_read_to_its_end<S: Source>(rt: &impl Abort, source: &mut S) {
     reads(rt, source, &mut room, Ok(0), b"oell");
 }
 
+fn is_opened_at_a_read<R: Abort + Files, S: Source>(rt: &R, source: &mut S) -> Result<(), Fail> {
+    reads(rt, source, &mut [0; 4], Err(Failed), b"\0\0\0\0");
+    fs::write(rt, PATH, "hello")?;
+    is_read_to_its_end(rt, source);
+    fs::write(rt, PATH, "hello again")?;
+    reads(rt, source, &mut [0; 4], Ok(0), b"\0\0\0\0");
+    Ok(())
+}
+
 fn file(rt: HostRuntime) -> Result<Box<LazyFile<HostRuntime>>, AllocError> {
     let file = LazyFile::new(rt, rt.alloc(), PATH)?;
     Ok(Box::new(rt.alloc(), file)?)
 }
 
+// Whether there was one.
+fn remove<R: Files>(rt: &R) -> bool {
+    fs::remove_file(rt, PATH).is_ok()
+}
+
 #[test]
 fn a_file_is_opened_at_a_read_and_read_to_its_first_end(rt: HostRuntime) -> Result<(), Fail> {
-    let _ = fs::remove_file(&rt, PATH);
+    let _was_there = remove(&rt);
     let mut file = file(rt)?;
-    reads(&rt, &mut *file, &mut [0; 4], Err(Failed), b"\0\0\0\0");
-    write(&rt, "hello")?;
-    is_read_to_its_end(&rt, &mut *file);
-    write(&rt, "hello again")?;
-    reads(&rt, &mut *file, &mut [0; 4], Ok(0), b"\0\0\0\0");
-    fs::remove_file(&rt, PATH)?;
+    is_opened_at_a_read(&rt, &mut *file)?;
+    same(&rt, remove(&rt), true);
     Ok(())
 }

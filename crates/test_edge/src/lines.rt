@@ -152,14 +152,16 @@ fn answer_to_the_end(
     Ok(())
 }
 
+fn end_once(rt: &impl Abort, alloc: Global, source: &mut ResumedSource) -> Result<(), AllocError> {
+    let mut lines = boxed_lines(alloc)?;
+    answer_to_the_end(rt, alloc, &mut lines, source, b"ab|cd|")?;
+    answer_to_the_end(rt, alloc, &mut lines, source, b"")
+}
+
 #[test]
 fn the_first_end_is_the_end(rt: HostRuntime) -> Result<(), Fail> {
-    let alloc = rt.alloc();
-    let source = ResumedSource::new(alloc, b"ab\ncd", b"ef\n")?;
-    let mut source = Box::new(alloc, source)?;
-    let mut lines = boxed_lines(alloc)?;
-    answer_to_the_end(&rt, alloc, &mut lines, &mut source, b"ab|cd|")?;
-    answer_to_the_end(&rt, alloc, &mut lines, &mut source, b"")?;
+    let mut source = ResumedSource::new(rt.alloc(), b"ab\ncd", b"ef\n")?;
+    end_once(&rt, rt.alloc(), &mut source)?;
     Ok(())
 }
 

@@ -1,7 +1,7 @@
 // What no clause says: that texts are made at all, and how they look, written out.
 use crate::assertions::same;
 use item_schema::{Cause, Skip};
-use language_base::{Bytes, Refusal, Rule, Span};
+use language_base::{Refusal, Rule, Span};
 use report_writer::{bound_text, check_text, drill_text, push_answer, push_skip, refusal_text};
 use std::alloc::{AllocError, Global};
 use std::process::Abort;
@@ -33,11 +33,16 @@ const SCALARS: &[(Scalar, &[u8])] = &[
 ];
 
 #[test]
-fn answers_are_scalars_or_none(rt: HostRuntime) -> Result<(), Fail> {
+fn answers_are_scalars(rt: HostRuntime) -> Result<(), Fail> {
     for &(scalar, wanted) in SCALARS {
         let value = boxed(rt.alloc(), Value::Scalar(scalar))?;
         is_written(&rt, rt.alloc(), &value, wanted)?;
     }
+    Ok(())
+}
+
+#[test]
+fn no_answer_is_undefined(rt: HostRuntime) -> Result<(), Fail> {
     let mut text = Vec::from_slice(rt.alloc(), b"divzero\n")?;
     push_answer(None, &mut text)?;
     same(&rt, text.as_slice(), b"divzero\nundefined\n".as_slice());
@@ -115,12 +120,14 @@ fn a_refusal_names_its_rule_and_place(rt: HostRuntime) -> Result<(), Fail> {
     Ok(())
 }
 
-fn is_line(
-    rt: &impl Abort,
-    line: Result<Bytes, AllocError>,
-    wanted: &[u8],
-) -> Result<(), AllocError> {
-    let line = line?;
+fn has_checked(rt: &impl Abort, alloc: Global, wanted: &[u8]) -> Result<(), AllocError> {
+    let line = check_text(alloc)?;
+    same(rt, line.as_slice(), wanted);
+    Ok(())
+}
+
+fn has_bound(rt: &impl Abort, alloc: Global, wanted: &[u8]) -> Result<(), AllocError> {
+    let line = bound_text(alloc, 3, 29)?;
     same(rt, line.as_slice(), wanted);
     Ok(())
 }
@@ -133,19 +140,30 @@ fn has_drilled(
     last: Option<&Value>,
     wanted: &[u8],
 ) -> Result<(), AllocError> {
-    is_line(rt, drill_text(alloc, items, items / 2, last), wanted)
+    let line = drill_text(alloc, items, items / 2, last)?;
+    same(rt, line.as_slice(), wanted);
+    Ok(())
 }
 
 #[test]
-fn commands_write_one_line(rt: HostRuntime) -> Result<(), Fail> {
+fn checks_and_bounds_write_one_line(rt: HostRuntime) -> Result<(), Fail> {
+    has_checked(&rt, rt.alloc(), b"ok\n")?;
+    has_bound(&rt, rt.alloc(), b"places 3 slots 29\n")?;
+    Ok(())
+}
+
+fn drills_end_with(rt: &impl Abort, alloc: Global, last: &Value) -> Result<(), AllocError> {
+    let last = Some(last);
+    has_drilled(rt, alloc, 2, last, b"items 2 defined 1 last 309\n")?;
+    has_drilled(rt, alloc, 0, last, b"items 0 defined 0 last none\n")
+}
+
+#[test]
+fn drills_write_one_line(rt: HostRuntime) -> Result<(), Fail> {
     let alloc = rt.alloc();
-    is_line(&rt, check_text(alloc), b"ok\n")?;
-    is_line(&rt, bound_text(alloc, 3, 29), b"places 3 slots 29\n")?;
     let last = boxed(alloc, Value::Scalar(Scalar::Number(309)))?;
-    let last = Some(&*last);
-    has_drilled(&rt, alloc, 2, last, b"items 2 defined 1 last 309\n")?;
+    drills_end_with(&rt, alloc, &last)?;
     has_drilled(&rt, alloc, 2, None, b"items 2 defined 1 last undefined\n")?;
     has_drilled(&rt, alloc, 0, None, b"items 0 defined 0 last none\n")?;
-    has_drilled(&rt, alloc, 0, last, b"items 0 defined 0 last none\n")?;
     Ok(())
 }
