@@ -19,6 +19,8 @@ mod items;
 #[cfg(test)]
 mod lines;
 #[cfg(test)]
+mod long_lines;
+#[cfg(test)]
 mod schemas;
 #[cfg(test)]
 mod shown;

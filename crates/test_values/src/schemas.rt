@@ -1,36 +1,59 @@
 // The columns of a stream, and the items that fit them.
+ghost use Rattle.std.specs.Prelude.{◌≡◌, IfOk};
+
 use crate::assertions::{same, same_at};
 use item_schema::{Column, Item, Kind, Schema};
 use std::alloc::{AllocError, Global};
+use std::process::Abort;
 use std::test::Fail;
 use value_ops::{Bytes, Field, Scalar, Table, Value, ValueType};
 
+// The type of the values of its only column.
+fn has_one_column(rt: &impl Abort, schema: &Schema, kind: Kind) {
+    same(rt, schema.has_header(), false);
+    same(rt, schema.columns().len(), 1);
+    let only = schema.columns().first();
+    same(rt, only.map(|column| column.kind), Some(kind));
+    same(
+        rt,
+        only.map(|column| column.name.as_slice()),
+        Some(b"value".as_slice()),
+    );
+}
+
+fn item_of(alloc: Global, value: Value) -> Result<Box<Item>, AllocError> {
+    Ok(Box::new(alloc, Item::from_value(value))?)
+}
+
+fn boxed(alloc: Global, schema: Schema) -> Result<Box<Schema>, AllocError> {
+    Ok(Box::new(alloc, schema)?)
+}
+
+// Whether values of each type, and none, are items of the stream.
+fn items_of(alloc: Global, schema: &Schema) -> Result<(bool, bool, bool), AllocError> {
+    let number = item_of(alloc, Value::Scalar(Scalar::Overflow))?;
+    let table = item_of(alloc, Value::Table(Table::new(alloc)))?;
+    let none = Box::new(alloc, Item::from_fields(Vec::new(alloc)))?;
+    Ok((
+        schema.has_item(&number),
+        schema.has_item(&table),
+        schema.has_item(&none),
+    ))
+}
+
 #[test]
 fn a_derived_stream_has_values_alone(rt: HostRuntime) -> Result<(), Fail> {
-    let number = Item::of_value(rt.alloc(), &Value::Scalar(Scalar::Overflow))?;
-    let table = Item::of_value(rt.alloc(), &Value::Table(Table::new(rt.alloc())))?;
-    let none = Item::from_fields(Vec::new(rt.alloc()));
-    for (ty, kind) in [
-        (ValueType::Number, Kind::Number),
-        (ValueType::Table, Kind::Table),
-    ] {
-        let schema = Schema::derived(rt.alloc(), ty)?;
-        assert!(rt; !schema.has_header());
-        assert!(rt; schema.columns().len() == 1);
-        same(
-            &rt,
-            schema.columns()[0].name.as_slice(),
-            b"value".as_slice(),
-        );
-        same(&rt, schema.columns()[0].kind, kind);
-        same(&rt, schema.has_item(&number), ty == ValueType::Number);
-        same(&rt, schema.has_item(&table), ty == ValueType::Table);
-        assert!(rt; !schema.has_item(&none));
-    }
+    let alloc = rt.alloc();
+    let numbers = boxed(alloc, Schema::derived(alloc, ValueType::Number)?)?;
+    has_one_column(&rt, &numbers, Kind::Number);
+    same(&rt, items_of(alloc, &numbers)?, (true, false, false));
+    let tables = boxed(alloc, Schema::derived(alloc, ValueType::Table)?)?;
+    has_one_column(&rt, &tables, Kind::Table);
+    same(&rt, items_of(alloc, &tables)?, (false, true, false));
     Ok(())
 }
 
-fn item_with(alloc: Global, kinds: &[Kind]) -> Result<Item, AllocError> {
+fn item_with(alloc: Global, kinds: &[Kind]) -> Result<Box<Item>, AllocError> {
     let mut fields = Vec::new(alloc);
     for kind in kinds {
         fields.push(match kind {
@@ -38,36 +61,41 @@ fn item_with(alloc: Global, kinds: &[Kind]) -> Result<Item, AllocError> {
             _ => Field::Int(-250),
         })?;
     }
-    Ok(Item::from_fields(fields))
+    Ok(Box::new(alloc, Item::from_fields(fields))?)
 }
+
+fn column(alloc: Global, name: &[u8], kind: Kind) -> Result<Column, AllocError>
+    ensures { IfOk result (λ column. column ≡ record { name = name.now; kind = kind }) }
+{
+    let name = Bytes::from_slice(alloc, name)?;
+    Ok(Column { name, kind })
+}
+
+fn gauge_and_rain(alloc: Global) -> Result<Box<Schema>, AllocError> {
+    let mut columns = Vec::new(alloc);
+    columns.push(column(alloc, b"gauge", Kind::Text)?)?;
+    columns.push(column(alloc, b"rain", Kind::Fixed(2))?)?;
+    boxed(alloc, Schema::new(true, columns))
+}
+
+// Kinds of fields, and whether the item is one of that stream.
+const ITEMS: &[(&[Kind], bool)] = &[
+    (&[Kind::Text, Kind::Fixed(2)], true),
+    (&[Kind::Fixed(2), Kind::Text], false),
+    (&[Kind::Text], false),
+    (&[Kind::Text, Kind::Fixed(2), Kind::Int], false),
+    (&[], false),
+];
 
 #[test]
 fn an_item_has_a_field_for_each_column(rt: HostRuntime) -> Result<(), Fail> {
-    let mut columns = Vec::new(rt.alloc());
-    let name = Bytes::from_slice(rt.alloc(), b"gauge")?;
-    columns.push(Column {
-        name,
-        kind: Kind::Text,
-    })?;
-    let name = Bytes::from_slice(rt.alloc(), b"rain")?;
-    columns.push(Column {
-        name,
-        kind: Kind::Fixed(2),
-    })?;
-    let schema = Schema::new(true, columns);
-    let copy = schema.try_copy(rt.alloc())?;
-    let cases: [(&[Kind], bool); 5] = [
-        (&[Kind::Text, Kind::Fixed(2)], true),
-        (&[Kind::Fixed(2), Kind::Text], false),
-        (&[Kind::Text], false),
-        (&[Kind::Text, Kind::Fixed(2), Kind::Int], false),
-        (&[], false),
-    ];
-    for (kinds, wanted) in cases {
+    let schema = gauge_and_rain(rt.alloc())?;
+    let copy = boxed(rt.alloc(), schema.try_copy(rt.alloc())?)?;
+    same(&rt, copy.has_header(), true);
+    for &(kinds, wanted) in ITEMS {
         let item = item_with(rt.alloc(), kinds)?;
         same_at(&rt, kinds, schema.has_item(&item), wanted);
         same_at(&rt, kinds, copy.has_item(&item), wanted);
     }
-    assert!(rt; copy.has_header());
     Ok(())
 }
