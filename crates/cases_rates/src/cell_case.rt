@@ -80,15 +80,20 @@ fn push_cells(
     cells: &Cells,
     test: &Pred,
 ) -> Result<(), AllocError> {
-    let count = cells.count();
-    write!(told, "{count} cells")?;
-    for cell in 0..count {
+    write!(told, "{} cells", cells.count())?;
+    push_strays(alloc, told, cells)?;
+    told.push_str(", met by")?;
+    push_met(told, cells, test)
+}
+
+/// Appends the cells whose samples are in others.
+fn push_strays(alloc: Global, told: &mut String, cells: &Cells) -> Result<(), AllocError> {
+    for cell in 0..cells.count() {
         if !has_its_sample(alloc, cells, cell)? {
             write!(told, ", the sample of {cell} in another")?;
         }
     }
-    told.push_str(", met by")?;
-    push_met(told, cells, test)
+    Ok(())
 }
 
 fn has_its_sample(alloc: Global, cells: &Cells, cell: u32) -> Result<bool, AllocError>

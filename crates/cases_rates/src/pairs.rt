@@ -12,8 +12,12 @@ use std::rc::Rc;
 /// Of each rate whether words factor in one way, and a letter for it and each rate of the table.
 pub(crate) fn report(alloc: Global, table: &str) -> Result<String, Stop> {
     let table = table_of(alloc, table)?;
+    report_on(alloc, &table)
+}
+
+fn report_on(alloc: Global, table: &Table<'_>) -> Result<String, Stop> {
     let cells = cells_of(alloc, &table.scope)?;
-    let rates = rates_of(alloc, &table)?;
+    let rates = rates_of(alloc, table)?;
     let mut text = String::new(alloc);
     add_rates(&mut text, alloc, &cells, &table.cases, &rates)?;
     Ok(text)

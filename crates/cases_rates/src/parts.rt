@@ -2,6 +2,7 @@
 
 use crate::automata::positions_of;
 use crate::stop::Stop;
+use predicate_cells::Pred;
 use rate_expr::{MAX_POSITIONS, Positions, Rate};
 use std::alloc::Global;
 
@@ -19,7 +20,7 @@ pub(crate) fn make(alloc: Global, first: &Rate, second: &Rate) -> Result<&'stati
 fn made_of_parts(alloc: Global, rate: &Rate) -> Result<Box<Positions>, Stop> {
     match rate {
         Rate::Empty => held(alloc, Positions::empty(alloc)),
-        Rate::One(test) => held(alloc, Positions::one(alloc, test)?),
+        Rate::One(test) => one(alloc, test),
         Rate::Seq(first, second) => {
             let first = made_of_parts(alloc, first)?;
             in_sequence(alloc, first, made_of_parts(alloc, second)?)
@@ -28,15 +29,20 @@ fn made_of_parts(alloc: Global, rate: &Rate) -> Result<Box<Positions>, Stop> {
             let first = made_of_parts(alloc, first)?;
             in_choice(alloc, first, made_of_parts(alloc, second)?)
         }
-        Rate::Star(inner) => {
-            let inner = made_of_parts(alloc, inner)?;
-            held(alloc, Box::into_inner(inner).star())
-        }
+        Rate::Star(inner) => again(alloc, made_of_parts(alloc, inner)?),
     }
 }
 
 fn held(alloc: Global, sets: Positions) -> Result<Box<Positions>, Stop> {
     Ok(Box::new(alloc, sets)?)
+}
+
+fn one(alloc: Global, test: &Pred) -> Result<Box<Positions>, Stop> {
+    held(alloc, Positions::one(alloc, test)?)
+}
+
+fn again(alloc: Global, inner: Box<Positions>) -> Result<Box<Positions>, Stop> {
+    held(alloc, Box::into_inner(inner).star())
 }
 
 fn in_sequence(

@@ -28,6 +28,11 @@ fn push_sets(told: &mut String, sets: &Positions) -> Result<(), AllocError> {
     told.push_str(", last ")?;
     push_set(told, sets.last())?;
     told.push_str(", follow")?;
+    push_follows(told, sets)
+}
+
+/// Appends where words go on behind each position.
+fn push_follows(told: &mut String, sets: &Positions) -> Result<(), AllocError> {
     for position in 0..sets.count() {
         told.push_str(" ")?;
         push_set(told, sets.follow(position))?;
