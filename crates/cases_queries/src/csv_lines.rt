@@ -30,17 +30,21 @@ fn read_each<S: Source>(rt: HostRuntime, lines: &mut Lines, source: &mut S) -> i
         let Ok(Line::Whole(line)) = lines.next(source) else {
             return Ok(());
         };
-        let Ok(row) = csv_row(rt.alloc(), line) else {
-            return println!(rt; "{number}: want of memory");
-        };
-        tell(rt, number, &row, line)?;
+        tell(rt, number, line)?;
     }
     Ok(())
 }
 
-fn tell(rt: HostRuntime, number: u32, row: &ByteRecord, line: &[u8]) -> io::Result<()> {
-    let text = told(rt.alloc(), row, line)?;
+fn tell(rt: HostRuntime, number: u32, line: &[u8]) -> io::Result<()> {
+    let text = told(rt.alloc(), line)?;
     println!(rt; "{number}: {text}")
+}
+
+fn told(alloc: Global, line: &[u8]) -> Result<String, AllocError> {
+    match csv_row(alloc, line) {
+        Ok(row) => told_of(alloc, &row, line),
+        Err(_) => Err(AllocError),
+    }
 }
 
 /// The first row of the line by `csv`; where there is none, one without fields.
@@ -55,15 +59,19 @@ fn csv_row(alloc: Global, line: &[u8]) -> Result<ByteRecord, Error> {
 }
 
 /// The fields of the row, and whether the line is read to an item with the same.
-fn told(alloc: Global, row: &ByteRecord, line: &[u8]) -> Result<String, AllocError> {
+fn told_of(alloc: Global, row: &ByteRecord, line: &[u8]) -> Result<String, AllocError> {
     let mut text = String::new(alloc);
-    for index in 0..row.len() {
-        text.push_str("|")?;
-        push_field(&mut text, row.get(index).unwrap_or(&[]))?;
-    }
-    text.push_str("| ")?;
+    push_fields(&mut text, row)?;
     text.push_str(verdict(alloc, row, line)?)?;
     Ok(text)
+}
+
+fn push_fields(text: &mut String, row: &ByteRecord) -> Result<(), AllocError> {
+    for index in 0..row.len() {
+        text.push_str("|")?;
+        push_field(text, row.get(index).unwrap_or(&[]))?;
+    }
+    text.push_str("| ")
 }
 
 fn push_field(text: &mut String, field: &[u8]) -> Result<(), AllocError> {
@@ -95,7 +103,16 @@ fn verdict(alloc: Global, row: &ByteRecord, line: &[u8]) -> Result<&'static str,
     if !are_columns(&columns) {
         return Ok("too many columns");
     }
-    match read_item(alloc, &Schema::new(false, columns), line) {
+    verdict_under(alloc, &Schema::new(false, columns), row, line)
+}
+
+fn verdict_under(
+    alloc: Global,
+    schema: &Schema,
+    row: &ByteRecord,
+    line: &[u8],
+) -> Result<&'static str, AllocError> {
+    match read_item(alloc, schema, line) {
         Ok(item) if has_fields(&item, row) => Ok("same"),
         Ok(_) => Ok("other fields"),
         Err(ItemStop::Skip(_)) => Ok("skipped"),

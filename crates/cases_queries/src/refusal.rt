@@ -13,12 +13,16 @@ pub(crate) fn refused(alloc: Global, query: &[u8], refusal: Refusal) -> Result<S
     let written = refusal_text(alloc, refusal)?;
     let mut text = String::new(alloc);
     push_spelled(&mut text, written.as_slice().trim_ascii_end())?;
-    let term = part_of(query, refusal.span);
+    push_term(&mut text, part_of(query, refusal.span))?;
+    Ok(text)
+}
+
+fn push_term(text: &mut String, term: &[u8]) -> Result<(), AllocError> {
     if !term.is_empty() && term.len() <= SHORT {
         text.push_str(": ")?;
-        push_spelled(&mut text, term)?;
+        push_spelled(text, term)?;
     }
-    Ok(text)
+    Ok(())
 }
 
 fn part_of(query: &[u8], span: Span) -> &[u8] {

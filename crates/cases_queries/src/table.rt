@@ -46,13 +46,24 @@ pub(crate) fn cases_of(alloc: Global, table: &str) -> Result<Vec<Case>, AllocErr
     let mut frame = Frame::of(alloc, "...")?;
     let mut cases = Vec::new(alloc);
     for (number, line) in (1..LINES).zip(table.lines()) {
-        if let Some(spelled) = line.strip_prefix("frame ") {
-            frame = Frame::of(alloc, spelled)?;
-        } else if !line.is_empty() && !line.starts_with('#') {
-            cases.push(case_of(alloc, number, &frame, line)?)?;
-        }
+        add_line(alloc, &mut frame, &mut cases, number, line)?;
     }
     Ok(cases)
+}
+
+fn add_line(
+    alloc: Global,
+    frame: &mut Frame,
+    cases: &mut Vec<Case>,
+    number: u32,
+    line: &str,
+) -> Result<(), AllocError> {
+    if let Some(spelled) = line.strip_prefix("frame ") {
+        *frame = Frame::of(alloc, spelled)?;
+    } else if !line.is_empty() && !line.starts_with('#') {
+        cases.push(case_of(alloc, number, frame, line)?)?;
+    }
+    Ok(())
 }
 
 fn case_of(alloc: Global, number: u32, frame: &Frame, line: &str) -> Result<Case, AllocError> {

@@ -20,6 +20,14 @@ pub(crate) struct Told {
 }
 
 impl Told {
+    fn new(alloc: Global) -> Result<Box<Told>, AllocError> {
+        let told = Told {
+            answers: Vec::new(alloc),
+            kept: 0,
+        };
+        Ok(Box::new(alloc, told)?)
+    }
+
     fn add<F: Follower>(&mut self, alloc: Global, follower: &F) -> Result<(), AllocError> {
         self.kept = self.kept.max(follower.stored());
         let mut text = Vec::new(alloc);
@@ -36,15 +44,12 @@ pub(crate) fn told_by<F: Follower + Drop>(
     checked: &Checked,
     follower: F,
     items: &str,
-) -> Result<Told, Stop>
+) -> Result<Box<Told>, Stop>
     requires word { F.follows follower [] }
     requires query { F.query follower ≡ plain_of checked.now.main.shape }
     requires columns { F.columns follower ≡ checked.now.layout.columns }
 {
-    let mut told = Told {
-        answers: Vec::new(alloc),
-        kept: 0,
-    };
+    let mut told = Told::new(alloc)?;
     let mut session = Session::begin(checked, follower);
     told.add(alloc, session.follower())?;
     let mut left = MOST;
