@@ -21,12 +21,18 @@ pub(crate) fn ask_engines(
     items: &[u8],
     answers: &Answers,
 ) -> Result<u64, Stop> {
-    let slow = Slow::new(alloc, checked)?;
-    let wanted = told_by(alloc, checked, slow, items)?;
-    ask_alone(&wanted)?;
+    let wanted = wanted(alloc, checked, items)?;
     ask_run(&wanted, answers)?;
     ask_runner(alloc, checked, items, &wanted)?;
     Ok(wanted.kept.len() as u64)
+}
+
+/// What the engine answers that searches all readings.
+fn wanted(alloc: Global, checked: &Checked, items: &[u8]) -> Result<Told, Stop> {
+    let slow = Slow::new(alloc, checked)?;
+    let wanted = told_by(alloc, checked, slow, items)?;
+    ask_alone(&wanted)?;
+    Ok(wanted)
 }
 
 /// Asks that the engine that goes item by item answers as is wanted.
