@@ -2,6 +2,8 @@
 use crate::assertions::same_at;
 use crate::given::{Given, SUM, outcome, sum_over};
 use sqre_run::Status;
+use std::alloc::{AllocError, Global};
+use std::process::Abort;
 use std::test::Fail;
 
 const HEADED: &[u8] = b"stream(header, col(a, int))\nmain(iter(atom(any, a), 0, add(x, y)))\n";
@@ -122,23 +124,36 @@ fn each_command_writes_its_line(rt: HostRuntime) -> Result<(), Fail> {
     Ok(())
 }
 
+// There is room for one byte.
+fn ends_at_a_write(rt: &impl Abort, alloc: Global, words: &str) -> Result<(), AllocError> {
+    let given = Given {
+        words,
+        room: 1,
+        ..sum_over(b"5\n")
+    };
+    let (status, bytes) = outcome(alloc, given)?;
+    same_at(rt, words, status, Status::SinkFault);
+    same_at(rt, words, bytes.len(), 1);
+    Ok(())
+}
+
+fn ends_at_a_read(rt: &impl Abort, alloc: Global, words: &str) -> Result<(), AllocError> {
+    let given = Given {
+        words,
+        room: 1,
+        query_fails: &[1],
+        ..sum_over(b"5\n")
+    };
+    let (status, _) = outcome(alloc, given)?;
+    same_at(rt, words, status, Status::QueryFault);
+    Ok(())
+}
+
 #[test]
 fn a_fault_ends_a_command(rt: HostRuntime) -> Result<(), Fail> {
     for words in ["check q", "bound q", "drill q 2 0"] {
-        let given = Given {
-            words,
-            room: 1,
-            ..sum_over(b"5\n")
-        };
-        let (status, bytes) = outcome(rt.alloc(), given)?;
-        same_at(&rt, words, status, Status::SinkFault);
-        same_at(&rt, words, bytes.len(), 1);
-        let given = Given {
-            query_fails: &[1],
-            ..given
-        };
-        let (status, _) = outcome(rt.alloc(), given)?;
-        same_at(&rt, words, status, Status::QueryFault);
+        ends_at_a_write(&rt, rt.alloc(), words)?;
+        ends_at_a_read(&rt, rt.alloc(), words)?;
     }
     Ok(())
 }

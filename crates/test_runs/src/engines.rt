@@ -22,27 +22,29 @@ main(split(
     y))
 ";
 
+// Queries, items, and what is written.
+const ANSWERED: &[(&[u8], &[u8], &[u8])] = &[
+    (
+        ONE_OR_NONE_BEFORE_TWO,
+        b"1\n2\n2\n",
+        b"undefined\n-21\nundefined\n",
+    ),
+    (ONE_OR_NONE_BEFORE_TWO, b"2\n2\n", b"-20\nundefined\n"),
+    (
+        ONE_OR_NONE_BEFORE_TWO,
+        b"1\n1\n2\n",
+        b"undefined\nundefined\nundefined\n",
+    ),
+    (
+        SUM_OF_DIFFERENCES,
+        b"9\n4\n1\n7\n",
+        b"undefined\n5\nundefined\n-1\n",
+    ),
+];
+
 #[test]
 fn queries_are_answered_whichever_shapes_they_have(rt: HostRuntime) -> Result<(), Fail> {
-    let table: [(&[u8], &[u8], &[u8]); 4] = [
-        (
-            ONE_OR_NONE_BEFORE_TWO,
-            b"1\n2\n2\n",
-            b"undefined\n-21\nundefined\n",
-        ),
-        (ONE_OR_NONE_BEFORE_TWO, b"2\n2\n", b"-20\nundefined\n"),
-        (
-            ONE_OR_NONE_BEFORE_TWO,
-            b"1\n1\n2\n",
-            b"undefined\nundefined\nundefined\n",
-        ),
-        (
-            SUM_OF_DIFFERENCES,
-            b"9\n4\n1\n7\n",
-            b"undefined\n5\nundefined\n-1\n",
-        ),
-    ];
-    for (query, items, written) in table {
+    for &(query, items, written) in ANSWERED {
         let (status, bytes) = outcome(rt.alloc(), run_of(query, items))?;
         same(&rt, status, Status::Done);
         same(&rt, bytes.as_slice(), written);
