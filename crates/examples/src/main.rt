@@ -4,6 +4,7 @@
 use io_edge::{LazyFile, Source, WriterSink};
 use sqre_run::{Status, sqre};
 use std::alloc::{AllocError, Global};
+use std::fs::DirEntry;
 use std::{fs, io};
 
 fn main(rt: HostRuntime) -> io::Result<()> {
@@ -19,13 +20,17 @@ fn main(rt: HostRuntime) -> io::Result<()> {
 fn folders(rt: &HostRuntime) -> io::Result<Vec<String>> {
     let mut names = Vec::new(rt.alloc());
     for entry in fs::read_dir(rt, ".")? {
-        let entry = entry?;
-        if entry.file_type()?.is_dir() {
-            names.push(String::from_str(rt.alloc(), entry.file_name())?)?;
-        }
+        push_folder(rt.alloc(), &mut names, &entry?)?;
     }
     names.sort()?;
     Ok(names)
+}
+
+fn push_folder(alloc: Global, names: &mut Vec<String>, entry: &DirEntry) -> io::Result<()> {
+    if entry.file_type()?.is_dir() {
+        names.push(String::from_str(alloc, entry.file_name())?)?;
+    }
+    Ok(())
 }
 
 fn run(rt: HostRuntime, name: &str) -> io::Result<Status> {
