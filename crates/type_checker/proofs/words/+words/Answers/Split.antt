@@ -1,0 +1,82 @@
+-- A split: its operands, then its root.
+use Rattle.std.proofs.Common.{rules}
+use Rattle.std.proofs.lemmas.Result.{err_from_is_err_and}
+use Rattle.query_model.specs.Queries as q
+use Rattle.query_model.specs.Queries.{plain_of}
+use Rattle.query_model.specs.declared.query.Shape.TheViews.{the_lemmas}
+use Rattle.value_ops.specs.Expressions as values
+use Rattle.type_checker.specs.Findings.{places_in}
+use Rattle.type_checker.specs.Nodes.{with_two}
+use Rattle.type_checker.specs.Standings.{standing_of}
+use Rattle.type_checker.proofs.Asked.{asked_as, asked_of, asked_split, few_together}
+use Rattle.type_checker.proofs.OverTwo.{two_kept, two_refused}
+use Rattle.type_checker.proofs.Told.{told_err, told_ok}
+use Rattle.type_checker.proofs.Walked.{stopped_in}
+use Rattle.type_checker.proofs.words.+words.Goals as goal
+
+pub keep_words-keep_split-requires : goal.keep_words-keep_split-requires
+keep_words-keep_split-requires t c =
+    let cells = c.args.cells.now.value in
+    let can = asked_as cells _ _ c.in-Split.is c.requires in
+    let both = asked_split cells _ _ _ can in (
+      search (rules, the_lemmas),
+      (
+        asked_of cells _ _ c.deref-in-Split.ensures both.0,
+        (
+          asked_of cells _ _ c.deref-in-Split-2.ensures both.1,
+          rw (c.deref-in-Split.ensures, c.deref-in-Split-2.ensures) can.few.2,
+        ),
+      ),
+    )
+
+pub keep_words-returns-in-Split-clause-kept : goal.keep_words-returns-in-Split-clause-kept
+keep_words-returns-in-Split-clause-kept t c =
+    let kept = rw (c.deref-in-Split.ensures, c.deref-in-Split-2.ensures) at c.keep_split.ensures.kept in
+    rw c.in-Split.is (kept (standing_of c.args.standing) (values.plain_of c.in-Split.field-2))
+
+pub keep_words-returns-in-Split-clause-positions : goal.keep_words-returns-in-Split-clause-positions
+keep_words-returns-in-Split-clause-positions t c =
+    let sets = rw (c.deref-in-Split.ensures, c.deref-in-Split-2.ensures) at c.keep_split.ensures.positions in
+    rw c.in-Split.is (sets (values.plain_of c.in-Split.field-2))
+
+pub keep_words-returns-in-Split-clause-refused : goal.keep_words-returns-in-Split-clause-refused
+keep_words-returns-in-Split-clause-refused t c =
+    let refused = rw (c.deref-in-Split.ensures, c.deref-in-Split-2.ensures) at c.keep_split.ensures.refused in
+    rw c.in-Split.is (refused (standing_of c.args.standing) (values.plain_of c.in-Split.field-2))
+
+-- its root, behind its operands
+pub keep_split-split-requires-clause-few : goal.keep_split-split-requires-clause-few
+keep_split-split-requires-clause-few t c =
+    few_together c.args.cells.now.value (plain_of c.args.first.now.shape) (plain_of c.args.second.now.shape) _
+    c.in_ok-operands.ensures.automata c.requires.few
+
+pub keep_split-returns-in_err-operands-clause-refused : goal.keep_split-returns-in_err-operands-clause-refused
+keep_split-returns-in_err-operands-clause-refused t c =
+    let err = err_from_is_err_and c.from_residual.result c.from_residual.ensures.1 in
+    rw (err.1, err.2) (λ standing value.
+    stopped_in c.args.cells.now.value.layout.columns standing
+    (q.split (plain_of c.args.first.now.shape) (plain_of c.args.second.now.shape) value)
+    (with_two (places_in c.args.first.now) (places_in c.args.second.now) c.args.span)
+    _ c.in_err-operands.ensures.refused)
+
+pub keep_split-returns-clause-kept : goal.keep_split-returns-clause-kept
+keep_split-returns-clause-kept t c = λ standing value.
+    two_kept (λ f g. q.split f g value) (plain_of c.args.first.now.shape) (plain_of c.args.second.now.shape)
+    (with_two (places_in c.args.first.now) (places_in c.args.second.now) c.args.span)
+    c.args.cells.now.value _ c.in_ok-operands.ensures.automata c.split.result standing
+    c.in_ok-operands.ensures.kept (told_ok c.split.result _ _ c.split.ensures.kept
+    (λ made given cells f g. given cells f g value))
+
+pub keep_split-returns-clause-positions : goal.keep_split-returns-clause-positions
+keep_split-returns-clause-positions t c = λ value.
+    told_ok c.split.result _ _ c.split.ensures.kept (λ sets given.
+    (given c.args.cells.now.value (plain_of c.args.first.now.shape) (plain_of c.args.second.now.shape) value
+    c.in_ok-operands.ensures.automata).sets)
+
+pub keep_split-returns-clause-refused : goal.keep_split-returns-clause-refused
+keep_split-returns-clause-refused t c = λ standing value.
+    two_refused (λ f g. q.split f g value) (plain_of c.args.first.now.shape) (plain_of c.args.second.now.shape)
+    (with_two (places_in c.args.first.now) (places_in c.args.second.now) c.args.span)
+    c.args.cells.now.value _ c.in_ok-operands.ensures.automata c.split.result standing
+    c.in_ok-operands.ensures.kept (told_err c.split.result _ _ c.split.ensures.refused
+    (λ made given cells f g. given cells f g value))
