@@ -1,18 +1,18 @@
 -- How letters are entered into rows, and told apart by these.
-use Rattle.std.proofs.Common.{◌≡◌, ℕ, ◌+◌, ◌*◌, ◌/◌, ◌%◌, ◌<◌, ◌≤◌, ◌∙◌, ◌↔◌, ◌⊎◌, List, Some, bit_and, bit_or, get_or, length, replicate, slice_get, ap, arith, sym, subst, inl, inr}
+use Rattle.std.proofs.Common.{◌≡◌, ℕ, ◌+◌, ◌*◌, ◌/◌, ◌%◌, ◌<◌, ◌≤◌, ◌∙◌, ◌↔◌, ◌⊎◌, List, Some, bit_and, get_or, length, replicate, slice_get, ap, arith, sym, subst, inl, inr}
 use Rattle.std.proofs.lemmas.Bool.{cases_lt}
 use Rattle.std.proofs.lemmas.Bool.Decides.{eqb_tells}
 use Rattle.std.proofs.lemmas.Option.{same_Some, slice_get-get_or, slice_get_within}
-use Rattle.std.specs.Int.{bit_at}
 use Rattle.rate_expr.specs.Sets.{Has}
 use Rattle.rate_expr.specs.declared.state.State.TheVariants.{At}
-use Rattle.rate_expr.proofs.MaskMembers.{has_first, has_second, has_zero}
+use Rattle.rate_expr.proofs.MaskMembers.{has_zero}
 use Rattle.rate_expr.proofs.MaskSets.{has-and, has-and_both, same-has}
 use Rattle.rate_equal.specs.Holding.{AreRows, HasRow, KeepsRows}
-use Rattle.rate_equal.specs.PlaceSets.{AddsBlock, HasPlace, KeepsBlock, block_count}
+use Rattle.rate_equal.specs.PlaceSets.{HasPlace, KeepsBlock, block_count}
 use Rattle.rate_equal.specs.Reach.{max_reach}
 use Rattle.rate_equal.specs.Targets.{target}
 use Rattle.rate_equal.specs.declared.letters.Letter.{Letter}
+use Rattle.rate_equal.proofs.Filling.{place_tells}
 use Rattle.rate_equal.proofs.PlaceSets.{zero_there}
 
 -- what a list without the letter would give
@@ -73,27 +73,27 @@ same_on ways met met' same = same-has (bit_and ways met) (bit_and ways met') (λ
 
 -- a letter that is in the same rows of the ways as another leads where that one does
 pub same_target : (first second : List ℕ) (letters : List Letter) (ways : ℕ × ℕ) (letter other : Letter)
-    (one two place : ℕ) → AreRows (λ l. l.first) first letters (length letters)
+    (places : List ℕ) (place : ℕ) → AreRows (λ l. l.first) first letters (length letters)
     → AreRows (λ l. l.second) second letters (length letters)
     → length letters ≤ max_reach → slice_get letters place ≡ Some other
-    → ((position : ℕ) → Has ways.0 position
-    → Has one (place % 128) ⊎ (Has letter.first position ↔ HasRow first position place))
-    → ((position : ℕ) → Has ways.1 position
-    → Has two (place % 128) ⊎ (Has letter.second position ↔ HasRow second position place))
-    → Has (bit_or one two) (place % 128) ⊎ (target ways other ≡ target ways letter)
-same_target first second letters ways letter other one two place in_first in_second few found alike alike' =
-    elim (eqb_tells (bit_at (bit_or one two) (place % 128)) 1) [
-      | inl (test, has) ↦ inl has
-      | inr (test, none) ↦ inr (λ j. record {
-        first = ap At (same_on ways.0 other.first letter.first (λ position on. elim (alike position on) [
-          | inl has ↦ absurd (none (has_first one two (place % 128) has))
+    → ((position : ℕ) → Has ways.0 position → place < max_reach
+    → HasPlace places place ⊎ (Has letter.first position ↔ HasRow first position place))
+    → ((position : ℕ) → Has ways.1 position → place < max_reach
+    → HasPlace places place ⊎ (Has letter.second position ↔ HasRow second position place))
+    → HasPlace places place ⊎ (target ways other ≡ target ways letter)
+same_target first second letters ways letter other places place in_first in_second few found alike alike' =
+    elim (place_tells places place) [
+      | inl has ↦ inl has
+      | inr none ↦ inr (λ j. record {
+        first = ap At (same_on ways.0 other.first letter.first (λ position on. elim (alike position on below) [
+          | inl has ↦ absurd (none has)
           | inr is ↦ (
             λ has. is.1 (in_first.has place position other within found has),
             λ has. (in_first.only place position other below found (is.0 has)).1,
           )
         ])) j;
-        second = ap At (same_on ways.1 other.second letter.second (λ position on. elim (alike' position on) [
-          | inl has ↦ absurd (none (has_second one two (place % 128) has))
+        second = ap At (same_on ways.1 other.second letter.second (λ position on. elim (alike' position on below) [
+          | inl has ↦ absurd (none has)
           | inr is ↦ (
             λ has. is.1 (in_second.has place position other within found has),
             λ has. (in_second.only place position other below found (is.0 has)).1,
@@ -119,56 +119,20 @@ module _ (letters : List Letter) (target_of : Letter → Type 0) (start : List �
   passing_begun = record { kept = λ place other has found. inl has }
 
   -- those of a block
-  pub passing_next : (block others : ℕ) (places places' : List ℕ) → IsPassing places
+  pub passing_next : (block others : ℕ) (left places places' : List ℕ) → IsPassing places
       → KeepsBlock places places' block others
-      → ((place : ℕ) (other : Letter) → place / 128 ≡ block → slice_get letters place ≡ Some other
-      → Has others (place % 128) ⊎ target_of other) → IsPassing places'
-  passing_next block others places places' before keeps unlike = record {
+      → ((place : ℕ) → HasPlace left place → place / 128 ≡ block → Has others (place % 128))
+      → ((place : ℕ) (other : Letter) → slice_get letters place ≡ Some other
+      → HasPlace left place ⊎ target_of other) → IsPassing places'
+  passing_next block others left places places' before keeps bits unlike = record {
     kept = λ place other has found. elim (before.kept place other has found) [
       | inr is ↦ inr is
       | inl there ↦ elim (eqb_tells (place / 128) block) [
-        | inl (test, here) ↦ elim (unlike place other here found) [
-          | inl bit ↦ inl (keeps place there (λ same. bit))
+        | inl (test, here) ↦ elim (unlike place other found) [
+          | inl stays ↦ inl (keeps place there (bits place stays))
           | inr is ↦ inr is
         ]
         | inr (test, apart) ↦ inl (keeps place there (λ same. absurd (apart same)))
       ]
     ];
   }
-
-module _ (mask : Letter → ℕ) (letters : List Letter) (positions : ℕ) where
-  -- the set has the places in the blocks below one of the letters that have one of the positions
-  pub record IsHaving (block : ℕ) (places : List ℕ) : Type 0 where
-    pub has : (place position : ℕ) (letter : Letter) → slice_get letters place ≡ Some letter → Has positions position
-        → Has (mask letter) position → place / 128 < block → HasPlace places place
-
-  -- of none
-  pub having_begun : (places : List ℕ) → IsHaving 0 places
-  having_begun places = record { has = λ place position letter found on met lt. absurd (omega (arith, lt)) }
-
-  -- of one block more
-  pub having_next : (rows : List ℕ) (block bits : ℕ) (places places' : List ℕ)
-      → AreRows mask rows letters (length letters)
-      → IsHaving block places → AddsBlock places places' block bits
-      → ((position place : ℕ) → Has positions position → place / 128 ≡ block → HasRow rows position place
-      → Has bits (place % 128)) → IsHaving (block + 1) places'
-  having_next rows block bits places places' are before adds gathers = record {
-    has = λ place position letter found on met lt. elim (cases_lt (place / 128) block) [
-      | inl less ↦ (adds place).1 (inl (before.has place position letter found on met less))
-      | inr most ↦
-          let here : place / 128 ≡ block = omega arith in
-          (adds place).1 (inr (
-            here,
-            gathers position place on here
-                (are.has place position letter (slice_get_within letters place letter found) found met),
-          ))
-    ];
-  }
-
-  -- of all
-  pub having_all : (places : List ℕ) → length letters ≤ max_reach → IsHaving block_count places
-      → (place position : ℕ) (letter : Letter) → slice_get letters place ≡ Some letter → Has positions position
-      → Has (mask letter) position → HasPlace places place
-  having_all places few all place position letter found on met =
-      let within = slice_get_within letters place letter found in
-      all.has place position letter found on met (omega arith)

@@ -4,6 +4,7 @@ pub mod Along
 pub mod Coming
 pub mod Differing
 pub mod Exploring
+pub mod Filling
 pub mod Finding
 pub mod Gathered
 pub mod Gone

@@ -46,10 +46,10 @@ module _ (first second : List ℕ) (pairs : List Pair) (wider : List ℕ) (more 
     (exact : (position : ℕ) → Has lost.0 position ↔ (Has more.0 position × (Has ways.0 position → ⊥)))
     (exact' : (position : ℕ) → Has lost.1 position ↔ (Has more.1 position × (Has ways.1 position → ⊥)))
     (held : AreHeld first second pairs (length pairs)) (within : HasWithin pairs wider more)
-    (loses : (position place : ℕ) → Has lost.0 position → place / 128 ≡ block → HasRow first position place
-    → Has losing (place % 128))
-    (loses' : (position place : ℕ) → Has lost.1 position → place / 128 ≡ block → HasRow second position place
-    → Has losing (place % 128)) where
+    (loses : (position place : ℕ) → Has lost.0 position → place / 128 ≡ block → Has all (place % 128)
+    → HasRow first position place → Has losing (place % 128))
+    (loses' : (position place : ℕ) → Has lost.1 position → place / 128 ≡ block → Has all (place % 128)
+    → HasRow second position place → Has losing (place % 128)) where
   -- so a pair within other ways that holds no lost position is within the ways
   pub kept_same : (bit : ℕ) (pair : Pair) → Has all bit → (Has losing bit → ⊥)
       → slice_get pairs (block * 128 + bit) ≡ Some pair → narrowed ways pair ≡ pair
@@ -58,16 +58,17 @@ module _ (first second : List ℕ) (pairs : List Pair) (wider : List ℕ) (more 
       let here : (block * 128 + bit) / 128 ≡ block = omega arith in
       let rest : (block * 128 + bit) % 128 ≡ bit = omega arith in
       let lt : block * 128 + bit < length pairs = slice_get_within pairs (block * 128 + bit) pair found in
+      let among : Has all ((block * 128 + bit) % 128) = subst (λ (b : ℕ). Has all b) (sym rest) has in
       let (pair', found', states') = within (block * 128 + bit) (bit_place wider block all bit fits is has) in
       let states : AreStatesWithin more pair =
       subst (AreStatesWithin more) (same_Some pair' pair (sym found' ∙ found)) states' in
       let one : narrowed_state ways.0 pair.first ≡ pair.first = narrowed_same ways.0 pair.first
       (within_less more.0 ways.0 lost.0 (mask_of pair.first) losing bit exact states.0
-      (λ position gone on. subst (λ (b : ℕ). Has losing b) rest (loses position (block * 128 + bit) gone here
+      (λ position gone on. subst (λ (b : ℕ). Has losing b) rest (loses position (block * 128 + bit) gone here among
       (held.one (block * 128 + bit) position pair lt found on))) none) in
       let two : narrowed_state ways.1 pair.second ≡ pair.second = narrowed_same ways.1 pair.second
       (within_less more.1 ways.1 lost.1 (mask_of pair.second) losing bit exact' states.1
-      (λ position gone on. subst (λ (b : ℕ). Has losing b) rest (loses' position (block * 128 + bit) gone here
+      (λ position gone on. subst (λ (b : ℕ). Has losing b) rest (loses' position (block * 128 + bit) gone here among
       (held.two (block * 128 + bit) position pair lt found on))) none) in
       (λ j. record { first = one j; second = two j })
 

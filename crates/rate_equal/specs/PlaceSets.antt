@@ -19,6 +19,10 @@ abbrev pub AddsBlock : List ℕ → List ℕ → ℕ → ℕ → Type 0
 AddsBlock old new block mask = (other : ℕ)
     → HasPlace new other ↔ (HasPlace old other ⊎ ((other / 128 ≡ block) × Has mask (other % 128)))
 
+-- it has at least the places that it had
+abbrev pub KeepsPlaces : List ℕ → List ℕ → Type 0
+KeepsPlaces old new = (place : ℕ) → HasPlace old place → HasPlace new place
+
 -- it has at least those that it had in other blocks, and in a block those in a mask
 abbrev pub KeepsBlock : List ℕ → List ℕ → ℕ → ℕ → Type 0
 KeepsBlock old new block mask = (place : ℕ) → HasPlace old place

@@ -1,16 +1,16 @@
 //! The letters of two automata, and which have a position.
-ghost use Rattle.std.specs.Prelude.{◌≡◌, ◌≤◌, ◌<◌, ◌/◌, ◌%◌, ◌⊎◌, ℕ, IfOk, IfSome, Some, length, slice_get};
+ghost use Rattle.std.specs.Prelude.{◌≡◌, ◌≤◌, ◌⊎◌, ℕ, IfOk, IfSome, OnOk, Some, length, slice_get};
 ghost use Rattle.std.specs.List.{Contains};
 ghost use Rattle.rate_expr.specs.Sets.{Has};
 ghost use Rattle.rate_equal.specs.Holding.{AreRows};
-ghost use Rattle.rate_equal.specs.PlaceSets.{block_count, HasPlace};
+ghost use Rattle.rate_equal.specs.PlaceSets.{HasPlace};
 ghost use Rattle.rate_equal.specs.Reach.{max_reach};
 ghost use Rattle.rate_equal.specs.Targets.{target};
 ghost use Rattle.rate_equal.specs.declared.letters.Letter.{Letter as LetterOf};
 
 use crate::letters::Letter;
 use crate::places::{BLOCKS, Places};
-use crate::rows::{ROWS, gather, hold, unlike};
+use crate::rows::{ROWS, gather, hold, insert_rows, insert_unlike};
 use std::alloc::{AllocError, Global};
 
 /// The letters, and for each position of either automaton the places of those that have it.
@@ -68,11 +68,8 @@ impl Alphabet {
             → Has letter.second position → HasPlace places place) }
     {
         let mut places = Places::none(alloc)?;
-        'parts: for block in 0..BLOCKS {
-            let first = gather(&self.first, positions.0, block);
-            let second = gather(&self.second, positions.1, block);
-            places.insert_all(block, first | second);
-        }
+        insert_rows(&self.first, positions.0, &mut places);
+        insert_rows(&self.second, positions.1, &mut places);
         Ok(places)
     }
 
@@ -95,27 +92,39 @@ impl Alphabet {
     }
 
     /// Takes the places of the letters out of the set that lead where this one does.
-    pub(crate) fn pass(&self, places: &mut Places, letter: Letter, ways: (u128, u128))
-        ensures { (place : ℕ) (other : LetterOf) → HasPlace places.old place
+    pub(crate) fn pass(
+        &self,
+        alloc: Global,
+        places: &mut Places,
+        letter: Letter,
+        ways: (u128, u128),
+    ) -> Result<(), AllocError>
+        ensures { OnOk result ((place : ℕ) (other : LetterOf) → HasPlace places.old place
             → slice_get self.now.letters.items place ≡ Some other
-            → HasPlace places.new place ⊎ (target ways other ≡ target ways letter) }
+            → HasPlace places.new place ⊎ (target ways other ≡ target ways letter)) }
     {
+        let others = self.unlike(alloc, letter, ways)?;
         'parts: for block in 0..BLOCKS {
-            let others = self.unlike(letter, ways, block);
-            places.keep(block, others);
+            places.keep(block, others.block(block));
         }
+        Ok(())
     }
 
-    // The bits, in a block, of the places of letters that lead elsewhere.
-    fn unlike(&self, letter: Letter, ways: (u128, u128), block: usize) -> u128
-        requires { block < block_count }
-        ensures { (place : ℕ) (other : LetterOf) → place / 128 ≡ block
+    // The places of the letters that lead elsewhere.
+    fn unlike(
+        &self,
+        alloc: Global,
+        letter: Letter,
+        ways: (u128, u128),
+    ) -> Result<Places, AllocError>
+        ensures { IfOk result (λ places. (place : ℕ) (other : LetterOf)
             → slice_get self.now.letters.items place ≡ Some other
-            → Has result (place % 128) ⊎ (target ways other ≡ target ways letter) }
+            → HasPlace places place ⊎ (target ways other ≡ target ways letter)) }
     {
-        let first = unlike(&self.first, ways.0, letter.first, block);
-        let second = unlike(&self.second, ways.1, letter.second, block);
-        first | second
+        let mut places = Places::none(alloc)?;
+        insert_unlike(&self.first, ways.0, letter.first, &mut places);
+        insert_unlike(&self.second, ways.1, letter.second, &mut places);
+        Ok(places)
     }
 }
 

@@ -14,12 +14,14 @@ use crate::places::{BLOCKS, Places};
 use crate::stop::EqualStop;
 use indexmap::IndexSet;
 use rate_expr::masks::{lowest, without_lowest};
+use std::alloc::Global;
 
 // To look for all letters that lead where one does pays where so many are left for each position.
 const PAYS: usize = 4;
 
 /// Adds the pairs to which the letters lead whose places are left.
 pub(crate) fn go_on(
+    alloc: Global,
     alphabet: &Alphabet,
     left: &mut Places,
     ways: (u128, u128),
@@ -40,7 +42,7 @@ pub(crate) fn go_on(
             break 'looks;
         };
         add(letter.target(ways), pairs, targets)?;
-        alphabet.pass(left, letter, ways);
+        alphabet.pass(alloc, left, letter, ways)?;
     }
     go_on_each(&alphabet.letters, left, ways, pairs, targets)?;
     Ok(())

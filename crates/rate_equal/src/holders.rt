@@ -44,14 +44,21 @@ impl Holders {
         self.count = pairs.len();
     }
 
-    /// The bits, in a block, of the places of pairs that have one of the positions.
-    pub(crate) fn block(&self, positions: (u128, u128), block: usize) -> u128
+    /// The bits in a block of the places of pairs that have one of the positions, at least of those
+    /// in the mask.
+    pub(crate) fn block(&self, positions: (u128, u128), block: usize, mask: u128) -> u128
         requires { block < block_count }
         ensures first { (position place : ℕ) → Has positions.0 position → place / 128 ≡ block
-            → HasRow self.now.first.items position place → Has result (place % 128) }
+            → Has mask (place % 128) → HasRow self.now.first.items position place
+            → Has result (place % 128) }
         ensures second { (position place : ℕ) → Has positions.1 position → place / 128 ≡ block
-            → HasRow self.now.second.items position place → Has result (place % 128) }
+            → Has mask (place % 128) → HasRow self.now.second.items position place
+            → Has result (place % 128) }
     {
+        // Most blocks have none.
+        if mask == 0 {
+            return 0;
+        }
         let first = gather(&self.first, positions.0, block);
         let second = gather(&self.second, positions.1, block);
         first | second

@@ -48,8 +48,9 @@ pub(crate) fn nearest(known: &[Known], alphabet: &Alphabet, ways: (u128, u128)) 
     let recent = closest(known, start, ways)?;
     let near = &known[recent];
     let gained = (without(ways.0, near.ways.0), without(ways.1, near.ways.1));
-    let is_cheap = alphabet.count_having(gained) as usize <= alphabet.letters.len() / FEW;
-    if is_cheap || ways.0.count_ones() + ways.1.count_ones() <= NARROW {
+    if ways.0.count_ones() + ways.1.count_ones() <= NARROW
+        || alphabet.count_having(gained) as usize <= alphabet.letters.len() / FEW
+    {
         return Some(recent);
     }
     narrowest(known, start, ways).or(Some(recent))

@@ -46,7 +46,7 @@ pub(crate) fn narrow(
     let second = without(near.ways.1, ways.1);
     'parts: for block in 0..BLOCKS {
         let known = near.targets.block(block);
-        let losing = holders.block((first, second), block);
+        let losing = holders.block((first, second), block, known);
         // The other targets are within the ways.
         targets.insert_all(block, known & !losing);
         narrow_block(letters, block, known & losing, ways, pairs, targets)?;

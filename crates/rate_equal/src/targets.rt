@@ -67,7 +67,7 @@ fn from_known(
     let first = without(ways.0, near.ways.0);
     let second = without(ways.1, near.ways.1);
     let mut left = alphabet.having(alloc, (first, second))?;
-    go_on(alphabet, &mut left, ways, pairs, &mut targets)?;
+    go_on(alloc, alphabet, &mut left, ways, pairs, &mut targets)?;
     Ok(targets)
 }
 
@@ -86,6 +86,6 @@ fn from_all(
 {
     let mut targets = Places::none(alloc)?;
     let mut left = alphabet.all(alloc)?;
-    go_on(alphabet, &mut left, ways, pairs, &mut targets)?;
+    go_on(alloc, alphabet, &mut left, ways, pairs, &mut targets)?;
     Ok(targets)
 }
