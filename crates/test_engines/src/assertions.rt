@@ -5,13 +5,3 @@ use std::process::Abort;
 pub fn same<T: PartialEq + Debug + Drop>(rt: &impl Abort, found: T, wanted: T) {
     assert_eq!(rt; found, wanted);
 }
-
-// The same of one case of a table.
-pub fn same_at<C: Debug + Drop, T: PartialEq + Debug + Drop>(
-    rt: &impl Abort,
-    at: C,
-    found: T,
-    wanted: T,
-) {
-    assert_eq!(rt; found, wanted, "at {at:?}");
-}

@@ -1,6 +1,5 @@
-//! Calls of `query_model`, `memory_bound`, `slow_eval`, `split_eval`, `iter_eval`, `compose_eval`,
-//! `map_collect` and `eval_tree` with ample memory. They stand here because a crate with tests is
-//! proved twice.
+//! Calls of `query_model`, `memory_bound`, `slow_eval` and `eval_tree` with ample memory. They stand
+//! here because a crate with tests is proved twice.
 #![tactic(auto)]
 
 #[cfg(test)]
@@ -8,26 +7,16 @@ mod assertions;
 #[cfg(test)]
 mod bounds;
 #[cfg(test)]
-mod chain;
-#[cfg(test)]
 mod collects;
 #[cfg(test)]
 mod copies;
 #[cfg(test)]
 mod given;
 #[cfg(test)]
-mod instances;
-#[cfg(test)]
-mod keys;
-#[cfg(test)]
 mod nodes;
-#[cfg(test)]
-mod pending;
 #[cfg(test)]
 mod queries;
 #[cfg(test)]
 mod runner;
 #[cfg(test)]
 mod slow;
-#[cfg(test)]
-mod tracks;
