@@ -10,7 +10,7 @@ fn number(field: &[u8]) -> i64 {
     std::str::from_utf8(field).unwrap().parse().unwrap()
 }
 
-/// A price of two digits behind the point, in hundredths.
+/// A price of two digits after the point, in hundredths.
 fn hundredths(price: &[u8]) -> i64 {
     let (whole, digits) = price.split_at(price.len() - 3);
     100 * number(whole) + number(&digits[1..])

@@ -13,7 +13,7 @@ enum Place {
     Behind,
 }
 
-/// Puts the fields of a line one behind the other, and where each ends.
+/// Puts the fields of a line one after the other, and where each ends.
 fn cut(line: &[u8], text: &mut Vec<u8>, ends: &mut Vec<usize>) {
     text.clear();
     ends.clear();
