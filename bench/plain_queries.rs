@@ -1,4 +1,4 @@
-//! The queries of `bench/five_queries.py`, as one would write them by hand with std alone. `plain_queries QUERY` writes
+//! The queries of `bench/queries.py`, as one would write them by hand with std alone. `plain_queries QUERY` writes
 //! each answer before it reads on, and `plain_queries QUERY blocks` writes blocks of 64 KiB.
 use std::collections::HashMap;
 use std::env;
@@ -37,6 +37,15 @@ fn average() -> impl FnMut(&[u8]) -> Option<i64> {
         sum += number(line);
         count += 1;
         Some(sum / count)
+    }
+}
+
+fn peak() -> impl FnMut(&[u8]) -> Option<i64> {
+    let (mut sum, mut peak) = (0, 0);
+    move |line| {
+        sum += number(line);
+        peak = peak.max(sum);
+        Some(peak)
     }
 }
 
@@ -105,6 +114,7 @@ fn main() -> io::Result<()> {
     match words[0].as_str() {
         "running_sum" => answer_lines(output, running_sum()),
         "average" => answer_lines(output, average()),
+        "peak" => answer_lines(output, peak()),
         "sums_by_key" => answer_lines(output, sums_by_key()),
         "sum_since_mark" => answer_lines(output, sum_since_mark()),
         "turnover" => answer_lines(output, turnover()),

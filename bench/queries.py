@@ -1,4 +1,4 @@
-"""Five queries over a million lines, beside programs that were written for them in plain Rust and for mawk.
+"""Six queries over a million lines, beside programs that were written for them in plain Rust and for mawk.
 
 Printed are tables in Markdown: of times, with their ratio over that of `sqre`, and of peaks of memory. All programs
 write an answer to each line. Of sums by key it is the greatest sum of a key, and `undefined` on a line that is no mark:
@@ -20,6 +20,9 @@ QUERIES = {
         iter(atom(any, n), 0, add(x, y)),
         iter(atom(any, 1), 0, add(x, y)),
         div(x, y)))""",
+    "peak": f"""{NUMBERS} main(compose(
+        iter(atom(any, n), 0, add(x, y)),
+        iter(atom(any, value), 0, max(x, y))))""",
     "sums_by_key": f"""{WORDS} main(apply(
         collect(word, not(any),
             seq(star(item(any)), item(eq(word, "mark"))),
@@ -38,6 +41,7 @@ QUERIES = {
 MAWK = {
     "running_sum": '{ sum += $1; printf "%.0f\\n", sum; fflush() }',
     "average": '{ sum += $1; printf "%d\\n", int(sum / NR); fflush() }',
+    "peak": '{ sum += $1; if (sum > peak) peak = sum; printf "%.0f\\n", peak; fflush() }',
     "sums_by_key": """
         $1 == "mark" {
             greatest = 0
@@ -54,6 +58,7 @@ MAWK = {
 MEASURED = {
     "a running sum": ("running_sum", "numbers"),
     "an average": ("average", "numbers"),
+    "the peak of a running sum": ("peak", "numbers"),
     "sums by 8 keys": ("sums_by_key", "8 keys"),
     "sums by 10,000 keys": ("sums_by_key", "10,000 keys"),
     "a sum since a mark": ("sum_since_mark", "marks"),
@@ -78,19 +83,19 @@ def numbers(count):
     return (f"{drawn.randrange(-4096, 4096)}\n" for _ in range(count))
 
 
-def keyed(keys, marks):
+def keyed(keys, marks, count=ITEMS):
     """Keys without an order, each as often as the others, with a mark in place of the last of so many lines."""
     drawn = random.Random(1)
-    order = [n % keys for n in range(ITEMS)]
+    order = [n % keys for n in range(count)]
     drawn.shuffle(order)
     for n, key in enumerate(order):
         is_mark = marks is not None and n % marks == marks - 1
         yield "mark,0\n" if is_mark else f"key {key},{drawn.randrange(-4096, 4096)}\n"
 
 
-def trades():
+def trades(count=ITEMS):
     drawn = random.Random(1)
-    for _ in range(ITEMS):
+    for _ in range(count):
         symbol = drawn.choice(["AAPL", "AMZN", "GOOG", "IBM", "INTC", "META", "MSFT", "ORCL"])
         yield f"{symbol},{drawn.randrange(1000)}.{drawn.randrange(100):02},{drawn.randrange(1, 1000)}\n"
 
