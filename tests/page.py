@@ -140,6 +140,14 @@ def test_skipped(tab):
          [it for it in found.values() if it.startswith("skipped number")])
 
 
+def test_long_example(tab):
+    tab.js("page.showExample('packets')")
+    holds("a long example is answered", tab.wait(f"{DONE} && page.items.told.length === 16_000"))
+    expected = (EXAMPLES / "packets" / "expected.awk", EXAMPLES / "packets" / "readings.csv")
+    wanted = subprocess.run(["awk", "-F,", "-f", *expected], capture_output=True, check=True, text=True).stdout
+    same("as by its program for awk", wanted.splitlines()[-1], tab.js("page.items.told.at(-1)"))
+
+
 def test_refusals(tab):
     holds("a refused query is typed", put(tab, "query", UNKNOWN))
     same("the place is marked", "atom(any, m)", tab.js("[...document.querySelectorAll('#colors mark')].map((it) => it.textContent).join('')"))
@@ -327,7 +335,7 @@ def main(page, sqre, explain, *pictures):
         compare_examples(tab, sqre, explain)
         compare_refusals(tab, sqre, explain)
         compare_faults(tab, sqre, explain)
-        for test in (test_skipped, test_readings, test_refusals, test_joining, test_hints, test_faults):
+        for test in (test_skipped, test_long_example, test_readings, test_refusals, test_joining, test_hints, test_faults):
             test(tab)
         test_file(tab)
         test_link(browser, tab, address)

@@ -64,6 +64,10 @@ async function unpackedModules(packed) {
   return Object.fromEntries(await Promise.all(Object.entries(packed).map(unpack)));
 }
 
+async function unpackedText(packed) {
+  return new TextDecoder().decode(await inflated(bytesOfBase64(packed), 'gzip'));
+}
+
 function bytesOfBase64(text) {
   return Uint8Array.from(atob(text), (letter) => letter.charCodeAt(0));
 }

@@ -35,6 +35,7 @@ class Page {
     this.chart = new Chart(part('chart'), part('legend'));
     this.turn = 0;
     this.example = '';
+    this.wanted = null;
     this.listen();
   }
 
@@ -118,6 +119,7 @@ class Page {
 
   change() {
     this.example = '';
+    this.wanted = null;
     part('menu').value = '';
     this.await();
   }
@@ -219,9 +221,13 @@ class Page {
     this.await(0);
   }
 
-  showExample(name) {
+  // Long items are unpacked first; meanwhile another example may be asked for.
+  async showExample(name) {
     const example = EXAMPLES.find((it) => it.name === name) ?? EXAMPLES[0];
-    this.show(example.query, example.items);
+    this.wanted = example;
+    const items = example.items ?? await unpackedText(example.packed);
+    if (this.wanted !== example) return;
+    this.show(example.query, items);
     this.example = part('menu').value = example.name;
   }
 
@@ -229,7 +235,7 @@ class Page {
     try {
       const { example, query, items } = await unpackedFrom(location.hash);
       if (query === undefined) {
-        this.showExample(example);
+        await this.showExample(example);
         return;
       }
       this.example = part('menu').value = '';
