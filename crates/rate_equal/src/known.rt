@@ -7,6 +7,8 @@ use crate::rows::without;
 
 // So many of the last known ways are looked at, be they wider or not.
 const RECENT: usize = 32;
+// The same for narrow ways.
+const RECENT_FOR_NARROW: usize = 4;
 // So few ways more, and no closer ones are looked for.
 const CLOSE: u32 = 2;
 // Ways that are gained cost more than those that are lost.
@@ -44,13 +46,14 @@ impl Known {
 pub(crate) fn nearest(known: &[Known], alphabet: &Alphabet, ways: (u128, u128)) -> Option<usize>
     ensures { IfSome result (λ place. place < length known.now) }
 {
+    if ways.0.count_ones() + ways.1.count_ones() <= NARROW {
+        return closest(known, known.len().saturating_sub(RECENT_FOR_NARROW), ways);
+    }
     let start = known.len().saturating_sub(RECENT);
     let recent = closest(known, start, ways)?;
     let near = &known[recent];
     let gained = (without(ways.0, near.ways.0), without(ways.1, near.ways.1));
-    if ways.0.count_ones() + ways.1.count_ones() <= NARROW
-        || alphabet.count_having(gained) as usize <= alphabet.letters.len() / FEW
-    {
+    if alphabet.count_having(gained) as usize <= alphabet.letters.len() / FEW {
         return Some(recent);
     }
     narrowest(known, start, ways).or(Some(recent))

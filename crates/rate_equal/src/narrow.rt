@@ -46,6 +46,9 @@ pub(crate) fn narrow(
     let second = without(near.ways.1, ways.1);
     'parts: for block in 0..BLOCKS {
         let known = near.targets.block(block);
+        if known == 0 {
+            continue 'parts;
+        }
         let losing = holders.block((first, second), block, known);
         // The other targets are within the ways.
         targets.insert_all(block, known & !losing);
