@@ -1,4 +1,4 @@
-//! One more pair of states, if a letter leads to it.
+//! A pair of states that may be one to which a letter leads.
 ghost use Rattle.std.specs.Prelude.{◌≡◌, ◌≤◌, Err, MatchBool, OnOk, length};
 ghost use Rattle.rate_equal.specs.declared.stop.EqualStop.TheVariants.{Reach};
 ghost use Rattle.rate_equal.specs.Added.{AreTooMany, HasPair};
@@ -13,8 +13,8 @@ use crate::places::Places;
 use crate::stop::EqualStop;
 use indexmap::IndexSet;
 
-/// Puts the place of the pair into the set, if it is one of the others; if a letter leads to it, it
-/// is put behind them first. A pair that is neither is passed by.
+/// Puts the place of the pair into the set, if it is among the pairs, or is appended to them
+/// because a letter leads to it. Any other pair changes nothing.
 pub(crate) fn admit(
     letters: &[Letter],
     ways: (u128, u128),

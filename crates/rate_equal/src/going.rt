@@ -1,4 +1,4 @@
-//! The pairs to which letters lead along ways on, letter after letter.
+//! The pairs to which letters lead along ways on, had from the letters themselves.
 ghost use Rattle.std.specs.Prelude.{◌≡◌, ◌≤◌, ◌<◌, Err, OnOk, length};
 ghost use Rattle.rate_equal.specs.declared.stop.EqualStop.TheVariants.{Reach};
 ghost use Rattle.rate_equal.specs.Added.{AreTooMany};
@@ -16,10 +16,12 @@ use indexmap::IndexSet;
 use rate_expr::masks::{lowest, without_lowest};
 use std::alloc::Global;
 
-// To look for all letters that lead where one does pays where so many are left for each position.
+// All letters that lead where one does are looked for at once while more than this are left for
+// each way on.
 const PAYS: usize = 4;
 
-/// Adds the pairs to which the letters lead whose places are left.
+/// Adds the pairs to which the letters lead whose places are left. Some of these places may be
+/// taken out.
 pub(crate) fn go_on(
     alloc: Global,
     alphabet: &Alphabet,
@@ -48,7 +50,7 @@ pub(crate) fn go_on(
     Ok(())
 }
 
-// The same, one by one.
+// The same, letter by letter.
 fn go_on_each(
     letters: &[Letter],
     left: &Places,

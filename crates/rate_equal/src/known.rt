@@ -1,25 +1,33 @@
-//! Ways on along which the search has gone, with the pairs to which items lead along them.
+//! Sets of ways on that the search has met, each with the pairs to which items lead along it.
+//!
+//! The **ways on** from a pair of states are the positions that may be next in each automaton.
+//! Items lead from pairs with the same ways on to the same pairs, so the search asks once for each
+//! set of ways; and where two sets are alike, the pairs of the one, cut down to what both have, are
+//! most of the pairs of the other. So for new ways the search looks for a known set that is like
+//! them, and asks the letters only about the positions that this set has not.
 ghost use Rattle.std.specs.Prelude.{◌≤◌, ◌<◌, IfSome, length};
 
 use crate::alphabet::Alphabet;
 use crate::places::Places;
 use crate::rows::without;
 
-// So many of the last known ways are looked at, be they wider or not.
+// How many of the last known sets are compared, even where they lack some of the ways.
 const RECENT: usize = 32;
 // The same for narrow ways.
 const RECENT_FOR_NARROW: usize = 4;
-// So few ways more, and no closer ones are looked for.
+// A known set that differs by at most this is near enough: the comparison ends with it.
 const CLOSE: u32 = 2;
-// Ways that are gained cost more than those that are lost.
+// What a position costs that a known set lacks, where one that it has beyond the ways costs 1.
 const GAINED: u32 = 4;
-// Few letters are at most one of so many.
+// The letters that have a position that the known set lacks are few if they are at most this part
+// of all.
 const FEW: usize = 16;
-// Along so few ways all letters are soon gone through.
+// Ways of at most this many positions are narrow: the letters that have one of them are asked at
+// little cost.
 const NARROW: u32 = 8;
 
-/// Ways on from a pair, and the places of the pairs to which items lead from it, and of some others
-/// within the ways.
+/// The ways on from some pair, and the places of all pairs to which items lead along them. Places
+/// of other pairs may be among these, whose positions are all on the ways.
 #[derive(Drop)]
 pub(crate) struct Known {
     pub(crate) ways: (u128, u128),
@@ -27,14 +35,14 @@ pub(crate) struct Known {
 }
 
 impl Known {
-    // How many of its ways are not among these.
+    // How many of its positions are not on these ways.
     fn lost(&self, ways: (u128, u128)) -> u32
         ensures { result ≤ 256 }
     {
         without(self.ways.0, ways.0).count_ones() + without(self.ways.1, ways.1).count_ones()
     }
 
-    // How many of these are not among its ways.
+    // How many positions of these ways it lacks.
     fn gained(&self, ways: (u128, u128)) -> u32
         ensures { result ≤ 256 }
     {
@@ -42,7 +50,7 @@ impl Known {
     }
 }
 
-/// The place of known ways that are like these, if there are any known.
+/// The place of a known set that is like these ways, if any is known.
 pub(crate) fn nearest(known: &[Known], alphabet: &Alphabet, ways: (u128, u128)) -> Option<usize>
     ensures { IfSome result (λ place. place < length known.now) }
 {
@@ -59,7 +67,7 @@ pub(crate) fn nearest(known: &[Known], alphabet: &Alphabet, ways: (u128, u128)) 
     narrowest(known, start, ways).or(Some(recent))
 }
 
-// The place of the closest ways from one on.
+// The place of the set that costs least, of those from a place on.
 fn closest(known: &[Known], start: usize, ways: (u128, u128)) -> Option<usize>
     ensures { IfSome result (λ place. place < length known.now) }
 {
@@ -78,7 +86,7 @@ fn closest(known: &[Known], start: usize, ways: (u128, u128)) -> Option<usize>
     best
 }
 
-// The place of few ways below one that have all of these among them.
+// The place of the smallest set that has all of these ways, of those below a place.
 fn narrowest(known: &[Known], end: usize, ways: (u128, u128)) -> Option<usize>
     requires { end ≤ length known.now }
     ensures { IfSome result (λ place. place < length known.now) }

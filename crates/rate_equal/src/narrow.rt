@@ -1,4 +1,9 @@
-//! The pairs to which letters lead along some ways, by those to which they lead along others.
+//! The pairs to which letters lead along some ways, had from those to which they lead along known
+//! ways.
+//!
+//! A letter leads along ways to the pair of those positions on the ways that it has. So each pair
+//! to which it leads along the known ways, without the positions that are not on the new ways, is
+//! where it leads along those that both have.
 ghost use Rattle.std.specs.Prelude.{◌≡◌, ◌≤◌, ◌<◌, ◌+◌, ◌*◌, ℕ, Err, OnOk, Some, length, slice_get};
 ghost use Rattle.rate_expr.specs.Sets.{Has};
 ghost use Rattle.rate_equal.specs.declared.pair.Pair.{Pair as PairOf};
@@ -21,7 +26,7 @@ use crate::stop::EqualStop;
 use indexmap::IndexSet;
 use rate_expr::masks::{lowest, without_lowest};
 
-/// Adds what the known targets have in common with the ways where a letter leads to it.
+/// Cuts each known target down to the ways, and adds the pair to which a letter leads.
 pub(crate) fn narrow(
     letters: &[Letter],
     near: &Known,
@@ -50,14 +55,14 @@ pub(crate) fn narrow(
             continue 'parts;
         }
         let losing = holders.block((first, second), block, known);
-        // The other targets are within the ways.
+        // A target that loses no position stays as it is.
         targets.insert_all(block, known & !losing);
         narrow_block(letters, block, known & losing, ways, pairs, targets)?;
     }
     Ok(())
 }
 
-// The same for the places of one block.
+// The same for the targets of one block that lose a position.
 fn narrow_block(
     letters: &[Letter],
     block: usize,
