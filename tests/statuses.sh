@@ -1,6 +1,6 @@
 #!/bin/sh
 # Tests the exit statuses of ./sqre, and the sentences beside them. No input is long enough for 7, and there is no 8: of these two
-# script.sh tests what the script makes.
+# running.sh tests what the script makes.
 here=$(readlink -f -- "$0") || exit 1
 here=${here%/tests/*}
 # shellcheck source=/dev/null

@@ -1,0 +1,208 @@
+#!/bin/sh
+# Tests by the shell $1, as dash or busybox, how the script sqre runs a program: that of the release where it is of these sources, from
+# whatever folder, with its input, output and status; and what it installs. The checkout is that of building.sh, with its stand-ins.
+# shellcheck disable=SC2154  # tests/shared has $room, $top and $tools
+here=$(readlink -f -- "$0") || exit 1
+here=${here%/tests/*}
+# shellcheck source=/dev/null
+. "$here/tests/shared"
+
+test_release() {
+    (with_rt "$top/.ci/build" && with_rt "$top/.ci/release") 2>/dev/null
+    holds 'the release is what was built' with_rt "$top/.ci/release" --check >/dev/null 2>&1
+    make_program release >"$room/kit/sqre"
+    make_explanation release >"$room/kit/explain"
+    fresh="$room/a folder/clone"
+    make_checkout "$fresh"
+    echo 'bad' >"$room/bad.sqre"
+    (with_rt "$fresh/.ci/build" && with_rt "$fresh/.ci/release") 2>/dev/null
+    make_rt
+    rm -rf "$fresh"/crates/*/out
+    forget
+    same 'the release of a clean clone' 'release
+status 0' "$(answer without_rt "$fresh/sqre" which)"
+    same 'nothing is said of it' '' "$(cat "$room/errors")"
+    unpacked=$(ls -i "$fresh/crates/sqre/out/release/sqre")
+    same 'the release again' 'release
+status 0' "$(answer without_rt "$fresh/sqre" which)"
+    same 'it is unpacked once' "$unpacked" "$(ls -i "$fresh/crates/sqre/out/release/sqre")"
+    has 'the release: version' 'the release, proved and built by stand-in kit for x86-64-v2' "$(without_rt "$fresh/sqre" --version)"
+    same 'the release: a refusal' 'refused
+status 1' "$(answer without_rt "$fresh/sqre" check "$room/bad.sqre")"
+    same 'the release: its explanation' "$room/bad.sqre is explained, release" "$(cat "$room/errors")"
+    same 'rt is not asked' '' "$(asked)"
+    touch "$fresh/crates/low/src/lib.rt"
+    same 'a time alone has changed' 'release
+status 0' "$(answer without_rt "$fresh/sqre" which)"
+    touch -d '2099-01-01' "$fresh/crates/low/src/lib.rt"
+    same 'the release and a time to come' 'release
+status 0' "$(answer without_rt "$fresh/sqre" which)"
+    touch "$fresh/crates/low/src/lib.rt"
+}
+
+test_other_sources() {
+    cp "$fresh/crates/low/specs/Lib.antt" "$room/kept"
+    tick
+    echo 'another' >"$fresh/crates/low/specs/Lib.antt"
+    same 'the release is of other sources, no rt' 'status 10' "$(answer without_rt "$fresh/sqre" which)"
+    has 'the release is of other sources: why' 'the code is not that of the release' "$(cat "$room/errors")"
+    same 'the release is of other sources' 'built
+status 0' "$(answer with_rt "$fresh/sqre" which)"
+    holds 'the release is stale' sh -c "! PATH='$room/kit:$tools' '$fresh/.ci/release' --check >/dev/null 2>&1"
+    cp "$room/kept" "$fresh/crates/low/specs/Lib.antt"
+    rm -rf "$fresh"/crates/*/out
+    same 'the sources are those of the release again' 'release
+status 0' "$(answer without_rt "$fresh/sqre" which)"
+    forget
+    RT_TAKES=1
+    export RT_TAKES
+    same 'it is proved all the same' 'status 0' "$(answer with_rt "$fresh/sqre" --prove)"
+    unset RT_TAKES
+    if [ "$(nproc)" -ge 2 ] && [ "$(awk '/^MemAvailable:/ { print int($2 / 6000000) }' /proc/meminfo)" -ge 1 ]; then
+        same 'two crates are proved side by side' 'begin begin end end ' "$(sed -n 's/ .* sqre.*/ /p; s/ .* aside.*/ /p' "$RT_LOG" | tr -d '\n')"
+    else
+        echo 'not tested: that crates are proved side by side, since there are no two processors with 3 GB each'
+    fi
+    same 'it is proved all the same: what rt was asked' 'lib low;run sqre;lib aside;run explain;' "$(asked | sed 's/lib aside;run sqre/run sqre;lib aside/')"
+    same 'what is proved here is run' 'built
+status 0' "$(answer without_rt "$fresh/sqre" which)"
+    rm -rf "$fresh"/crates/*/out
+}
+
+test_broken_release() {
+    for file in sqre.gz sums; do
+        cp "$fresh/release/x86_64-linux/$file" "$room/kept"
+        echo 'broken' >"$fresh/release/x86_64-linux/$file"
+        rm -rf "$fresh"/crates/*/out
+        same "a broken $file" 'status 10' "$(answer without_rt "$fresh/sqre" which)"
+        has "a broken $file: why" 'release' "$(cat "$room/errors")"
+        cp "$room/kept" "$fresh/release/x86_64-linux/$file"
+    done
+    gzip -c "$top/crates.txt" >"$fresh/release/x86_64-linux/sqre.gz"
+    same 'a release of another program' 'status 10' "$(answer without_rt "$fresh/sqre" which)"
+    has 'a release of another program: why' 'the release is broken' "$(cat "$room/errors")"
+    cp "$room/kept" "$room/sums"
+    make_program release | gzip -9nc >"$fresh/release/x86_64-linux/sqre.gz"
+    same 'a release that is whole again' 'release
+status 0' "$(answer without_rt "$fresh/sqre" which)"
+}
+
+# A user who may write nothing of it has a folder of his own.
+test_read_only() {
+    rm -rf "$fresh"/crates/*/out
+    chmod -R a-w "$fresh"
+    chmod 755 "$room" "$room/a folder"
+    mkdir -p "$room/of user"
+    user=
+    if [ "$(id -u)" -eq 0 ]; then
+        user="$(command -v setpriv) --reuid=65534 --regid=65534 --clear-groups"
+        chown -R 65534:65534 "$room/of user"
+    fi
+    for time in first second; do
+        # shellcheck disable=SC2086  # these are words
+        same "a checkout that can not be written, the $time time" 'release
+status 0' "$(HOME="$room/of user" answer without_rt $user "$fresh/sqre" which)"
+    done
+    holds 'it is unpacked to a folder of the user' [ -x "$room/of user/.cache/sqre$fresh/release/sqre" ]
+    # shellcheck disable=SC2086  # these are words
+    same 'no folder can be written' 'status 10' "$(HOME=/dev/null answer without_rt $user "$fresh/sqre" which)"
+    has 'no folder can be written: why' 'can be written' "$(cat "$room/errors")"
+    chmod -R u+w "$fresh"
+}
+
+test_ways_to_it() {
+    mkdir -p "$room/bin" "$room/lost/.ci" "$room/lost/sqre"
+    ln -s "$fresh/sqre" "$room/bin/sqre"
+    ln -s sqre "$room/bin/one -> another"
+    same 'through a link' 'release
+status 0' "$(answer without_rt "$room/bin/sqre" which)"
+    same 'through a link that is named with an arrow' 'release
+status 0' "$(answer without_rt "$room/bin/one -> another" which)"
+    same 'through the path' 'release
+status 0' "$(PATH=$room/bin:$tools answer sqre which)"
+    same 'by the shell, from its folder' 'release
+status 0' "$(cd "$fresh" && CDPATH=$room/lost answer without_rt sh sqre which)"
+    same 'a build from the top, with a CDPATH' 'status 0' "$(cd "$top" && CDPATH=$room/lost answer with_rt .ci/build)"
+}
+
+test_copy_alone() {
+    cp "$fresh/sqre" "$room/alone"
+    same 'the script alone' 'status 10' "$(answer without_rt "$room/alone" which)"
+    has 'the script alone: why' 'the top of its checkout' "$(cat "$room/errors")"
+}
+
+test_input_and_output() {
+    echo 'some items' >"$room/items"
+    same 'items of standard input' 'some items
+status 0' "$(answer without_rt "$fresh/sqre" run query - <"$room/items")"
+    for at in 3 4 8 9; do
+        same "items of descriptor $at" 'some items
+status 0' "$(eval "answer without_rt '$fresh/sqre' run query /dev/fd/$at $at<'$room/items'")"
+    done
+    same 'standard input is closed' 'release
+status 0' "$(answer without_rt "$fresh/sqre" which <&-)"
+    (answer without_rt "$fresh/sqre" exit 5 >/dev/full) 2>/dev/null
+    has 'the output failed' 'the output failed' "$(cat "$room/errors")"
+    { answer without_rt "$fresh/sqre" exit 5; } | cat >/dev/null
+    same 'the reader has gone' '' "$(cat "$room/errors")"
+    if dd oflag=nonblock count=0 </dev/null >/dev/null 2>&1; then
+        { dd oflag=nonblock count=0 </dev/null 2>/dev/null && answer without_rt "$fresh/sqre" exit 5; } | cat >/dev/null
+        has 'a pipe that does not wait is full' 'the output failed' "$(cat "$room/errors")"
+    fi
+}
+
+test_statuses() {
+    for status in 0 1 2 3 4 5 6 7 8 9; do
+        same "status $status" "status $status" "$(answer without_rt "$fresh/sqre" exit "$status")"
+        case $status in
+            [01258]) ;;
+            *) holds "status $status has a sentence" [ -s "$room/errors" ] ;;
+        esac
+    done
+    for sign in TERM KILL USR1; do
+        (without_rt "$fresh/sqre" kill "$sign"; exit $?) 2>/dev/null
+        same "the program ended by $sign" "$sign" "$(kill -l $?)"
+    done
+    rm -f -- "$room/one"
+    (PATH=$tools exec "$fresh/sqre" wait) >"$room/one" &
+    one=$!
+    wait_for "$room/one"
+    kill -s TERM "$one"
+    wait "$one" 2>/dev/null
+    same 'TERM ends the script' 143 $?
+    same 'TERM ends the program' 'begun
+ended' "$(cat "$room/one")"
+    same 'no words' 'status 2' "$(answer without_rt "$fresh/sqre")"
+    has 'no words: usage' 'Usage: sqre' "$(cat "$room/errors")"
+    has 'help' 'Usage: sqre' "$(without_rt "$fresh/sqre" --help)"
+}
+
+test_install() {
+    folder="$room/to install"
+    mkdir -p "$folder"
+    ln -s "$fresh/sqre" "$folder/sqre"
+    cp "$fresh/sqre" "$room/kept"
+    same 'install' "installed $folder/sqre
+installed $folder/sqre-explain
+status 0" "$(answer without_rt "$fresh/sqre" --install "$folder")"
+    holds 'install over a link leaves the script' cmp -s "$room/kept" "$fresh/sqre"
+    same 'what is installed' 'release' "$(without_rt "$folder/sqre" which)"
+    has 'what is installed explains' 'is explained, release' "$(without_rt "$folder/sqre-explain" it)"
+    same 'install to the checkout' 'status 10' "$(cd "$fresh" && answer without_rt ./sqre --install .)"
+    holds 'install to the checkout leaves the script' cmp -s "$room/kept" "$fresh/sqre"
+    mkdir -p "$folder/two/sqre"
+    same 'install where a folder has the name' 'status 10' "$(answer without_rt "$fresh/sqre" --install "$folder/two")"
+    same 'nothing else is left there' 'sqre' "$(ls -A "$folder/two")"
+}
+
+make_room "$1"
+test_release
+test_other_sources
+test_broken_release
+test_read_only
+test_ways_to_it
+test_copy_alone
+test_input_and_output
+test_statuses
+test_install
+tell
