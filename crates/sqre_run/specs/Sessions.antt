@@ -1,4 +1,5 @@
--- Statement. What a session keeps of the lines so far, and what it does with one more.
+-- Statement. A session takes the lines of a stream one by one, and its follower, the engine, takes
+-- the items among them: what it has after some lines, and what one more line does.
 use Rattle.std.specs.Prelude.{◌≡◌, ℕ, Bool, ◌&&◌, not, true, false, List, [], ◌∷◌, ◌++◌, Option, Some, None, Result, Ok, Err, if◌then◌else◌}
 use Rattle.io_edge.specs.Lines.{Shown}
 use Rattle.value_ops.specs.declared.field.Field.{Field}
@@ -18,7 +19,7 @@ use Rattle.sqre_run.specs.declared.session.Reply.{Reply}
 use Rattle.sqre_run.specs.declared.session.Reply.TheVariants.{Answered, Silent, Skipped}
 use Rattle.sqre_run.specs.declared.session.Session.{Session}
 
--- some line has come
+-- at least one line has come
 abbrev pub is_begun : List Shown → Bool
 is_begun [] = false
 is_begun (line ∷ lines) = true
@@ -27,25 +28,28 @@ is_begun (line ∷ lines) = true
 abbrev pub awaits_header : {F : Type 0} → Session F → Bool
 awaits_header session = session.checked.now.layout.has_header && not session.begun
 
--- what the session reads of a line; the header gives nothing
+-- what is read from the next line: an item, or the cause of a skip, or nothing where it is the
+-- header or empty
 abbrev pub read_by : {F : Type 0} → Session F → Shown → Option (Result (List Field) Skip)
 read_by session line =
     if awaits_header session then None else read_of session.checked.now.layout.columns line
 
--- the reply says what was read: nothing, the cause of the skip, or an item
+-- the reply reports what was read; of an item, only that there is one
 abbrev pub IsReplyTo : Option (Result (List Field) Skip) → Reply → Type 0
 IsReplyTo None Silent = Unit {0}
 IsReplyTo (Some (Err why)) (Skipped skip) = skip ≡ why
 IsReplyTo (Some (Ok item)) Answered = Unit {0}
 IsReplyTo _ _ = ⊥
 
--- an item of the columns stands behind whatever word was followed, and nothing else changes anything
+-- how a line moves the follower: by an item of these columns from whichever word it follows to this
+-- word and the item; by a skip or nothing not at all
 abbrev pub FollowsOn : {F : Type 0} → (F → Word → Type 0) → List Column
     → Option (Result (List Field) Skip) → F → F → Type 0
 FollowsOn follows columns (Some (Ok item)) old new = IsItemOf columns item × Carries follows old item new
 FollowsOn follows columns _ old new = new ≡ old
 
--- the follower is one of the session's query, and not lost
+-- the session can take a line: its follower has the session's query and columns, is sound, and is
+-- not lost, as it may be once out of memory
 pub record IsReady {F : Type 0} (query : F → Qre) (columns : F → List Column) (lost : F → Bool)
     (sound : F → Type 0) (session : Session F) : Type 0 where
   pub query_is : query session.follower ≡ plain_of session.checked.now.main.shape
@@ -53,7 +57,7 @@ pub record IsReady {F : Type 0} (query : F → Qre) (columns : F → List Column
   pub found : lost session.follower ≡ false
   pub is_sound : sound session.follower
 
--- the session is one of this query, and has come behind these lines: it follows their items
+-- the state after these lines, of a session for this query: its follower has followed their items
 pub record IsBehind {F : Type 0} (follows : F → Word → Type 0) (on : OnStream) (lines : List Shown)
     (session : Session F) : Type 0 where
   pub same : session.checked.now ≡ on
@@ -61,15 +65,16 @@ pub record IsBehind {F : Type 0} (follows : F → Word → Type 0) (on : OnStrea
   pub follows_items : follows session.follower (items_of on.layout lines)
   pub begun_is : session.begun ≡ is_begun lines
 
--- behind whatever lines the old one is, this is written for the line, whatever function gives the values of
--- the query, and the new one is behind all
+-- one line is taken, by a session that is `old` before it and `new` after it. Whichever lines came
+-- before: if `old` is the state after them, `new` is the state after them and this line, and what
+-- is written answers this line, by every function that gives the values of the query
 abbrev pub RepliesTo : {F : Type 0} → (F → Word → Type 0) → Shown → List ℕ → Session F → Session F
     → Type 0
 RepliesTo follows line written old new = (on : OnStream) (before : List Shown)
     → IsBehind follows on before old → ((meaning : Meaning) → IsMeaning (monitor_of on) meaning
     → written ≡ answer meaning before line) × IsBehind follows on (before ++ line ∷ []) new
 
--- the text of a reply, where the value after it is this
+-- what is written for a reply, where the value on all items so far is this
 abbrev pub text_of : Reply → Option Value → List ℕ
 text_of Silent value = []
 text_of (Skipped skip) value = skip_text skip
