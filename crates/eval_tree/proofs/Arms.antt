@@ -41,6 +41,11 @@ pub where_ok : {T E : Type 0} → (result : Result T E) (P Q : T → Type 0) →
 where_ok (Ok x) P Q each is = each x is
 where_ok (Err e) P Q each is = tt
 
+pub both_ok : {T E : Type 0} → (result : Result T E) (P Q : T → Type 0) → IfOk result P → IfOk result Q
+    → IfOk result (λ x. P x × Q x)
+both_ok (Ok x) P Q one other = (one, other)
+both_ok (Err e) P Q one other = tt
+
 pub on_err : {T E : Type 0} → (result : Result T E) (P : Type 0) → P → OnErr result P
 on_err (Ok x) P is = tt
 on_err (Err e) P is = is

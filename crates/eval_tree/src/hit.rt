@@ -1,5 +1,5 @@
 //! Where a piece of the word has a value.
-ghost use Rattle.std.specs.Prelude.{◌≡◌};
+ghost use Rattle.std.specs.Prelude.{◌≡◌, Some};
 ghost use Rattle.std.specs.Option.{option_or};
 ghost use Rattle.value_ops.specs.declared.scalar.Scalar.TheVariants as scalar;
 ghost use Rattle.value_ops.specs.Types.{IsTable};
@@ -51,6 +51,15 @@ impl Hit {
         let _type = value.ty();
         Hit { start, value }
     }
+}
+
+/// Puts the hit of a number into the place.
+#[inline(always)]
+pub(crate) fn put_number(hit: &mut Option<Hit>, start: u64, number: i64)
+    ensures { hit.new
+        ≡ Some (record { start = start; value = value.Scalar (scalar.Number number) }) }
+{
+    *hit = Some(Hit::of_number(start, number));
 }
 
 /// Puts the other hit into the place where there is none.

@@ -1,5 +1,6 @@
 //! The calls of a split: values of the left operand wait for those of the right one.
-ghost use Rattle.std.specs.Prelude.{◌≡◌, None, IfOk, IsOk};
+ghost use Rattle.std.specs.Prelude.{◌≡◌, None, Option, IfOk, IsOk};
+ghost use Rattle.std.specs.Option.{option_or};
 ghost use Rattle.split_eval.specs.Entries.{entry_at};
 ghost use Rattle.value_ops.specs.Expressions as values;
 ghost use Rattle.query_model.specs.Queries.{plain_of, split};
@@ -9,6 +10,7 @@ ghost use Rattle.eval_tree.specs.Live.{live_of};
 ghost use Rattle.eval_tree.specs.Operands.{CanEnd, CanJoin, EndsNumbers, HasEnded, HasJoined, JoinsNumbers, KeepsLive};
 ghost use Rattle.eval_tree.specs.Plain.{holding_of, seen_of};
 ghost use Rattle.eval_tree.specs.Steps.{CanStart, CanStep};
+ghost use Rattle.eval_tree.specs.declared.hit.Hit.{Hit};
 
 use crate::hit::put_if_none;
 use crate::lefts::{wait, wait_if_new};
@@ -80,12 +82,7 @@ pub(crate) fn step_split(
             let mut left = None;
             step_into(first, a, alloc, now, item, &mut left)?;
             match left {
-                Some(left) => {
-                    let mut begun = None;
-                    begin_right(second, b, expression, held, alloc, now, left, &mut begun)?;
-                    put_if_none(hit, begun);
-                    Ok(())
-                }
+                Some(left) => begin_right(second, b, expression, held, alloc, now, left, hit),
                 None => Ok(()),
             }
         }
@@ -127,7 +124,8 @@ fn end_right(
     Ok(())
 }
 
-/// A left value was just found: its right piece begins, and it waits where this can go on.
+/// A left value was just found: its right piece begins, and it waits where this can go on. The hit
+/// of the whole that begins so is put where there is none.
 #[cycle(step)]
 #[inline(always)]
 fn begin_right(
@@ -140,20 +138,21 @@ fn begin_right(
     left: Hit,
     hit: &mut Option<Hit>,
 ) -> Result<(), AllocError>
-    requires none { hit.old ≡ None }
     requires can { CanJoin seen_of (plain_of second.now.shape) (values.plain_of expression.now)
         left (holding_of b.old.state) at }
     requires fresh { entry_at held.old.entries at ≡ None }
-    ensures joined { IfOk result (λ done. HasJoined seen_of (plain_of second.now.shape)
-        (values.plain_of expression.now) left (holding_of b.old.state) at
-        (holding_of b.new.state) hit.new) }
+    ensures joined { IfOk result (λ done. (begun : Option Hit) × HasJoined seen_of
+        (plain_of second.now.shape) (values.plain_of expression.now) left (holding_of b.old.state)
+        at (holding_of b.new.state) begun × (hit.new ≡ option_or hit.old begun)) }
     ensures waits { IfOk result (λ done. IsPut (live_of (plain_of second.now.shape)
         (holding_of b.new.state) at) held.old
         (record { inner = at; outer = left.start; value = left.value }) held.new) }
     ensures no_memory { JoinsNumbers seen_of (plain_of second.now.shape)
         (values.plain_of expression.now) left (holding_of b.old.state) at → IsOk result }
 {
-    start_and_join(second, b, expression, &left, alloc, at, hit)?;
+    let mut begun = None;
+    start_and_join(second, b, expression, &left, alloc, at, &mut begun)?;
     wait(held, is_live(second, b, at), at, left);
+    put_if_none(hit, begun);
     Ok(())
 }

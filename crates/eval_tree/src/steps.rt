@@ -12,6 +12,7 @@ use crate::choice::{start_choice, step_choice};
 use crate::collect::{start_collect, step_collect};
 use crate::combine::{start_combine, step_combine};
 use crate::compose::{start_compose, step_compose};
+use crate::hit::put_number;
 use crate::iter::{start_iter, step_iter};
 use crate::split::{start_split, step_split};
 use crate::{Hit, Node};
@@ -39,7 +40,7 @@ pub(crate) fn start_into(
             Ok(())
         }
         Shape::Eps(number) => {
-            *hit = Some(Hit::of_number(at, *number));
+            put_number(hit, at, *number);
             Ok(())
         }
         Shape::Or(first, second) => start_choice(first, second, node, alloc, at, hit),

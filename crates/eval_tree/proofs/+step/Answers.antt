@@ -274,8 +274,8 @@ split::step_split-end_right-requires = Split.split::step_split-end_right-require
 pub split::step_split-begin_right-requires : goal.split::step_split-begin_right-requires
 split::step_split-begin_right-requires = Split.split::step_split-begin_right-requires
 
-pub split::step_split-returns-in_ok-begin_right-in-Some : goal.split::step_split-returns-in_ok-begin_right-in-Some
-split::step_split-returns-in_ok-begin_right-in-Some = Split.split::step_split-returns-in_ok-begin_right-in-Some
+pub split::step_split-returns-in-Some : goal.split::step_split-returns-in-Some
+split::step_split-returns-in-Some = Split.split::step_split-returns-in-Some
 
 pub split::step_split-returns-in-None : goal.split::step_split-returns-in-None
 split::step_split-returns-in-None = Split.split::step_split-returns-in-None
@@ -286,9 +286,6 @@ split::step_split-returns-in_err-step_into-in-Split = Split.split::step_split-re
 pub split::step_split-returns-in_err-end_right-in-Split : goal.split::step_split-returns-in_err-end_right-in-Split
 split::step_split-returns-in_err-end_right-in-Split = Split.split::step_split-returns-in_err-end_right-in-Split
 
-pub split::step_split-returns-in_err-begin_right-in-Some : goal.split::step_split-returns-in_err-begin_right-in-Some
-split::step_split-returns-in_err-begin_right-in-Some = Split.split::step_split-returns-in_err-begin_right-in-Some
-
 pub split::end_right-step_and_end-requires : goal.split::end_right-step_and_end-requires
 split::end_right-step_and_end-requires = Split.split::end_right-step_and_end-requires
 
@@ -297,6 +294,9 @@ split::end_right-returns-clause-kept = Split.split::end_right-returns-clause-kep
 
 pub split::begin_right-start_and_join-requires : goal.split::begin_right-start_and_join-requires
 split::begin_right-start_and_join-requires = Split.split::begin_right-start_and_join-requires
+
+pub split::begin_right-returns-clause-joined : goal.split::begin_right-returns-clause-joined
+split::begin_right-returns-clause-joined = Split.split::begin_right-returns-clause-joined
 
 pub split::begin_right-returns-clause-waits : goal.split::begin_right-returns-clause-waits
 split::begin_right-returns-clause-waits = Split.split::begin_right-returns-clause-waits

@@ -1,15 +1,18 @@
 -- A split.
-use Rattle.std.proofs.Common.{Bool, Ok, ap, refl, rules, subst, sym, ◌≡◌}
+use Rattle.std.proofs.Common.{Bool, Ok, Option, ap, refl, rules, subst, sym, ◌≡◌}
 use Rattle.std.proofs.lemmas.Bool.{false≢true}
+use Rattle.std.specs.Option.{option_or}
 use Rattle.value_ops.specs.Expressions as values
 use Rattle.query_model.specs.Queries.{plain_of, split}
 use Rattle.eval_tree.specs.Holdings.{split_held}
+use Rattle.eval_tree.specs.declared.hit.Hit.{Hit}
 use Rattle.eval_tree.specs.Lefts.{IsPut}
 use Rattle.eval_tree.specs.Live.{live_of}
+use Rattle.eval_tree.specs.Operands.{HasJoined}
 use Rattle.eval_tree.specs.Plain.{holding_of, seen_of}
 use Rattle.eval_tree.specs.declared.node.State.TheViews.{out-State, roll-State}
 use Rattle.eval_tree.proofs.Allowed.{start_behind, start_right, started_split, step_right, stepped_ended, stepped_joined}
-use Rattle.eval_tree.proofs.Arms.{can_start_as, can_step_as, live_as, numbers_start_as, numbers_step_as, soundly_started_as, soundly_stepped_as, start_fails, started_as, started_from, step_fails, stepped_as, stepped_from}
+use Rattle.eval_tree.proofs.Arms.{both_ok, can_start_as, can_step_as, live_as, numbers_start_as, numbers_step_as, soundly_started_as, soundly_stepped_as, start_fails, started_as, started_from, step_fails, stepped_as, stepped_from, when_stepped}
 use Rattle.eval_tree.proofs.Elsewhere.{elsewhere, fresh_elsewhere}
 use Rattle.eval_tree.proofs.NumbersAllowed.{left_starts, left_steps, right_begins, right_starts, right_steps}
 use Rattle.eval_tree.proofs.NumbersTyped.{ended_stepped, joined_started, joined_stepped}
@@ -142,45 +145,65 @@ split::step_split-begin_right-requires t c =
     c.args.item.now _ _ refl (search rules) refl refl ended.stepped.sound in (
       search rules,
       (
-        refl,
-        (
-          record {
-            can = can_start_as _ _ _ _ c.args.now refl (sym same)
-                (start_behind seen_of f g e a b next s.held c.args.now c.args.item.now ended.right can second);
-            typed = λ new right third. stepped_joined seen_of f g e a b (holding_of c.step_into.new.node.state) next new
-                s.held c.args.now c.args.item.now c.in-Some.left ended.right right can
-                (soundly_stepped_as _ _ (holding_of c.deref_mut-in-Split.result.now.state) a _ _ c.args.now
-                c.args.item.now _ _ refl (search rules) refl (sym c.in-Some.is)
-                c.in_ok-step_into-in-Split.ensures.sound)
-                second (soundly_started_as _ _ _ next _ _ c.args.now _ _ refl same refl refl third);
-          },
-          fresh_elsewhere c.args.now (live_of g next) s.held c.end_right.new.held
-              (rw s.is at c.in_ok-end_right-in-Split.ensures.kept.0),
-        ),
+        record {
+          can = can_start_as _ _ _ _ c.args.now refl (sym same)
+              (start_behind seen_of f g e a b next s.held c.args.now c.args.item.now ended.right can second);
+          typed = λ new right third. stepped_joined seen_of f g e a b (holding_of c.step_into.new.node.state) next new
+              s.held c.args.now c.args.item.now c.in-Some.left ended.right right can
+              (soundly_stepped_as _ _ (holding_of c.deref_mut-in-Split.result.now.state) a _ _ c.args.now
+              c.args.item.now _ _ refl (search rules) refl (sym c.in-Some.is)
+              c.in_ok-step_into-in-Split.ensures.sound)
+              second (soundly_started_as _ _ _ next _ _ c.args.now _ _ refl same refl refl third);
+        },
+        fresh_elsewhere c.args.now (live_of g next) s.held c.end_right.new.held
+            (rw s.is at c.in_ok-end_right-in-Split.ensures.kept.0),
       ),
     )
 
-pub split::step_split-returns-in_ok-begin_right-in-Some : goal.split::step_split-returns-in_ok-begin_right-in-Some
+pub split::step_split-returns-in-Some : goal.split::step_split-returns-in-Some
 unfolding roll-State out-State denote.Hole.Carrier.roll denote.Hole.Carrier.out
-split::step_split-returns-in_ok-begin_right-in-Some t c =
+split::step_split-returns-in-Some t c =
     let s = c.in-Split in
+    let f = plain_of c.args.first.now.shape in
+    let g = plain_of c.args.second.now.shape in
+    let e = values.plain_of c.args.expression.now in
+    let a = holding_of s.a.value.state in
+    let b = holding_of s.b.value.state in
+    let next = holding_of c.end_right.new.b.state in
+    let node = holding_of c.deref_mut-in-Some.result.now.state in
+    let last = holding_of c.begin_right.new.b.state in
+    let left = c.in-Some.left in
     let ended = c.in_ok-end_right-in-Split.ensures.ended in
-    let begun = c.in_ok-begin_right-in-Some.ensures.joined in
-    stepped_as _ _ _ _ _ _ c.args.now c.args.item.now _ _ refl (ap holding_of s.is) refl (ap Ok c.put_if_none.ensures)
-    (split_steps_some (plain_of c.args.first.now.shape) (plain_of c.args.second.now.shape)
-    (values.plain_of c.args.expression.now) (holding_of s.a.value.state) (holding_of s.b.value.state)
-    (holding_of c.step_into.new.node.state) (holding_of c.end_right.new.b.state)
-    (holding_of c.begin_right.new.b.state) s.held c.end_right.new.held c.begin_right.new.held c.args.now c.args.item.now
-    c.in-Some.left ended.right begun.right c.end_right.new.hit c.begin_right.new.hit _
-    (stepped_as _ _ (holding_of c.deref_mut-in-Split.result.now.state) (holding_of s.a.value.state) _ _ c.args.now
-    c.args.item.now _ _ refl (search rules) refl (ap Ok (sym c.in-Some.is)) c.in_ok-step_into-in-Split.ensures)
-    (stepped_from _ _ (holding_of c.deref_mut.result.now.state) (holding_of s.b.value.state) _ c.args.now
-    c.args.item.now _ refl (search rules) ended.stepped)
+    let same : next ≡ node = search rules in
+    let second = soundly_stepped_as _ _ (holding_of c.deref_mut.result.now.state) b _ next c.args.now
+    c.args.item.now _ _ refl (search rules) refl refl ended.stepped.sound in
+    when_stepped _ _ _ c.args.now c.args.item.now c.begin_right.result c.begin_right.new.hit
+    (((begun : Option Hit) × HasJoined seen_of g e left node c.args.now last begun
+    × (c.begin_right.new.hit ≡ option_or c.end_right.new.hit begun))
+    × IsPut (live_of g last c.args.now) c.end_right.new.held
+    (record { inner = c.args.now; outer = left.start; value = left.value }) c.begin_right.new.held)
+    (λ is. stepped_as _ _ _ _ _ _ c.args.now c.args.item.now _ _ refl (ap holding_of s.is) refl (ap Ok is.0.2)
+    (split_steps_some f g e a b (holding_of c.step_into.new.node.state) next last s.held c.end_right.new.held
+    c.begin_right.new.held c.args.now c.args.item.now left ended.right is.0.1.right c.end_right.new.hit is.0.0 _
+    (stepped_as _ _ (holding_of c.deref_mut-in-Split.result.now.state) a _ _ c.args.now c.args.item.now _ _ refl
+    (search rules) refl (ap Ok (sym c.in-Some.is)) c.in_ok-step_into-in-Split.ensures)
+    (stepped_from _ _ (holding_of c.deref_mut.result.now.state) b _ c.args.now c.args.item.now _ refl (search rules)
+    ended.stepped)
     (rw s.is at ended.ended) (rw s.is at c.in_ok-end_right-in-Split.ensures.kept.0)
     (rw s.is at c.in_ok-end_right-in-Split.ensures.kept.1)
-    (started_from _ _ (holding_of c.deref_mut-in-Some.result.now.state) _ _ c.args.now _ refl (search rules)
-    begun.started)
-    begun.joined refl c.in_ok-begin_right-in-Some.ensures.waits)
+    (started_from _ _ node next _ c.args.now _ refl same is.0.1.started)
+    is.0.1.joined refl is.1))
+    (both_ok c.begin_right.result _ _ c.begin_right.ensures.joined c.begin_right.ensures.waits)
+    (λ free. let numbers = numbers_step_as _ _ _ _ c.args.now c.args.item.now refl (sym (ap holding_of s.is)) free in
+    c.begin_right.ensures.no_memory (record {
+      starts = numbers_start_as _ _ _ _ c.args.now refl (sym same)
+          (right_begins seen_of f g e a b next s.held c.args.now c.args.item.now ended.right numbers second);
+      joins = λ new right third. joined_stepped seen_of f g e a b (holding_of c.step_into.new.node.state) next new s.held
+          c.args.now c.args.item.now left ended.right right numbers
+          (soundly_stepped_as _ _ (holding_of c.deref_mut-in-Split.result.now.state) a _ _ c.args.now c.args.item.now _ _
+          refl (search rules) refl (sym c.in-Some.is) c.in_ok-step_into-in-Split.ensures.sound)
+          second (soundly_started_as _ _ _ next _ _ c.args.now _ _ refl same refl refl third);
+    }))
 
 pub split::step_split-returns-in-None : goal.split::step_split-returns-in-None
 unfolding roll-State out-State denote.Hole.Carrier.roll denote.Hole.Carrier.out
@@ -228,30 +251,6 @@ split::step_split-returns-in_err-end_right-in-Split t c =
           (soundly_stepped_as _ _ _ b _ _ c.args.now c.args.item.now _ _ refl same refl refl second);
     })))
 
-pub split::step_split-returns-in_err-begin_right-in-Some : goal.split::step_split-returns-in_err-begin_right-in-Some
-split::step_split-returns-in_err-begin_right-in-Some t c =
-    let s = c.in-Split in
-    let f = plain_of c.args.first.now.shape in
-    let g = plain_of c.args.second.now.shape in
-    let e = values.plain_of c.args.expression.now in
-    let a = holding_of s.a.value.state in
-    let b = holding_of s.b.value.state in
-    let next = holding_of c.end_right.new.b.state in
-    let ended = c.in_ok-end_right-in-Split.ensures.ended in
-    let same : next ≡ holding_of c.deref_mut-in-Some.result.now.state = search rules in
-    let second = soundly_stepped_as _ _ (holding_of c.deref_mut.result.now.state) b _ next c.args.now
-    c.args.item.now _ _ refl (search rules) refl refl ended.stepped.sound in
-    step_fails _ _ _ _ _ c.args.now c.args.item.now _ (search rules) refl (ap holding_of s.is)
-    (λ free. false≢true (c.in_err-begin_right-in-Some.ensures.no_memory (record {
-      starts = numbers_start_as _ _ _ _ c.args.now refl (sym same)
-          (right_begins seen_of f g e a b next s.held c.args.now c.args.item.now ended.right free second);
-      joins = λ new right third. joined_stepped seen_of f g e a b (holding_of c.step_into.new.node.state) next new s.held
-          c.args.now c.args.item.now c.in-Some.left ended.right right free
-          (soundly_stepped_as _ _ (holding_of c.deref_mut-in-Split.result.now.state) a _ _ c.args.now c.args.item.now _ _ refl
-          (search rules) refl (sym c.in-Some.is) c.in_ok-step_into-in-Split.ensures.sound)
-          second (soundly_started_as _ _ _ next _ _ c.args.now _ _ refl same refl refl third);
-    })))
-
 pub split::end_right-step_and_end-requires : goal.split::end_right-step_and_end-requires
 split::end_right-step_and_end-requires t c = (search rules, (c.requires.none, c.requires.can))
 
@@ -264,7 +263,11 @@ split::end_right-returns-clause-kept t c = (
 )
 
 pub split::begin_right-start_and_join-requires : goal.split::begin_right-start_and_join-requires
-split::begin_right-start_and_join-requires t c = (search rules, (c.requires.none, c.requires.can))
+split::begin_right-start_and_join-requires t c = (search rules, (refl, c.requires.can))
+
+pub split::begin_right-returns-clause-joined : goal.split::begin_right-returns-clause-joined
+split::begin_right-returns-clause-joined t c =
+    (c.start_and_join.new.hit, c.in_ok-start_and_join.ensures.joined, c.put_if_none.ensures)
 
 pub split::begin_right-returns-clause-waits : goal.split::begin_right-returns-clause-waits
 split::begin_right-returns-clause-waits t c =

@@ -7,7 +7,6 @@ use Rattle.predicate_cells.specs.Plain as predicates
 use Rattle.rate_expr.specs.Plain as rates
 use Rattle.query_model.specs.declared.query.Shape.TheViews.{the_lemmas}
 use Rattle.query_model.specs.Queries.{apply, choice, collect, combine, compose, iter, plain_of, split}
-use Rattle.eval_tree.specs.declared.hit.Hit.{Hit}
 use Rattle.eval_tree.specs.Plain.{holding_of}
 use Rattle.eval_tree.proofs.Arms.{can_start_as, can_step_as, number_hit, same_query, started_as, started_from, stepped_as, stepped_from}
 use Rattle.eval_tree.proofs.NewParts.{of_both}
@@ -39,7 +38,7 @@ steps::start_into-returns-in-Eps t c =
     let s = c.in-Eps in
     let fits = number_fits t (goal.at.steps::start_into-returns-in-Eps t c).In-Eps in
     started_as _ _ _ _ _ _ c.args.at _ _ (ap plain_of s.is) refl refl
-    (ap (λ (hit : Hit). Ok (Some hit)) (number_hit _ _ _ fits c.of_number.ensures))
+    (ap Ok (c.put_number.ensures ∙ ap Some (number_hit _ _ _ fits refl)))
     (eps_starts s.number fits (holding_of c.args.node.now.state) c.args.at)
 
 pub steps::start_into-start_choice-requires : goal.steps::start_into-start_choice-requires
