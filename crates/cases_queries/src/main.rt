@@ -1,87 +1,35 @@
-//! Goes through tables of queries, and tells what each is read to, how it is judged, what a run of it writes, and where the
-//! runner and the search differ on it; and through a table of lines, each read by `csv`'s reader and to an item.
+//! Goes through tables of queries and of lines, through a table of queries that are refused since a word has two readings,
+//! and through cases that are made to hurt, and tells what is found of each.
 #![tactic(auto)]
 
-mod constructors;
-mod csv_lines;
-mod pair;
-mod refusal;
-mod run;
+mod accepted;
+mod hostile;
 mod spelling;
-mod stop;
-mod table;
-mod told;
-mod trees;
-mod verdict;
+mod tables;
+mod why;
 
-use crate::constructors::constructors;
-use crate::csv_lines::read_lines;
-use crate::run::written;
-use crate::table::{Case, cases_of};
-use crate::verdict::verdict;
-use std::alloc::{AllocError, Global};
-use std::{fs, io};
-
-/// What is told of the cases of a table.
-#[derive(Clone, Copy)]
-enum Question {
-    /// The constructors that queries are read to.
-    Constructors,
-    /// Whether they are accepted.
-    Verdict,
-    /// What runs of them write.
-    Run,
-}
+use crate::hostile::judge_cases;
+use crate::tables::tell_of_tables;
+use crate::why::tell_of_examples;
+use std::{env, io};
 
 fn main(rt: HostRuntime) -> io::Result<()> {
-    for (name, question) in [
-        ("constructors", Question::Constructors),
-        ("files", Question::Constructors),
-        ("lets", Question::Verdict),
-        ("names", Question::Verdict),
-        ("types", Question::Verdict),
-        ("words", Question::Verdict),
-        ("streams", Question::Verdict),
-        ("order", Question::Verdict),
-        ("texts", Question::Verdict),
-        ("limits", Question::Verdict),
-        ("runs", Question::Run),
-    ] {
-        tell(rt, name, question)?;
-    }
-    tell_of_trees(rt)?;
-    read_lines(rt, "lines.csv")
+    tell_of_tables(rt)?;
+    println!(rt; "why")?;
+    tell_of_examples(rt)?;
+    println!(rt; "hostile")?;
+    judge_by_words(rt)
 }
 
-fn tell(rt: HostRuntime, name: &str, question: Question) -> io::Result<()> {
-    let table = fs::read_to_string(&rt, name)?;
-    let text = report(rt.alloc(), question, table.as_str())?;
-    println!(rt; "{name}")?;
-    print!(rt; "{text}")
+/// The words are how many cases are made to hurt, and the seed of the first.
+fn judge_by_words(rt: HostRuntime) -> io::Result<()> {
+    let words: Vec<String> = env::args(&rt)?.skip(1).collect(rt.alloc())?;
+    judge_cases(rt, number(&words, 0), number(&words, 1))
 }
 
-fn tell_of_trees(rt: HostRuntime) -> io::Result<()> {
-    let table = fs::read_to_string(&rt, "trees")?;
-    match trees::report(rt.alloc(), table.as_str()) {
-        Ok(text) => print!(rt; "{text}"),
-        Err(stop) => println!(rt; "{stop}"),
-    }
-}
-
-/// A line for each case.
-fn report(alloc: Global, question: Question, table: &str) -> Result<String, AllocError> {
-    let mut text = String::new(alloc);
-    for case in &cases_of(alloc, table)? {
-        let found = found(alloc, question, case)?;
-        writeln!(text, "{}: {}", case.number, found)?;
-    }
-    Ok(text)
-}
-
-fn found(alloc: Global, question: Question, case: &Case) -> Result<String, AllocError> {
-    match question {
-        Question::Constructors => constructors(alloc, case.query.as_slice()),
-        Question::Verdict => verdict(alloc, case.query.as_slice()),
-        Question::Run => written(alloc, case.query.as_slice(), case.items.as_slice()),
-    }
+fn number(words: &[String], at: usize) -> u64 {
+    words
+        .get(at)
+        .and_then(|word| word.as_str().parse::<u64>().ok())
+        .unwrap_or(1)
 }

@@ -1,0 +1,80 @@
+//! Cases that are made to hurt, drawn from a number and run over memory, and where a run is not as each run is to be.
+
+mod answers;
+mod bound;
+mod call;
+mod case;
+mod draft;
+mod draws;
+mod engines;
+mod grammar;
+mod judge;
+mod kept;
+mod lines;
+mod reading;
+mod refusals;
+mod spoil;
+mod stop;
+mod tally;
+mod texts;
+mod told;
+
+use crate::hostile::case::Case;
+use crate::hostile::draft::case_of;
+use crate::hostile::grammar::Grammar;
+use crate::hostile::judge::judge;
+use crate::hostile::reading::grammar_of;
+use crate::hostile::stop::Stop;
+use crate::hostile::tally::Tally;
+use crate::spelling::push_spelled;
+use std::alloc::{AllocError, Global};
+use std::{fs, io};
+
+/// Draws so many cases, the first of this seed and each later one of the next, and tells what is found of them.
+pub(crate) fn judge_cases(rt: HostRuntime, count: u64, first: u64) -> io::Result<()> {
+    let text = fs::read_to_string(&rt, "grammar")?;
+    match grammar_of(rt.alloc(), text.as_str())? {
+        Some(grammar) => judge_drawn(rt, &grammar, count, first),
+        None => println!(rt; "the grammar has a line that is no rule, or a name of none"),
+    }
+}
+
+fn judge_drawn(rt: HostRuntime, grammar: &Grammar, count: u64, first: u64) -> io::Result<()> {
+    let mut tally = Tally::new();
+    for number in 0..count {
+        let seed = first.wrapping_add(number);
+        let told = told_of(rt.alloc(), grammar, seed, &mut tally)?;
+        print!(rt; "{told}")?;
+    }
+    let summary = tally.summary(rt.alloc())?;
+    print!(rt; "{summary}")
+}
+
+/// What was found in the case of the seed, if anything was.
+fn told_of(
+    alloc: Global,
+    grammar: &Grammar,
+    seed: u64,
+    tally: &mut Tally,
+) -> Result<String, AllocError> {
+    let case = case_of(alloc, grammar, seed)?;
+    match judge(alloc, &case, tally) {
+        Ok(()) => Ok(String::new(alloc)),
+        Err(Stop::Memory) => Err(AllocError),
+        Err(Stop::Found(finding)) => {
+            tally.add_finding();
+            let shown = shown(alloc, &case)?;
+            format!(in alloc; "seed {seed}: {finding}\n{shown}")
+        }
+    }
+}
+
+/// The query and the items of the case, spelled.
+fn shown(alloc: Global, case: &Case) -> Result<String, AllocError> {
+    let mut text = String::from_str(alloc, "  ")?;
+    push_spelled(&mut text, case.query())?;
+    text.push_str("\n  ")?;
+    push_spelled(&mut text, case.items())?;
+    text.push('\n')?;
+    Ok(text)
+}

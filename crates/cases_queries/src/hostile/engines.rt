@@ -1,0 +1,92 @@
+//! The engines on the first items of a case.
+ghost use Rattle.std.specs.Prelude.{◌≡◌, ◌↔◌, IsOk, IsTrue, nat_eq, string_bytes};
+ghost use Rattle.std.specs.List.{list_all, starts_with};
+ghost use Rattle.cases_queries.specs.Kept.{is_within};
+
+use crate::hostile::answers::Answers;
+use crate::hostile::bound::bound_of;
+use crate::hostile::kept::Bound;
+use crate::hostile::stop::{Finding, Stop};
+use crate::hostile::told::{Told, told_by};
+use eval_tree::Runner;
+use query_model::Checked;
+use slow_eval::Slow;
+use std::alloc::Global;
+
+/// Asks that both engines answer the first items as a run does, and that the one which goes item by
+/// item keeps no more than it may. The number of these items.
+pub(crate) fn ask_engines(
+    alloc: Global,
+    checked: &Checked,
+    items: &[u8],
+    answers: &Answers,
+) -> Result<u64, Stop> {
+    let wanted = wanted(alloc, checked, items)?;
+    ask_run(&wanted, answers)?;
+    ask_runner(alloc, checked, items, &wanted)?;
+    Ok(wanted.kept.len() as u64)
+}
+
+/// What the engine answers that searches all readings.
+fn wanted(alloc: Global, checked: &Checked, items: &[u8]) -> Result<Told, Stop> {
+    let slow = Slow::new(alloc, checked)?;
+    let wanted = told_by(alloc, checked, slow, items)?;
+    ask_alone(&wanted)?;
+    Ok(wanted)
+}
+
+/// Asks that the engine that goes item by item answers as is wanted.
+fn ask_runner(alloc: Global, checked: &Checked, items: &[u8], wanted: &Told) -> Result<(), Stop> {
+    let runner = Runner::new(alloc, checked)?;
+    let told = told_by(alloc, checked, runner, items)?;
+    ask_alone(&told)?;
+    ask_both(&told, wanted)?;
+    ask_bound(bound_of(checked.main()), &told)
+}
+
+/// Asks of an engine that copies answer as it does, and that it goes back.
+fn ask_alone(told: &Told) -> Result<(), Stop>
+    ensures { IsOk result ↔ ((told.now.back.items ≡ told.now.begun.items)
+        × (told.now.copies.items ≡ told.now.answers.items)) }
+{
+    if told.back != told.begun {
+        return Err(Stop::Found(Finding::Reset));
+    }
+    if told.copies != told.answers {
+        return Err(Stop::Found(Finding::Copy));
+    }
+    Ok(())
+}
+
+/// Asks that one engine answers as the other.
+fn ask_both(told: &Told, wanted: &Told) -> Result<(), Stop>
+    ensures { IsOk result ↔ ((told.now.begun.items ≡ wanted.now.begun.items)
+        × (told.now.answers.items ≡ wanted.now.answers.items)) }
+{
+    if told.begun != wanted.begun || told.answers != wanted.answers {
+        return Err(Stop::Found(Finding::Engines));
+    }
+    Ok(())
+}
+
+/// Asks that no more is kept after any item than is allowed.
+fn ask_bound(bound: Bound, told: &Told) -> Result<(), Stop>
+    ensures { IsOk result ↔ IsTrue (list_all (is_within bound) told.now.kept.items) }
+{
+    if !bound.holds(told.kept.as_slice()) {
+        return Err(Stop::Found(Finding::Bound));
+    }
+    Ok(())
+}
+
+/// Asks that a run writes these answers first.
+fn ask_run(told: &Told, answers: &Answers) -> Result<(), Stop>
+    ensures { IsOk result ↔ IsTrue (starts_with nat_eq
+        (string_bytes answers.now.answered) told.now.answers.items) }
+{
+    let run = answers.answered.as_bytes();
+    if !run.starts_with(told.answers.as_slice()) {
+        return Err(Stop::Found(Finding::Answers));
+    }
+    Ok(())
+}

@@ -1,0 +1,77 @@
+//! Why a case is not judged to its end.
+
+use std::alloc::{AllocError, AllocFailed};
+use std::fmt;
+use type_checker::CheckStop;
+
+#[derive(Clone, Copy)]
+pub(crate) enum Stop {
+    Found(Finding),
+    Memory,
+}
+
+/// What is not as it is to be in each run.
+#[derive(Clone, Copy)]
+pub(crate) enum Finding {
+    /// A call ended otherwise than accepted or refused.
+    Status,
+    /// `check`, `bound` and `run` do not say the same of the query.
+    Verdicts,
+    /// What is written is no line of the command, or not whole.
+    Line,
+    /// The answers are fewer or more than the lines.
+    Count,
+    /// Short reads and writes change what is written.
+    Pieces,
+    /// What is accepted in a call is not where the query is read by itself.
+    Accepted,
+    /// The engines answer in two ways.
+    Engines,
+    /// A copy of an engine answers in another way.
+    Copy,
+    /// An engine that goes back to the empty word answers in another way.
+    Reset,
+    /// More is kept than the bound allows.
+    Bound,
+    /// A run writes other answers than the engine gives.
+    Answers,
+}
+
+impl fmt::Display for Finding {
+    fn fmt<W: fmt::Write>(&self, f: &mut fmt::Formatter<W>) -> fmt::Result {
+        f.write_str(match self {
+            Finding::Status => "a call ended in another way than accepted or refused",
+            Finding::Verdicts => "check, bound and run do not say the same",
+            Finding::Line => "what is written is no line of the command",
+            Finding::Count => "there is not one answer for each line",
+            Finding::Pieces => "short reads and writes change what is written",
+            Finding::Accepted => "the query is refused where it is read by itself",
+            Finding::Engines => "the engines answer in two ways",
+            Finding::Copy => "a copy answers in another way",
+            Finding::Reset => "an engine that goes back answers in another way",
+            Finding::Bound => "more is kept than the bound allows",
+            Finding::Answers => "a run writes other answers than the engine gives",
+        })
+    }
+}
+
+impl From<AllocError> for Stop {
+    fn from(_error: AllocError) -> Stop {
+        Stop::Memory
+    }
+}
+
+impl<T: Drop> From<AllocFailed<T>> for Stop {
+    fn from(_failed: AllocFailed<T>) -> Stop {
+        Stop::Memory
+    }
+}
+
+impl From<CheckStop> for Stop {
+    fn from(stop: CheckStop) -> Stop {
+        match stop {
+            CheckStop::Refused(_) => Stop::Found(Finding::Accepted),
+            CheckStop::Memory => Stop::Memory,
+        }
+    }
+}

@@ -1,0 +1,86 @@
+//! Tables of queries: what each is read to, how it is judged, what a run of it writes, and where the runner and the search
+//! differ on it; and a table of lines, each read by `csv`'s reader and to an item.
+
+mod constructors;
+mod csv_lines;
+mod pair;
+mod refusal;
+mod run;
+mod stop;
+mod table;
+mod told;
+mod trees;
+mod verdict;
+
+use crate::tables::constructors::constructors;
+use crate::tables::csv_lines::read_lines;
+use crate::tables::run::written;
+use crate::tables::table::{Case, cases_of};
+use crate::tables::verdict::verdict;
+use std::alloc::{AllocError, Global};
+use std::{fs, io};
+
+/// What is told of the cases of a table.
+#[derive(Clone, Copy)]
+enum Question {
+    /// The constructors that queries are read to.
+    Constructors,
+    /// Whether they are accepted.
+    Verdict,
+    /// What runs of them write.
+    Run,
+}
+
+/// Tells of each case of each table.
+pub(crate) fn tell_of_tables(rt: HostRuntime) -> io::Result<()> {
+    for (name, question) in [
+        ("constructors", Question::Constructors),
+        ("files", Question::Constructors),
+        ("lets", Question::Verdict),
+        ("names", Question::Verdict),
+        ("types", Question::Verdict),
+        ("words", Question::Verdict),
+        ("streams", Question::Verdict),
+        ("order", Question::Verdict),
+        ("texts", Question::Verdict),
+        ("limits", Question::Verdict),
+        ("runs", Question::Run),
+    ] {
+        tell(rt, name, question)?;
+    }
+    tell_of_trees(rt)?;
+    read_lines(rt, "lines.csv")
+}
+
+fn tell(rt: HostRuntime, name: &str, question: Question) -> io::Result<()> {
+    let table = fs::read_to_string(&rt, name)?;
+    let text = report(rt.alloc(), question, table.as_str())?;
+    println!(rt; "{name}")?;
+    print!(rt; "{text}")
+}
+
+fn tell_of_trees(rt: HostRuntime) -> io::Result<()> {
+    let table = fs::read_to_string(&rt, "trees")?;
+    match trees::report(rt.alloc(), table.as_str()) {
+        Ok(text) => print!(rt; "{text}"),
+        Err(stop) => println!(rt; "{stop}"),
+    }
+}
+
+/// A line for each case.
+fn report(alloc: Global, question: Question, table: &str) -> Result<String, AllocError> {
+    let mut text = String::new(alloc);
+    for case in &cases_of(alloc, table)? {
+        let found = found(alloc, question, case)?;
+        writeln!(text, "{}: {}", case.number, found)?;
+    }
+    Ok(text)
+}
+
+fn found(alloc: Global, question: Question, case: &Case) -> Result<String, AllocError> {
+    match question {
+        Question::Constructors => constructors(alloc, case.query.as_slice()),
+        Question::Verdict => verdict(alloc, case.query.as_slice()),
+        Question::Run => written(alloc, case.query.as_slice(), case.items.as_slice()),
+    }
+}

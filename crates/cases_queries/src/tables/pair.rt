@@ -1,0 +1,59 @@
+//! Both engines on one word.
+
+use crate::tables::stop::Stop;
+use crate::tables::told::{Told, told_by};
+use eval_tree::Runner;
+use memory_bound::slots;
+use query_model::Checked;
+use slow_eval::Slow;
+use std::alloc::Global;
+
+/// What was seen on a word.
+#[derive(Clone, Copy, Default)]
+pub(crate) struct Seen {
+    pub(crate) answers: u32,
+    pub(crate) values: u32,
+    /// How often the engines answered in two ways, or more was kept than the bound allows.
+    pub(crate) faults: u32,
+}
+
+/// Answers after each item, the empty word included. Runners for so many keys at most are kept.
+pub(crate) fn side_by_side(
+    alloc: Global,
+    checked: &Checked,
+    items: &str,
+    keys: u32,
+) -> Result<Seen, Stop> {
+    let slow = Slow::new(alloc, checked)?;
+    let wanted = told_by(alloc, checked, slow, items)?;
+    let runner = Runner::new(alloc, checked)?;
+    let told = told_by(alloc, checked, runner, items)?;
+    let mut seen = compared(&told, &wanted);
+    let bound = u64::from(slots(checked.main())).saturating_mul(u64::from(keys).saturating_add(1));
+    if told.kept > bound {
+        seen.faults = seen.faults.saturating_add(1);
+    }
+    Ok(seen)
+}
+
+fn compared(told: &Told, wanted: &Told) -> Seen {
+    let mut seen = Seen {
+        answers: 0,
+        values: 0,
+        faults: 0,
+    };
+    if told.answers.len() != wanted.answers.len() {
+        seen.faults = 1;
+    }
+    'answers: for (i, answer) in told.answers.iter().enumerate() {
+        seen.answers = seen.answers.saturating_add(1);
+        if answer.as_slice() != b"undefined\n".as_slice() {
+            seen.values = seen.values.saturating_add(1);
+        }
+        match wanted.answers.get(i) {
+            Some(other) if *other == *answer => {}
+            _ => seen.faults = seen.faults.saturating_add(1),
+        }
+    }
+    seen
+}

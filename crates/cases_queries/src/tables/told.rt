@@ -1,0 +1,107 @@
+//! The answers of one engine to the items of a word.
+ghost use Rattle.std.specs.Prelude.{◌≡◌, ◌≤◌, ◌<◌, ◌+◌, ◌^◌, [], OnOk};
+ghost use Rattle.query_model.specs.Queries.{plain_of};
+ghost use Rattle.sqre_run.specs.Sessions.{IsReady};
+
+use crate::tables::stop::Stop;
+use query_model::{Checked, Follower};
+use report_writer::push_answer;
+use sqre_run::{Reply, Session};
+use std::alloc::{AllocError, Global};
+
+/// The most items of a word.
+const MOST: u32 = 1_000;
+
+/// The texts of what an engine answered, and the most that it kept.
+#[derive(Drop)]
+pub(crate) struct Told {
+    pub(crate) answers: Vec<Vec<u8>>,
+    pub(crate) kept: u64,
+}
+
+impl Told {
+    fn new(alloc: Global) -> Result<Box<Told>, AllocError> {
+        let told = Told {
+            answers: Vec::new(alloc),
+            kept: 0,
+        };
+        Ok(Box::new(alloc, told)?)
+    }
+
+    fn add<F: Follower>(&mut self, alloc: Global, follower: &F) -> Result<(), AllocError> {
+        self.kept = self.kept.max(follower.stored());
+        let mut text = Vec::new(alloc);
+        push_answer(follower.answer(), &mut text)?;
+        self.answers.push(text)?;
+        Ok(())
+    }
+}
+
+/// The answers to the empty word, then after each item those of the engine and of its copy, and at
+/// the end that of a copy which goes back to the empty word.
+pub(crate) fn told_by<F: Follower + Drop>(
+    alloc: Global,
+    checked: &Checked,
+    follower: F,
+    items: &str,
+) -> Result<Box<Told>, Stop>
+    requires word { F.follows follower [] }
+    requires query { F.query follower ≡ plain_of checked.now.main.shape }
+    requires columns { F.columns follower ≡ checked.now.layout.columns }
+{
+    let mut told = Told::new(alloc)?;
+    let mut session = Session::begin(checked, follower);
+    told.add(alloc, session.follower())?;
+    let mut left = MOST;
+    'items: for item in items.split_whitespace() {
+        if left == 0 {
+            return Err(Stop::Line);
+        }
+        left -= 1;
+        take(alloc, &mut session, item)?;
+        tell(alloc, &session, &mut told)?;
+    }
+    tell_of_reset(alloc, &session, &mut told)?;
+    Ok(told)
+}
+
+// Takes one item.
+fn take<F: Follower>(alloc: Global, session: &mut Session<'_, F>, item: &str) -> Result<(), Stop>
+    requires ready { IsReady F.query F.columns F.lost F.sound session.old }
+    requires room { F.position session.old.follower < 2 ^ 63 }
+    ensures ready { OnOk result (IsReady F.query F.columns F.lost F.sound session.new) }
+    ensures position { OnOk result
+        (F.position session.new.follower ≤ F.position session.old.follower + 1) }
+{
+    match session.line(alloc, item.as_bytes()) {
+        Ok(Reply::Answered) => Ok(()),
+        Ok(_) => Err(Stop::Line),
+        Err(AllocError) => Err(Stop::Memory),
+    }
+}
+
+// Adds the answer, and that of a copy.
+fn tell<F: Follower + Drop>(
+    alloc: Global,
+    session: &Session<'_, F>,
+    told: &mut Told,
+) -> Result<(), AllocError>
+    requires { IsReady F.query F.columns F.lost F.sound session.now }
+{
+    told.add(alloc, session.follower())?;
+    let copy = session.follower().try_copy(alloc)?;
+    told.add(alloc, &copy)
+}
+
+// Adds the answer of a copy that goes back to the empty word.
+fn tell_of_reset<F: Follower + Drop>(
+    alloc: Global,
+    session: &Session<'_, F>,
+    told: &mut Told,
+) -> Result<(), AllocError>
+    requires { IsReady F.query F.columns F.lost F.sound session.now }
+{
+    let mut copy = session.follower().try_copy(alloc)?;
+    copy.reset(alloc)?;
+    told.add(alloc, &copy)
+}

@@ -1,0 +1,15 @@
+//! How queries are judged.
+
+use crate::accepted::checked;
+use crate::tables::refusal::refused;
+use std::alloc::{AllocError, Global};
+use type_checker::CheckStop;
+
+/// That the query is accepted, or its refusal.
+pub(crate) fn verdict(alloc: Global, query: &[u8]) -> Result<String, AllocError> {
+    match checked(alloc, query) {
+        Ok(_) => String::from_str(alloc, "accepted"),
+        Err(CheckStop::Refused(refusal)) => refused(alloc, query, refusal),
+        Err(CheckStop::Memory) => Err(AllocError),
+    }
+}
