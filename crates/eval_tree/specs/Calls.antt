@@ -9,24 +9,24 @@ use Rattle.eval_tree.specs.Holdings.{Holding, Seen}
 use Rattle.eval_tree.specs.Numbers.{StartsNumbers, StepsNumbers}
 use Rattle.eval_tree.specs.Steps.{Starts, StartsSoundly, Steps, StepsSoundly}
 
--- a hit, if there is one, or want of memory
+-- a hit, if there is one, unless out of memory
 abbrev pub Found : Type 0
 Found = Result (Option Hit) AllocError
 
--- it is what stands in the place of the hit, where memory was not wanting
+-- it is what stands in the place of the hit, unless out of memory
 abbrev pub found_in : {A : Type 0} → Result A AllocError → Option Hit → Found
 found_in (Ok done) hit = Ok hit
 found_in (Err error) hit = Err error
 
 module _ {R : Type 0} (seen : R → Seen R) where
-  -- a start is added behind so many items
+  -- a start is added after so many items
   pub record HasStarted (query : Qre) (old : Holding R) (at : ℕ) (new : Holding R)
       (result : Found) : Type 0 where
     pub word : IfOk result (Starts seen query old at new)
     pub sound : IfOk result (StartsSoundly seen query old at new)
     pub no_memory : StartsNumbers seen query old at → IsOk result
 
-  -- an item goes by, behind which there are so many
+  -- an item goes by, after which there are so many
   pub record HasStepped (query : Qre) (old : Holding R) (now : ℕ) (item : List Field)
       (new : Holding R) (result : Found) : Type 0 where
     pub word : IfOk result (Steps seen query old now item new)

@@ -38,7 +38,7 @@ module _ {R : Type 0} (seen : R → Seen R) where
     pub is_item : IsItemOf columns item
     pub room : most + 1 + composes_of query < 2 ^ 64
 
-  -- whatever word they stood for, now they stand for the word and the item behind it, and they stay
+  -- whatever word they stood for, now they stand for the word and the item after it, and they stay
   -- sound
   pub record IsPushed (query : Qre) (column : ℕ) (sync : Predicate) (old : Keys R)
       (item : List Field) (new : Keys R) : Type 0 where

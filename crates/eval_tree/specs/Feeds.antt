@@ -108,7 +108,7 @@ module _ {R : Type 0} (seen : R → Seen R) where
     pub is_item : IsHitIn columns left
     pub room : 1 + composes_of query < 2 ^ 64
 
-  -- whatever word it followed, now it follows the word and the item behind it, and it stays sound
+  -- whatever word it followed, now it follows the word and the item after it, and it stays sound
   pub record IsCarried (query : Qre) (old : R) (item : List Field) (new : R) : Type 0 where
     pub word : (standing : Standing) (columns : List Column) (word : Word)
         → IsClear standing columns query → IsWordOf columns (word ++ item ∷ [])

@@ -23,7 +23,7 @@ columns_of runner = runner.checked.now.layout.columns
 abbrev pub position_of : Runner → ℕ
 position_of runner = runner.progress.position
 
--- memory was wanting
+-- it was out of memory
 abbrev pub is_lost : Runner → Bool
 is_lost runner = runner.failed
 

@@ -22,7 +22,7 @@ module _ {R : Type 0} where
     pub each : AllZip (λ key runner. follows (projection column sync key word) runner)
         (names_of keys) (followers_of keys)
 
-  -- each start that can go on is there once, with the state and the keys behind its piece
+  -- each start that can go on is there once, with the state and the keys after its piece
   pub record AreTracked (lives : ℕ → Type 0) (tracks : ℕ → Track R → Type 0)
       (all : List (Track R)) : Type 0 where
     pub distinct : AreDifferent (starts_of all)

@@ -25,14 +25,14 @@ KeepsLive live at old new =
 module _ {R : Type 0} (seen : R → Seen R) where
   module _ (operand : Qre) (expression : Expression) (waiting : List (Entry Value))
       (old : Holding R) (now : ℕ) (item : List Field) where
-    -- the item may go by, and the expression is well typed on what waits and a hit behind it
+    -- the item may go by, and the expression is well typed on what waits and a hit after it
     pub record CanEnd : Type 0 where
       pub can : CanStep seen operand old now item
       pub typed : (new : Holding R) (right : Option Hit)
           → StepsSoundly seen operand old now item new right
           → AreTypedWith expression waiting right
 
-    -- the item went by, and a hit behind it has ended what waited at its start
+    -- the item went by, and a hit after it has ended what waited at its start
     pub record HasEnded (new : Holding R) (whole : Option Hit) : Type 0 where
       pub right : Option Hit
       pub stepped : HasStepped seen operand old now item new (Ok right)
@@ -65,7 +65,7 @@ module _ {R : Type 0} (seen : R → Seen R) where
       pub joins : (new : Holding R) (right : Option Hit)
           → StartsSoundly seen operand old at new right → IsNumberWith expression left.value right
 
-  -- a piece of an iteration began behind a value so far, which waits for it where it can go on
+  -- a piece of an iteration began after a value so far, which waits for it where it can go on
   pub record GoesOn (operand : Qre) (hit : Hit) (old : Holding R) (waiting : Contents Value)
       (at : ℕ) (new : Holding R) (more : Contents Value) : Type 0 where
     pub begun : Option Hit

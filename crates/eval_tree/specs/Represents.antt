@@ -36,7 +36,7 @@ abbrev pub IsEntry : List (Entry Value) → ℕ → ℕ → Value → Type 0
 IsEntry entries inner outer value =
     entry_at entries inner ≡ Some (record { inner = inner; outer = outer; value = value })
 
--- the entries are the values of pieces that begin at the starts, and behind which more may go on
+-- the entries are the values of pieces that begin at the starts, and after which more may go on
 pub record AreWaiting (D : Word → Value → Type 0) (goes_on : Word → Type 0) (word : Word)
     (starts : List ℕ)
     (entries : List (Entry Value)) : Type 0 where

@@ -1,4 +1,4 @@
--- Statement. Starts in a word, the pieces behind them, and which of them can still come to a value.
+-- Statement. Starts in a word, the pieces after them, and which of them can still come to a value.
 use Rattle.std.specs.Prelude.{◌≡◌, ◌≤◌, ℕ, ◌+◌, List, [], ◌∷◌, ◌++◌, drop, length}
 use Rattle.std.specs.List.{Contains}
 use Rattle.item_schema.specs.declared.column.Column.{Column}
@@ -18,7 +18,7 @@ pub record IsPiece (word : Word) (from : ℕ) (piece : Word) (to : ℕ) : Type 0
 abbrev pub ArePositions : Word → List ℕ → Type 0
 ArePositions word starts = (start : ℕ) → Contains starts start → start ≤ length word
 
--- no two starts have pieces in the rate that end at the same place of the word or behind it
+-- no two starts have pieces in the rate that end at the same place of the word or after it
 abbrev pub AreApart : List Column → Qre → Word → List ℕ → Type 0
 AreApart columns query word starts = (i j : ℕ) (more : Word) → IsWordOf columns more
     → Contains starts i → Contains starts j

@@ -42,7 +42,7 @@ IsHitAt type start hit =
     MatchOption hit (Unit {0}) (λ found. (found.start ≡ start) × IsValueOf type found.value)
 
 module _ {R : Type 0} (seen : R → Seen R) where
-  -- a start may be added behind so many items
+  -- a start may be added after so many items
   pub record CanStart (query : Qre) (old : Holding R) (at : ℕ) : Type 0 where
     pub standing : Standing
     pub columns : List Column
@@ -50,7 +50,7 @@ module _ {R : Type 0} (seen : R → Seen R) where
     pub sound : IsSound seen columns query at old
     pub room : at + composes_of query < 2 ^ 64
 
-  -- an item may go by, behind which there are so many
+  -- an item may go by, after which there are so many
   pub record CanStep (query : Qre) (old : Holding R) (now : ℕ) (item : List Field) : Type 0 where
     pub standing : Standing
     pub columns : List Column

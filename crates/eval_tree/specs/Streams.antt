@@ -7,7 +7,7 @@ use Rattle.predicate_cells.specs.Cells.{Partition}
 use Rattle.rate_expr.specs.Rates.{Expression, preds_of, size_of}
 use Rattle.query_model.specs.Queries.{Qre, atom, eps, choice, split, iter, combine, apply, compose, collect}
 
--- the rate has few positions, and the cells are told apart by its predicates
+-- the rate has few positions, and its predicates distinguish the cells
 pub record CanRead (cells : Partition) (rate : Expression) : Type 0 where
   pub few : size_of rate ≤ max_positions
   pub decided : AllByRecursion (λ pred. Contains cells.preds pred) (preds_of rate)

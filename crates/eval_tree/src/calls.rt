@@ -10,7 +10,7 @@ use item_schema::Item;
 use query_model::Query;
 use std::alloc::{AllocError, Global};
 
-/// Adds the start at the end of the word, behind `at` items.
+/// Adds the start at the end of the word, after `at` items.
 pub fn start(
     query: &Query,
     node: &mut Node,
@@ -26,7 +26,7 @@ pub fn start(
     Ok(hit)
 }
 
-/// Carries all starts over one more item, behind which there are `now`.
+/// Carries all starts over one more item, after which there are `now`.
 pub fn step(
     query: &Query,
     node: &mut Node,

@@ -13,7 +13,7 @@ pub struct Hit {
     pub value: Value,
 }
 
-// Written out, so that letting go of a hit is one call.
+// Written out, so that a hit is dropped by one call.
 impl Drop for Hit {
     #[inline(always)]
     fn drop(self) {
@@ -47,7 +47,7 @@ impl Hit {
         ensures typed { IsTable table }
     {
         let value = Value::Table(table);
-        // Its type tells that its entries are those of a table.
+        // By its type its entries are those of a table.
         let _type = value.ty();
         Hit { start, value }
     }

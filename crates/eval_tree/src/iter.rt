@@ -87,7 +87,7 @@ pub(crate) fn step_iter(
     }
 }
 
-/// A further piece begins behind the value so far, which waits for it where it can go on.
+/// A further piece begins after the value so far, which waits for it where it can go on.
 #[cycle(step)]
 #[inline(always)]
 fn next_piece(

@@ -1,4 +1,4 @@
-//! Left values of a split: they wait, and are joined with the right values behind them.
+//! Left values of a split: they wait, and are joined with the right values after them.
 ghost use Rattle.std.specs.Prelude.{◌≡◌, ◌<◌, ◌++◌, ◌∷◌, [], ℕ, Bool, None, Some, length, IfOk, IsOk};
 ghost use Rattle.std.specs.Option.{option_copied};
 ghost use Rattle.value_ops.specs.Expressions.{plain_of};
@@ -23,7 +23,7 @@ pub(crate) fn has_outer(held: &Pending<Value>, start: u64) -> bool
     false
 }
 
-/// The left value waits behind its piece, where more may go on. Where the starts are apart there is
+/// The left value waits after its piece, where more may go on. Where the starts are apart there is
 /// always room.
 pub(crate) fn wait(held: &mut Pending<Value>, live: bool, at: u64, left: Hit)
     requires { entry_at held.old.entries at ≡ None }

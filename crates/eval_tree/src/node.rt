@@ -26,11 +26,11 @@ pub enum State {
     Or(Box<Node>, Box<Node>),
     /// For an expression on a value: the operand.
     Apply(Box<Node>),
-    /// For a split: the operands, and the left values behind which a right piece may go on.
+    /// For a split: the operands, and the left values after which a right piece may go on.
     Split(Box<Node>, Box<Node>, Pending<Value>),
     /// For a combine: the operands.
     Combine(Box<Node>, Box<Node>),
-    /// For an iter: the operand, and the values so far behind which a further piece may go on.
+    /// For an iter: the operand, and the values so far after which a further piece may go on.
     Iter(Box<Node>, Chain<Value>),
     /// For a compose: the left operand, and the runners of the right one that it feeds.
     Compose(Box<Node>, Instances<Progress>),

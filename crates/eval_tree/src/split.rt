@@ -90,7 +90,7 @@ pub(crate) fn step_split(
     }
 }
 
-/// The right operand ends wholes whose left values wait. A left value behind which no right piece
+/// The right operand ends wholes whose left values wait. A left value after which no right piece
 /// can go on is given up.
 #[cycle(step)]
 #[inline(always)]

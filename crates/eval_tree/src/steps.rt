@@ -20,7 +20,7 @@ use item_schema::Item;
 use query_model::{Query, Shape};
 use std::alloc::{AllocError, Global};
 
-/// Adds the start at the end of the word, behind `at` items.
+/// Adds the start at the end of the word, after `at` items.
 #[cycle(step)]
 pub(crate) fn start_into(
     query: &Query,
@@ -57,7 +57,7 @@ pub(crate) fn start_into(
     }
 }
 
-/// Carries all starts over one more item, behind which there are `now`.
+/// Carries all starts over one more item, after which there are `now`.
 #[cycle(step)]
 pub(crate) fn step_into(
     query: &Query,

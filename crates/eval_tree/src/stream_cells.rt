@@ -27,7 +27,7 @@ pub(crate) fn stream_cells(
     }
     match cells_of(alloc, checked.schema(), query) {
         Ok(cells) => Ok(Some(Rc::new(alloc, cells)?)),
-        // A checked query tells few items apart.
+        // A checked query distinguishes few items.
         Err(CellStop::TooMany) => unreachable!(),
         Err(CellStop::Memory) => Err(AllocError),
     }
