@@ -13,8 +13,8 @@ use Rattle.query_model.specs.QueryTypes.{of_columns, type_of, type_of_expression
 use Rattle.query_model.specs.Rules.{bound}
 use Rattle.query_model.proofs.ItemFields.{atom_types}
 use Rattle.split_eval.specs.Entries.{Contents}
+use Rattle.eval_nodes.specs.Holdings.{Holding, atom_held, choice_held, apply_held, split_held, Seen}
 use Rattle.eval_tree.specs.declared.hit.Hit.{Hit}
-use Rattle.eval_tree.specs.Holdings.{Holding, atom_held, choice_held, apply_held, split_held, Seen}
 use Rattle.eval_tree.specs.Lefts.{AreTypedWith, IsTypedWith}
 use Rattle.eval_tree.specs.Steps.{CanStart, CanStep, StartsSoundly, StepsSoundly}
 use Rattle.eval_tree.proofs.Typed.{all_typed_with, hit_of, typed_with}

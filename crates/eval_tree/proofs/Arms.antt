@@ -10,21 +10,17 @@ use Rattle.value_ops.specs.Expressions.{Expression}
 use Rattle.query_model.specs.declared.query.Query.{Query}
 use Rattle.query_model.specs.Queries.{Qre, plain_of}
 use Rattle.split_eval.specs.Entries.{Contents}
-use Rattle.eval_tree.specs.declared.hit.Hit.{Hit}
-use Rattle.eval_tree.specs.declared.node.Node.{Node}
-use Rattle.eval_tree.specs.declared.progress.Progress.{Progress}
+use Rattle.eval_nodes.specs.declared.node.Node.{Node}
+use Rattle.eval_nodes.specs.declared.progress.Progress.{Progress}
+use Rattle.eval_nodes.specs.Holdings.{Holding}
 use Rattle.std.specs.declared.alloc.AllocError.{AllocError}
+use Rattle.eval_nodes.specs.Live.{live_of}
+use Rattle.eval_nodes.specs.Plain.{holding_of, seen_of}
+use Rattle.eval_tree.specs.declared.hit.Hit.{Hit}
 use Rattle.eval_tree.specs.Calls.{Found, found_in, HasStarted, HasStepped}
-use Rattle.eval_tree.specs.Holdings.{Holding}
 use Rattle.eval_tree.specs.Lefts.{IsEnded}
-use Rattle.eval_tree.specs.Live.{live_of}
 use Rattle.eval_tree.specs.Numbers.{StartsNumbers, StepsNumbers}
-use Rattle.eval_tree.specs.Plain.{holding_of, seen_of}
 use Rattle.eval_tree.specs.Steps.{CanStart, CanStep, StartsSoundly, StepsSoundly}
-
--- what a reference leads to
-pub same_query : (x y : Query) → x ≡ y → plain_of y.shape ≡ plain_of x.shape
-same_query x y same = ap (λ (query : Query). plain_of query.shape) (sym same)
 
 pub same_node : (x y : Node) → x ≡ y → holding_of y.state ≡ holding_of x.state
 same_node x y same = ap (λ (node : Node). holding_of node.state) (sym same)
@@ -35,11 +31,6 @@ pub live_as : (query other : Query) (node beside : Node) (start : ℕ) (live : B
 live_as query other node beside start live same_one same_other is =
     is ∙ ap (λ (q : Query). live_of (plain_of q.shape) (holding_of node.state) start) same_one
     ∙ ap (λ (n : Node). live_of (plain_of other.shape) (holding_of n.state) start) same_other
-
-pub where_ok : {T E : Type 0} → (result : Result T E) (P Q : T → Type 0) → ((x : T) → P x → Q x) → IfOk result P
-    → IfOk result Q
-where_ok (Ok x) P Q each is = each x is
-where_ok (Err e) P Q each is = tt
 
 pub both_ok : {T E : Type 0} → (result : Result T E) (P Q : T → Type 0) → IfOk result P → IfOk result Q
     → IfOk result (λ x. P x × Q x)

@@ -7,11 +7,11 @@ use Rattle.rate_expr.specs.Words.{Word}
 use Rattle.query_model.specs.Denotation.{Den}
 use Rattle.query_model.specs.Queries.{Qre, choice, apply}
 use Rattle.query_model.specs.Rules.{bound}
+use Rattle.eval_nodes.specs.Holdings.{Holding, choice_held, apply_held, Seen}
+use Rattle.eval_nodes.proofs.Apart.{apart_first, apart_second}
 use Rattle.eval_tree.specs.declared.hit.Hit.{Hit}
-use Rattle.eval_tree.specs.Holdings.{Holding, choice_held, apply_held, Seen}
 use Rattle.eval_tree.specs.Lefts.{IsApplied}
 use Rattle.eval_tree.specs.Steps.{IsFirstHit, IsHit, Starts, Steps}
-use Rattle.eval_tree.proofs.Apart.{apart_first, apart_second}
 
 module _ (f g : Qre) where
   -- a hit of either

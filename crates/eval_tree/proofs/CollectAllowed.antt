@@ -14,15 +14,16 @@ use Rattle.map_collect.specs.Keys.{fallback_of, followers_of}
 use Rattle.map_collect.specs.Tracks.{Advances, AllAdvance, Contents, keys_of, with_keys}
 use Rattle.map_collect.specs.declared.keys.Keys.{Keys}
 use Rattle.map_collect.specs.declared.track.Track.{Track}
+use Rattle.eval_nodes.specs.Runners.{IsSoundOf}
+use Rattle.eval_nodes.specs.Holdings.{Seen, collect_held}
+use Rattle.eval_nodes.specs.Sound.{IsSoundWithin}
+use Rattle.eval_nodes.proofs.Instances.{all_member}
+use Rattle.eval_nodes.proofs.Zips.{read_part, read_there, zip_all}
 use Rattle.eval_tree.specs.Collects.{AreSoundOf, CanPush, IsPushed}
-use Rattle.eval_tree.specs.Feeds.{CanCarry, IsCarried, IsSoundOf}
-use Rattle.eval_tree.specs.Holdings.{Seen, collect_held}
+use Rattle.eval_tree.specs.Feeds.{CanCarry, IsCarried}
 use Rattle.eval_tree.specs.Pushes.{AreCarried, AreCarriedBelow, ArePushed, ArePushedBelow, CanMake, CanPassBy, CanPushAll, HasKey}
-use Rattle.eval_tree.specs.Sound.{IsSoundWithin}
 use Rattle.eval_tree.specs.Steps.{CanStart, CanStep}
-use Rattle.eval_tree.proofs.Instances.{all_member}
 use Rattle.eval_tree.proofs.KeysPushed.{key_soundly}
-use Rattle.eval_tree.proofs.Zips.{read_part, read_there, zip_all}
 
 -- as many tracks, with other keys at one
 pub with_length : {R : Type 0} (tracks : List (Track R)) (i : ℕ) (keys : Keys R)

@@ -1,35 +1,19 @@
 -- A collect in memory.
-use Rattle.std.proofs.Common.{◌≡◌, ℕ, List, Option, Ok, refl, ap}
+use Rattle.std.proofs.Common.{ℕ, List, Option, Ok, refl}
 use Rattle.value_ops.specs.declared.field.Field.{Field}
 use Rattle.predicate_cells.specs.Predicates.{Predicate}
 use Rattle.rate_expr.specs.Rates as rates
 use Rattle.query_model.specs.Queries.{Qre, collect}
 use Rattle.map_collect.specs.Tracks.{Contents}
+use Rattle.eval_nodes.specs.declared.progress.Progress.{Progress}
+use Rattle.eval_nodes.specs.Holdings.{collect_held}
+use Rattle.eval_nodes.specs.Plain.{seen_of}
 use Rattle.eval_tree.specs.declared.hit.Hit.{Hit}
-use Rattle.eval_tree.specs.declared.node.Node.{Node}
-use Rattle.eval_tree.specs.declared.node.State.{State, out-State}
-use Rattle.eval_tree.specs.declared.node.State.TheOpen.{State-F}
-use Rattle.eval_tree.specs.declared.node.State.TheVariants.{Collect}
-use Rattle.eval_tree.specs.declared.node.State.TheViews.{out-roll-State, roll-State}
-use Rattle.eval_tree.specs.declared.progress.Progress.{Progress}
 use Rattle.eval_tree.specs.Calls.{HasStarted, HasStepped}
-use Rattle.eval_tree.specs.Holdings.{collect_held}
-use Rattle.eval_tree.specs.Plain.{holding_of, seen_of, tracks_of}
 use Rattle.eval_tree.specs.Pushes.{BeginsAt, PassesBy}
 use Rattle.eval_tree.proofs.CollectSoundness.{sound_start_collect, sound_step_collect}
 use Rattle.eval_tree.proofs.CollectStarts.{start_collect}
 use Rattle.eval_tree.proofs.CollectSteps.{step_collect}
-
--- what it holds
-pub tracked_is : (all : Contents Progress) → holding_of (Collect all) ≡ collect_held all
-unfolding roll-State denote.Hole.Carrier.roll
-tracked_is all =
-    ap (λ (x : State-F State Node Progress). collect_held (tracks_of x)) (out-roll-State (State-F.Collect all))
-
--- and its starts
-pub tracks_are : (all : Contents Progress) → tracks_of (out-State (Collect all)) ≡ all
-unfolding roll-State denote.Hole.Carrier.roll
-tracks_are all = ap (λ (x : State-F State Node Progress). tracks_of x) (out-roll-State (State-F.Collect all))
 
 module _ (column : ℕ) (sync : Predicate) (rate : rates.Expression) (f : Qre) (old new : Contents Progress) where
   pub collect_starts : (at : ℕ) (hit : Option Hit) → BeginsAt seen_of f old at new hit

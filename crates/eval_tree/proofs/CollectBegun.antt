@@ -4,16 +4,16 @@ use Rattle.std.specs.Prelude.{IfNone, IfSome, is_some}
 use Rattle.std.specs.List.{Contains}
 use Rattle.item_schema.specs.declared.column.Column.{Column}
 use Rattle.query_model.specs.Queries.{Qre}
+use Rattle.eval_nodes.specs.declared.progress.Progress.{Progress}
+use Rattle.eval_nodes.specs.Holdings.{Holding}
+use Rattle.eval_nodes.specs.Plain.{holding_of, seen_of}
+use Rattle.eval_nodes.specs.Represents.{Represents}
+use Rattle.eval_nodes.specs.Sound.{IsSound}
+use Rattle.eval_nodes.proofs.Zips.{read_there}
 use Rattle.eval_tree.specs.declared.hit.Hit.{Hit}
-use Rattle.eval_tree.specs.declared.progress.Progress.{Progress}
-use Rattle.eval_tree.specs.Holdings.{Holding}
-use Rattle.eval_tree.specs.Plain.{holding_of, seen_of}
 use Rattle.eval_tree.specs.Pushes.{CanMake, IsNew}
-use Rattle.eval_tree.specs.Represents.{Represents}
-use Rattle.eval_tree.specs.Sound.{IsSound}
 use Rattle.eval_tree.specs.Steps.{CanStart, Starts, StartsSoundly}
 use Rattle.eval_tree.proofs.Carried.{begun}
-use Rattle.eval_tree.proofs.Zips.{read_there}
 
 -- where a word can begin, the start is not there
 pub place_test : (place : Option ℕ) (test : Bool) (P : Type 0) (starts : List ℕ) (at : ℕ) → is_some place ≡ not test

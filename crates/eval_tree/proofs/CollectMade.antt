@@ -11,13 +11,13 @@ use Rattle.query_model.specs.Queries.{Qre, collect}
 use Rattle.query_model.specs.Sizes.{max_slots}
 use Rattle.map_collect.specs.Tracks.{Contents, starts_of}
 use Rattle.map_collect.specs.declared.track.Track.{Track}
+use Rattle.eval_nodes.specs.Holdings.{Seen, collect_held}
+use Rattle.eval_nodes.specs.Represents.{Represents}
+use Rattle.eval_nodes.specs.Sound.{IsSound}
+use Rattle.eval_nodes.specs.Starts.{AreDifferent, IsLive}
+use Rattle.eval_nodes.proofs.Members.{no_member}
 use Rattle.eval_tree.specs.Collects.{AreSoundOf}
-use Rattle.eval_tree.specs.Holdings.{Seen, collect_held}
-use Rattle.eval_tree.specs.Represents.{Represents}
-use Rattle.eval_tree.specs.Sound.{IsSound}
-use Rattle.eval_tree.specs.Starts.{AreDifferent, IsLive}
 use Rattle.eval_tree.proofs.CollectSteps.{RowOf}
-use Rattle.eval_tree.proofs.Members.{no_member}
 
 -- the body is small where the whole is
 more_times : (n m : ℕ) → m ≤ (n + 1) * m

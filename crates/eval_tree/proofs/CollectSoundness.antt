@@ -20,17 +20,17 @@ use Rattle.map_collect.specs.Followers.{Followers}
 use Rattle.map_collect.specs.Tracks.{Advances, AllAdvance, Contents, starts_of, KeepsExtending}
 use Rattle.map_collect.specs.declared.keys.Keys.{Keys}
 use Rattle.map_collect.specs.declared.track.Track.{Track}
+use Rattle.eval_nodes.specs.Runners.{IsSoundOf}
+use Rattle.eval_nodes.specs.Holdings.{Seen, collect_held}
+use Rattle.eval_nodes.specs.Sound.{IsSoundWithin}
+use Rattle.eval_nodes.specs.Starts.{AreDifferent}
+use Rattle.eval_nodes.proofs.Instances.{all_joined, different_more}
+use Rattle.eval_nodes.proofs.Zips.{zip_all, zip_same}
 use Rattle.eval_tree.specs.declared.hit.Hit.{Hit}
 use Rattle.eval_tree.specs.Collects.{AreSoundOf}
-use Rattle.eval_tree.specs.Feeds.{IsSoundOf}
-use Rattle.eval_tree.specs.Holdings.{Seen, collect_held}
 use Rattle.eval_tree.specs.Pushes.{AddsStart, AreNew, ArePushed, IsFirstTable, IsPushedAt, IsTabled}
-use Rattle.eval_tree.specs.Sound.{IsSoundWithin}
-use Rattle.eval_tree.specs.Starts.{AreDifferent}
 use Rattle.eval_tree.specs.Steps.{IsHitAt, IsHitOf, StartsSoundly, StepsSoundly}
-use Rattle.eval_tree.proofs.Instances.{all_joined, different_more}
 use Rattle.eval_tree.proofs.Tracked.{kept_all, kept_apart}
-use Rattle.eval_tree.proofs.Zips.{zip_all, zip_same}
 
 table_typed : (found : Hit) (table : _) → found.value ≡ value.Table table → IsTable table → IsValueOf Table found.value
 table_typed found table is typed = subst (IsValueOf Table) (sym is) typed

@@ -23,16 +23,16 @@ use Rattle.map_collect.specs.Followers.{Followers}
 use Rattle.map_collect.specs.Tracks.{Contents, starts_of}
 use Rattle.map_collect.specs.declared.keys.Keys.{Keys}
 use Rattle.map_collect.specs.declared.track.Track.{Track}
+use Rattle.eval_nodes.specs.Runners.{FollowsWord}
+use Rattle.eval_nodes.specs.Holdings.{Seen, collect_held}
+use Rattle.eval_nodes.specs.Starts.{AreDifferent, IsLive}
+use Rattle.eval_nodes.proofs.Instances.{different_more}
+use Rattle.eval_nodes.proofs.Pieces.{behind_end}
 use Rattle.eval_tree.specs.declared.hit.Hit.{Hit}
 use Rattle.eval_tree.specs.Collects.{StandsFor}
-use Rattle.eval_tree.specs.Feeds.{FollowsWord}
-use Rattle.eval_tree.specs.Holdings.{Seen, collect_held}
 use Rattle.eval_tree.specs.Pushes.{AddsStart, AreNew, IsFirstTable}
-use Rattle.eval_tree.specs.Starts.{AreDifferent, IsLive}
 use Rattle.eval_tree.specs.Steps.{IsFirstHit, Starts}
 use Rattle.eval_tree.proofs.CollectSteps.{RowOf, TrackOf}
-use Rattle.eval_tree.proofs.Instances.{different_more}
-use Rattle.eval_tree.proofs.Pieces.{behind_end}
 
 module _ {R : Type 0} (seen : R → Seen R) where
   -- keys with no key stand for the empty word

@@ -23,18 +23,18 @@ use Rattle.symbolic_nfa.proofs.WordsBehind.{extends-in, is_accepted-in, is_behin
 use Rattle.map_collect.specs.Tracks.{Advances, AllAdvance, Contents, starts_of, states_of, KeepsExtending, NoneAccepted}
 use Rattle.map_collect.specs.declared.keys.Keys.{Keys}
 use Rattle.map_collect.specs.declared.track.Track.{Track}
+use Rattle.eval_nodes.specs.Holdings.{Seen, collect_held}
+use Rattle.eval_nodes.specs.Keyed.{AreTracked}
+use Rattle.eval_nodes.specs.Starts.{AreDifferent, ArePositions, IsLive}
+use Rattle.eval_nodes.proofs.Instances.{all_member}
+use Rattle.eval_nodes.proofs.Pieces.{drop_more, word_behind}
+use Rattle.eval_nodes.proofs.Zips.{part_there, read_part, read_there, whole_there, zip_member, zip_same}
 use Rattle.eval_tree.specs.declared.hit.Hit.{Hit}
 use Rattle.eval_tree.specs.Collects.{StandsFor}
-use Rattle.eval_tree.specs.Holdings.{Seen, collect_held}
-use Rattle.eval_tree.specs.Keyed.{AreTracked}
 use Rattle.eval_tree.specs.Pushes.{ArePushed, IsPushedAt, IsTabled, IsTabledAt}
-use Rattle.eval_tree.specs.Starts.{AreDifferent, ArePositions, IsLive}
 use Rattle.eval_tree.specs.Steps.{IsHit, Steps}
-use Rattle.eval_tree.proofs.Instances.{all_member}
-use Rattle.eval_tree.proofs.Pieces.{drop_more, word_behind}
 use Rattle.eval_tree.proofs.Quiet.{extension_before}
 use Rattle.eval_tree.proofs.Tracked.{kept_apart, kept_track, track_kept}
-use Rattle.eval_tree.proofs.Zips.{part_there, read_part, read_there, whole_there, zip_member, zip_same}
 
 module _ {R : Type 0} (seen : R → Seen R) (columns : List Column) (column : ℕ) (sync : Predicate)
     (rate : rates.Expression) (f : Qre) where

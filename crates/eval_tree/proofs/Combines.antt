@@ -10,13 +10,13 @@ use Rattle.query_model.specs.Queries.{Qre, combine}
 use Rattle.query_model.specs.Rates.{rate_of}
 use Rattle.query_model.specs.Rules.{bound, IsClear}
 use Rattle.query_model.proofs.InRates.{den_in}
+use Rattle.eval_nodes.specs.Holdings.{Holding, combine_held, Seen}
+use Rattle.eval_nodes.specs.Starts.{AreApart}
+use Rattle.eval_nodes.proofs.Apart.{apart_same}
+use Rattle.eval_nodes.proofs.Pieces.{word_behind}
 use Rattle.eval_tree.specs.declared.hit.Hit.{Hit}
-use Rattle.eval_tree.specs.Holdings.{Holding, combine_held, Seen}
 use Rattle.eval_tree.specs.Lefts.{AreCombined}
-use Rattle.eval_tree.specs.Starts.{AreApart}
 use Rattle.eval_tree.specs.Steps.{IsFirstHit, IsHit, Starts, Steps}
-use Rattle.eval_tree.proofs.Apart.{apart_same}
-use Rattle.eval_tree.proofs.Pieces.{word_behind}
 
 module _ (f g : Qre) (e : Expression) where
   combined_first : (at : ℕ) (left right hit : Option Hit) → IsFirstHit (Den f) at left → IsFirstHit (Den g) at right

@@ -5,9 +5,10 @@ use Rattle.query_model.specs.Following.{composes_of}
 use Rattle.query_model.specs.Queries.{Qre, compose}
 use Rattle.query_model.specs.QueryTypes.{derived_columns, type_of}
 use Rattle.compose_eval.specs.Followers.{Contents}
+use Rattle.eval_nodes.specs.Cleared.{IsCleared}
+use Rattle.eval_nodes.specs.Holdings.{Holding, compose_held, Seen}
 use Rattle.eval_tree.specs.declared.hit.Hit.{Hit}
-use Rattle.eval_tree.specs.Feeds.{CanBegin, CanCarry, CanFeed, CanPassOn, IsCleared, IsRenewed, item_of}
-use Rattle.eval_tree.specs.Holdings.{Holding, compose_held, Seen}
+use Rattle.eval_tree.specs.Feeds.{CanBegin, CanCarry, CanFeed, CanPassOn, IsRenewed, item_of}
 use Rattle.eval_tree.specs.Steps.{CanStart, CanStep, StartsSoundly, StepsSoundly}
 use Rattle.eval_tree.proofs.Outputs.{hit_item}
 use Rattle.eval_tree.proofs.Typed.{hit_of}

@@ -1,39 +1,18 @@
 -- A compose in memory.
-use Rattle.std.proofs.Common.{◌≡◌, ◌++◌, ℕ, Bool, List, Option, Ok, ap, refl}
-use Rattle.std.specs.Prelude.{Box}
-use Rattle.std.specs.declared.alloc.Global.{Global}
+use Rattle.std.proofs.Common.{◌≡◌, ◌++◌, ℕ, Bool, List, Option, Ok, refl}
 use Rattle.value_ops.specs.declared.field.Field.{Field}
 use Rattle.query_model.specs.Queries.{Qre, compose}
 use Rattle.compose_eval.specs.Followers.{Contents, live_instances, retired}
+use Rattle.eval_nodes.specs.declared.progress.Progress.{Progress}
+use Rattle.eval_nodes.specs.Holdings.{Holding, compose_held}
+use Rattle.eval_nodes.specs.Live.{live_of}
+use Rattle.eval_nodes.specs.Plain.{seen_of}
 use Rattle.eval_tree.specs.declared.hit.Hit.{Hit}
-use Rattle.eval_tree.specs.declared.node.Node.{Node}
-use Rattle.eval_tree.specs.declared.node.State.{State}
-use Rattle.eval_tree.specs.declared.node.State.TheOpen.{State-F}
-use Rattle.eval_tree.specs.declared.node.State.TheVariants.{Compose}
-use Rattle.eval_tree.specs.declared.node.State.TheViews.{out-State, out-roll-State, roll-State}
-use Rattle.eval_tree.specs.declared.progress.Progress.{Progress}
 use Rattle.eval_tree.specs.Calls.{HasStarted, HasStepped}
 use Rattle.eval_tree.specs.Feeds.{Feeds, PassesOn}
-use Rattle.eval_tree.specs.Holdings.{Holding, compose_held}
-use Rattle.eval_tree.specs.Live.{live_of}
-use Rattle.eval_tree.specs.Plain.{holding_of, runners_of, seen_of}
 use Rattle.eval_tree.proofs.ComposeSoundness.{sound_start_compose, sound_step_compose}
 use Rattle.eval_tree.proofs.ComposeStarts.{start_compose}
 use Rattle.eval_tree.proofs.ComposeSteps.{step_compose}
-
--- what it holds
-pub fed_is : (a : Box Node Global) (held : Contents Progress)
-    → holding_of (Compose a held) ≡ compose_held (holding_of a.value.state) held
-unfolding roll-State denote.Hole.Carrier.roll
-fed_is a held =
-    ap (λ (x : State-F State Node Progress). compose_held (holding_of a.value.state) (runners_of x))
-    (out-roll-State (State-F.Compose a held))
-
--- and its runners
-pub runners_are : (a : Box Node Global) (held : Contents Progress) → runners_of (out-State (Compose a held)) ≡ held
-unfolding roll-State denote.Hole.Carrier.roll
-runners_are a held =
-    ap (λ (x : State-F State Node Progress). runners_of x) (out-roll-State (State-F.Compose a held))
 
 module _ (f g : Qre) (a a' : Holding Progress) where
   pub compose_starts : (held new : Contents Progress) (at : ℕ) (left hit : Option Hit) (live : Bool)

@@ -7,12 +7,12 @@ use Rattle.query_model.specs.Denotation.{Den, Outputs}
 use Rattle.query_model.specs.Following.{IsAnswer}
 use Rattle.query_model.specs.Queries.{Qre, compose}
 use Rattle.query_model.specs.Rules.{Standing, IsClear}
+use Rattle.eval_nodes.specs.Starts.{AreApart}
+use Rattle.eval_nodes.proofs.Pieces.{word_behind}
 use Rattle.eval_tree.specs.declared.hit.Hit.{Hit}
 use Rattle.eval_tree.specs.Feeds.{hit_at}
-use Rattle.eval_tree.specs.Starts.{AreApart}
 use Rattle.eval_tree.specs.Steps.{IsFirstHit, IsHit}
 use Rattle.eval_tree.proofs.Outputs.{out_one}
-use Rattle.eval_tree.proofs.Pieces.{word_behind}
 use Rattle.eval_tree.proofs.Quiet.{hit_start}
 
 module _ (standing : Standing) (columns : List Column) (f g : Qre) (clear : IsClear standing columns f) (word : Word)

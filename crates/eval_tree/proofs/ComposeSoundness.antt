@@ -5,9 +5,9 @@ use Rattle.query_model.specs.Bounds.{places_of}
 use Rattle.query_model.specs.Queries.{Qre, compose}
 use Rattle.query_model.specs.QueryTypes.{derived_columns, type_of}
 use Rattle.compose_eval.specs.Followers.{Contents, live_instances, retired}
+use Rattle.eval_nodes.specs.Holdings.{Holding, compose_held, Seen}
 use Rattle.eval_tree.specs.declared.hit.Hit.{Hit}
 use Rattle.eval_tree.specs.Feeds.{Feeds, PassesOn}
-use Rattle.eval_tree.specs.Holdings.{Holding, compose_held, Seen}
 use Rattle.eval_tree.specs.Steps.{StartsSoundly, StepsSoundly}
 use Rattle.eval_tree.proofs.FedSoundness.{AreSoundly, fed_soundly, kept_soundly, passed_soundly}
 use Rattle.eval_tree.proofs.Outputs.{hit_item}

@@ -11,20 +11,21 @@ use Rattle.query_model.specs.QueryTypes.{derived_columns, type_of}
 use Rattle.query_model.specs.Rules.{Standing, IsClear}
 use Rattle.compose_eval.specs.Followers.{Contents, outers_of}
 use Rattle.compose_eval.specs.declared.instance.Instance.{Instance}
+use Rattle.eval_nodes.specs.Runners.{FollowsWord}
+use Rattle.eval_nodes.specs.Holdings.{Holding, compose_held, Seen}
+use Rattle.eval_nodes.specs.Live.{live_of}
+use Rattle.eval_nodes.specs.Starts.{AreApart, AreDifferent, ArePositions, IsLive}
+use Rattle.eval_nodes.proofs.Few.{few_live}
+use Rattle.eval_nodes.proofs.Instances.{different_more, none_fed}
+use Rattle.eval_nodes.proofs.Living.{living}
+use Rattle.eval_nodes.proofs.Pieces.{behind_end}
 use Rattle.eval_tree.specs.declared.hit.Hit.{Hit}
-use Rattle.eval_tree.specs.Feeds.{Feeds, FollowsWord, HasIdle, IsBegun, IsFedFrom, item_of}
-use Rattle.eval_tree.specs.Holdings.{Holding, compose_held, Seen}
-use Rattle.eval_tree.specs.Live.{live_of}
-use Rattle.eval_tree.specs.Starts.{AreApart, AreDifferent, ArePositions, IsLive}
+use Rattle.eval_tree.specs.Feeds.{Feeds, HasIdle, IsBegun, IsFedFrom, item_of}
 use Rattle.eval_tree.specs.Steps.{IsFirstHit, Starts}
 use Rattle.eval_tree.proofs.ComposeHits.{composed_first, none_composed_first}
 use Rattle.eval_tree.proofs.Fed.{Row, Sees}
 use Rattle.eval_tree.proofs.FedFew.{idle_started}
-use Rattle.eval_tree.proofs.Few.{few_live}
-use Rattle.eval_tree.proofs.Instances.{different_more, none_fed}
-use Rattle.eval_tree.proofs.Living.{living}
 use Rattle.eval_tree.proofs.Outputs.{out_word}
-use Rattle.eval_tree.proofs.Pieces.{behind_end}
 
 module _ {R : Type 0} (seen : R → Seen R) (standing : Standing) (columns : List Column) (f g : Qre)
     (clear : IsClear standing columns f) (clear_right : IsClear standing (derived_columns (type_of columns f)) g) where

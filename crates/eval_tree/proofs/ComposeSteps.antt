@@ -10,17 +10,17 @@ use Rattle.query_model.specs.QueryTypes.{derived_columns, type_of}
 use Rattle.query_model.specs.Rules.{Standing, IsClear}
 use Rattle.compose_eval.specs.Followers.{Contents, live_instances, retired}
 use Rattle.compose_eval.specs.declared.instance.Instance.{Instance}
+use Rattle.eval_nodes.specs.Holdings.{Holding, compose_held, Seen}
+use Rattle.eval_nodes.specs.Live.{live_of}
+use Rattle.eval_nodes.specs.Starts.{AreApart, ArePositions, IsLive}
+use Rattle.eval_nodes.proofs.Instances.{told_member}
+use Rattle.eval_nodes.proofs.Living.{living}
 use Rattle.eval_tree.specs.declared.hit.Hit.{Hit}
 use Rattle.eval_tree.specs.Feeds.{PassesOn}
-use Rattle.eval_tree.specs.Holdings.{Holding, compose_held, Seen}
-use Rattle.eval_tree.specs.Live.{live_of}
-use Rattle.eval_tree.specs.Starts.{AreApart, ArePositions, IsLive}
 use Rattle.eval_tree.specs.Steps.{IsHit, Steps}
 use Rattle.eval_tree.proofs.ComposeHits.{composed, none_composed}
 use Rattle.eval_tree.proofs.Fed.{Row, fed_on, hit_feeds, narrowed}
 use Rattle.eval_tree.proofs.FedFew.{idle_passed, idle_stepped}
-use Rattle.eval_tree.proofs.Instances.{told_member}
-use Rattle.eval_tree.proofs.Living.{living}
 use Rattle.eval_tree.proofs.SplitSteps.{more_positions}
 
 module _ {R : Type 0} (seen : R → Seen R) where

@@ -18,16 +18,16 @@ use Rattle.split_eval.specs.Entries as entries
 use Rattle.compose_eval.specs.Followers.{Contents, followers_of}
 use Rattle.symbolic_nfa.specs.Automata.{Automaton}
 use Rattle.memory_bound.specs.KeysMet.{keys_met}
-use Rattle.eval_tree.specs.Copies.{AreAlike, IsCopy, IsCopyOf}
-use Rattle.eval_tree.specs.Counts.{size_of_answer, size_of_runner, sizes_of, stored_in}
-use Rattle.eval_tree.specs.Feeds.{FollowsWord, IsSoundOf}
-use Rattle.eval_tree.specs.Holdings.{Holding, atom_held, eps_held, choice_held, combine_held, apply_held, split_held, iter_held, compose_held, collect_held, Seen}
-use Rattle.eval_tree.specs.Keyed.{AreTracked, StandFor}
-use Rattle.eval_tree.specs.Represents.{AreWaiting, KeepsFew, Represents}
-use Rattle.eval_tree.specs.Sound.{AreEntriesOf, IsSound, IsSoundWithin, IsTyped}
-use Rattle.eval_tree.specs.Starts.{AreDifferent, IsLive}
-use Rattle.eval_tree.proofs.Alike.{all_alike, all_followers, as_many_alike, followers_all, followers_many, original, sums_alike}
-use Rattle.eval_tree.proofs.CollectCopies.{track_stands, tracks_sound, tracks_stand, tracks_stored}
+use Rattle.eval_nodes.specs.Copies.{AreAlike, IsCopy, IsCopyOf}
+use Rattle.eval_nodes.specs.Counts.{size_of_answer, size_of_runner, sizes_of, stored_in}
+use Rattle.eval_nodes.specs.Runners.{FollowsWord, IsSoundOf}
+use Rattle.eval_nodes.specs.Holdings.{Holding, atom_held, eps_held, choice_held, combine_held, apply_held, split_held, iter_held, compose_held, collect_held, Seen}
+use Rattle.eval_nodes.specs.Keyed.{AreTracked, StandFor}
+use Rattle.eval_nodes.specs.Represents.{AreWaiting, KeepsFew, Represents}
+use Rattle.eval_nodes.specs.Sound.{AreEntriesOf, IsSound, IsSoundWithin, IsTyped}
+use Rattle.eval_nodes.specs.Starts.{AreDifferent, IsLive}
+use Rattle.eval_nodes.proofs.Alike.{all_alike, all_followers, as_many_alike, followers_all, followers_many, original, sums_alike}
+use Rattle.eval_nodes.proofs.CollectCopies.{track_stands, tracks_sound, tracks_stand, tracks_stored}
 
 module _ {R : Type 0} (seen : R → Seen R) where
   all_copied : (q : Qre) (old new : Contents R) → AreAlike (IsCopyOf seen (IsCopy seen q)) (followers_of old.live) (followers_of new.live)

@@ -4,9 +4,9 @@ use Rattle.std.specs.List.{Contains}
 use Rattle.std.proofs.lemmas.List.Elements.{Contains-append_left, Contains-push, Contains-push_cases}
 use Rattle.value_ops.specs.declared.field.Field.{Field}
 use Rattle.rate_expr.specs.Words.{Word}
-use Rattle.eval_tree.specs.Represents.{AreReached}
-use Rattle.eval_tree.specs.Starts.{IsPiece}
-use Rattle.eval_tree.proofs.Pieces.{empty_is, end_is, end_piece, length_more, piece_less, piece_more}
+use Rattle.eval_nodes.specs.Represents.{AreReached}
+use Rattle.eval_nodes.specs.Starts.{IsPiece}
+use Rattle.eval_nodes.proofs.Pieces.{empty_is, end_is, end_piece, length_more, piece_less, piece_more}
 
 -- the positions before the end of the word at which pieces of the set end
 abbrev pub AreReachedBefore : (Word → Type 0) → Word → List ℕ → List ℕ → Type 0

@@ -20,15 +20,16 @@ use Rattle.query_model.proofs.InRates.{den_in}
 use Rattle.compose_eval.specs.Followers.{Contents, instance_at, live_instances, outers_of, retired, with_follower}
 use Rattle.compose_eval.specs.declared.instance.Instance.{Instance}
 use Rattle.compose_eval.proofs.Starts.{as_many, same_outers}
+use Rattle.eval_nodes.specs.Runners.{FollowsWord}
+use Rattle.eval_nodes.specs.Holdings.{Seen}
+use Rattle.eval_nodes.specs.Represents.{AreFed, IsFed}
+use Rattle.eval_nodes.specs.Starts.{AreApart, AreDifferent, ArePositions, IsLive}
+use Rattle.eval_nodes.proofs.Instances.{kept_count, kept_different, kept_member, member_kept, member_outer, outer_member, read_member, some_fed, written_member}
+use Rattle.eval_nodes.proofs.Pieces.{drop_more, word_behind}
 use Rattle.eval_tree.specs.declared.hit.Hit.{Hit}
-use Rattle.eval_tree.specs.Feeds.{FollowsWord, IsPassed, IsTold, PassesOn, item_of}
-use Rattle.eval_tree.specs.Holdings.{Seen}
-use Rattle.eval_tree.specs.Represents.{AreFed, IsFed}
-use Rattle.eval_tree.specs.Starts.{AreApart, AreDifferent, ArePositions, IsLive}
+use Rattle.eval_tree.specs.Feeds.{IsPassed, IsTold, PassesOn, item_of}
 use Rattle.eval_tree.specs.Steps.{IsHit}
-use Rattle.eval_tree.proofs.Instances.{kept_count, kept_different, kept_member, member_kept, member_outer, outer_member, read_member, some_fed, written_member}
 use Rattle.eval_tree.proofs.Outputs.{none_comes, one_comes, out_word}
-use Rattle.eval_tree.proofs.Pieces.{drop_more, word_behind}
 use Rattle.eval_tree.proofs.Quiet.{extension_before, quiet}
 
 module _ {R : Type 0} (seen : R → Seen R) (standing : Standing) (columns : List Column) (f g : Qre)

@@ -13,20 +13,20 @@ use Rattle.memory_bound.proofs.Entries.{out_keys}
 use Rattle.memory_bound.proofs.Growth.{among_all, among_first, keys_mono}
 use Rattle.compose_eval.specs.Followers.{Contents, retired}
 use Rattle.compose_eval.specs.declared.instance.Instance.{Instance}
+use Rattle.eval_nodes.specs.Counts.{size_of_runner, stored_in}
+use Rattle.eval_nodes.specs.Holdings.{Seen}
+use Rattle.eval_nodes.specs.Represents.{KeepsFew}
+use Rattle.eval_nodes.proofs.Instances.{all_but_last, all_joined, all_mapped, all_retired}
+use Rattle.eval_nodes.proofs.Members.{first_member, later_member}
+use Rattle.eval_nodes.proofs.Pieces.{word_behind}
+use Rattle.eval_nodes.proofs.StoredEntries.{behind_among}
+use Rattle.eval_nodes.proofs.Totals.{scaled}
 use Rattle.eval_tree.specs.declared.hit.Hit.{Hit}
-use Rattle.eval_tree.specs.Counts.{size_of_runner, stored_in}
 use Rattle.eval_tree.specs.Feeds.{IsFedFrom, PassesOn}
-use Rattle.eval_tree.specs.Holdings.{Seen}
-use Rattle.eval_tree.specs.Represents.{KeepsFew}
 use Rattle.eval_tree.proofs.Fed.{Row, Sees}
-use Rattle.eval_tree.proofs.Instances.{all_but_last, all_joined, all_mapped, all_retired}
-use Rattle.eval_tree.proofs.Members.{first_member, later_member}
 use Rattle.eval_tree.proofs.Outputs.{out_word}
-use Rattle.eval_tree.proofs.Pieces.{word_behind}
-use Rattle.eval_tree.proofs.StoredEntries.{behind_among}
 use Rattle.eval_tree.proofs.StoredFew.{runner_few}
 use Rattle.eval_tree.proofs.StoredTracks.{derived_texts}
-use Rattle.eval_tree.proofs.Totals.{scaled}
 
 -- what holds of each that is there
 all_there : {A : Type 0} (P : A → Type 0) (xs : List A) → ((x : A) → Contains xs x → P x) → AllByRecursion P xs

@@ -11,13 +11,14 @@ use Rattle.query_model.specs.Rules.{Standing, IsClear}
 use Rattle.compose_eval.specs.Followers.{Contents, live_instances, outers_of, retired}
 use Rattle.compose_eval.specs.declared.instance.Instance.{Instance}
 use Rattle.compose_eval.proofs.Starts.{as_many, same_outers}
+use Rattle.eval_nodes.specs.Runners.{IsSoundOf}
+use Rattle.eval_nodes.specs.Holdings.{Seen}
+use Rattle.eval_nodes.specs.Sound.{IsSoundWithin, IsTyped}
+use Rattle.eval_nodes.specs.Starts.{AreDifferent}
+use Rattle.eval_nodes.proofs.Instances.{all_but_last, all_joined, all_kept, all_mapped, all_member, all_retired, all_written, different_more, kept_count, kept_different, read_member, some_fed}
 use Rattle.eval_tree.specs.declared.hit.Hit.{Hit}
-use Rattle.eval_tree.specs.Feeds.{Feeds, hit_at, IsBegun, IsFedFrom, IsHitIn, IsPassed, IsSoundOf, PassesOn}
-use Rattle.eval_tree.specs.Holdings.{Seen}
-use Rattle.eval_tree.specs.Sound.{IsSoundWithin, IsTyped}
-use Rattle.eval_tree.specs.Starts.{AreDifferent}
+use Rattle.eval_tree.specs.Feeds.{Feeds, hit_at, IsBegun, IsFedFrom, IsHitIn, IsPassed, PassesOn}
 use Rattle.eval_tree.specs.Steps.{IsHitAt, IsHitOf}
-use Rattle.eval_tree.proofs.Instances.{all_but_last, all_joined, all_kept, all_mapped, all_member, all_retired, all_written, different_more, kept_count, kept_different, read_member, some_fed}
 use Rattle.eval_tree.proofs.Typed.{hit_of}
 
 answer_at : (type : ValueType) (start : ℕ) (answer : Option Value) → IsTyped type answer

@@ -1,25 +1,18 @@
 -- What the calls on the runners of a compose do, out of what is read of their lists before and behind them.
 use Rattle.std.proofs.Common.{◌≡◌, ◌<◌, ◌∙◌, ℕ, ◌-◌, zero, suc, Bool, true, false, List, [], ◌∷◌, ◌++◌, Option, Some, None, length, set, slice_get, refl, sym, ap, subst, arith, inl, inr}
-use Rattle.std.specs.List.{AllByRecursion}
 use Rattle.std.specs.Option.{option_map}
 use Rattle.std.proofs.lemmas.List.{length-append}
 use Rattle.std.proofs.lemmas.Option.{none-some, same_Some, slice_get-map}
 use Rattle.query_model.specs.Queries.{Qre}
 use Rattle.compose_eval.specs.Followers.{Contents, followers_of, instance_at, with_follower, IsAt, Wakes}
 use Rattle.compose_eval.specs.declared.instance.Instance.{Instance}
+use Rattle.eval_nodes.specs.Runners.{IsSoundOf}
+use Rattle.eval_nodes.specs.Holdings.{Seen}
+use Rattle.eval_nodes.specs.Sound.{IsSoundWithin}
+use Rattle.eval_nodes.proofs.Alike.{all_followers}
+use Rattle.eval_nodes.proofs.Instances.{outer_member, read_member, some_fed, all_read}
 use Rattle.eval_tree.specs.declared.hit.Hit.{Hit}
-use Rattle.eval_tree.specs.Feeds.{CanBegin, CanCarry, CanFeed, CanPassOn, Feeds, HasIdle, IsBegun, IsFedFrom, IsPassed, IsSoundOf, IsTold, item_of}
-use Rattle.eval_tree.specs.Holdings.{Seen}
-use Rattle.eval_tree.specs.Sound.{IsSoundWithin}
-use Rattle.eval_tree.proofs.Alike.{all_followers}
-use Rattle.eval_tree.proofs.Instances.{outer_member, read_member, some_fed}
-
--- of one that is read at an index
-pub all_read : {A : Type 0} (P : A → Type 0) (xs : List A) (i : ℕ) (x : A) → AllByRecursion P xs
-    → slice_get xs i ≡ Some x → P x
-all_read P [] i x all at = absurd (none-some x at)
-all_read P (y ∷ xs) zero x all at = subst P (same_Some y x at) all.0
-all_read P (y ∷ xs) (suc i) x all at = all_read P xs i x all.1 at
+use Rattle.eval_tree.specs.Feeds.{CanBegin, CanCarry, CanFeed, CanPassOn, Feeds, HasIdle, IsBegun, IsFedFrom, IsPassed, IsTold, item_of}
 
 -- the last of a list
 record IsLastOf {A : Type 0} (xs : List A) (last : A) : Type 0 where

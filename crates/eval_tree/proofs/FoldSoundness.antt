@@ -11,8 +11,8 @@ use Rattle.query_model.specs.Queries.{Qre, iter, combine}
 use Rattle.query_model.specs.QueryTypes.{type_of}
 use Rattle.query_model.specs.Rules.{bound}
 use Rattle.split_eval.specs.Entries.{Contents, live_entries}
+use Rattle.eval_nodes.specs.Holdings.{Holding, combine_held, iter_held, Seen}
 use Rattle.eval_tree.specs.declared.hit.Hit.{Hit}
-use Rattle.eval_tree.specs.Holdings.{Holding, combine_held, iter_held, Seen}
 use Rattle.eval_tree.specs.Lefts.{AreCombined, IsEnded, IsPut}
 use Rattle.eval_tree.specs.Steps.{StartsSoundly, StepsSoundly}
 use Rattle.eval_tree.proofs.Typed.{combined_at, combined_of, ended_of, entries_kept, entries_put, hit_of}

@@ -10,8 +10,8 @@ use Rattle.query_model.specs.Queries.{Qre, iter, combine}
 use Rattle.query_model.specs.QueryTypes.{type_of}
 use Rattle.query_model.specs.Rules.{bound}
 use Rattle.split_eval.specs.Entries.{Contents}
+use Rattle.eval_nodes.specs.Holdings.{Holding, combine_held, iter_held, Seen}
 use Rattle.eval_tree.specs.declared.hit.Hit.{Hit}
-use Rattle.eval_tree.specs.Holdings.{Holding, combine_held, iter_held, Seen}
 use Rattle.eval_tree.specs.Lefts.{AreTypedOnHits, AreTypedWith}
 use Rattle.eval_tree.specs.Steps.{CanStart, CanStep, StartsSoundly, StepsSoundly}
 use Rattle.eval_tree.proofs.Typed.{all_typed_with, hit_of, typed_on_hits}

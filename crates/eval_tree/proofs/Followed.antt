@@ -6,10 +6,10 @@ use Rattle.rate_expr.specs.Words.{Word}
 use Rattle.query_model.specs.Denotation.{Den}
 use Rattle.query_model.specs.Following.{IsAnswer}
 use Rattle.query_model.specs.Queries.{Qre}
+use Rattle.eval_nodes.specs.Starts.{AreApart, ArePositions}
+use Rattle.eval_nodes.proofs.Members.{first_member, member_cases, no_member}
 use Rattle.eval_tree.specs.declared.hit.Hit.{Hit}
-use Rattle.eval_tree.specs.Starts.{AreApart, ArePositions}
 use Rattle.eval_tree.specs.Steps.{IsFirstHit, IsHit}
-use Rattle.eval_tree.proofs.Members.{first_member, member_cases, no_member}
 
 -- the one start
 pub only_start : (start : ℕ) → Contains (0 ∷ []) start → 0 ≡ start

@@ -12,10 +12,10 @@ use Rattle.predicate_cells.specs.Predicates.{Predicate}
 use Rattle.predicate_cells.specs.Truth.{holds}
 use Rattle.rate_expr.specs.Words.{Word}
 use Rattle.query_model.specs.Queries.{atom, eps}
-use Rattle.eval_tree.specs.Holdings.{atom_held, eps_held, Seen}
-use Rattle.eval_tree.specs.Starts.{ArePositions}
+use Rattle.eval_nodes.specs.Holdings.{atom_held, eps_held, Seen}
+use Rattle.eval_nodes.specs.Starts.{ArePositions}
+use Rattle.eval_nodes.proofs.Pieces.{at_end, behind_end, drop_more, length_more, one_item}
 use Rattle.eval_tree.specs.Steps.{Starts, Steps}
-use Rattle.eval_tree.proofs.Pieces.{at_end, behind_end, drop_more, length_more, one_item}
 
 -- the piece of one item begins at the end of the word before it
 last_start : (word : Word) (item other : List Field) (start : ℕ) → start ≤ length word

@@ -8,13 +8,13 @@ use Rattle.value_ops.specs.declared.value.Value.TheVariants as value
 use Rattle.value_ops.specs.Expressions.{Expression}
 use Rattle.query_model.specs.Queries.{Qre, iter}
 use Rattle.split_eval.specs.Entries.{Contents, live_entries}
+use Rattle.eval_nodes.specs.declared.progress.Progress.{Progress}
+use Rattle.eval_nodes.specs.Holdings.{Holding, iter_held}
+use Rattle.eval_nodes.specs.Live.{live_of}
+use Rattle.eval_nodes.specs.Plain.{seen_of}
 use Rattle.eval_tree.specs.declared.hit.Hit.{Hit}
-use Rattle.eval_tree.specs.declared.progress.Progress.{Progress}
 use Rattle.eval_tree.specs.Calls.{HasStarted, HasStepped}
-use Rattle.eval_tree.specs.Holdings.{Holding, iter_held}
 use Rattle.eval_tree.specs.Lefts.{IsEnded, IsPut}
-use Rattle.eval_tree.specs.Live.{live_of}
-use Rattle.eval_tree.specs.Plain.{seen_of}
 use Rattle.eval_tree.proofs.Elsewhere.{elsewhere}
 use Rattle.eval_tree.proofs.FoldSoundness.{sound_start_iter, sound_step_iter_none, sound_step_iter_some}
 use Rattle.eval_tree.proofs.IterStarts.{start_iter}

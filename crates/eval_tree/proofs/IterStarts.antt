@@ -15,17 +15,17 @@ use Rattle.query_model.specs.Rates.{rate_of}
 use Rattle.query_model.specs.Rules.{bound}
 use Rattle.query_model.proofs.InRates.{den_in}
 use Rattle.split_eval.specs.Entries.{Contents}
+use Rattle.eval_nodes.specs.Holdings.{Holding, iter_held, Seen}
+use Rattle.eval_nodes.specs.Live.{live_of}
+use Rattle.eval_nodes.specs.Represents.{Represents}
+use Rattle.eval_nodes.specs.Starts.{ArePositions}
+use Rattle.eval_nodes.proofs.Apart.{apart_right}
+use Rattle.eval_nodes.proofs.Chains.{chain_apart, chain_clear}
+use Rattle.eval_nodes.proofs.Pieces.{behind_end, end_is, word_behind}
 use Rattle.eval_tree.specs.declared.hit.Hit.{Hit}
-use Rattle.eval_tree.specs.Holdings.{Holding, iter_held, Seen}
 use Rattle.eval_tree.specs.Lefts.{IsPut}
-use Rattle.eval_tree.specs.Live.{live_of}
-use Rattle.eval_tree.specs.Represents.{Represents}
-use Rattle.eval_tree.specs.Starts.{ArePositions}
 use Rattle.eval_tree.specs.Steps.{Starts}
-use Rattle.eval_tree.proofs.Apart.{apart_right}
-use Rattle.eval_tree.proofs.Chains.{chain_apart, chain_clear}
 use Rattle.eval_tree.proofs.Ends.{NoneAtEnd, reached_end, reached_new}
-use Rattle.eval_tree.proofs.Pieces.{behind_end, end_is, word_behind}
 use Rattle.eval_tree.proofs.Splits.{handed}
 use Rattle.eval_tree.proofs.Waits.{waiting_new}
 

@@ -17,18 +17,18 @@ use Rattle.query_model.proofs.Defined.{in_den}
 use Rattle.query_model.proofs.InRates.{den_in}
 use Rattle.split_eval.specs.Entries.{Contents, live_entries, AreDistinct}
 use Rattle.split_eval.proofs.Distinct.{AreDistinct-live}
+use Rattle.eval_nodes.specs.Holdings.{Holding, iter_held, Seen}
+use Rattle.eval_nodes.specs.Live.{live_of}
+use Rattle.eval_nodes.specs.Represents.{AreWaiting, Represents}
+use Rattle.eval_nodes.specs.Starts.{ArePositions}
+use Rattle.eval_nodes.proofs.Apart.{apart_right}
+use Rattle.eval_nodes.proofs.Chains.{chain_apart, chain_clear, den_push, no_empty, star_last}
+use Rattle.eval_nodes.proofs.Pieces.{behind_end, drop_more, length_more, split_piece, word_behind, word_piece}
 use Rattle.eval_tree.specs.declared.hit.Hit.{Hit}
-use Rattle.eval_tree.specs.Holdings.{Holding, iter_held, Seen}
 use Rattle.eval_tree.specs.Lefts.{IsEnded, IsPut}
-use Rattle.eval_tree.specs.Live.{live_of}
-use Rattle.eval_tree.specs.Represents.{AreWaiting, Represents}
-use Rattle.eval_tree.specs.Starts.{ArePositions}
 use Rattle.eval_tree.specs.Steps.{IsHit, Starts, Steps}
-use Rattle.eval_tree.proofs.Apart.{apart_right}
-use Rattle.eval_tree.proofs.Chains.{chain_apart, chain_clear, den_push, no_empty, star_last}
 use Rattle.eval_tree.proofs.Elsewhere.{elsewhere}
 use Rattle.eval_tree.proofs.Ends.{before_end, reached_all, reached_end, reached_more}
-use Rattle.eval_tree.proofs.Pieces.{behind_end, drop_more, length_more, split_piece, word_behind, word_piece}
 use Rattle.eval_tree.proofs.SplitHits.{IsBefore, ended_before}
 use Rattle.eval_tree.proofs.SplitSteps.{more_positions, still_waiting}
 use Rattle.eval_tree.proofs.Splits.{handed, none_in}

@@ -22,16 +22,17 @@ use Rattle.query_model.proofs.Keys.{kept_word, keys_are}
 use Rattle.map_collect.specs.Followers.{Followers}
 use Rattle.map_collect.specs.Keys.{fallback_of, followers_of, names_of}
 use Rattle.map_collect.specs.declared.keys.Keys.{Keys}
+use Rattle.eval_nodes.specs.Copies.{IsCopy, IsCopyOf}
+use Rattle.eval_nodes.specs.Runners.{FollowsWord, IsSoundOf}
+use Rattle.eval_nodes.specs.Holdings.{Seen}
+use Rattle.eval_nodes.specs.Sound.{IsSound, IsSoundWithin, IsTyped}
+use Rattle.eval_nodes.proofs.Instances.{all_joined, all_mapped, all_member}
+use Rattle.eval_nodes.proofs.Zips.{read_there, zip_all, zip_first, zip_push, zip_through}
 use Rattle.eval_tree.specs.Collects.{AreSoundOf, IsPushed, StandsFor}
-use Rattle.eval_tree.specs.Copies.{IsCopy, IsCopyOf}
-use Rattle.eval_tree.specs.Feeds.{FollowsWord, IsCarried, IsSoundOf}
-use Rattle.eval_tree.specs.Holdings.{Seen}
+use Rattle.eval_tree.specs.Feeds.{IsCarried}
 use Rattle.eval_tree.specs.Pushes.{AllCarried, HasKey, IsCarriedAt}
-use Rattle.eval_tree.specs.Sound.{IsSound, IsSoundWithin, IsTyped}
 use Rattle.eval_tree.proofs.Copied.{copy_represents, copy_sound}
-use Rattle.eval_tree.proofs.Instances.{all_joined, all_mapped, all_member}
 use Rattle.eval_tree.proofs.KeyWords.{is_of, kept_more, keys_of_all, keys_of_key, new_key, of_all, of_key, of_other, passed_over, with_new, with_old}
-use Rattle.eval_tree.proofs.Zips.{read_there, zip_all, zip_first, zip_push, zip_through}
 
 -- another value beside the key at an index, where the keys differ
 pub zip_written : {B : Type 0} (P Q : List ℕ → B → Type 0) (names : List (List ℕ)) (ys : List B) (i : ℕ)

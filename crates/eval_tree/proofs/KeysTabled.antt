@@ -22,13 +22,13 @@ use Rattle.query_model.proofs.Keys.{kept_word}
 use Rattle.query_model.proofs.Typed.{den_typed, on_keys}
 use Rattle.map_collect.specs.Keys.{followers_of, names_of}
 use Rattle.map_collect.specs.declared.keys.Keys.{Keys}
+use Rattle.eval_nodes.specs.Runners.{FollowsWord}
+use Rattle.eval_nodes.specs.Holdings.{Seen}
+use Rattle.eval_nodes.proofs.Instances.{all_member}
+use Rattle.eval_nodes.proofs.Runners.{take_one}
+use Rattle.eval_nodes.proofs.Zips.{read_there}
 use Rattle.eval_tree.specs.Collects.{IsTableOf}
-use Rattle.eval_tree.specs.Feeds.{FollowsWord}
-use Rattle.eval_tree.specs.Holdings.{Seen}
 use Rattle.eval_tree.specs.Pushes.{entries_in, entry_with, scalar_of}
-use Rattle.eval_tree.proofs.Instances.{all_member}
-use Rattle.eval_tree.proofs.Runners.{take_one}
-use Rattle.eval_tree.proofs.Zips.{read_there}
 
 -- the entry of a key where its answer is a number, and where it is none
 pub entry_some : (key : List ℕ) (answer : Option Value) (scalar : Scalar) → scalar_of answer ≡ Some scalar

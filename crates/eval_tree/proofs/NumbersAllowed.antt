@@ -7,9 +7,10 @@ use Rattle.value_ops.specs.Expressions.{Expression}
 use Rattle.query_model.specs.Queries.{Qre, choice, split, iter, combine, apply, compose}
 use Rattle.split_eval.specs.Entries as entries
 use Rattle.compose_eval.specs.Followers.{Contents, followers_of}
+use Rattle.eval_nodes.specs.Cleared.{IsCleared}
+use Rattle.eval_nodes.specs.Holdings.{Holding, choice_held, combine_held, apply_held, split_held, iter_held, compose_held, Seen}
 use Rattle.eval_tree.specs.declared.hit.Hit.{Hit}
-use Rattle.eval_tree.specs.Feeds.{IsCleared, IsRenewed, item_of}
-use Rattle.eval_tree.specs.Holdings.{Holding, choice_held, combine_held, apply_held, split_held, iter_held, compose_held, Seen}
+use Rattle.eval_tree.specs.Feeds.{IsRenewed, item_of}
 use Rattle.eval_tree.specs.Numbers.{BeginsNumbers, CarriesNumbers, FeedsNumbers, PassesNumbers, StartsNumbers, StepsNumbers}
 use Rattle.eval_tree.specs.Steps.{StartsSoundly, StepsSoundly}
 use Rattle.eval_tree.proofs.Allowed.{start_behind, start_first, start_left, start_operand, start_right, start_second, step_first, step_left, step_operand, step_right, step_second}

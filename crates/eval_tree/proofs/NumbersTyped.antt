@@ -20,12 +20,12 @@ use Rattle.query_model.specs.Rules as rules
 use Rattle.query_model.proofs.ItemFields.{atom_types, one_type, two_types}
 use Rattle.split_eval.specs.Entries.{Contents}
 use Rattle.split_eval.specs.declared.entry.Entry.{Entry}
+use Rattle.eval_nodes.specs.Holdings.{Holding, atom_held, combine_held, apply_held, split_held, iter_held, Seen}
+use Rattle.eval_nodes.specs.Sound.{IsTyped}
 use Rattle.eval_tree.specs.declared.hit.Hit.{Hit}
 use Rattle.eval_tree.specs.Feeds.{IsCarried}
-use Rattle.eval_tree.specs.Holdings.{Holding, atom_held, combine_held, apply_held, split_held, iter_held, Seen}
 use Rattle.eval_tree.specs.Lefts.{AreNumbersOnHits, AreNumbersWith, IsEnded, IsNumberOnBoth, IsNumberOnHit, IsNumberOnOne, IsNumberWith}
 use Rattle.eval_tree.specs.Numbers.{CarriesNumbers, StartsNumbers, StepsNumbers}
-use Rattle.eval_tree.specs.Sound.{IsTyped}
 use Rattle.eval_tree.specs.Steps.{IsHitOf, StartsSoundly, StepsSoundly}
 use Rattle.eval_tree.proofs.NumberQueries.{number_type}
 use Rattle.eval_tree.proofs.Typed.{ended_of, found_typed, hit_of}

@@ -11,12 +11,12 @@ use Rattle.value_ops.specs.Expressions.{Expression}
 use Rattle.predicate_cells.specs.Predicates.{Predicate}
 use Rattle.predicate_cells.specs.Truth.{holds}
 use Rattle.query_model.specs.Queries.{Qre, atom, eps, choice, combine, apply}
+use Rattle.eval_nodes.specs.declared.progress.Progress.{Progress}
+use Rattle.eval_nodes.specs.Holdings.{Holding, atom_held, eps_held, choice_held, combine_held, apply_held}
+use Rattle.eval_nodes.specs.Plain.{seen_of}
 use Rattle.eval_tree.specs.declared.hit.Hit.{Hit}
-use Rattle.eval_tree.specs.declared.progress.Progress.{Progress}
 use Rattle.eval_tree.specs.Calls.{HasStarted, HasStepped}
-use Rattle.eval_tree.specs.Holdings.{Holding, atom_held, eps_held, choice_held, combine_held, apply_held}
 use Rattle.eval_tree.specs.Lefts.{AreCombined, IsApplied}
-use Rattle.eval_tree.specs.Plain.{seen_of}
 use Rattle.eval_tree.proofs.Choices.{start_apply, start_choice, step_apply, step_choice}
 use Rattle.eval_tree.proofs.Combines.{start_combine, step_combine}
 use Rattle.eval_tree.proofs.FoldSoundness.{sound_start_combine, sound_step_combine}

@@ -13,10 +13,10 @@ use Rattle.query_model.specs.Queries.{Qre}
 use Rattle.query_model.specs.Rates.{rate_of}
 use Rattle.query_model.specs.Rules.{Standing, IsClear}
 use Rattle.query_model.proofs.InRates.{den_in}
+use Rattle.eval_nodes.specs.Starts.{AreApart}
+use Rattle.eval_nodes.proofs.Pieces.{word_behind}
 use Rattle.eval_tree.specs.declared.hit.Hit.{Hit}
-use Rattle.eval_tree.specs.Starts.{AreApart}
 use Rattle.eval_tree.specs.Steps.{IsHit}
-use Rattle.eval_tree.proofs.Pieces.{word_behind}
 
 -- what goes on behind an item goes on before it
 pub extension_before : (columns : List Column) (r : rate.Expression) (word : Word) (item : List Field)

@@ -13,8 +13,8 @@ use Rattle.query_model.specs.QueryTypes.{type_of}
 use Rattle.query_model.specs.Rules.{bound}
 use Rattle.query_model.proofs.Expressed.{atom_ranges}
 use Rattle.split_eval.specs.Entries.{Contents, live_entries}
+use Rattle.eval_nodes.specs.Holdings.{Holding, atom_held, eps_held, choice_held, apply_held, split_held, Seen}
 use Rattle.eval_tree.specs.declared.hit.Hit.{Hit}
-use Rattle.eval_tree.specs.Holdings.{Holding, atom_held, eps_held, choice_held, apply_held, split_held, Seen}
 use Rattle.eval_tree.specs.Lefts.{IsApplied, IsEnded, IsJoined, IsPut}
 use Rattle.eval_tree.specs.Steps.{IsHitAt, IsHitOf, StartsSoundly, StepsSoundly}
 use Rattle.eval_tree.proofs.Typed.{applied_at, applied_of, ended_of, entries_kept, entries_put, hit_of, joined_of}

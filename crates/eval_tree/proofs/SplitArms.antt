@@ -8,13 +8,13 @@ use Rattle.std.specs.Prelude.{List}
 use Rattle.query_model.specs.Queries.{Qre, split}
 use Rattle.split_eval.specs.Entries.{Contents, live_entries}
 use Rattle.split_eval.specs.declared.entry.Entry.{Entry}
+use Rattle.eval_nodes.specs.declared.progress.Progress.{Progress}
+use Rattle.eval_nodes.specs.Holdings.{Holding, split_held}
+use Rattle.eval_nodes.specs.Live.{live_of}
+use Rattle.eval_nodes.specs.Plain.{seen_of}
 use Rattle.eval_tree.specs.declared.hit.Hit.{Hit}
-use Rattle.eval_tree.specs.declared.progress.Progress.{Progress}
 use Rattle.eval_tree.specs.Calls.{HasStarted, HasStepped}
-use Rattle.eval_tree.specs.Holdings.{Holding, split_held}
 use Rattle.eval_tree.specs.Lefts.{IsEnded, IsJoined, IsPut}
-use Rattle.eval_tree.specs.Live.{live_of}
-use Rattle.eval_tree.specs.Plain.{seen_of}
 use Rattle.eval_tree.proofs.Elsewhere.{elsewhere}
 use Rattle.eval_tree.proofs.Soundness.{sound_start_split_none, sound_start_split_some, sound_step_split_none, sound_step_split_some}
 use Rattle.eval_tree.proofs.SplitStarts.{start_split_none, start_split_some}

@@ -19,14 +19,14 @@ use Rattle.query_model.proofs.Defined.{in_den}
 use Rattle.query_model.proofs.InRates.{den_in}
 use Rattle.split_eval.specs.Entries.{entry_at}
 use Rattle.split_eval.specs.declared.entry.Entry.{Entry}
+use Rattle.eval_nodes.specs.Represents.{AreReached, AreWaiting}
+use Rattle.eval_nodes.specs.Starts.{ArePositions, IsPiece}
+use Rattle.eval_nodes.proofs.Pieces.{behind_end, drop_more, end_is, piece_more, split_piece, word_behind, word_piece}
+use Rattle.eval_nodes.proofs.Entries.{is_entry}
 use Rattle.eval_tree.specs.declared.hit.Hit.{Hit}
 use Rattle.eval_tree.specs.Lefts.{IsEnded, IsJoined, IsJoinedWith}
-use Rattle.eval_tree.specs.Represents.{AreReached, AreWaiting}
-use Rattle.eval_tree.specs.Starts.{ArePositions, IsPiece}
 use Rattle.eval_tree.specs.Steps.{IsFirstHit, IsHit}
 use Rattle.eval_tree.proofs.Ends.{AreReachedBefore, before_end}
-use Rattle.eval_tree.proofs.Pieces.{behind_end, drop_more, end_is, piece_more, split_piece, word_behind, word_piece}
-use Rattle.eval_tree.proofs.Waits.{is_entry}
 
 module _ (f g : Qre) (e : Expression) where
   -- a value whose left piece ends before the end of the word, and where there is no hit none has one

@@ -14,15 +14,15 @@ use Rattle.query_model.specs.Rules.{bound}
 use Rattle.query_model.proofs.Defined.{in_den}
 use Rattle.query_model.proofs.InRates.{den_in}
 use Rattle.split_eval.specs.Entries.{Contents}
+use Rattle.eval_nodes.specs.Holdings.{Holding, split_held, Seen}
+use Rattle.eval_nodes.specs.Live.{live_of}
+use Rattle.eval_nodes.specs.Represents.{Represents}
+use Rattle.eval_nodes.proofs.Apart.{apart_left, apart_right}
+use Rattle.eval_nodes.proofs.Pieces.{behind_end, end_is, word_behind}
 use Rattle.eval_tree.specs.declared.hit.Hit.{Hit}
-use Rattle.eval_tree.specs.Holdings.{Holding, split_held, Seen}
 use Rattle.eval_tree.specs.Lefts.{IsJoined, IsPut}
-use Rattle.eval_tree.specs.Live.{live_of}
-use Rattle.eval_tree.specs.Represents.{Represents}
 use Rattle.eval_tree.specs.Steps.{IsFirstHit, Starts}
-use Rattle.eval_tree.proofs.Apart.{apart_left, apart_right}
 use Rattle.eval_tree.proofs.Ends.{reached_end, reached_new, reached_same}
-use Rattle.eval_tree.proofs.Pieces.{behind_end, end_is, word_behind}
 use Rattle.eval_tree.proofs.Splits.{handed}
 use Rattle.eval_tree.proofs.Waits.{waiting_new, waiting_same}
 

@@ -18,18 +18,18 @@ use Rattle.query_model.proofs.InRates.{den_in}
 use Rattle.split_eval.specs.Entries.{Contents, live_entries, AreDistinct}
 use Rattle.split_eval.specs.declared.entry.Entry.{Entry}
 use Rattle.split_eval.proofs.Distinct.{AreDistinct-live}
+use Rattle.eval_nodes.specs.Holdings.{Holding, split_held, Seen}
+use Rattle.eval_nodes.specs.Live.{live_of}
+use Rattle.eval_nodes.specs.Represents.{AreReached, AreWaiting, Represents}
+use Rattle.eval_nodes.specs.Starts.{ArePositions}
+use Rattle.eval_nodes.proofs.Apart.{apart_left, apart_right}
+use Rattle.eval_nodes.proofs.Living.{living}
+use Rattle.eval_nodes.proofs.Pieces.{length_more, word_behind, word_piece}
 use Rattle.eval_tree.specs.declared.hit.Hit.{Hit}
-use Rattle.eval_tree.specs.Holdings.{Holding, split_held, Seen}
 use Rattle.eval_tree.specs.Lefts.{IsEnded, IsJoined, IsPut}
-use Rattle.eval_tree.specs.Live.{live_of}
-use Rattle.eval_tree.specs.Represents.{AreReached, AreWaiting, Represents}
-use Rattle.eval_tree.specs.Starts.{ArePositions}
 use Rattle.eval_tree.specs.Steps.{IsHit, Starts, Steps}
-use Rattle.eval_tree.proofs.Apart.{apart_left, apart_right}
 use Rattle.eval_tree.proofs.Elsewhere.{elsewhere, elsewhere_lives}
 use Rattle.eval_tree.proofs.Ends.{AreReachedBefore, reached_all, reached_end, reached_more}
-use Rattle.eval_tree.proofs.Living.{living}
-use Rattle.eval_tree.proofs.Pieces.{length_more, word_behind, word_piece}
 use Rattle.eval_tree.proofs.Splits.{extension_less, handed, none_in}
 use Rattle.eval_tree.proofs.Waits.{AreWaitingBefore, waiting_all, waiting_more}
 use Rattle.eval_tree.proofs.SplitHits.{either_end, ended_before, last_joined, no_last}

@@ -21,18 +21,19 @@ use Rattle.query_model.proofs.Unique.{one_value}
 use Rattle.split_eval.specs.Entries.{Contents, entry_at, AreDistinct}
 use Rattle.split_eval.specs.declared.entry.Entry.{Entry}
 use Rattle.split_eval.proofs.Found.{found_behind, found_first}
-use Rattle.eval_tree.specs.Holdings.{Holding, Seen}
+use Rattle.eval_nodes.specs.Holdings.{Holding, Seen}
+use Rattle.eval_nodes.specs.Live.{live_of}
+use Rattle.eval_nodes.specs.Represents.{AreReached, AreWaiting, Represents}
+use Rattle.eval_nodes.specs.Starts.{AreApart, AreDifferent, ArePositions}
+use Rattle.eval_nodes.proofs.Apart.{apart_left, apart_right}
+use Rattle.eval_nodes.proofs.Few.{few_live}
+use Rattle.eval_nodes.proofs.Living.{living}
+use Rattle.eval_nodes.proofs.Members.{member_cases, no_member}
+use Rattle.eval_nodes.proofs.Pieces.{word_behind, word_piece}
+use Rattle.eval_nodes.proofs.Entries.{is_entry}
 use Rattle.eval_tree.specs.Lefts.{IsPut}
-use Rattle.eval_tree.specs.Live.{live_of}
-use Rattle.eval_tree.specs.Represents.{AreReached, AreWaiting, Represents}
-use Rattle.eval_tree.specs.Starts.{AreApart, AreDifferent, ArePositions}
-use Rattle.eval_tree.proofs.Apart.{apart_left, apart_right}
 use Rattle.eval_tree.proofs.Ends.{AreReachedBefore, NoneAtEnd, reached_end}
-use Rattle.eval_tree.proofs.Few.{few_live}
-use Rattle.eval_tree.proofs.Living.{living}
-use Rattle.eval_tree.proofs.Members.{member_cases, no_member}
-use Rattle.eval_tree.proofs.Pieces.{word_behind, word_piece}
-use Rattle.eval_tree.proofs.Waits.{AreWaitingBefore, fresh_end, is_entry, waiting_end}
+use Rattle.eval_tree.proofs.Waits.{AreWaitingBefore, fresh_end, waiting_end}
 
 -- the inner starts of entries
 abbrev inners : List (Entry Value) → List ℕ

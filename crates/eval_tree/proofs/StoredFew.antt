@@ -28,24 +28,24 @@ use Rattle.map_collect.specs.Keys.{fallback_of, followers_of as keyed_followers,
 use Rattle.map_collect.specs.Tracks.{starts_of}
 use Rattle.map_collect.specs.declared.keys.Keys.{Keys}
 use Rattle.map_collect.specs.declared.track.Track.{Track}
-use Rattle.eval_tree.specs.Counts.{size_of_answer, size_of_keys, size_of_runner, size_of_track, stored_in}
-use Rattle.eval_tree.specs.Feeds.{FollowsWord}
-use Rattle.eval_tree.specs.Holdings.{Holding, atom_held, eps_held, choice_held, combine_held, apply_held, split_held, iter_held, compose_held, collect_held, Seen}
-use Rattle.eval_tree.specs.Keyed.{StandFor}
-use Rattle.eval_tree.specs.Represents.{KeepsFew, Represents}
-use Rattle.eval_tree.specs.Starts.{AreApart, ArePositions}
-use Rattle.eval_tree.proofs.Alike.{followers_many}
-use Rattle.eval_tree.proofs.Apart.{apart_first, apart_left, apart_right, apart_same, apart_second}
-use Rattle.eval_tree.proofs.Chains.{chain_apart, chain_clear}
-use Rattle.eval_tree.proofs.Few.{few_live}
-use Rattle.eval_tree.proofs.Instances.{all_member}
-use Rattle.eval_tree.proofs.Members.{member_cases, no_member}
+use Rattle.eval_nodes.specs.Counts.{size_of_answer, size_of_keys, size_of_runner, size_of_track, stored_in}
+use Rattle.eval_nodes.specs.Runners.{FollowsWord}
+use Rattle.eval_nodes.specs.Holdings.{Holding, atom_held, eps_held, choice_held, combine_held, apply_held, split_held, iter_held, compose_held, collect_held, Seen}
+use Rattle.eval_nodes.specs.Keyed.{StandFor}
+use Rattle.eval_nodes.specs.Represents.{KeepsFew, Represents}
+use Rattle.eval_nodes.specs.Starts.{AreApart, ArePositions}
+use Rattle.eval_nodes.proofs.Alike.{followers_many}
+use Rattle.eval_nodes.proofs.Apart.{apart_first, apart_left, apart_right, apart_same, apart_second}
+use Rattle.eval_nodes.proofs.Chains.{chain_apart, chain_clear}
+use Rattle.eval_nodes.proofs.Few.{few_live}
+use Rattle.eval_nodes.proofs.Instances.{all_member}
+use Rattle.eval_nodes.proofs.Members.{member_cases, no_member}
+use Rattle.eval_nodes.proofs.Pieces.{word_behind}
+use Rattle.eval_nodes.proofs.StoredEntries.{behind_among, entries_size, value_size}
+use Rattle.eval_nodes.proofs.Totals.{many_parts, scaled, sum_few, three_parts, together, track_fits, two_parts}
+use Rattle.eval_nodes.proofs.Zips.{whole_there, zip_long, zip_member}
 use Rattle.eval_tree.proofs.Outputs.{out_word}
-use Rattle.eval_tree.proofs.Pieces.{word_behind}
-use Rattle.eval_tree.proofs.StoredEntries.{behind_among, entries_size, value_size}
 use Rattle.eval_tree.proofs.StoredTracks.{HasTextsAlone, derived_texts, state_size}
-use Rattle.eval_tree.proofs.Totals.{many_parts, scaled, sum_few, three_parts, together, track_fits, two_parts}
-use Rattle.eval_tree.proofs.Zips.{whole_there, zip_long, zip_member}
 
 -- an answer has no more entries than keys were met
 answer_size : (standing : Standing) (columns : List Column) (q : Qre) (word : Word) (answer : Option Value)

@@ -26,7 +26,7 @@ use Rattle.rate_expr.proofs.StatesBehind.{behind_exists}
 use Rattle.query_model.specs.QueryTypes.{derived_columns}
 use Rattle.memory_bound.specs.KeysMet.{entries_in, most_entries}
 use Rattle.memory_bound.proofs.Growth.{entries_cons, of_item}
-use Rattle.eval_tree.specs.Counts.{size_of_state}
+use Rattle.eval_nodes.specs.Counts.{size_of_state}
 
 -- where there are texts there are no tables
 pub record HasTextsAlone (columns : List Column) : Type 0 where

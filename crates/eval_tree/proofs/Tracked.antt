@@ -8,9 +8,9 @@ use Rattle.symbolic_nfa.specs.Automata.{Automaton}
 use Rattle.symbolic_nfa.specs.States.{Extends}
 use Rattle.map_collect.specs.Tracks.{starts_of, states_of, IsFirstAccepted, KeepsExtending}
 use Rattle.map_collect.specs.declared.track.Track.{Track}
-use Rattle.eval_tree.specs.Starts.{AreDifferent}
-use Rattle.eval_tree.proofs.Members.{first_member, later_member, member_cases, no_member}
-use Rattle.eval_tree.proofs.Zips.{part_there, whole_there}
+use Rattle.eval_nodes.specs.Starts.{AreDifferent}
+use Rattle.eval_nodes.proofs.Members.{first_member, later_member, member_cases, no_member}
+use Rattle.eval_nodes.proofs.Zips.{part_there, whole_there}
 
 -- the first accepted start is there
 pub accepted_within : {R : Type 0} (sets : Sets) (tracks : List (Track R)) (i : ℕ) → IsFirstAccepted sets tracks i

@@ -13,9 +13,9 @@ use Rattle.query_model.proofs.ItemFields.{one_type, two_types}
 use Rattle.split_eval.specs.Entries.{Contents, entry_at, live_entries, AreDistinct}
 use Rattle.split_eval.specs.declared.entry.Entry.{Entry}
 use Rattle.split_eval.proofs.Distinct.{AreDistinct-live, AreDistinct-put}
+use Rattle.eval_nodes.specs.Sound.{AreEntriesOf}
 use Rattle.eval_tree.specs.declared.hit.Hit.{Hit}
 use Rattle.eval_tree.specs.Lefts.{AreCombined, AreTypedOnHits, AreTypedWith, IsApplied, IsEnded, IsJoined, IsJoinedWith, IsPut, IsTypedOnBoth, IsTypedOnHit, IsTypedOnOne, IsTypedWith}
-use Rattle.eval_tree.specs.Sound.{AreEntriesOf}
 use Rattle.eval_tree.specs.Steps.{IsHitAt, IsHitOf}
 
 all_push : {A : Type 0} (P : A → Type 0) (xs : List A) (x : A) → AllByRecursion P xs → P x

@@ -11,13 +11,13 @@ use Rattle.query_model.specs.Queries.{Qre, atom, eps, choice, split, iter, combi
 use Rattle.split_eval.specs.Entries.{Contents}
 use Rattle.compose_eval.specs.Followers as instances
 use Rattle.map_collect.specs.Tracks as tracks
-use Rattle.eval_tree.specs.declared.node.Node.{Node}
-use Rattle.eval_tree.specs.declared.node.State.{State}
-use Rattle.eval_tree.specs.declared.node.State.TheVariants.{Atom, Eps, Or', Apply', Split', Combine', Iter', Compose', Collect', Or, Apply, Split, Combine, Iter, Compose, Collect}
-use Rattle.eval_tree.specs.declared.node.State.TheViews.{out-State, roll-State, roll-out-State}
-use Rattle.eval_tree.specs.declared.progress.Progress.{Progress}
-use Rattle.eval_tree.specs.Plain.{holding_of, runners_of, seen_of, tracks_of}
-use Rattle.eval_tree.specs.Sound.{IsSound}
+use Rattle.eval_nodes.specs.declared.node.Node.{Node}
+use Rattle.eval_nodes.specs.declared.node.State.{State}
+use Rattle.eval_nodes.specs.declared.node.State.TheVariants.{Atom, Eps, Or', Apply', Split', Combine', Iter', Compose', Collect', Or, Apply, Split, Combine, Iter, Compose, Collect}
+use Rattle.eval_nodes.specs.declared.node.State.TheViews.{out-State, roll-State, roll-out-State}
+use Rattle.eval_nodes.specs.declared.progress.Progress.{Progress}
+use Rattle.eval_nodes.specs.Plain.{holding_of, runners_of, seen_of, tracks_of}
+use Rattle.eval_nodes.specs.Sound.{IsSound}
 
 no_compose : (columns : List Column) (position : ℕ) (f g : Qre) (node : State)
     → ((a : Box Node Global) (runners : instances.Contents Progress) → node ≡ Compose a runners → ⊥)

@@ -11,11 +11,12 @@ use Rattle.split_eval.specs.Entries.{Contents, entry_at, live_entries, AreDistin
 use Rattle.split_eval.specs.declared.entry.Entry.{Entry}
 use Rattle.split_eval.proofs.Found.{entry_at-live, entry_at-put, entry_at-put_other}
 use Rattle.split_eval.proofs.Distinct.{AreDistinct-put}
+use Rattle.eval_nodes.specs.Represents.{AreWaiting, IsEntry}
+use Rattle.eval_nodes.specs.Starts.{IsPiece}
+use Rattle.eval_nodes.proofs.Pieces.{drop_more, empty_is, end_is, end_piece, length_more, piece_less, piece_more}
+use Rattle.eval_nodes.proofs.Entries.{is_entry}
 use Rattle.eval_tree.specs.Lefts.{IsPut}
-use Rattle.eval_tree.specs.Represents.{AreWaiting, IsEntry}
-use Rattle.eval_tree.specs.Starts.{IsPiece}
 use Rattle.eval_tree.proofs.Ends.{before_end}
-use Rattle.eval_tree.proofs.Pieces.{drop_more, empty_is, end_is, end_piece, length_more, piece_less, piece_more}
 
 -- the entries are the values of pieces that end before the end of the word
 abbrev pub AreWaitingBefore : (Word → Value → Type 0) → (Word → Type 0) → Word → List ℕ → List (Entry Value) → Type 0
@@ -23,25 +24,6 @@ AreWaitingBefore D goes_on word starts entries = (inner outer : ℕ) (v : Value)
     ↔ (Contains starts outer
     × ((piece : Word) × IsPiece word outer piece inner × (inner < length word) × D piece v)
     × goes_on (drop inner word))
-
--- what is found has the inner start
-pub found_inner : (entries : List (Entry Value)) (inner : ℕ) (entry : Entry Value)
-    → entry_at entries inner ≡ Some entry → entry.inner ≡ inner
-found_inner [] inner entry found = absurd (none-some entry found)
-found_inner (x ∷ entries) inner entry found =
-    first (x.inner == inner) refl (found_inner entries inner entry) found
-  where
-    first : (same : Bool) → (x.inner == inner) ≡ same → (entry_at entries inner ≡ Some entry → entry.inner ≡ inner)
-        → cond same (Some x) (entry_at entries inner) ≡ Some entry → entry.inner ≡ inner
-    first true is later there =
-        ap (λ (e : Entry Value). e.inner) (sym (same_Some x entry there)) ∙ eqb-true x.inner inner is
-    first false is later there = later there
-
-pub is_entry : (entries : List (Entry Value)) (inner : ℕ) (entry : Entry Value)
-    → entry_at entries inner ≡ Some entry → IsEntry entries inner entry.outer entry.value
-is_entry entries inner entry found =
-    found ∙ ap (λ i. Some (record { inner = i; outer = entry.outer; value = entry.value }))
-    (found_inner entries inner entry found)
 
 -- a choice of what is found
 kept_found : (live : Bool) (found : Option (Entry Value)) (entry : Entry Value)

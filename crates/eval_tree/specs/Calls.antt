@@ -4,8 +4,8 @@ use Rattle.std.specs.Prelude.{ℕ, List, Option, Result, Ok, Err, IfOk, IsOk}
 use Rattle.std.specs.declared.alloc.AllocError.{AllocError}
 use Rattle.value_ops.specs.declared.field.Field.{Field}
 use Rattle.query_model.specs.Queries.{Qre}
+use Rattle.eval_nodes.specs.Holdings.{Holding, Seen}
 use Rattle.eval_tree.specs.declared.hit.Hit.{Hit}
-use Rattle.eval_tree.specs.Holdings.{Holding, Seen}
 use Rattle.eval_tree.specs.Numbers.{StartsNumbers, StepsNumbers}
 use Rattle.eval_tree.specs.Steps.{Starts, StartsSoundly, Steps, StepsSoundly}
 

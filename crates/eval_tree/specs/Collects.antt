@@ -13,10 +13,10 @@ use Rattle.query_model.specs.Queries.{Qre}
 use Rattle.query_model.specs.QueryTypes.{type_of}
 use Rattle.query_model.specs.Rules.{Standing, IsClear}
 use Rattle.map_collect.specs.declared.keys.Keys.{Keys}
-use Rattle.eval_tree.specs.Feeds.{FollowsWord, IsSoundOf}
-use Rattle.eval_tree.specs.Holdings.{Seen}
-use Rattle.eval_tree.specs.Keyed.{StandFor}
-use Rattle.eval_tree.specs.Sound.{AreSoundKeys}
+use Rattle.eval_nodes.specs.Runners.{FollowsWord, IsSoundOf}
+use Rattle.eval_nodes.specs.Holdings.{Seen}
+use Rattle.eval_nodes.specs.Keyed.{StandFor}
+use Rattle.eval_nodes.specs.Sound.{AreSoundKeys}
 
 module _ {R : Type 0} (seen : R → Seen R) where
   -- the runners follow what the word has for the keys of the column

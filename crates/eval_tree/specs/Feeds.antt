@@ -1,6 +1,6 @@
 -- For the prover. What becomes of runners: they take items and begin anew, and those of a compose do
 -- so by the hits of its left operand.
-use Rattle.std.specs.Prelude.{◌≡◌, ◌<◌, ◌⊎◌, ℕ, zero, suc, ◌+◌, ◌^◌, Bool, List, [], ◌∷◌, ◌++◌, Option, None, Some, MatchOption, if◌then◌else◌, length, slice_get}
+use Rattle.std.specs.Prelude.{◌≡◌, ◌<◌, ◌⊎◌, ℕ, ◌+◌, ◌^◌, Bool, List, [], ◌∷◌, ◌++◌, Option, None, Some, MatchOption, if◌then◌else◌, length, slice_get}
 use Rattle.std.specs.Option.{option_map}
 use Rattle.std.specs.List.{AllByRecursion}
 use Rattle.value_ops.specs.declared.field.Field.{Field}
@@ -11,13 +11,12 @@ use Rattle.item_schema.specs.Items.{IsItemOf}
 use Rattle.rate_expr.specs.Words.{Word, IsWordOf}
 use Rattle.query_model.specs.Following.{composes_of}
 use Rattle.query_model.specs.Queries.{Qre}
-use Rattle.query_model.specs.QueryTypes.{type_of}
 use Rattle.query_model.specs.Rules.{Standing, HasNoCollect, IsClear}
 use Rattle.compose_eval.specs.Followers.{Contents, instance_at, with_follower}
+use Rattle.eval_nodes.specs.Holdings.{Seen}
+use Rattle.eval_nodes.specs.Sound.{IsSoundWithin}
+use Rattle.eval_nodes.specs.Runners.{FollowsWord, IsSoundOf}
 use Rattle.eval_tree.specs.declared.hit.Hit.{Hit}
-use Rattle.eval_tree.specs.Holdings.{Holding, Seen}
-use Rattle.eval_tree.specs.Represents.{IsFollowing, Represents}
-use Rattle.eval_tree.specs.Sound.{IsSound, IsSoundRunner, IsSoundWithin}
 
 -- the value as an item of a stream of values
 abbrev pub item_of : Value → List Field
@@ -38,42 +37,12 @@ pub record HasIdle {R : Type 0} (held : Contents R) (at : ℕ) : Type 0 where
   pub fresh : instance_at held.live at ≡ None
 
 module _ {R : Type 0} (seen : R → Seen R) where
-  abbrev pub FollowsWord : List Column → Qre → Word → R → Type 0
-  FollowsWord columns query word runner =
-      IsFollowing seen (Represents seen columns query) query word runner
-
-  abbrev pub IsSoundOf : List Column → Qre → R → Type 0
-  IsSoundOf columns query runner =
-      IsSoundRunner seen (IsSound seen columns query) (type_of columns query) runner
-
-  -- What is sound stands for the empty word then, without a start, and stays sound. Only runners are
-  -- cleared, and in their queries no collect stands.
-  abbrev pub IsCleared : Qre → Holding R → Holding R → Type 0
-  IsCleared query old new = HasNoCollect query → (columns : List Column) (position : ℕ)
-      → IsSound seen columns query position old
-      → ((others : List Column) → Represents seen others query new [] [])
-      × ((now : ℕ) → IsSound seen columns query now new)
-
-  -- the node of a runner is cleared, it has no answer, and its position is as before
-  pub record IsClearedIn (query : Qre) (old new : R) : Type 0 where
-    pub position : (seen new).position ≡ (seen old).position
-    pub answer : (seen new).answer ≡ None
-    pub node : IsCleared query (seen old).node (seen new).node
-
-  -- the first so many runners are cleared, and the others are as before
-  abbrev pub AreCleared : Qre → ℕ → List R → List R → Type 0
-  AreCleared query zero old new = new ≡ old
-  AreCleared query (suc count) (runner ∷ old) (cleared ∷ new) =
-      IsClearedIn query runner cleared × AreCleared query count old new
-  AreCleared query (suc count) [] [] = Unit {0}
-  AreCleared query (suc count) old new = ⊥
-
   -- a runner may take one more item
   pub record CanCarry (query : Qre) (runner : R) (item : List Field) : Type 0 where
     pub standing : Standing
     pub columns : List Column
     pub clear : IsClear standing columns query
-    pub sound : IsSoundOf columns query runner
+    pub sound : IsSoundOf seen columns query runner
     pub is_item : IsItemOf columns item
     pub room : (seen runner).position + 1 + composes_of query < 2 ^ 64
 
@@ -83,7 +52,7 @@ module _ {R : Type 0} (seen : R → Seen R) where
     pub columns : List Column
     pub clear : IsClear standing columns query
     pub no_collect : HasNoCollect query
-    pub sound : IsSoundOf columns query runner
+    pub sound : IsSoundOf seen columns query runner
     pub is_item : IsHitIn columns left
     pub room : 1 + composes_of query < 2 ^ 64
 
@@ -94,7 +63,7 @@ module _ {R : Type 0} (seen : R → Seen R) where
     pub most : ℕ
     pub clear : IsClear standing columns query
     pub live : AllByRecursion
-        (λ one. IsSoundWithin seen (IsSoundOf columns query) most one.follower) held.live
+        (λ one. IsSoundWithin seen (IsSoundOf seen columns query) most one.follower) held.live
     pub is_item : IsHitIn columns left
     pub room : most + 1 + composes_of query < 2 ^ 64
 
@@ -104,7 +73,7 @@ module _ {R : Type 0} (seen : R → Seen R) where
     pub columns : List Column
     pub clear : IsClear standing columns query
     pub no_collect : HasNoCollect query
-    pub idle : AllByRecursion (IsSoundOf columns query) held.idle
+    pub idle : AllByRecursion (IsSoundOf seen columns query) held.idle
     pub is_item : IsHitIn columns left
     pub room : 1 + composes_of query < 2 ^ 64
 
@@ -112,17 +81,19 @@ module _ {R : Type 0} (seen : R → Seen R) where
   pub record IsCarried (query : Qre) (old : R) (item : List Field) (new : R) : Type 0 where
     pub word : (standing : Standing) (columns : List Column) (word : Word)
         → IsClear standing columns query → IsWordOf columns (word ++ item ∷ [])
-        → FollowsWord columns query word old → FollowsWord columns query (word ++ item ∷ []) new
+        → FollowsWord seen columns query word old
+        → FollowsWord seen columns query (word ++ item ∷ []) new
     pub sound : (standing : Standing) (columns : List Column) → IsClear standing columns query
-        → IsItemOf columns item → IsSoundOf columns query old → IsSoundOf columns query new
+        → IsItemOf columns item → IsSoundOf seen columns query old
+        → IsSoundOf seen columns query new
     pub position : (seen new).position ≡ (seen old).position + 1
 
   -- it follows the empty word, and stays sound
   pub record IsRenewed (query : Qre) (old new : R) : Type 0 where
     pub word : (standing : Standing) (columns : List Column) → IsClear standing columns query
-        → FollowsWord columns query [] new
+        → FollowsWord seen columns query [] new
     pub sound : (standing : Standing) (columns : List Column) → IsClear standing columns query
-        → IsSoundOf columns query old → IsSoundOf columns query new
+        → IsSoundOf seen columns query old → IsSoundOf seen columns query new
     pub position : (seen new).position ≡ 0
 
   -- it takes the value of a hit, and its answer is a hit of the same start

@@ -8,9 +8,9 @@ use Rattle.item_schema.specs.declared.column.Kind.TheVariants.{Table}
 use Rattle.query_model.specs.Queries.{Qre}
 use Rattle.query_model.specs.Rules.{HasNoCollect}
 use Rattle.compose_eval.specs.Followers.{Contents}
+use Rattle.eval_nodes.specs.Holdings.{Holding, Seen}
 use Rattle.eval_tree.specs.declared.hit.Hit.{Hit}
 use Rattle.eval_tree.specs.Feeds.{CanBegin, CanCarry, CanFeed, CanPassOn}
-use Rattle.eval_tree.specs.Holdings.{Holding, Seen}
 use Rattle.eval_tree.specs.Steps.{CanStart, CanStep}
 
 -- no item has a table

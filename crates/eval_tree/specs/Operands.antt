@@ -8,11 +8,11 @@ use Rattle.value_ops.specs.Expressions.{Expression}
 use Rattle.query_model.specs.Queries.{Qre}
 use Rattle.split_eval.specs.Entries.{Contents, live_entries}
 use Rattle.split_eval.specs.declared.entry.Entry.{Entry}
+use Rattle.eval_nodes.specs.Holdings.{Holding, Seen}
+use Rattle.eval_nodes.specs.Live.{live_of}
 use Rattle.eval_tree.specs.declared.hit.Hit.{Hit}
 use Rattle.eval_tree.specs.Calls.{HasStarted, HasStepped}
-use Rattle.eval_tree.specs.Holdings.{Holding, Seen}
 use Rattle.eval_tree.specs.Lefts.{AreNumbersWith, AreTypedWith, IsEnded, IsJoined, IsNumberWith, IsPut, IsTypedWith}
-use Rattle.eval_tree.specs.Live.{live_of}
 use Rattle.eval_tree.specs.Numbers.{StartsNumbers, StepsNumbers}
 use Rattle.eval_tree.specs.Steps.{CanStart, CanStep, StartsSoundly, StepsSoundly}
 

@@ -8,7 +8,7 @@ use Rattle.query_model.specs.Queries.{Qre}
 use Rattle.map_collect.specs.Keys.{fallback_of, keyed_of}
 use Rattle.map_collect.specs.Lending.{with_follower}
 use Rattle.map_collect.specs.declared.keys.Keys.{Keys}
-use Rattle.eval_tree.specs.Holdings.{Seen}
+use Rattle.eval_nodes.specs.Holdings.{Seen}
 use Rattle.eval_tree.specs.Pushes.{HasKey}
 
 module _ {R : Type 0} (seen : R → Seen R) where

@@ -24,12 +24,13 @@ use Rattle.map_collect.specs.Lending.{with_follower}
 use Rattle.map_collect.specs.Tracks.{AllAdvance, Contents, keys_of, starts_of, IsFirstAccepted, KeepsExtending, NoneAccepted}
 use Rattle.map_collect.specs.declared.keys.Keys.{Keys}
 use Rattle.map_collect.specs.declared.track.Track.{Track}
+use Rattle.eval_nodes.specs.Copies.{IsCopy, IsCopyOf}
+use Rattle.eval_nodes.specs.Runners.{FollowsWord, IsSoundOf}
+use Rattle.eval_nodes.specs.Holdings.{Seen}
+use Rattle.eval_nodes.specs.Sound.{IsSoundWithin}
 use Rattle.eval_tree.specs.declared.hit.Hit.{Hit}
 use Rattle.eval_tree.specs.Collects.{AreSoundOf, IsPushed, IsTableOf}
-use Rattle.eval_tree.specs.Copies.{IsCopy, IsCopyOf}
-use Rattle.eval_tree.specs.Feeds.{FollowsWord, IsCarried, IsSoundOf}
-use Rattle.eval_tree.specs.Holdings.{Seen}
-use Rattle.eval_tree.specs.Sound.{IsSoundWithin}
+use Rattle.eval_tree.specs.Feeds.{IsCarried}
 
 -- the entry of a key with a number, and none without
 abbrev pub entry_with : List ℕ → Option Value → Option (List ℕ × Scalar)

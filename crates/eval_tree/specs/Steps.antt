@@ -1,5 +1,5 @@
 -- Statement. What the calls of a node do to what it stands for, and when they may be made.
-use Rattle.std.specs.Prelude.{◌≡◌, ◌<◌, ◌↔◌, ℕ, ◌+◌, ◌^◌, Bool, IsTrue, List, [], ◌∷◌, ◌++◌, Option, MatchOption, drop, length}
+use Rattle.std.specs.Prelude.{◌≡◌, ◌<◌, ℕ, ◌+◌, ◌^◌, List, [], ◌∷◌, ◌++◌, Option, MatchOption, drop, length}
 use Rattle.std.specs.List.{Contains}
 use Rattle.value_ops.specs.declared.field.Field.{Field}
 use Rattle.value_ops.specs.declared.value.Value.{Value}
@@ -13,11 +13,11 @@ use Rattle.query_model.specs.Following.{composes_of}
 use Rattle.query_model.specs.Queries.{Qre}
 use Rattle.query_model.specs.QueryTypes.{type_of}
 use Rattle.query_model.specs.Rules.{Standing, IsClear}
+use Rattle.eval_nodes.specs.Holdings.{Holding, Seen}
+use Rattle.eval_nodes.specs.Represents.{Represents}
+use Rattle.eval_nodes.specs.Sound.{IsSound}
+use Rattle.eval_nodes.specs.Starts.{AreApart, ArePositions}
 use Rattle.eval_tree.specs.declared.hit.Hit.{Hit}
-use Rattle.eval_tree.specs.Holdings.{Holding, Seen}
-use Rattle.eval_tree.specs.Represents.{Represents}
-use Rattle.eval_tree.specs.Sound.{IsSound}
-use Rattle.eval_tree.specs.Starts.{AreApart, ArePositions, IsLive}
 
 -- a hit is a start whose piece has the value, and where there is no hit no piece has one
 pub record IsHit (D : Word → Value → Type 0) (word : Word) (starts : List ℕ)
@@ -91,13 +91,6 @@ module _ {R : Type 0} (seen : R → Seen R) where
       → now ≡ length word + 1
       → AreApart columns query (word ++ item ∷ []) starts
       → IsStepped columns query (word ++ item ∷ []) starts new hit
-
-  -- where it stands for a word and starts, exactly the starts that can go on are live
-  abbrev pub Lives : Qre → Holding R → ℕ → Bool → Type 0
-  Lives query holding start live = (standing : Standing) (columns : List Column) (word : Word)
-      (starts : List ℕ) → IsClear standing columns query → IsWordOf columns word
-      → ArePositions word starts → Represents seen columns query holding word starts
-      → IsTrue live ↔ IsLive columns query word starts start
 
   -- it stays sound, and a hit is of the new start and of the type
   pub record IsSoundlyStarted (columns : List Column) (query : Qre) (at : ℕ) (new : Holding R)

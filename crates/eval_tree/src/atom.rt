@@ -4,11 +4,12 @@ ghost use Rattle.predicate_cells.specs.Plain as predicates;
 ghost use Rattle.predicate_cells.specs.Predicates.{Predicate};
 ghost use Rattle.value_ops.specs.Expressions as values;
 ghost use Rattle.query_model.specs.Queries.{atom};
+ghost use Rattle.eval_nodes.specs.Plain.{holding_of, seen_of};
 ghost use Rattle.eval_tree.specs.Calls.{HasStarted, HasStepped, found_in};
-ghost use Rattle.eval_tree.specs.Plain.{holding_of, seen_of};
 ghost use Rattle.eval_tree.specs.Steps.{CanStart, CanStep};
 
-use crate::{Hit, Node, State};
+use crate::Hit;
+use eval_nodes::{Node, State};
 use item_schema::Item;
 use predicate_cells::{Pred, holds};
 use std::alloc::{AllocError, Global};

@@ -1,11 +1,12 @@
 //! The calls of a node, by which it follows a word.
 ghost use Rattle.query_model.specs.Queries.{plain_of};
+ghost use Rattle.eval_nodes.specs.Plain.{holding_of, seen_of};
 ghost use Rattle.eval_tree.specs.Calls.{HasStarted, HasStepped};
-ghost use Rattle.eval_tree.specs.Plain.{holding_of, seen_of};
 ghost use Rattle.eval_tree.specs.Steps.{CanStart, CanStep};
 
+use crate::Hit;
 use crate::steps::{start_into, step_into};
-use crate::{Hit, Node};
+use eval_nodes::Node;
 use item_schema::Item;
 use query_model::Query;
 use std::alloc::{AllocError, Global};

@@ -1,13 +1,14 @@
 //! The calls of a choice: those of both operands, which have no word in common.
 ghost use Rattle.std.specs.Prelude.{◌≡◌, None};
 ghost use Rattle.query_model.specs.Queries.{choice, plain_of};
+ghost use Rattle.eval_nodes.specs.Plain.{holding_of, seen_of};
 ghost use Rattle.eval_tree.specs.Calls.{HasStarted, HasStepped, found_in};
-ghost use Rattle.eval_tree.specs.Plain.{holding_of, seen_of};
 ghost use Rattle.eval_tree.specs.Steps.{CanStart, CanStep};
 
+use crate::Hit;
 use crate::hit::put_if_none;
 use crate::steps::{start_into, step_into};
-use crate::{Hit, Node, State};
+use eval_nodes::{Node, State};
 use item_schema::Item;
 use query_model::Query;
 use std::alloc::{AllocError, Global};

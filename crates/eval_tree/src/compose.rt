@@ -2,16 +2,16 @@
 ghost use Rattle.std.specs.Prelude.{◌≡◌, ◌++◌, None};
 ghost use Rattle.compose_eval.specs.Followers.{live_instances, retired};
 ghost use Rattle.query_model.specs.Queries.{compose, plain_of};
+ghost use Rattle.eval_nodes.specs.Live.{live_of};
+ghost use Rattle.eval_nodes.specs.Plain.{holding_of, seen_of};
 ghost use Rattle.eval_tree.specs.Calls.{HasStarted, HasStepped, found_in};
-ghost use Rattle.eval_tree.specs.Live.{live_of};
-ghost use Rattle.eval_tree.specs.Plain.{holding_of, seen_of};
 ghost use Rattle.eval_tree.specs.Steps.{CanStart, CanStep};
 
+use crate::Hit;
 use crate::feeds::{feed, pass_on};
-use crate::live::is_live;
 use crate::steps::{start_into, step_into};
-use crate::{Hit, Node, Progress, State};
 use compose_eval::Instances;
+use eval_nodes::{Node, Progress, State, is_live};
 use item_schema::Item;
 use query_model::Query;
 use std::alloc::{AllocError, Global};

@@ -1,15 +1,15 @@
 //! Runners of the right operand of a compose. The values of the left operand are their items.
 ghost use Rattle.std.specs.Prelude.{◌≡◌, IfOk, None, IsOk};
 ghost use Rattle.query_model.specs.Queries.{plain_of};
+ghost use Rattle.eval_nodes.specs.Plain.{seen_of};
 ghost use Rattle.eval_tree.specs.Feeds.{CanBegin, CanCarry, CanFeed, CanPassOn, Feeds, IsBegun, IsCarried, IsRenewed, IsTold, PassesOn, item_of};
 ghost use Rattle.eval_tree.specs.Numbers.{BeginsNumbers, CarriesNumbers, FeedsNumbers, PassesNumbers};
-ghost use Rattle.eval_tree.specs.Plain.{seen_of};
 
-use crate::clear::clear;
-use crate::progress::value_of;
+use crate::Hit;
+use crate::hit::value_of;
 use crate::steps::{start_into, step_into};
-use crate::{Hit, Progress};
 use compose_eval::Instances;
+use eval_nodes::{Progress, clear};
 use item_schema::Item;
 use query_model::Query;
 use std::alloc::{AllocError, Global};
@@ -121,7 +121,7 @@ fn tell(
 
 /// One more item.
 #[cycle(step)]
-pub(crate) fn carry(
+pub fn carry(
     query: &Query,
     runner: &mut Progress,
     alloc: Global,
@@ -143,7 +143,7 @@ pub(crate) fn carry(
 
 /// Before the first item.
 #[cycle(step)]
-pub(crate) fn renew(query: &Query, runner: &mut Progress, alloc: Global) -> Result<(), AllocError>
+pub fn renew(query: &Query, runner: &mut Progress, alloc: Global) -> Result<(), AllocError>
     requires { CanBegin seen_of (plain_of query.now.shape) runner.old None }
     ensures renewed { IfOk result (λ done. IsRenewed seen_of (plain_of query.now.shape) runner.old
         runner.new) }

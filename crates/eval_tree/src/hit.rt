@@ -1,9 +1,10 @@
 //! Where a piece of the word has a value.
 ghost use Rattle.std.specs.Prelude.{◌≡◌, Some};
-ghost use Rattle.std.specs.Option.{option_or};
+ghost use Rattle.std.specs.Option.{option_map, option_or};
 ghost use Rattle.value_ops.specs.declared.scalar.Scalar.TheVariants as scalar;
 ghost use Rattle.value_ops.specs.Types.{IsTable};
 ghost use Rattle.value_ops.specs.declared.value.Value.TheVariants as value;
+ghost use Rattle.eval_tree.specs.declared.hit.Hit.{Hit};
 
 use value_ops::{Scalar, Table, Value};
 
@@ -69,5 +70,15 @@ pub(crate) fn put_if_none(hit: &mut Option<Hit>, other: Option<Hit>)
 {
     if hit.is_none() {
         *hit = other;
+    }
+}
+
+/// The value of a hit.
+pub fn value_of(hit: Option<Hit>) -> Option<Value>
+    ensures { result ≡ option_map (λ (found : Hit). found.value) hit }
+{
+    match hit {
+        Some(hit) => Some(hit.into_parts().1),
+        None => None,
     }
 }

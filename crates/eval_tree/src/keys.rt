@@ -3,14 +3,13 @@ ghost use Rattle.std.specs.Prelude.{◌≡◌, IfOk, OnErr};
 ghost use Rattle.predicate_cells.specs.Plain as predicates;
 ghost use Rattle.query_model.specs.Denotation.{key_of};
 ghost use Rattle.query_model.specs.Queries.{plain_of};
+ghost use Rattle.eval_nodes.specs.Plain.{seen_of};
 ghost use Rattle.eval_tree.specs.Collects.{CanPush, IsPushed};
-ghost use Rattle.eval_tree.specs.Plain.{seen_of};
 ghost use Rattle.eval_tree.specs.OutOfMemory.{IsKeyLeft, IsLeft};
 ghost use Rattle.eval_tree.specs.Pushes.{AllCarried, HasKey, IsKeyPushed};
 
-use crate::Progress;
-use crate::copies::copy_of_runner;
 use crate::feeds::carry;
+use eval_nodes::{Progress, copy_of_runner};
 use item_schema::Item;
 use map_collect::Keys;
 use predicate_cells::{Pred, holds};

@@ -4,24 +4,11 @@ ghost use Rattle.std.specs.Option.{option_copied};
 ghost use Rattle.value_ops.specs.Expressions.{plain_of};
 ghost use Rattle.split_eval.specs.Entries.{entry_at};
 ghost use Rattle.eval_tree.specs.Lefts.{AreCombined, AreNumbersOnHits, AreNumbersWith, AreTypedOnHits, AreTypedWith, IsApplied, IsEnded, IsJoined, IsNumberOnBoth, IsNumberOnHit, IsNumberWith, IsPut, IsTypedOnBoth, IsTypedOnHit, IsTypedWith};
-ghost use Rattle.eval_tree.specs.Live.{is_outer};
 
 use crate::Hit;
 use split_eval::Pending;
 use std::alloc::{AllocError, Global};
 use value_ops::{Expr, Value};
-
-/// Whether a left value waits whose whole begins at the start.
-pub(crate) fn has_outer(held: &Pending<Value>, start: u64) -> bool
-    ensures { result ≡ is_outer held.now.entries start }
-{
-    'entries: for i in 0..held.len() {
-        if held.entry(i).outer == start {
-            return true;
-        }
-    }
-    false
-}
 
 /// The left value waits after its piece, where more may go on. Where the starts are apart there is
 /// always room.

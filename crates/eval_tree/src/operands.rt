@@ -2,12 +2,13 @@
 ghost use Rattle.std.specs.Prelude.{◌≡◌, None, IfOk, IsOk};
 ghost use Rattle.value_ops.specs.Expressions as values;
 ghost use Rattle.query_model.specs.Queries.{plain_of};
+ghost use Rattle.eval_nodes.specs.Plain.{holding_of, seen_of};
 ghost use Rattle.eval_tree.specs.Operands.{CanEnd, CanJoin, EndsNumbers, HasEnded, HasJoined, JoinsNumbers};
-ghost use Rattle.eval_tree.specs.Plain.{holding_of, seen_of};
 
+use crate::Hit;
 use crate::lefts::{end_waiting, join_to};
 use crate::steps::{start_into, step_into};
-use crate::{Hit, Node};
+use eval_nodes::Node;
 use item_schema::Item;
 use query_model::Query;
 use split_eval::Pending;

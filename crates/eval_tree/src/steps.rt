@@ -1,11 +1,12 @@
 //! The calls that carry a node along its word. A hit is put into its place, which has none before.
 ghost use Rattle.std.specs.Prelude.{◌≡◌, None, Option};
 ghost use Rattle.query_model.specs.Queries.{plain_of};
+ghost use Rattle.eval_nodes.specs.Plain.{holding_of, seen_of};
 ghost use Rattle.eval_tree.specs.Calls.{HasStarted, HasStepped, found_in};
-ghost use Rattle.eval_tree.specs.Plain.{holding_of, seen_of};
 ghost use Rattle.eval_tree.specs.Steps.{CanStart, CanStep};
 ghost use Rattle.eval_tree.specs.declared.hit.Hit.{Hit};
 
+use crate::Hit;
 use crate::apply::{start_apply, step_apply};
 use crate::atom::{start_atom, step_atom};
 use crate::choice::{start_choice, step_choice};
@@ -15,7 +16,7 @@ use crate::compose::{start_compose, step_compose};
 use crate::hit::put_number;
 use crate::iter::{start_iter, step_iter};
 use crate::split::{start_split, step_split};
-use crate::{Hit, Node};
+use eval_nodes::Node;
 use item_schema::Item;
 use query_model::{Query, Shape};
 use std::alloc::{AllocError, Global};

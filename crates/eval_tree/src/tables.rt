@@ -1,10 +1,11 @@
 //! The tables that runners for keys make.
 ghost use Rattle.std.specs.Prelude.{◌≡◌, IfOk};
+ghost use Rattle.eval_nodes.specs.Plain.{seen_of};
 ghost use Rattle.eval_tree.specs.Collects.{IsTableOf};
-ghost use Rattle.eval_tree.specs.Plain.{seen_of};
 ghost use Rattle.eval_tree.specs.Pushes.{IsFirstTable, IsTabled, scalar_of};
 
-use crate::{Hit, Progress};
+use crate::Hit;
+use eval_nodes::Progress;
 use map_collect::{Keys, Tracks};
 use rate_expr::State;
 use std::alloc::{AllocError, Global};

@@ -6,7 +6,7 @@ ghost use Rattle.sqre_run.specs.Drilling.{IsDrillable};
 ghost use Rattle.sqre_run.specs.Meanings.{IsMeaning, Meaning};
 
 use crate::drilling::drill;
-use eval_tree::Runner;
+use eval_runner::Runner;
 use language_base::Bytes;
 use query_model::Checked;
 use std::alloc::{AllocError, Global};

@@ -7,7 +7,7 @@ ghost use Rattle.sqre_run.specs.Outside.{Ended, outside};
 use crate::Status;
 use crate::command::Engine;
 use crate::run::run;
-use eval_tree::Runner;
+use eval_runner::Runner;
 use io_edge::{Sink, Source};
 use query_model::Checked;
 use slow_eval::Slow;

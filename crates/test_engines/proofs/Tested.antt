@@ -22,13 +22,13 @@ use Rattle.query_model.specs.Queries.{Qre, atom, plain_of, split}
 use Rattle.query_model.specs.Rules.{CanBeMet, IsClear, Standing, bound, free}
 use Rattle.query_model.specs.Sizes.{IsSmall}
 use Rattle.test_engines.specs.TestedQueries.{difference, numbers}
-use Rattle.eval_tree.specs.Holdings.{Holding}
-use Rattle.eval_tree.specs.Plain.{seen_of}
-use Rattle.eval_tree.specs.Streams.{CanBeMade}
-use Rattle.eval_tree.specs.Sound.{IsSound}
+use Rattle.eval_nodes.specs.Holdings.{Holding}
+use Rattle.eval_nodes.specs.Plain.{seen_of}
+use Rattle.eval_nodes.specs.Streams.{CanBeMade}
+use Rattle.eval_nodes.specs.Sound.{IsSound}
+use Rattle.eval_nodes.specs.declared.progress.Progress.{Progress}
 use Rattle.eval_tree.specs.Steps.{CanStart, CanStep, StartsSoundly, StepsSoundly}
 use Rattle.eval_tree.specs.declared.hit.Hit.{Hit}
-use Rattle.eval_tree.specs.declared.progress.Progress.{Progress}
 
 five : FitsSigned w64 (pos 5)
 five = search rules

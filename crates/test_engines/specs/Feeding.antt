@@ -2,8 +2,8 @@
 use Rattle.std.specs.Prelude.{◌≡◌, ◌≤◌, false, List}
 use Rattle.item_schema.specs.declared.column.Column.{Column}
 use Rattle.query_model.specs.Following.{composes_of}
-use Rattle.eval_tree.specs.Following.{columns_of, is_lost, query_of, IsSoundly}
-use Rattle.eval_tree.specs.declared.runner.Runner.{Runner}
+use Rattle.eval_runner.specs.Following.{columns_of, is_lost, query_of, IsSoundly}
+use Rattle.eval_runner.specs.declared.runner.Runner.{Runner}
 
 -- it is sound and not lost, on these columns, and at most one compose stands in its query
 pub record TakesItems (columns : List Column) (runner : Runner) : Type 0 where

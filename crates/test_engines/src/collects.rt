@@ -6,13 +6,13 @@ ghost use Rattle.predicate_cells.specs.Predicates.{any};
 ghost use Rattle.rate_expr.specs.Plain as rates;
 ghost use Rattle.rate_expr.specs.Rates.{one, sequence, star};
 ghost use Rattle.query_model.specs.Queries.{plain_of};
-ghost use Rattle.eval_tree.specs.Following.{position_of};
+ghost use Rattle.eval_runner.specs.Following.{position_of};
 ghost use Rattle.test_engines.specs.Feeding.{TakesItems};
 ghost use Rattle.test_engines.specs.TestedQueries as tested;
 
 use crate::assertions::same;
 use crate::given::{query, total};
-use eval_tree::Runner;
+use eval_runner::Runner;
 use item_schema::{Column, Item, Kind, Schema};
 use predicate_cells::Pred;
 use query_model::{Checked, Follower, Query, Shape};

@@ -2,13 +2,13 @@
 ghost use Rattle.std.specs.Prelude.{◌≡◌, ◌≤◌, IfOk, OnOk};
 ghost use Rattle.query_model.specs.Following.{composes_of};
 ghost use Rattle.query_model.specs.Queries.{plain_of};
-ghost use Rattle.eval_tree.specs.Following.{position_of};
+ghost use Rattle.eval_runner.specs.Following.{position_of};
 ghost use Rattle.test_engines.specs.Feeding.{TakesItems};
 ghost use Rattle.test_engines.specs.TestedQueries as tested;
 
 use crate::assertions::same;
 use crate::runner::{begun, checked_difference, checked_excess, checked_total, value, value_after};
-use eval_tree::Runner;
+use eval_runner::Runner;
 use query_model::{Checked, Follower};
 use std::alloc::{AllocError, Global};
 use std::test::Fail;

@@ -2,13 +2,14 @@
 ghost use Rattle.std.specs.Prelude.{◌≡◌, ◌-◌, ◌<◌, IfOk, OnOk};
 ghost use Rattle.item_schema.specs.Items.{IsItemOf};
 ghost use Rattle.query_model.specs.Queries.{plain_of};
-ghost use Rattle.eval_tree.specs.Plain.{holding_of, seen_of};
-ghost use Rattle.eval_tree.specs.Sound.{IsSound};
+ghost use Rattle.eval_nodes.specs.Plain.{holding_of, seen_of};
+ghost use Rattle.eval_nodes.specs.Sound.{IsSound};
 ghost use Rattle.test_engines.specs.TestedQueries as tested;
 
 use crate::assertions::same;
 use crate::given::{difference, item};
-use eval_tree::{Hit, Node, copy, is_live, start, step, stored};
+use eval_nodes::{Node, copy, is_live, stored};
+use eval_tree::{Hit, start, step};
 use item_schema::Item;
 use query_model::Query;
 use std::alloc::{AllocError, Global};

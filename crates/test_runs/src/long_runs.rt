@@ -4,7 +4,7 @@ ghost use Rattle.std.specs.Prelude.{◌≡◌, IfOk};
 use crate::assertions::same;
 use crate::compiled::compiled;
 use crate::given::{Given, SUM, outcome, run_of, sum_over};
-use eval_tree::Runner;
+use eval_runner::Runner;
 use item_drill::Drill;
 use item_schema::{Column, Kind, Schema, read_item};
 use language_base::Bytes;

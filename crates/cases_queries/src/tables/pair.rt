@@ -2,7 +2,7 @@
 
 use crate::tables::stop::Stop;
 use crate::tables::told::{Told, told_by};
-use eval_tree::Runner;
+use eval_runner::Runner;
 use memory_bound::slots;
 use query_model::Checked;
 use slow_eval::Slow;

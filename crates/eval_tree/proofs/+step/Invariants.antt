@@ -3,8 +3,8 @@ use Rattle.predicate_cells.specs.Plain as predicates
 use Rattle.query_model.specs.declared.query.Query.{size-Query}
 use Rattle.query_model.specs.Queries.{plain_of}
 use Rattle.map_collect.specs.Keys.{fallback_of, followers_of, names_of}
+use Rattle.eval_nodes.specs.Plain.{seen_of}
 use Rattle.eval_tree.specs.Feeds.{IsCarried}
-use Rattle.eval_tree.specs.Plain.{seen_of}
 use Rattle.eval_tree.specs.Pushes.{AreCarriedBelow, ArePushedBelow}
 use Rattle.eval_tree.proofs.+step.Given as goal
 

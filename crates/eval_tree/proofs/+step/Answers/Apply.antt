@@ -3,9 +3,9 @@ use Rattle.std.proofs.Common.{ap, refl, rules, sym, ◌≡◌}
 use Rattle.std.proofs.lemmas.Bool.{false≢true}
 use Rattle.value_ops.specs.Expressions as values
 use Rattle.query_model.specs.Queries.{plain_of}
-use Rattle.eval_tree.specs.Holdings.{apply_held}
-use Rattle.eval_tree.specs.Plain.{holding_of, seen_of}
-use Rattle.eval_tree.specs.declared.node.State.TheViews.{out-State, roll-State}
+use Rattle.eval_nodes.specs.Holdings.{apply_held}
+use Rattle.eval_nodes.specs.Plain.{holding_of, seen_of}
+use Rattle.eval_nodes.specs.declared.node.State.TheViews.{out-State, roll-State}
 use Rattle.eval_tree.proofs.Arms.{numbers_start_as, numbers_step_as, start_fails, started_as, started_from, step_fails, stepped_as, stepped_from, when_started, when_stepped}
 use Rattle.eval_tree.proofs.NumbersAllowed.{operand_starts, operand_steps}
 use Rattle.eval_tree.proofs.NumbersTyped.{applied_started, applied_stepped}

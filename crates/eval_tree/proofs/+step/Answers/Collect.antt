@@ -1,20 +1,21 @@
 -- A collect.
 use Rattle.std.proofs.Common.{ap, arith, inl, refl, rules, subst, sym, ◌∙◌, inr}
 use Rattle.query_model.specs.Queries.{plain_of}
-use Rattle.eval_tree.specs.Plain.{holding_of, seen_of, tracks_of}
-use Rattle.eval_tree.proofs.Arms.{can_start_as, can_step_as, started_as, stepped_as, when_started, when_stepped}
+use Rattle.eval_nodes.specs.Plain.{holding_of, seen_of, tracks_of}
+use Rattle.eval_nodes.specs.Holdings.{collect_held}
 use Rattle.predicate_cells.specs.Plain as predicates
-use Rattle.eval_tree.specs.Holdings.{collect_held}
-use Rattle.eval_tree.specs.declared.node.State.TheVariants.{Collect}
-use Rattle.eval_tree.specs.declared.node.State.TheViews.{out-State, roll-State}
-use Rattle.eval_tree.specs.declared.progress.Progress.{Progress}
+use Rattle.eval_nodes.specs.declared.node.State.TheVariants.{Collect}
+use Rattle.eval_nodes.specs.declared.node.State.TheViews.{out-State, roll-State}
+use Rattle.eval_nodes.specs.declared.progress.Progress.{Progress}
+use Rattle.eval_nodes.proofs.HeldTracks.{tracked_is, tracks_are}
 use Rattle.symbolic_nfa.specs.Automata.{Automaton}
 use Rattle.map_collect.specs.Tracks as tracks
+use Rattle.eval_nodes.proofs.Served.{without_collect}
+use Rattle.eval_tree.proofs.Arms.{can_start_as, can_step_as, started_as, stepped_as, when_started, when_stepped}
 use Rattle.eval_tree.specs.Pushes.{BeginsAt, IsFirstTable, IsNew, CanPassBy, IsTabled, PassesBy}
 use Rattle.eval_tree.proofs.CollectAllowed.{make_allowed, advanced_allowed, pass_allowed, push_allowed, pushed_end, pushed_next, with_length}
-use Rattle.eval_tree.proofs.CollectArms.{collect_starts, collect_steps, tracked_is, tracks_are}
+use Rattle.eval_tree.proofs.CollectArms.{collect_starts, collect_steps}
 use Rattle.eval_tree.proofs.CollectBegun.{made_new, start_made}
-use Rattle.eval_tree.proofs.Served.{without_collect}
 use Rattle.map_collect.specs.Tracks.{KeepsExtending}
 use Rattle.eval_tree.proofs.Unsound.{unsound_collect}
 use Rattle.eval_tree.proofs.+step.Goals as goal

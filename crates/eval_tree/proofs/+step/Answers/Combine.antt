@@ -3,7 +3,7 @@ use Rattle.std.proofs.Common.{ap, refl, rules, sym, ◌≡◌}
 use Rattle.std.proofs.lemmas.Bool.{false≢true}
 use Rattle.value_ops.specs.Expressions as values
 use Rattle.query_model.specs.Queries.{plain_of}
-use Rattle.eval_tree.specs.Plain.{holding_of, seen_of}
+use Rattle.eval_nodes.specs.Plain.{holding_of, seen_of}
 use Rattle.eval_tree.proofs.Arms.{can_start_as, can_step_as, numbers_start_as, numbers_step_as, soundly_started_as, soundly_stepped_as, start_fails, started_as, started_from, step_fails, stepped_as, stepped_from, when_started, when_stepped}
 use Rattle.eval_tree.proofs.FoldsAllowed.{started_combine, stepped_combine}
 use Rattle.eval_tree.proofs.NumbersAllowed.{one_starts, one_steps, other_starts, other_steps}

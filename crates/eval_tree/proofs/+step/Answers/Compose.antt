@@ -2,18 +2,19 @@
 use Rattle.std.proofs.Common.{Bool, ap, refl, rules, subst, sym, ℕ, ◌++◌, ◌∙◌, ◌≡◌}
 use Rattle.std.proofs.lemmas.Bool.{false≢true}
 use Rattle.query_model.specs.Queries.{plain_of}
-use Rattle.eval_tree.specs.declared.node.Node.{Node}
-use Rattle.eval_tree.specs.Plain.{holding_of, runners_of, seen_of}
-use Rattle.eval_tree.proofs.Arms.{can_start_as, can_step_as, live_as, numbers_start_as, numbers_step_as, soundly_started_as, soundly_stepped_as, start_fails, started_as, started_from, step_fails, stepped_as, stepped_from, when_started}
-use Rattle.eval_tree.specs.declared.node.State.TheVariants.{Compose}
-use Rattle.eval_tree.specs.declared.node.State.TheViews.{out-State, roll-State}
-use Rattle.eval_tree.specs.declared.progress.Progress.{Progress}
-use Rattle.eval_tree.specs.Live.{live_of}
+use Rattle.eval_nodes.specs.declared.node.Node.{Node}
+use Rattle.eval_nodes.specs.Plain.{holding_of, runners_of, seen_of}
+use Rattle.eval_nodes.specs.declared.node.State.TheVariants.{Compose}
+use Rattle.eval_nodes.specs.declared.node.State.TheViews.{out-State, roll-State}
+use Rattle.eval_nodes.specs.declared.progress.Progress.{Progress}
+use Rattle.eval_nodes.specs.Live.{live_of}
+use Rattle.eval_nodes.proofs.HeldRunners.{fed_is, runners_are}
 use Rattle.compose_eval.specs.Followers as followers
 use Rattle.compose_eval.specs.Followers.{live_instances, retired}
+use Rattle.eval_tree.proofs.Arms.{can_start_as, can_step_as, live_as, numbers_start_as, numbers_step_as, soundly_started_as, soundly_stepped_as, start_fails, started_as, started_from, step_fails, stepped_as, stepped_from, when_started}
 use Rattle.eval_tree.specs.Feeds.{CanFeed, CanPassOn, Feeds, PassesOn}
 use Rattle.eval_tree.proofs.ComposeAllowed.{feeds_allowed, passes_allowed, start_fed, step_fed}
-use Rattle.eval_tree.proofs.ComposeArms.{compose_starts, compose_steps, fed_is, runners_are}
+use Rattle.eval_tree.proofs.ComposeArms.{compose_starts, compose_steps}
 use Rattle.eval_tree.specs.Numbers.{FeedsNumbers, PassesNumbers}
 use Rattle.eval_tree.proofs.NumbersAllowed.{fed_starts, fed_steps, feeds_on, passes_on}
 use Rattle.eval_tree.proofs.Unsound.{unsound_compose}

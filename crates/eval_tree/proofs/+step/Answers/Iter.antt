@@ -6,14 +6,15 @@ use Rattle.value_ops.specs.declared.value.Value.{Value}
 use Rattle.value_ops.specs.Expressions as values
 use Rattle.value_ops.specs.Values.{IsNoTable}
 use Rattle.query_model.specs.Queries.{iter, plain_of}
+use Rattle.eval_nodes.specs.Holdings.{iter_held}
+use Rattle.eval_nodes.specs.Live.{live_of}
+use Rattle.eval_nodes.specs.Plain.{holding_of, seen_of}
+use Rattle.eval_nodes.specs.declared.node.State.TheViews.{out-State, roll-State}
+use Rattle.eval_nodes.proofs.Same.{where_ok}
 use Rattle.eval_tree.specs.declared.hit.Hit.{Hit}
-use Rattle.eval_tree.specs.Holdings.{iter_held}
 use Rattle.eval_tree.specs.Lefts.{IsPut}
-use Rattle.eval_tree.specs.Live.{live_of}
 use Rattle.eval_tree.specs.Operands.{CanEnd, EndsNumbers, GoesOn, HasEnded}
-use Rattle.eval_tree.specs.Plain.{holding_of, seen_of}
-use Rattle.eval_tree.specs.declared.node.State.TheViews.{out-State, roll-State}
-use Rattle.eval_tree.proofs.Arms.{can_start_as, can_step_as, ended_as, live_as, number_hit, numbers_start_as, numbers_step_as, soundly_stepped_as, start_fails, started_as, started_from, step_fails, stepped_as, stepped_from, when_stepped, where_ok}
+use Rattle.eval_tree.proofs.Arms.{can_start_as, can_step_as, ended_as, live_as, number_hit, numbers_start_as, numbers_step_as, soundly_stepped_as, start_fails, started_as, started_from, step_fails, stepped_as, stepped_from, when_stepped}
 use Rattle.eval_tree.proofs.Elsewhere.{elsewhere, fresh_elsewhere}
 use Rattle.eval_tree.proofs.FoldsAllowed.{start_next, start_piece, step_piece, stepped_iter}
 use Rattle.eval_tree.proofs.IterArms.{iter_starts, iter_steps_none, iter_steps_some}

@@ -2,10 +2,11 @@
 use Rattle.std.proofs.Common.{List, arith, inr, refl, rules, subst, sym, ℕ, ◌∙◌}
 use Rattle.std.specs.Prelude.{IfOk}
 use Rattle.query_model.specs.Queries.{plain_of}
-use Rattle.eval_tree.specs.Plain.{seen_of}
-use Rattle.eval_tree.proofs.Arms.{on_err, where_ok}
+use Rattle.eval_nodes.specs.Plain.{seen_of}
+use Rattle.eval_nodes.proofs.Same.{where_ok}
+use Rattle.eval_nodes.specs.declared.progress.Progress.{Progress}
 use Rattle.predicate_cells.specs.Plain as predicates
-use Rattle.eval_tree.specs.declared.progress.Progress.{Progress}
+use Rattle.eval_tree.proofs.Arms.{on_err}
 use Rattle.eval_tree.specs.Feeds.{CanCarry}
 use Rattle.eval_tree.specs.Pushes.{IsKeyPushed}
 use Rattle.eval_tree.proofs.CollectAllowed.{carried_end, carried_next, fallback_allowed, follower_allowed, next_carried, with_allowed}

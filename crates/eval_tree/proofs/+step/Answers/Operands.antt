@@ -1,7 +1,7 @@
 -- An operand whose value is joined with a left value.
 use Rattle.std.proofs.Common.{rules}
 use Rattle.std.proofs.lemmas.Bool.{false≢true}
-use Rattle.eval_tree.proofs.Arms.{where_ok}
+use Rattle.eval_nodes.proofs.Same.{where_ok}
 use Rattle.eval_tree.proofs.+step.Goals as goal
 
 pub operands::step_and_end-step_into-requires : goal.operands::step_and_end-step_into-requires

@@ -4,9 +4,9 @@ use Rattle.std.specs.Prelude.{IfNone, IfSome}
 use Rattle.std.specs.Option.{is_some}
 use Rattle.std.proofs.lemmas.Bool.{false≢true}
 use Rattle.query_model.specs.Queries.{plain_of}
+use Rattle.eval_nodes.specs.Plain.{holding_of, seen_of}
+use Rattle.eval_nodes.proofs.Same.{where_ok}
 use Rattle.eval_tree.specs.declared.hit.Hit.{Hit}
-use Rattle.eval_tree.specs.Plain.{holding_of, seen_of}
-use Rattle.eval_tree.proofs.Arms.{where_ok}
 use Rattle.value_ops.specs.declared.field.Field.{Field}
 use Rattle.value_ops.specs.declared.value.Value.{Value}
 use Rattle.compose_eval.specs.Followers.{instance_at, with_follower, IsAt}

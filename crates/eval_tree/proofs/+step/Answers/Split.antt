@@ -4,13 +4,13 @@ use Rattle.std.proofs.lemmas.Bool.{false≢true}
 use Rattle.std.specs.Option.{option_or}
 use Rattle.value_ops.specs.Expressions as values
 use Rattle.query_model.specs.Queries.{plain_of, split}
-use Rattle.eval_tree.specs.Holdings.{split_held}
+use Rattle.eval_nodes.specs.Holdings.{split_held}
+use Rattle.eval_nodes.specs.Live.{live_of}
+use Rattle.eval_nodes.specs.Plain.{holding_of, seen_of}
+use Rattle.eval_nodes.specs.declared.node.State.TheViews.{out-State, roll-State}
 use Rattle.eval_tree.specs.declared.hit.Hit.{Hit}
 use Rattle.eval_tree.specs.Lefts.{IsPut}
-use Rattle.eval_tree.specs.Live.{live_of}
 use Rattle.eval_tree.specs.Operands.{HasJoined}
-use Rattle.eval_tree.specs.Plain.{holding_of, seen_of}
-use Rattle.eval_tree.specs.declared.node.State.TheViews.{out-State, roll-State}
 use Rattle.eval_tree.proofs.Allowed.{start_behind, start_right, started_split, step_right, stepped_ended, stepped_joined}
 use Rattle.eval_tree.proofs.Arms.{both_ok, can_start_as, can_step_as, live_as, numbers_start_as, numbers_step_as, soundly_started_as, soundly_stepped_as, start_fails, started_as, started_from, step_fails, stepped_as, stepped_from, when_stepped}
 use Rattle.eval_tree.proofs.Elsewhere.{elsewhere, fresh_elsewhere}

@@ -7,9 +7,10 @@ use Rattle.predicate_cells.specs.Plain as predicates
 use Rattle.rate_expr.specs.Plain as rates
 use Rattle.query_model.specs.declared.query.Shape.TheViews.{the_lemmas}
 use Rattle.query_model.specs.Queries.{apply, choice, collect, combine, compose, iter, plain_of, split}
-use Rattle.eval_tree.specs.Plain.{holding_of}
-use Rattle.eval_tree.proofs.Arms.{can_start_as, can_step_as, number_hit, same_query, started_as, started_from, stepped_as, stepped_from}
-use Rattle.eval_tree.proofs.NewParts.{of_both}
+use Rattle.eval_nodes.specs.Plain.{holding_of}
+use Rattle.eval_nodes.proofs.Same.{same_query}
+use Rattle.eval_nodes.proofs.NewParts.{of_both}
+use Rattle.eval_tree.proofs.Arms.{can_start_as, can_step_as, number_hit, started_as, started_from, stepped_as, stepped_from}
 use Rattle.eval_tree.proofs.PlainArms.{eps_starts, eps_steps}
 use Rattle.eval_tree.proofs.+step.Goals as goal
 use Rattle.eval_tree.proofs.+step.Goals.{steps::start_into-In-Eps, steps::start_into-In-Iter}

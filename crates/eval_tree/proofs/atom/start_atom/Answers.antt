@@ -1,7 +1,7 @@
 use Rattle.std.proofs.Common.{Some, ap, refl}
-use Rattle.eval_tree.specs.Holdings.{atom_held}
-use Rattle.eval_tree.specs.Plain.{holding_of}
-use Rattle.eval_tree.specs.declared.node.State.TheViews.{out-State, roll-State}
+use Rattle.eval_nodes.specs.Holdings.{atom_held}
+use Rattle.eval_nodes.specs.Plain.{holding_of}
+use Rattle.eval_nodes.specs.declared.node.State.TheViews.{out-State, roll-State}
 use Rattle.eval_tree.proofs.Arms.{started_as}
 use Rattle.eval_tree.proofs.PlainArms.{atom_starts}
 use Rattle.eval_tree.proofs.Unsound.{unsound_atom}

@@ -6,10 +6,9 @@ use Rattle.value_ops.specs.Evaluation.{given, value_of}
 use Rattle.value_ops.specs.Expressions as values
 use Rattle.value_ops.specs.Typing.{HasType, types_of, IsNumber}
 use Rattle.predicate_cells.specs.Plain as predicates
-use Rattle.query_model.specs.Queries.{plain_of}
-use Rattle.eval_tree.specs.Holdings.{atom_held}
-use Rattle.eval_tree.specs.Plain.{holding_of, seen_of}
-use Rattle.eval_tree.specs.declared.node.State.TheViews.{out-State, roll-State}
+use Rattle.eval_nodes.specs.Holdings.{atom_held}
+use Rattle.eval_nodes.specs.Plain.{holding_of, seen_of}
+use Rattle.eval_nodes.specs.declared.node.State.TheViews.{out-State, roll-State}
 use Rattle.eval_tree.proofs.Allowed.{stepped_atom}
 use Rattle.eval_tree.proofs.Arms.{can_step_as, step_fails, stepped_as}
 use Rattle.eval_tree.proofs.NumbersTyped.{given_stepped}

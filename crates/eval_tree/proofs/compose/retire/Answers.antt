@@ -1,7 +1,7 @@
 use Rattle.std.proofs.Common.{rules}
 use Rattle.query_model.specs.Queries.{plain_of}
-use Rattle.eval_tree.specs.Live.{live_of}
-use Rattle.eval_tree.specs.Plain.{holding_of}
+use Rattle.eval_nodes.specs.Live.{live_of}
+use Rattle.eval_nodes.specs.Plain.{holding_of}
 use Rattle.eval_tree.proofs.compose.retire.Goals as goal
 
 pub returns-clause-live : goal.returns-clause-live

@@ -2,9 +2,9 @@ use Rattle.std.proofs.Common.{◌≡◌, inl, inr, refl, subst, Some, slice_get,
 use Rattle.query_model.specs.Queries.{plain_of}
 use Rattle.map_collect.specs.Followers.{Followers}
 use Rattle.map_collect.specs.Keys.{names_of}
-use Rattle.eval_tree.specs.declared.progress.Progress.{Progress}
-use Rattle.eval_tree.specs.Copies.{IsCopy, IsCopyOf}
-use Rattle.eval_tree.specs.Plain.{seen_of}
+use Rattle.eval_nodes.specs.declared.progress.Progress.{Progress}
+use Rattle.eval_nodes.specs.Copies.{IsCopy, IsCopyOf}
+use Rattle.eval_nodes.specs.Plain.{seen_of}
 use Rattle.eval_tree.proofs.KeysPushed.{last_read}
 use Rattle.eval_tree.proofs.keys.place_or_new.Goals as goal
 

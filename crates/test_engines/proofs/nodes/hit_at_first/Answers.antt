@@ -1,5 +1,5 @@
 use Rattle.query_model.specs.Queries.{plain_of}
-use Rattle.eval_tree.specs.Plain.{holding_of}
+use Rattle.eval_nodes.specs.Plain.{holding_of}
 use Rattle.test_engines.proofs.Tested.{can_start, started}
 use Rattle.test_engines.proofs.nodes.hit_at_first.Goals as goal
 

@@ -1,6 +1,6 @@
 use Rattle.std.proofs.Common.{◌≡◌, ◌+◌, ◌-◌, arith}
 use Rattle.query_model.specs.Queries.{plain_of}
-use Rattle.eval_tree.specs.Plain.{holding_of}
+use Rattle.eval_nodes.specs.Plain.{holding_of}
 use Rattle.test_engines.proofs.Tested.{can_step, stepped}
 use Rattle.test_engines.proofs.nodes.hit_behind.Goals as goal
 

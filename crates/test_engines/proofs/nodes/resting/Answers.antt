@@ -1,8 +1,8 @@
 use Rattle.std.proofs.Common.{subst, sym}
 use Rattle.query_model.specs.Queries.{plain_of}
-use Rattle.eval_tree.specs.Plain.{holding_of, seen_of}
-use Rattle.eval_tree.specs.Sound.{IsSound}
-use Rattle.eval_tree.specs.declared.node.Node.{Node}
+use Rattle.eval_nodes.specs.Plain.{holding_of, seen_of}
+use Rattle.eval_nodes.specs.Sound.{IsSound}
+use Rattle.eval_nodes.specs.declared.node.Node.{Node}
 use Rattle.test_engines.specs.TestedQueries.{numbers}
 use Rattle.test_engines.proofs.nodes.resting.Goals as goal
 

@@ -1,0 +1,22 @@
+-- What a collect holds in memory.
+use Rattle.std.proofs.Common.{◌≡◌, ap}
+use Rattle.map_collect.specs.Tracks.{Contents}
+use Rattle.eval_nodes.specs.declared.node.Node.{Node}
+use Rattle.eval_nodes.specs.declared.node.State.{State, out-State}
+use Rattle.eval_nodes.specs.declared.node.State.TheOpen.{State-F}
+use Rattle.eval_nodes.specs.declared.node.State.TheVariants.{Collect}
+use Rattle.eval_nodes.specs.declared.node.State.TheViews.{out-roll-State, roll-State}
+use Rattle.eval_nodes.specs.declared.progress.Progress.{Progress}
+use Rattle.eval_nodes.specs.Holdings.{collect_held}
+use Rattle.eval_nodes.specs.Plain.{holding_of, tracks_of}
+
+-- what it holds
+pub tracked_is : (all : Contents Progress) → holding_of (Collect all) ≡ collect_held all
+unfolding roll-State denote.Hole.Carrier.roll
+tracked_is all =
+    ap (λ (x : State-F State Node Progress). collect_held (tracks_of x)) (out-roll-State (State-F.Collect all))
+
+-- and its starts
+pub tracks_are : (all : Contents Progress) → tracks_of (out-State (Collect all)) ≡ all
+unfolding roll-State denote.Hole.Carrier.roll
+tracks_are all = ap (λ (x : State-F State Node Progress). tracks_of x) (out-roll-State (State-F.Collect all))

@@ -1,0 +1,14 @@
+pub mod Cleared
+pub mod Copies
+pub mod Counts
+pub mod Holdings
+pub mod Keyed
+pub mod Live
+pub mod Lives
+pub mod NewNodes
+pub mod Plain
+pub mod Represents
+pub mod Runners
+pub mod Sound
+pub mod Starts
+pub mod Streams

@@ -1,0 +1,47 @@
+//! The cells by which a query's collects read the items of its stream.
+ghost use Rattle.std.specs.Prelude.{◌↔◌, IfOk, IsTrue};
+ghost use Rattle.std.specs.Option.{option_map};
+ghost use Rattle.std.specs.Rc.{rc_value};
+ghost use Rattle.query_model.specs.Queries.{plain_of};
+ghost use Rattle.query_model.specs.Rules.{HasNoCollect};
+ghost use Rattle.eval_nodes.specs.Streams.{AreColumnsOf, CanBeMade};
+
+use predicate_cells::{CellStop, Cells};
+use query_model::{Checked, Query, Shape, cells_of};
+use std::alloc::{AllocError, Global};
+use std::rc::Rc;
+
+/// The cells of the stream, where a collect stands in the query.
+pub fn stream_cells(alloc: Global, checked: &Checked) -> Result<Option<Rc<Cells>>, AllocError>
+    ensures made { IfOk result (λ cells. CanBeMade (option_map rc_value cells)
+        (plain_of checked.now.main.shape)) }
+    ensures columns { IfOk result (λ cells. AreColumnsOf (option_map rc_value cells)
+        checked.now.layout.columns) }
+{
+    let query = checked.main();
+    if has_no_collect(query) {
+        return Ok(None);
+    }
+    match cells_of(alloc, checked.schema(), query) {
+        Ok(cells) => Ok(Some(Rc::new(alloc, cells)?)),
+        // A checked query distinguishes few items.
+        Err(CellStop::TooMany) => unreachable!(),
+        Err(CellStop::Memory) => Err(AllocError),
+    }
+}
+
+pub fn has_no_collect(query: &Query) -> bool
+    ensures { IsTrue result ↔ HasNoCollect (plain_of query.now.shape) }
+{
+    match &query.shape {
+        Shape::Atom(..) => true,
+        Shape::Eps(_) => true,
+        Shape::Or(first, second) => has_no_collect(first) && has_no_collect(second),
+        Shape::Split(first, second, _) => has_no_collect(first) && has_no_collect(second),
+        Shape::Apply(inner, _) => has_no_collect(inner),
+        Shape::Combine(first, second, _) => has_no_collect(first) && has_no_collect(second),
+        Shape::Iter(inner, ..) => has_no_collect(inner),
+        Shape::Compose(first, second) => has_no_collect(first) && has_no_collect(second),
+        Shape::Collect(..) => false,
+    }
+}

@@ -1,0 +1,24 @@
+//! What is kept for a query while its word goes by: nodes are made, copied, counted and emptied, and
+//! asked which starts can go on.
+#![tactic(auto)]
+
+mod automaton;
+mod cells;
+mod copies;
+mod counts;
+mod emptying;
+mod live;
+mod make;
+mod new_nodes;
+mod node;
+mod node_copies;
+mod node_counts;
+mod progress;
+
+pub use cells::{has_no_collect, stream_cells};
+pub use copies::{copy, copy_of_runner};
+pub use counts::{size_of_runner, stored};
+pub use emptying::clear;
+pub use live::is_live;
+pub use node::{Node, State};
+pub use progress::Progress;

@@ -1,0 +1,173 @@
+//! A new node for a query of each shape, of those of its operands.
+ghost use Rattle.std.specs.Prelude.{◌≤◌, ℕ, ℤ, IfOk, None};
+ghost use Rattle.std.specs.Option.{option_copied, option_map};
+ghost use Rattle.std.specs.Rc.{rc_value};
+ghost use Rattle.value_ops.specs.Expressions.{Expression};
+ghost use Rattle.predicate_cells.specs.Predicates.{Predicate};
+ghost use Rattle.rate_expr.specs.Plain as rates;
+ghost use Rattle.query_model.specs.Queries.{Qre, apply, choice, collect, combine, compose, iter, plain_of, split};
+ghost use Rattle.query_model.specs.Bounds.{slots_of};
+ghost use Rattle.query_model.specs.Sizes.{max_slots};
+ghost use Rattle.eval_nodes.specs.NewNodes.{CanBeNew, IsNewNode};
+ghost use Rattle.eval_nodes.specs.Plain.{holding_of, seen_of};
+ghost use Rattle.eval_nodes.specs.Streams.{CanReadWith};
+
+use crate::automaton::no_tracks;
+use crate::make::idle_runners;
+use crate::{Node, State};
+use iter_eval::Chain;
+use memory_bound::places;
+use predicate_cells::Cells;
+use query_model::Query;
+use rate_expr::Rate;
+use split_eval::Pending;
+use std::alloc::{AllocError, Global};
+use std::rc::Rc;
+
+#[cycle(make)]
+pub(crate) fn new_choice(
+    alloc: Global,
+    first: &Query,
+    second: &Query,
+    cells: Option<&Rc<Cells>>,
+) -> Result<Node, AllocError>
+    requires first { CanBeNew (option_map rc_value (option_copied cells))
+        (plain_of first.now.shape) }
+    requires second { CanBeNew (option_map rc_value (option_copied cells))
+        (plain_of second.now.shape) }
+    ensures { IfOk result (λ node. IsNewNode seen_of
+        (option_map rc_value (option_copied cells.entry))
+        (choice (plain_of first.now.shape) (plain_of second.now.shape)) (holding_of node.state)) }
+{
+    let a = Node::boxed(alloc, first, cells)?;
+    let b = Node::boxed(alloc, second, cells)?;
+    Ok(Node {
+        state: State::Or(a, b),
+    })
+}
+
+#[cycle(make)]
+pub(crate) fn new_combine(
+    alloc: Global,
+    first: &Query,
+    second: &Query,
+    cells: Option<&Rc<Cells>>,
+) -> Result<Node, AllocError>
+    requires first { CanBeNew (option_map rc_value (option_copied cells))
+        (plain_of first.now.shape) }
+    requires second { CanBeNew (option_map rc_value (option_copied cells))
+        (plain_of second.now.shape) }
+    ensures { IfOk result (λ node. (expression : Expression) → IsNewNode seen_of
+        (option_map rc_value (option_copied cells.entry))
+        (combine (plain_of first.now.shape) (plain_of second.now.shape) expression)
+        (holding_of node.state)) }
+{
+    let a = Node::boxed(alloc, first, cells)?;
+    let b = Node::boxed(alloc, second, cells)?;
+    Ok(Node {
+        state: State::Combine(a, b),
+    })
+}
+
+#[cycle(make)]
+pub(crate) fn new_apply(
+    alloc: Global,
+    inner: &Query,
+    cells: Option<&Rc<Cells>>,
+) -> Result<Node, AllocError>
+    requires { CanBeNew (option_map rc_value (option_copied cells))
+        (plain_of inner.now.shape) }
+    ensures { IfOk result (λ node. (expression : Expression) → IsNewNode seen_of
+        (option_map rc_value (option_copied cells.entry))
+        (apply (plain_of inner.now.shape) expression) (holding_of node.state)) }
+{
+    let a = Node::boxed(alloc, inner, cells)?;
+    Ok(Node {
+        state: State::Apply(a),
+    })
+}
+
+/// No left value waits.
+#[cycle(make)]
+pub(crate) fn new_split(
+    alloc: Global,
+    first: &Query,
+    second: &Query,
+    cells: Option<&Rc<Cells>>,
+) -> Result<Node, AllocError>
+    requires first { CanBeNew (option_map rc_value (option_copied cells))
+        (plain_of first.now.shape) }
+    requires second { CanBeNew (option_map rc_value (option_copied cells))
+        (plain_of second.now.shape) }
+    ensures { IfOk result (λ node. (expression : Expression) → IsNewNode seen_of
+        (option_map rc_value (option_copied cells.entry))
+        (split (plain_of first.now.shape) (plain_of second.now.shape) expression)
+        (holding_of node.state)) }
+{
+    let a = Node::boxed(alloc, first, cells)?;
+    let b = Node::boxed(alloc, second, cells)?;
+    let held = Pending::new(alloc, places(second))?;
+    Ok(Node {
+        state: State::Split(a, b, held),
+    })
+}
+
+/// No value so far waits.
+#[cycle(make)]
+pub(crate) fn new_iter(
+    alloc: Global,
+    inner: &Query,
+    cells: Option<&Rc<Cells>>,
+) -> Result<Node, AllocError>
+    requires { CanBeNew (option_map rc_value (option_copied cells))
+        (plain_of inner.now.shape) }
+    ensures { IfOk result (λ node. (number : ℤ) (expression : Expression) → IsNewNode seen_of
+        (option_map rc_value (option_copied cells.entry))
+        (iter (plain_of inner.now.shape) number expression) (holding_of node.state)) }
+{
+    let a = Node::boxed(alloc, inner, cells)?;
+    let so_far = Chain::new(alloc, places(inner))?;
+    Ok(Node {
+        state: State::Iter(a, so_far),
+    })
+}
+
+/// All its runners are idle.
+#[cycle(make)]
+pub(crate) fn new_compose(
+    alloc: Global,
+    first: &Query,
+    second: &Query,
+    cells: Option<&Rc<Cells>>,
+) -> Result<Node, AllocError>
+    requires first { CanBeNew (option_map rc_value (option_copied cells))
+        (plain_of first.now.shape) }
+    requires second { CanBeNew None (plain_of second.now.shape) }
+    ensures { IfOk result (λ node. IsNewNode seen_of
+        (option_map rc_value (option_copied cells.entry))
+        (compose (plain_of first.now.shape) (plain_of second.now.shape)) (holding_of node.state)) }
+{
+    let a = Node::boxed(alloc, first, cells)?;
+    let runners = idle_runners(alloc, second, places(first).saturating_add(1))?;
+    Ok(Node {
+        state: State::Compose(a, runners),
+    })
+}
+
+/// No start is there.
+pub(crate) fn new_collect(
+    alloc: Global,
+    rate: &Rate,
+    cells: Option<&Rc<Cells>>,
+) -> Result<Node, AllocError>
+    requires { CanReadWith (option_map rc_value (option_copied cells)) (rates.plain_of rate.now) }
+    ensures { IfOk result (λ node. (column : ℕ) (sync : Predicate) (f : Qre)
+        → slots_of (collect column sync (rates.plain_of rate.now) f) ≤ max_slots
+        → IsNewNode seen_of (option_map rc_value (option_copied cells.entry))
+        (collect column sync (rates.plain_of rate.now) f) (holding_of node.state)) }
+{
+    let tracks = no_tracks(alloc, rate, cells)?;
+    Ok(Node {
+        state: State::Collect(tracks),
+    })
+}

@@ -1,0 +1,173 @@
+//! A copy of a node of each shape, of those of its operands. Of a node of another shape nothing is
+//! kept.
+ghost use Rattle.std.specs.Prelude.{ℕ, ℤ, IfOk};
+ghost use Rattle.predicate_cells.specs.Predicates.{Predicate};
+ghost use Rattle.rate_expr.specs.Rates as rates;
+ghost use Rattle.value_ops.specs.Expressions.{Expression};
+ghost use Rattle.query_model.specs.Queries.{apply, atom, choice, collect, combine, compose, iter, plain_of, split};
+ghost use Rattle.eval_nodes.specs.Copies.{IsCopy};
+ghost use Rattle.eval_nodes.specs.Plain.{holding_of, seen_of};
+
+use crate::copies::{boxed_copy, copied, copied_runners, copied_tracks};
+use crate::{Node, State};
+use iter_eval::Chain;
+use query_model::Query;
+use std::alloc::{AllocError, Global};
+
+pub(crate) fn copy_of_atom(node: &Node) -> Node
+    ensures { (pred : Predicate) (expression : Expression)
+        → IsCopy seen_of (atom pred expression) (holding_of node.now.state)
+        (holding_of result.state) }
+{
+    match &node.state {
+        State::Atom(found) => Node {
+            state: State::Atom(*found),
+        },
+        _ => Node { state: State::Eps },
+    }
+}
+
+#[cycle(copy)]
+pub(crate) fn copy_of_choice(
+    first: &Query,
+    second: &Query,
+    node: &Node,
+    alloc: Global,
+) -> Result<Node, AllocError>
+    ensures { IfOk result (λ copy. IsCopy seen_of
+        (choice (plain_of first.now.shape) (plain_of second.now.shape))
+        (holding_of node.now.state) (holding_of copy.state)) }
+{
+    match &node.state {
+        State::Or(a, b) => {
+            let a = boxed_copy(first, a, alloc)?;
+            let b = boxed_copy(second, b, alloc)?;
+            Ok(Node {
+                state: State::Or(a, b),
+            })
+        }
+        _ => Ok(Node { state: State::Eps }),
+    }
+}
+
+#[cycle(copy)]
+pub(crate) fn copy_of_combine(
+    first: &Query,
+    second: &Query,
+    node: &Node,
+    alloc: Global,
+) -> Result<Node, AllocError>
+    ensures { IfOk result (λ copy. (expression : Expression) → IsCopy seen_of
+        (combine (plain_of first.now.shape) (plain_of second.now.shape) expression)
+        (holding_of node.now.state) (holding_of copy.state)) }
+{
+    match &node.state {
+        State::Combine(a, b) => {
+            let a = boxed_copy(first, a, alloc)?;
+            let b = boxed_copy(second, b, alloc)?;
+            Ok(Node {
+                state: State::Combine(a, b),
+            })
+        }
+        _ => Ok(Node { state: State::Eps }),
+    }
+}
+
+#[cycle(copy)]
+pub(crate) fn copy_of_apply(inner: &Query, node: &Node, alloc: Global) -> Result<Node, AllocError>
+    ensures { IfOk result (λ copy. (expression : Expression) → IsCopy seen_of
+        (apply (plain_of inner.now.shape) expression)
+        (holding_of node.now.state) (holding_of copy.state)) }
+{
+    match &node.state {
+        State::Apply(a) => {
+            let a = boxed_copy(inner, a, alloc)?;
+            Ok(Node {
+                state: State::Apply(a),
+            })
+        }
+        _ => Ok(Node { state: State::Eps }),
+    }
+}
+
+#[cycle(copy)]
+pub(crate) fn copy_of_split(
+    first: &Query,
+    second: &Query,
+    node: &Node,
+    alloc: Global,
+) -> Result<Node, AllocError>
+    ensures { IfOk result (λ copy. (expression : Expression) → IsCopy seen_of
+        (split (plain_of first.now.shape) (plain_of second.now.shape) expression)
+        (holding_of node.now.state) (holding_of copy.state)) }
+{
+    match &node.state {
+        State::Split(a, b, held) => {
+            let a = boxed_copy(first, a, alloc)?;
+            let b = boxed_copy(second, b, alloc)?;
+            let held = copied(alloc, held)?;
+            Ok(Node {
+                state: State::Split(a, b, held),
+            })
+        }
+        _ => Ok(Node { state: State::Eps }),
+    }
+}
+
+#[cycle(copy)]
+pub(crate) fn copy_of_iter(inner: &Query, node: &Node, alloc: Global) -> Result<Node, AllocError>
+    ensures { IfOk result (λ copy. (number : ℤ) (expression : Expression) → IsCopy seen_of
+        (iter (plain_of inner.now.shape) number expression)
+        (holding_of node.now.state) (holding_of copy.state)) }
+{
+    match &node.state {
+        State::Iter(a, so_far) => {
+            let a = boxed_copy(inner, a, alloc)?;
+            let so_far = Chain::from_pending(copied(alloc, so_far.as_pending())?);
+            Ok(Node {
+                state: State::Iter(a, so_far),
+            })
+        }
+        _ => Ok(Node { state: State::Eps }),
+    }
+}
+
+#[cycle(copy)]
+pub(crate) fn copy_of_compose(
+    first: &Query,
+    second: &Query,
+    node: &Node,
+    alloc: Global,
+) -> Result<Node, AllocError>
+    ensures { IfOk result (λ copy. IsCopy seen_of
+        (compose (plain_of first.now.shape) (plain_of second.now.shape))
+        (holding_of node.now.state) (holding_of copy.state)) }
+{
+    match &node.state {
+        State::Compose(a, runners) => {
+            let a = boxed_copy(first, a, alloc)?;
+            let runners = copied_runners(second, runners, alloc)?;
+            Ok(Node {
+                state: State::Compose(a, runners),
+            })
+        }
+        _ => Ok(Node { state: State::Eps }),
+    }
+}
+
+#[cycle(copy)]
+pub(crate) fn copy_of_collect(inner: &Query, node: &Node, alloc: Global) -> Result<Node, AllocError>
+    ensures { IfOk result (λ copy. (column : ℕ) (sync : Predicate) (rate : rates.Expression)
+        → IsCopy seen_of (collect column sync rate (plain_of inner.now.shape))
+        (holding_of node.now.state) (holding_of copy.state)) }
+{
+    match &node.state {
+        State::Collect(tracks) => {
+            let tracks = copied_tracks(inner, tracks, alloc)?;
+            Ok(Node {
+                state: State::Collect(tracks),
+            })
+        }
+        _ => Ok(Node { state: State::Eps }),
+    }
+}

@@ -1,0 +1,3 @@
+pub mod NumberRunners
+pub mod RunnerCopies
+pub mod RunnerSteps

@@ -1,0 +1,10 @@
+//! A checked query and how far a word of it has come. It takes the items one by one.
+#![tactic(auto)]
+
+mod follow;
+mod laws;
+mod opening;
+mod runner;
+
+pub use laws::a_runner_keeps_its_slots_for_each_key;
+pub use runner::Runner;

@@ -1,0 +1,30 @@
+//! How far a word of a query has come that has no item yet.
+ghost use Rattle.std.specs.Prelude.{[], IfOk};
+ghost use Rattle.query_model.specs.Queries.{plain_of};
+ghost use Rattle.eval_nodes.specs.Runners.{IsAt};
+
+use eval_nodes::{Node, Progress, stream_cells};
+use eval_tree::{start, value_of};
+use query_model::Checked;
+use std::alloc::{AllocError, Global};
+
+/// Before the first item.
+pub(crate) fn open(alloc: Global, checked: &Checked) -> Result<Progress, AllocError>
+    ensures { IfOk result (IsAt checked.now.layout.columns
+        (plain_of checked.now.main.shape) []) }
+{
+    let query = checked.main();
+    let cells = stream_cells(alloc, checked)?;
+    let mut node = Node::new(alloc, query, cells.as_ref())?;
+    match start(query, &mut node, alloc, 0) {
+        Ok(hit) => Ok(Progress {
+            node,
+            position: 0,
+            answer: value_of(hit),
+        }),
+        Err(error) => {
+            drop(node);
+            Err(error)
+        }
+    }
+}
