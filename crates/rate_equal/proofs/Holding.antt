@@ -1,6 +1,5 @@
 -- How the places of pairs are put into the rows of their positions, and gathered from these.
-use Rattle.std.proofs.Common.{◌≡◌, ℕ, ◌+◌, ◌*◌, ◌/◌, ◌%◌, ◌^◌, ◌<◌, ◌≤◌, ◌∙◌, ◌↔◌, ◌⊎◌, List, Some, bit_and, bit_or, get_or, length, set, slice_get, sym, ap, subst, inl, inr, arith}
-use Rattle.std.specs.Int.{bit_at, bit_not, w128}
+use Rattle.std.proofs.Common.{◌≡◌, ℕ, ◌+◌, ◌*◌, ◌/◌, ◌%◌, ◌^◌, ◌<◌, ◌≤◌, ◌∙◌, ◌↔◌, ◌⊎◌, List, Some, bit_or, get_or, length, set, slice_get, sym, ap, subst, inl, inr, arith}
 use Rattle.std.proofs.lemmas.Bool.{cases_lt}
 use Rattle.std.proofs.lemmas.Bool.Decides.{eqb_tells}
 use Rattle.std.proofs.lemmas.List.{get_or-set_same, get_or-set_other}
@@ -12,9 +11,7 @@ use Rattle.rate_equal.specs.Pairs.{IsGrown, mask_of}
 use Rattle.rate_equal.specs.PlaceSets.{block_count}
 use Rattle.rate_equal.specs.Reach.{max_reach}
 use Rattle.rate_equal.specs.declared.pair.Pair.{Pair}
-use Rattle.rate_expr.proofs.MaskSets.{has-and_both}
 use Rattle.rate_equal.proofs.Added.{found_before}
-use Rattle.rate_equal.proofs.PlaceSets.{in-or-not}
 
 -- a position that is left is the lowest, or is left behind it
 pub low_or_left : (rest low after position : ℕ) → IsLowest rest low

@@ -14,6 +14,7 @@ pub mod Lettering
 pub mod Narrowed
 pub mod Pigeons
 pub mod PlaceSets
+pub mod SameRows
 pub mod Searched
 pub mod Stepping
 pub mod Verdicts

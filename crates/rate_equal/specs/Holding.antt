@@ -1,5 +1,5 @@
 -- For the prover. Which pairs have a position in their states, and which letters.
-use Rattle.std.specs.Prelude.{◌≡◌, ◌<◌, ◌+◌, ◌*◌, ◌/◌, ◌%◌, ℕ, List, Some, slice_get, slice_index}
+use Rattle.std.specs.Prelude.{◌≡◌, ◌<◌, ◌↔◌, ◌+◌, ◌*◌, ◌/◌, ◌%◌, ℕ, List, Some, slice_get, slice_index}
 use Rattle.rate_expr.specs.Sets.{Has}
 use Rattle.rate_equal.specs.Pairs.{mask_of}
 use Rattle.rate_equal.specs.PlaceSets.{block_count}
@@ -21,6 +21,16 @@ pub record AreHeld (first second : List ℕ) (pairs : List Pair) (end : ℕ) : T
       → Has (mask_of pair.first) position → HasRow first position place
   pub two : (place position : ℕ) (pair : Pair) → place < end → slice_get pairs place ≡ Some pair
       → Has (mask_of pair.second) position → HasRow second position place
+
+-- the same places are in the row of a position of the first rows and in that of one of the second
+abbrev pub HaveSameRow : List ℕ → List ℕ → ℕ → ℕ → Type 0
+HaveSameRow first second one other = (place : ℕ) → place < max_reach
+    → HasRow first one place ↔ HasRow second other place
+
+-- the mask of each position of the second rows has those alone of the first that have the same row
+abbrev pub AreTwins : List ℕ → List ℕ → List ℕ → Type 0
+AreTwins first second twins = (position twin : ℕ) → Has (slice_index twins position) twin
+    → HaveSameRow first second twin position
 
 -- the place of each letter below a number is in the rows of the positions in its mask, and in no
 -- other row

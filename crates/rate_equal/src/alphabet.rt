@@ -2,7 +2,7 @@
 ghost use Rattle.std.specs.Prelude.{◌≡◌, ◌≤◌, ◌⊎◌, ℕ, IfOk, IfSome, OnOk, Some, length, slice_get};
 ghost use Rattle.std.specs.List.{Contains};
 ghost use Rattle.rate_expr.specs.Sets.{Has};
-ghost use Rattle.rate_equal.specs.Holding.{AreRows};
+ghost use Rattle.rate_equal.specs.Holding.{AreRows, AreTwins};
 ghost use Rattle.rate_equal.specs.PlaceSets.{HasPlace};
 ghost use Rattle.rate_equal.specs.Reach.{max_reach};
 ghost use Rattle.rate_equal.specs.Targets.{target};
@@ -11,6 +11,7 @@ ghost use Rattle.rate_equal.specs.declared.letters.Letter.{Letter as LetterOf};
 use crate::letters::Letter;
 use crate::places::{BLOCKS, Places};
 use crate::rows::{ROWS, gather, hold, insert_rows, insert_unlike};
+use crate::twins::{twins, without_twins};
 use std::alloc::{AllocError, Global};
 
 /// The letters, and for each position of either automaton the places of those that have it.
@@ -19,11 +20,15 @@ pub(crate) struct Alphabet {
     pub(crate) letters: Vec<Letter>,
     first: Vec<u128>,
     second: Vec<u128>,
+    // For each position of the second automaton, those of the first that the same letters have.
+    twins: Vec<u128>,
     ghost few: { length letters.items ≤ max_reach },
     ghost rows_of_first: { length first.items ≡ max_reach },
     ghost rows_of_second: { length second.items ≡ max_reach },
     ghost in_first: { AreRows (λ l. l.first) first.items letters.items (length letters.items) },
     ghost in_second: { AreRows (λ l. l.second) second.items letters.items (length letters.items) },
+    ghost each_position: { length twins.items ≡ 128 },
+    ghost same_letters: { AreTwins first.items second.items twins.items },
 }
 
 impl Alphabet {
@@ -35,10 +40,31 @@ impl Alphabet {
         let mut first = vec![in alloc; 0; ROWS]?;
         let mut second = vec![in alloc; 0; ROWS]?;
         enter(&mut first, &mut second, &letters);
+        Alphabet::over(alloc, letters, first, second)
+    }
+
+    // That of the letters, which were entered into the rows.
+    fn over(
+        alloc: Global,
+        letters: Vec<Letter>,
+        first: Vec<u128>,
+        second: Vec<u128>,
+    ) -> Result<Alphabet, AllocError>
+        requires few { length letters.items ≤ max_reach }
+        requires rows_of_first { length first.items ≡ max_reach }
+        requires rows_of_second { length second.items ≡ max_reach }
+        requires in_first { AreRows (λ l. l.first) first.items letters.items
+            (length letters.items) }
+        requires in_second { AreRows (λ l. l.second) second.items letters.items
+            (length letters.items) }
+        ensures { IfOk result (λ alphabet. alphabet.letters.items ≡ letters.items) }
+    {
+        let twins = twins(alloc, &first, &second)?;
         Ok(Alphabet {
             letters,
             first,
             second,
+            twins,
         })
     }
 
@@ -69,7 +95,8 @@ impl Alphabet {
     {
         let mut places = Places::none(alloc)?;
         insert_rows(&self.first, positions.0, &mut places);
-        insert_rows(&self.second, positions.1, &mut places);
+        let others = without_twins(&self.twins, positions.0, positions.1);
+        insert_rows(&self.second, others, &mut places);
         Ok(places)
     }
 
@@ -99,6 +126,7 @@ impl Alphabet {
         letter: Letter,
         ways: (u128, u128),
     ) -> Result<(), AllocError>
+        requires { Contains self.now.letters.items letter }
         ensures { OnOk result ((place : ℕ) (other : LetterOf) → HasPlace places.old place
             → slice_get self.now.letters.items place ≡ Some other
             → HasPlace places.new place ⊎ (target ways other ≡ target ways letter)) }
@@ -117,13 +145,15 @@ impl Alphabet {
         letter: Letter,
         ways: (u128, u128),
     ) -> Result<Places, AllocError>
+        requires { Contains self.now.letters.items letter }
         ensures { IfOk result (λ places. (place : ℕ) (other : LetterOf)
             → slice_get self.now.letters.items place ≡ Some other
             → HasPlace places place ⊎ (target ways other ≡ target ways letter)) }
     {
         let mut places = Places::none(alloc)?;
         insert_unlike(&self.first, ways.0, letter.first, &mut places);
-        insert_unlike(&self.second, ways.1, letter.second, &mut places);
+        let others = without_twins(&self.twins, ways.0, ways.1);
+        insert_unlike(&self.second, others, letter.second, &mut places);
         Ok(places)
     }
 }

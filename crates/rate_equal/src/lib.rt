@@ -17,6 +17,7 @@ mod search;
 mod stop;
 mod targets;
 mod trail;
+mod twins;
 
 pub use equal::{all_but_empty, same};
 pub use stop::EqualStop;

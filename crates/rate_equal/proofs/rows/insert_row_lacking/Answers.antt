@@ -1,4 +1,4 @@
-use Rattle.std.proofs.Common.{◌≡◌, ℕ, ◌+◌, ◌*◌, ◌/◌, ◌%◌, ◌^◌, ◌<◌, ap, arith, get_or, inl, inr, subst, sym}
+use Rattle.std.proofs.Common.{ℕ, ◌+◌, ◌*◌, ◌%◌, ◌^◌, ◌<◌, arith, get_or, inl, inr, subst, sym}
 use Rattle.rate_expr.specs.Sets.{Has}
 use Rattle.rate_equal.specs.PlaceSets.{block_count}
 use Rattle.rate_equal.proofs.Filling.{filling_next}

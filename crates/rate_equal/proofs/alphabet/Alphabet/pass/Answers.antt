@@ -1,4 +1,4 @@
-use Rattle.std.proofs.Common.{◌≡◌, ℕ, ◌%◌, ap, subst, sym, slice_index}
+use Rattle.std.proofs.Common.{ℕ, ◌%◌, subst, sym, slice_index}
 use Rattle.rate_expr.specs.Sets.{Has}
 use Rattle.rate_equal.proofs.Lettering.{passing_next}
 use Rattle.rate_equal.proofs.alphabet.Alphabet.pass.Goals as goal

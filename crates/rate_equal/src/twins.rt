@@ -1,0 +1,92 @@
+//! Positions of two automata that the same letters have.
+//!
+//! Where two rates ask the same predicate, exactly the letters have a position of the one that have
+//! a position of the other: these are **twins**. What a letter has of a position it has of its
+//! twins, so along ways on it is enough to ask of one of them.
+ghost use Rattle.std.specs.Prelude.{◌≡◌, ◌<◌, ◌⊎◌, ℕ, IsTrue, IfOk, length, slice_index};
+ghost use Rattle.rate_expr.specs.Sets.{Has};
+ghost use Rattle.rate_equal.specs.Holding.{AreTwins, HaveSameRow};
+ghost use Rattle.rate_equal.specs.Reach.{max_reach};
+
+use crate::places::BLOCKS;
+use rate_expr::masks::{lowest, only, overlap, without_lowest};
+use std::alloc::{AllocError, Global};
+
+/// How many positions an automaton has at the most.
+const POSITIONS: usize = 128;
+
+/// For each position of the second rows, its twins among those of the first.
+pub(crate) fn twins(alloc: Global, first: &[u128], second: &[u128]) -> Result<Vec<u128>, AllocError>
+    requires rows_of_first { length first.now ≡ max_reach }
+    requires rows_of_second { length second.now ≡ max_reach }
+    ensures length { IfOk result (λ twins. length twins.items ≡ 128) }
+    ensures twins { IfOk result (λ twins. AreTwins first.now second.now twins.items) }
+{
+    let mut twins = vec![in alloc; 0; POSITIONS]?;
+    enter(&mut twins, first, second);
+    Ok(twins)
+}
+
+// Enters the twins of each position into an empty list.
+fn enter(twins: &mut [u128], first: &[u128], second: &[u128])
+    requires rows_of_first { length first.now ≡ max_reach }
+    requires rows_of_second { length second.now ≡ max_reach }
+    requires length { length twins.old ≡ 128 }
+    requires none { AreTwins first.now second.now twins.old }
+    ensures length { length twins.new ≡ 128 }
+    ensures twins { AreTwins first.now second.now twins.new }
+{
+    'positions: for position in 0..POSITIONS {
+        twins[position] = twins_of(first, second, position);
+    }
+}
+
+// The positions of the first rows that have the row of a position of the second ones.
+fn twins_of(first: &[u128], second: &[u128], position: usize) -> u128
+    requires rows_of_first { length first.now ≡ max_reach }
+    requires rows_of_second { length second.now ≡ max_reach }
+    requires position { position < 128 }
+    ensures { (twin : ℕ) → Has result twin → HaveSameRow first.now second.now twin position }
+{
+    let mut found = 0;
+    'twins: for twin in 0..POSITIONS {
+        if is_same_row(first, second, twin, position) {
+            found |= only(twin as u32);
+        }
+    }
+    found
+}
+
+// Whether the row of a position of the first rows is that of one of the second.
+fn is_same_row(first: &[u128], second: &[u128], one: usize, other: usize) -> bool
+    requires rows_of_first { length first.now ≡ max_reach }
+    requires rows_of_second { length second.now ≡ max_reach }
+    requires one { one < 128 }
+    requires other { other < 128 }
+    ensures { IsTrue result → HaveSameRow first.now second.now one other }
+{
+    'parts: for block in 0..BLOCKS {
+        if first[one * BLOCKS + block] != second[other * BLOCKS + block] {
+            return false;
+        }
+    }
+    true
+}
+
+/// The positions of the second mask that have no twin in the first.
+pub(crate) fn without_twins(twins: &[u128], first: u128, second: u128) -> u128
+    requires { length twins.now ≡ 128 }
+    ensures { (position : ℕ) → Has second position → Has result position
+        ⊎ ((twin : ℕ) × Has first twin × Has (slice_index twins.now position) twin) }
+{
+    let mut found = 0;
+    let mut rest = second;
+    'positions: while rest != 0 {
+        let position = lowest(rest);
+        if !overlap(twins[position as usize], first) {
+            found |= only(position);
+        }
+        rest = without_lowest(rest);
+    }
+    found
+}
