@@ -1,5 +1,5 @@
--- Statement. The first node of a query that breaks a rule of words; where that rule forbids a word
--- with two readings, the node is blamed with the automata that the rule asks about.
+-- Statement. The first node of a query that breaks a rule of words. If that rule forbids a word
+-- with two readings, the node is blamed with the automata that the rule is about.
 use Rattle.std.specs.Prelude.{◌≡◌, List, ◌∷◌, ◌++◌, Option, None, Some, Ok}
 use Rattle.std.specs.List.{AllByRecursion}
 use Rattle.ambiguity_example.specs.Asks.{Asks, ShareCells, columns_of}
@@ -39,21 +39,21 @@ ForbidsTwoReadings rule.Split = Unit {0}
 ForbidsTwoReadings rule.Iter = Unit {0}
 ForbidsTwoReadings _ = ⊥
 
--- what such a rule asks of the rates of a query's operands
+-- what such a rule asks about the rates of a query's operands
 abbrev pub question_of : Qre → Option Question
 question_of (choice f g) = Some (shows.choice (rate_of f) (rate_of g))
 question_of (split f g expression) = Some (shows.split (rate_of f) (rate_of g))
 question_of (iter f number expression) = Some (shows.iter (rate_of f))
 question_of _ = None
 
--- what is told of a query that is refused by such a rule
+-- the refusal of a query by such a rule
 abbrev pub refusal_of : Blame → Refusal
 refusal_of blame = blame.refusal
 
 abbrev pub ambiguity_of : Blame → Ambiguity
 ambiguity_of blame = blame.ambiguity
 
--- the rule is asked of the same automata
+-- the question has the same automata
 abbrev pub IsAskOf : Ambiguity → Ask → Type 0
 IsAskOf (Choice operands) (ask.Choice first second) =
     (first.now ≡ operands.value.left) × (second.now ≡ operands.value.right)
@@ -62,7 +62,8 @@ IsAskOf (Split operands) (ask.Split first second) =
 IsAskOf (Iter operand) (ask.Iter nfa) = nfa.now ≡ operand.value
 IsAskOf _ _ = ⊥
 
--- the rule at the node's place, and the automata of what it asks there, over the node's columns
+-- the blame has the refusal at the node's place, and the automata that the rule is about, over the
+-- node's columns
 pub record IsBlameAt (node : Node) (broken : Rule) (blame : Blame) : Type 0 where
   pub refusal : refusal_of blame ≡ refusal broken node.place
   pub question : Question

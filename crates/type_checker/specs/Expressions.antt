@@ -21,7 +21,7 @@ pub data Scope : Type 0 where
   of_one : Scope
   of_two : Scope
 
--- what a name stands for there
+-- what a name stands for in the scope
 abbrev pub named_in : Scope → List ℕ → Option Var
 named_in (of_item columns) name = option_map Field (column_named columns name)
 named_in of_one name = if bytes_eq name (codes "x") then Some Left else None
@@ -29,23 +29,23 @@ named_in of_two name =
     if bytes_eq name (codes "x") then Some Left
     else if bytes_eq name (codes "y") then Some Right else None
 
--- a number that is made of a table
+-- the sum or the count of a table
 abbrev pub summary_of : Summary → Var → Expression
 summary_of summary.Sum table = sum table
 summary_of summary.Count table = count table
 
--- the greatest or the least in a table, where a first number is one of them
+-- the greatest or the least number in a table and a first number
 abbrev pub extremum_of : Extremum → Var → Expression → Expression
 extremum_of extremum.Max table first = most table first
 extremum_of extremum.Min table first = least table first
 
--- two expressions joined, where there are both
+-- two expressions joined, if there are both
 abbrev pub both_of : (Expression → Expression → Expression) → Option Expression → Option Expression
     → Option Expression
 both_of joined (Some left) (Some right) = Some (joined left right)
 both_of joined _ _ = None
 
--- a choice, where there are all four parts
+-- a choice, if there are all four parts
 abbrev pub choice_of : (Expression → Expression → Expression → Expression → Expression)
     → Option Expression → Option Expression → Option Expression → Option Expression
     → Option Expression
@@ -53,13 +53,13 @@ choice_of joined (Some left) (Some right) (Some met) (Some other) =
     Some (joined left right met other)
 choice_of joined _ _ _ _ = None
 
--- a table's name and an expression, where there are both
+-- a table's name joined with an expression, if there are both
 abbrev pub table_form : (Var → Expression → Expression) → Option Var → Option Expression
     → Option Expression
 table_form joined (Some table) (Some inner) = Some (joined table inner)
 table_form joined _ _ = None
 
--- the expression, if each name in it stands for something
+-- the expression with each name resolved, or none if a name is not known
 abbrev pub expression_over : Scope → e.Expression → Option Expression
 expression_over scope (e.number n) = Some (literal n.value)
 expression_over scope (e.name n) = option_map read (named_in scope n.bytes)
@@ -78,7 +78,7 @@ expression_over scope (e.get table key other span) =
     table_form (λ name inner. entry name key.bytes inner) (named_in scope table.bytes)
     (expression_over scope other)
 
--- the name stands for something of this type
+-- the name stands for a value of this type
 abbrev pub is_of : ValueType → Option ValueType → Bool
 is_of Number (Some Number) = true
 is_of Table (Some Table) = true
@@ -101,7 +101,7 @@ is_number types (least table first) = is_of Table (type_named types table) && is
 is_number types (entry table key other) =
     is_of Table (type_named types table) && is_number types other
 
--- a bare name of a table
+-- it is the bare name of a table
 abbrev pub is_table : Types → Expression → Bool
 is_table types (read name) = is_of Table (type_named types name)
 is_table types _ = false

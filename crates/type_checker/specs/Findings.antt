@@ -38,7 +38,7 @@ use Rattle.type_checker.specs.declared.word_stop.WordStop.TheVariants as word
 use Rattle.value_ops.specs.Typing.{HasType}
 use Rattle.value_ops.specs.declared.value.ValueType.TheVariants.{Number}
 
--- it is the refusal, or memory was wanting
+-- the stop is the refusal that was found, or out of memory
 abbrev pub IsUnresolved : {A : Type 0} → Result A Refusal → CheckStop → Type 0
 IsUnresolved found (Refused refusal) = found ≡ Err refusal
 IsUnresolved found Memory = Unit {0}
@@ -59,12 +59,12 @@ places_at (Collect' key sync rate p inner a) = with_one (places_at inner a)
 abbrev pub places_in : Query → Places
 places_in query = places_at query.shape query.span
 
--- the place of the first node of a query in memory that is so
+-- the place of the first node of a query in memory that passes the test
 abbrev pub first_in : (Node → Bool) → List Column → Standing → Query → Option Span
 first_in is_so columns standing query =
     first_where is_so (nodes_in columns standing (plain_of query.shape) (places_in query))
 
--- the same, of the nodes of an operand and a node behind them, and of two operands and such a node
+-- the same of the nodes of one operand or of two, with one more node after them
 abbrev pub first_over : (Node → Bool) → Node → List Column → Standing → Query → Option Span
 first_over is_so node columns standing f = first_where is_so
     (nodes_in columns standing (plain_of f.shape) (places_in f) ++ node ∷ [])
@@ -75,19 +75,19 @@ first_over_two is_so node columns standing f others other g = first_where is_so
     (nodes_in columns standing (plain_of f.shape) (places_in f)
     ++ nodes_in others other (plain_of g.shape) (places_in g) ++ node ∷ [])
 
--- the node is a composition whose right operand tells too many values of the left one apart
+-- the node is a composition whose right operand distinguishes too many values of the left one
 abbrev pub derives_many : Node → Bool
 derives_many node = derives_many_cells node.columns node.query
 
--- the place of the first such in the second operand of a composition, on these columns of values, or
--- else that of the composition, where it is one itself
+-- the place of the first such node in the right operand of a composition, over these columns of
+-- values; if there is none, the place of the composition if it is one itself
 abbrev pub first_behind : List Column → Standing → Query → Span → Option Span
 first_behind values standing second span = option_or (first_in derives_many values standing second)
     (if has_few_cells values (plain_of second.shape) then None else Some span)
 
--- At each node tests are of the kinds of their columns, expressions are well typed and numbers of
--- 64 bits; no collection stands on the right of a composition or in another, and what is collected
--- is a number.
+-- At each node, tests are of the kinds of their columns, and expressions are well typed with
+-- numbers of 64 bits. No collection stands in another or on the right of a composition, and what is
+-- collected is a number.
 abbrev pub KeepsTypes : List Column → Qre → Type 0
 KeepsTypes columns (atom pred expression) =
     (fits columns pred ≡ true) × IsTyped (of_columns columns) expression
@@ -135,13 +135,13 @@ pub record AreOperands (cells : Partition) (f g : Qre) (operands : Operands) : T
   pub left_cells : operands.left.cells ≡ cells
   pub right_cells : operands.right.cells ≡ cells
 
--- no rule of words is broken at the root of a query, and the sets are those of its rate
+-- the root of a query breaks no rule of words, and the sets are those of the query's rate
 pub record IsKept (columns : List Column) (query : Qre) (made : Sets) : Type 0 where
   pub rule : (standing : Standing) → BreaksAt columns standing query None
   pub sets : AreSetsOf made (rate_of query)
 
--- the stop is that of the rule that the node breaks: its refusal, or where the rule forbids a word
--- with two readings, the blame
+-- the stop is by the rule that the node breaks: a refusal, or the blame if the rule forbids a word
+-- with two readings
 abbrev pub IsRefusalAt : Node → Rule → WordStop → Type 0
 IsRefusalAt node rule (word.Broken why) =
     (why ≡ refusal rule node.place) × (ForbidsTwoReadings rule → ⊥)
@@ -153,14 +153,15 @@ abbrev pub node_at : List Column → Qre → Span → Standing → Node
 node_at columns query span standing =
     record { columns = columns; standing = standing; query = query; place = span }
 
--- the stop is that of the rule of words that the root of a query breaks, or out of memory
+-- the stop is by the rule of words that the root of a query breaks, or out of memory
 abbrev pub IsBrokenAt : List Column → Qre → Span → WordStop → Type 0
 IsBrokenAt columns query span word.Memory = Unit {0}
 IsBrokenAt columns query span stop = (rule : Rule) × ((standing : Standing)
     → BreaksAt columns standing query (Some rule)
     × IsRefusalAt (node_at columns query span standing) rule stop)
 
--- the stop is that of the rule which words of values break, or out of memory
+-- the stop is by the rule that the right operand's rate breaks in a bound composition, or out of
+-- memory
 abbrev pub IsUnfed : Standing → List Column → Expression → Span → WordStop → Type 0
 IsUnfed standing columns r span (word.Broken why) =
     (rule : Rule) × (why ≡ refusal rule span) × BreaksFed standing columns r (Some rule)
@@ -196,7 +197,7 @@ operand_nodes columns standing (compose f g) places =
 operand_nodes columns standing (collect column sync rate f) places =
     nodes_in columns bound f (first_places places)
 
--- the stop is that of the first node that breaks a rule of words, or out of memory
+-- the stop is by the first node that breaks a rule of words, or out of memory
 abbrev pub IsBrokenBy : List Node → WordStop → Type 0
 IsBrokenBy nodes word.Memory = Unit {0}
 IsBrokenBy nodes stop =

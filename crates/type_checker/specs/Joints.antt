@@ -12,7 +12,7 @@ joint_node Choice span f g = q.or f g span
 joint_node (Split value) span f g = q.split f g (plain_expression value.now) span
 joint_node (Combine value) span f g = q.combine f g (plain_expression value.now) span
 
--- the node of a query's parts
+-- the node by its parts
 abbrev pub pair_node : Pair → q.Query
 pair_node pair =
     joint_node pair.joint pair.span (plain_query pair.left.now) (plain_query pair.right.now)

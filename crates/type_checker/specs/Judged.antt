@@ -1,5 +1,6 @@
--- Statement. How a program is judged: pass by pass, and the first pass that finds a broken rule
--- decides. The passes of the text, which make the program, come before.
+-- Statement. How a program is judged: the rules are checked in passes, and the first pass that
+-- finds a broken rule decides. The rules of the text are not among them, since they are checked
+-- before there is a program.
 use Rattle.std.specs.Prelude.{◌≡◌, Option, None, Some, Result, Ok, Err}
 use Rattle.language_base.specs.declared.refusal.Refusal.{Refusal}
 use Rattle.language_base.specs.declared.rule.Rule.TheVariants.{Cells, Name, Size}
@@ -20,15 +21,15 @@ use Rattle.type_checker.specs.Sizes.{derives_many_cells, first_node, has_few_nod
 use Rattle.type_checker.specs.Steps.{◌>>=◌, because, provided, unless}
 use Rattle.type_checker.specs.WordRules.{FirstBroken}
 
--- Positions and slots: the rate of each node has at most 128 positions, and little is kept for the
--- whole.
+-- Positions and slots: no node's rate has more than 128 positions, and the whole query does not
+-- have too many slots.
 unfoldable pub limited : Layout → Query → Qre → Result (Unit {0}) Refusal
 limited layout tree query = do
   positions ← because Size (unless
       (first_node has_many_positions layout.columns query (places_of tree)))
   provided Size (query_span tree) (has_few_slots query)
 
--- Cells: first those of the stream's items, then those of the values inside.
+-- Cells: first those of the stream's items, then those of the values that compositions pass on.
 unfoldable pub parted : Stream → Query → Qre → Result (Unit {0}) Refusal
 parted stream tree query = do
   cells ← provided Cells stream.span (has_few_cells (layout_of stream).columns query)
@@ -36,7 +37,7 @@ parted stream tree query = do
       (layout_of stream).columns query (places_of tree)))
 
 -- All passes but the last: names of columns and lets, nodes, names and types, positions and slots,
--- cells. Those behind the first are over the main query after lets.
+-- cells. Those after the first are over the main query after lets.
 unfoldable pub measured : Program → Result Qre Refusal
 measured program = do
   right ← because Name (unless (wrong_name program))
@@ -46,17 +47,17 @@ measured program = do
   cells ← parted program.stream (unfolded program) query
   Ok query
 
--- the last: the rules of words at the nodes of the query
+-- the last pass: the rules of words at the nodes of the query
 abbrev pub BreaksFirst : Program → Qre → Option Refusal → Type 0
 BreaksFirst program query why = FirstBroken
     (nodes_in (layout_of program.stream).columns free query (places_of (unfolded program))) why
 
--- a query that is run, or a refusal
+-- a query that may be run, or a refusal
 pub data Verdict : Type 0 where
   accepted : Monitor → Verdict
   refused : Refusal → Verdict
 
--- the program is judged so
+-- the program has this verdict
 pub data IsJudged (program : Program) : Verdict → Type 0 where
   sound : (query : Qre) → measured program ≡ Ok query → BreaksFirst program query None
       → IsJudged program (accepted (record { layout = layout_of program.stream; query = query }))

@@ -13,7 +13,7 @@ abbrev pub nesting_of : memory.Nesting → Nesting
 nesting_of Outside = outside
 nesting_of Inside = inside
 
--- where it may, the columns are read from lines
+-- where a collection may stand, the columns are read from lines
 abbrev pub MayStand : Nesting → List Column → Type 0
 MayStand outside columns = IsTrue (list_all (λ column. is_read column.kind) columns)
 MayStand inside columns = Unit {0}

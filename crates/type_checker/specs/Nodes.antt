@@ -1,5 +1,5 @@
--- Statement. The nodes of a query with their places, each behind those of its operands, from left to
--- right.
+-- Statement. The nodes of a query with their places, from left to right, each after those of its
+-- operands.
 use Rattle.std.specs.Prelude.{Bool, List, [], ◌∷◌, ◌++◌, Option, None, Some, if◌then◌else◌}
 use Rattle.language_base.specs.declared.span.Span.{Span}
 use Rattle.item_schema.specs.declared.column.Column.{Column}
@@ -9,13 +9,13 @@ use Rattle.query_model.specs.Rules.{Standing, bound}
 use Rattle.query_syntax.specs.Queries as q
 use Rattle.query_syntax.specs.Queries.{Query}
 
--- the places of a query: its own alone, or with those of one operand or of two
+-- the places of a query's nodes: that of the root alone, or with those of one operand or of two
 pub data Places : Type 0 where
   alone : Span → Places
   with_one : Places → Span → Places
   with_two : Places → Places → Span → Places
 
--- its own
+-- the place of the root
 abbrev pub own_place : Places → Span
 own_place (alone span) = span
 own_place (with_one first span) = span
@@ -54,13 +54,13 @@ pub record Node : Type 0 where
   pub query : Qre
   pub place : Span
 
--- the root of a query
+-- the root of a query, as a node
 abbrev pub root : List Column → Standing → Qre → Places → Node
 root columns standing query places =
     record { columns = columns; standing = standing; query = query; place = own_place places }
 
--- the nodes of a query that stands so over these columns, with these places: each of its nodes is one
--- of them, whatever the places are
+-- the nodes of a query over these columns, free or bound, with these places; the places do not
+-- change which nodes there are
 abbrev pub nodes_in : List Column → Standing → Qre → Places → List Node
 nodes_in columns standing (atom pred expression) places =
     root columns standing (atom pred expression) places ∷ []
@@ -91,7 +91,7 @@ nodes_in columns standing (collect column sync rate f) places =
     nodes_in columns bound f (first_places places)
     ++ root columns standing (collect column sync rate f) places ∷ []
 
--- the place of the first node that is so
+-- the place of the first node that passes the test
 abbrev pub first_where : (Node → Bool) → List Node → Option Span
 first_where is_so (node ∷ nodes) = if is_so node then Some node.place else first_where is_so nodes
 first_where is_so [] = None

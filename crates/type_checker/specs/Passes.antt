@@ -42,25 +42,25 @@ pub record IsCounted (program : Program) : Type 0 where
 abbrev pub told_apart : List Column → Span → Qre → Result (Unit {0}) Refusal
 told_apart columns span query = provided Cells span (has_few_cells columns query)
 
--- the pass over the cells of the values inside of a query
+-- the pass over the cells of the values that compositions pass on
 abbrev pub values_apart : List Column → memory.Query → Result (Unit {0}) Refusal
 values_apart columns query = because Cells (unless (first_in derives_many columns free query))
 
--- the query in memory is that of the tree, and it has the types that it is to have
+-- the query in memory is that of the tree, and its types fit
 pub record IsNamed (columns : List Column) (tree : Query) (query : memory.Query) : Type 0 where
   pub named : resolved outside columns tree ≡ Ok (plain_of query.shape)
   pub types : KeepsTypes columns (plain_of query.shape)
   pub places : places_in query ≡ places_of tree
 
--- no node has too many positions, and little is kept for the whole
+-- no node has too many positions, nor the whole query too many slots
 pub record IsLimited (query : memory.Query) : Type 0 where
   pub positions : HasFewPositions (plain_of query.shape)
   pub slots : slots_of (plain_of query.shape) ≤ max_slots
   pub limited : (layout : Layout) (tree : Query) → places_of tree ≡ places_in query
       → limited layout tree (plain_of query.shape) ≡ Ok tt
 
--- it is refused because of the limits, or behind them the cells of items, or behind those the cells
--- of values
+-- it is refused by the limits, or after these by the cells of items, or after those by the cells of
+-- values
 abbrev pub IsBeyond : List Column → Span → memory.Query → CheckStop → Type 0
 IsBeyond columns span query stop =
     ((layout : Layout) (tree : Query) → places_of tree ≡ places_in query
@@ -69,7 +69,7 @@ IsBeyond columns span query stop =
     ⊎ ((told_apart columns span (plain_of query.shape) ≡ Ok tt)
     × IsUnresolved (values_apart columns query) stop)))
 
--- all passes but the last made this of the program
+-- the result of all passes but the last over the program
 pub record IsMeasured (program : Program) (made : Measured) : Type 0 where
   pub layout : made.schema ≡ layout_of program.stream
   pub cells : made.cells.layout ≡ layout_of program.stream

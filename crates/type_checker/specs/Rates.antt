@@ -7,13 +7,13 @@ use Rattle.query_syntax.specs.declared.operator.Join.TheVariants.{Seq, Alt}
 use Rattle.rate_expr.specs.Rates.{Expression, empty, one, sequence, choice, star}
 use Rattle.type_checker.specs.Tests.{resolved_over}
 
--- two rates joined, where there are both
+-- two rates joined, if there are both
 abbrev pub joined_rates : Join → Option Expression → Option Expression → Option Expression
 joined_rates Seq (Some first) (Some second) = Some (sequence first second)
 joined_rates Alt (Some first) (Some second) = Some (choice first second)
 joined_rates join _ _ = None
 
--- the rate over these columns, if each name in it is one of theirs
+-- the rate over these columns, if each name in it is a column's
 abbrev pub rate_over : List Column → written.Rate → Option Expression
 rate_over columns (written.eps span) = Some empty
 rate_over columns (written.item predicate span) = option_map one (resolved_over columns predicate)

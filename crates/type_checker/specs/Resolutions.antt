@@ -47,27 +47,27 @@ columns_of items = items.schema.now.columns
 abbrev pub HasTypes : Items → Type 0
 HasTypes items = items.types.now ≡ (of_columns (columns_of items)).fields
 
--- a node in memory of this shape, at this place, and the type of its values
+-- a node of this shape at this place, and the type of its values
 pub record IsNode (shape : Shape) (span : Span) (ty : ValueType) (made : Typed) : Type 0 where
   pub shape_is : made.query.value.shape ≡ shape
   pub span_is : made.query.value.span ≡ span
   pub type_is : made.ty ≡ ty
 
--- a query as it is written is resolved to this one at such a place
+-- the query as it is written is resolved to this one
 pub record IsMade (nesting : Nesting) (columns : List Column) (tree : q.Query) (made : Typed)
     : Type 0 where
   pub resolved : whole.resolved nesting columns tree ≡ Ok (plain_of made.query.value.shape)
   pub typed : IsResolved columns made
   pub places : places_in made.query.value ≡ places_of tree
 
--- the names in the predicate and in the expression of an atom are resolved to these
+-- the predicate and the expression of an atom are resolved to these
 pub record IsNamedAtom (columns : List Column) (predicate : p.Predicate) (tree : e.Expression)
     (pred : Predicate) (value : Expression) : Type 0 where
   pub tested : Some pred ≡ resolved_over columns predicate
   pub named : Some value ≡ expression_over (of_item columns) tree
   pub numbers : HasFittingNumbers value
 
--- and those in the parts of a collection
+-- the parts of a collection are resolved to these
 pub record IsNamedCollection (columns : List Column) (key : leaf.Name) (sync : p.Predicate)
     (rate : r.Rate) (parts : Parts) : Type 0 where
   pub keyed : Some parts.key ≡ column_named columns key.bytes
@@ -80,16 +80,16 @@ parts_fit columns parts =
     has_texts columns parts.key && (fits columns (predicates.plain_of parts.sync)
     && list_all (fits columns) (preds_of (rates.plain_of parts.rate)))
 
--- it is refused so
+-- the query is refused with this stop
 abbrev pub IsRefused : Nesting → List Column → q.Query → CheckStop → Type 0
 IsRefused nesting columns tree stop = IsUnresolved (whole.resolved nesting columns tree) stop
 
--- the first of two queries is refused, or the second
+-- the first of two queries is refused, or else the second
 abbrev pub IsRefusedOfTwo : Nesting → List Column → q.Query → q.Query → CheckStop → Type 0
 IsRefusedOfTwo nesting columns f g stop = IsUnresolved
     (whole.resolved nesting columns f >>= (λ (left : Qre). whole.resolved nesting columns g)) stop
 
--- a node is made of one operand, whatever that was written as, or of two
+-- from one operand, or from two, the node is made, however the operands are written
 abbrev pub IsMadeOfOne : (q.Query → q.Query) → Typed → Typed → Type 0
 IsMadeOfOne node operand made = (nesting : Nesting) (columns : List Column) (f : q.Query)
     → IsMade nesting columns f operand → IsMade nesting columns (node f) made
@@ -99,7 +99,7 @@ IsMadeOfTwo node left right made = (nesting : Nesting) (columns : List Column) (
     → IsMade nesting columns f left → IsMade nesting columns g right
     → IsMade nesting columns (node f g) made
 
--- a node is refused over one operand, or over two
+-- over one operand, or over two, the node is refused
 abbrev pub IsRefusedOverOne : (q.Query → q.Query) → Typed → CheckStop → Type 0
 IsRefusedOverOne node operand stop = (nesting : Nesting) (columns : List Column) (f : q.Query)
     → IsMade nesting columns f operand → IsRefused nesting columns (node f) stop
@@ -109,13 +109,13 @@ IsRefusedOverTwo node left right stop = (nesting : Nesting) (columns : List Colu
     → IsMade nesting columns f left → IsMade nesting columns g right
     → IsRefused nesting columns (node f g) stop
 
--- a composition is made of two operands, of which the second is on the values of the first
+-- a composition is made of two operands, the right one on the values of the left one
 abbrev pub IsComposed : Span → Typed → Typed → Typed → Type 0
 IsComposed span left right made = (nesting : Nesting) (columns : List Column) (f g : q.Query)
     → IsMade nesting columns f left → IsMade inside (derived_columns left.ty) g right
     → IsMade nesting columns (q.compose f g span) made
 
--- a node at a place is made, or refused, over an operand that is inside of a collection
+-- the node is made, or refused, over an operand inside of a collection
 abbrev pub IsMadeOfInner : Nesting → List Column → (q.Query → q.Query) → Typed → Typed → Type 0
 IsMadeOfInner nesting columns node operand made =
     (f : q.Query) → IsMade inside columns f operand → IsMade nesting columns (node f) made
@@ -125,7 +125,7 @@ abbrev pub IsRefusedOverInner : Nesting → List Column → (q.Query → q.Query
 IsRefusedOverInner nesting columns node operand stop =
     (f : q.Query) → IsMade inside columns f operand → IsRefused nesting columns (node f) stop
 
--- what is made of an expression that is well typed
+-- what a well typed expression is made to
 abbrev pub typed_then : Scope → Types → e.Expression → Span → (Expression → Qre)
     → Result Qre Refusal
 typed_then scope types tree span make =
@@ -133,7 +133,7 @@ typed_then scope types tree span make =
     provided Type_ span (is_typed types expression) >>= (λ (typed : Unit {0}).
     Ok (make expression)))
 
--- and of one that is a number
+-- what an expression that is a number is made to
 abbrev pub number_then : Scope → Types → e.Expression → Span → (Expression → Qre)
     → Result Qre Refusal
 number_then scope types tree span make =
@@ -141,7 +141,7 @@ number_then scope types tree span make =
     provided Type_ span (is_number types expression) >>= (λ (typed : Unit {0}).
     Ok (make expression)))
 
--- an expression and its type
+-- the expression is resolved to this one, which has this type
 pub record IsValueOver (scope : Scope) (types : Types) (tree : e.Expression) (value : Expr)
     (ty : ValueType) : Type 0 where
   pub named : expression_over scope tree ≡ Some (values.plain_of value)
@@ -149,7 +149,7 @@ pub record IsValueOver (scope : Scope) (types : Types) (tree : e.Expression) (va
   pub typed : IsTyped types (values.plain_of value)
   pub type : ty ≡ type_of_expression types (values.plain_of value)
 
--- a number
+-- the expression is resolved to this one, which is a number
 pub record IsNumberOver (scope : Scope) (types : Types) (tree : e.Expression) (value : Expr)
     : Type 0 where
   pub named : expression_over scope tree ≡ Some (values.plain_of value)

@@ -1,7 +1,7 @@
--- Statement. Names and types: a query as it is written is resolved, or the first node that breaks a
--- rule of names, of nesting or of types is told. The operands of a node are asked from left to
--- right and then the node; at one node names are asked first, then whether a collection may stand
--- there, then types.
+-- Statement. Names and types: a query as it is written is resolved, or refused at the first node
+-- that breaks a rule of names, of nesting or of types. The operands of a node are checked from left
+-- to right, and then the node: first its names, then whether a collection may stand there, then its
+-- types.
 use Rattle.std.specs.Prelude.{Bool, ◌&&◌, true, false, List, Result, Ok, Err}
 use Rattle.std.specs.List.{list_all}
 use Rattle.language_base.specs.declared.refusal.Refusal.{Refusal}
@@ -27,18 +27,18 @@ pub data Nesting : Type 0 where
   outside : Nesting
   inside : Nesting
 
--- it may
+-- a collection may stand there
 abbrev pub may_collect : Nesting → Bool
 may_collect outside = true
 may_collect inside = false
 
--- two types are one
+-- the types are equal
 abbrev pub same_type : ValueType → ValueType → Bool
 same_type Number Number = true
 same_type Table Table = true
 same_type _ _ = false
 
--- the query over these columns
+-- the query over these columns, or its refusal
 unfoldable pub resolved : Nesting → List Column → Query → Result Qre Refusal
 resolved nesting columns (q.name name) = Err (refusal Name name.span)
 resolved nesting columns (q.atom predicate value span) = do

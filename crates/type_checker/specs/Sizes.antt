@@ -15,7 +15,7 @@ use Rattle.query_syntax.specs.Queries.{Query}
 use Rattle.rate_expr.specs.Rates.{size_of}
 use Rattle.type_checker.specs.Nodes.{Node, Places, first_where, nodes_in}
 
--- the query as it is written has few nodes
+-- the query as it is written does not have too many nodes
 abbrev pub has_few_nodes : Query → Bool
 has_few_nodes tree = nat_le (nodes_of tree) max_nodes
 
@@ -23,17 +23,17 @@ has_few_nodes tree = nat_le (nodes_of tree) max_nodes
 abbrev pub has_many_positions : Node → Bool
 has_many_positions node = not (nat_le (size_of (rate_of node.query)) max_positions)
 
--- little is kept for the query
+-- the query does not have too many slots
 abbrev pub has_few_slots : Qre → Bool
 has_few_slots query = nat_le (slots_of query) max_slots
 
--- the node is a composition whose right operand's predicates tell apart too many values of the left
--- one
+-- the node is a composition whose right operand's predicates distinguish too many values of the
+-- left one
 abbrev pub derives_many_cells : List Column → Qre → Bool
 derives_many_cells columns (compose f g) =
     not (has_few_cells (derived_columns (type_of columns f)) g)
 derives_many_cells columns _ = false
 
--- the place of the first node that is so
+-- the place of the first node that passes the test
 abbrev pub first_node : (Node → Bool) → List Column → Qre → Places → Option Span
 first_node is_so columns query places = first_where is_so (nodes_in columns free query places)

@@ -4,7 +4,7 @@ use Rattle.type_checker.specs.Judged.{IsJudged, refused}
 use Rattle.type_checker.specs.declared.stop.CheckStop.{CheckStop}
 use Rattle.type_checker.specs.declared.stop.CheckStop.TheVariants.{Refused, Memory}
 
--- the program is refused so; want of memory says nothing of it
+-- the program is refused so; out of memory, nothing is said of it
 abbrev pub IsStopOf : Program → CheckStop → Type 0
 IsStopOf program (Refused refusal) = IsJudged program (refused refusal)
 IsStopOf program Memory = Unit {0}

@@ -14,32 +14,32 @@ use Rattle.query_syntax.specs.declared.operator.Order.{Order}
 use Rattle.query_syntax.specs.declared.operator.Order.TheVariants.{Lt, Le, Gt, Ge}
 use Rattle.type_checker.specs.Names.{column_named}
 
--- whether a column is a literal, or is not
+-- a test whether a column equals a literal, or does not
 abbrev pub equality_test : Equality → Literal → ℕ → plain.Predicate
 equality_test Eq (Number literal) column = eq column literal.value
 equality_test Ne (Number literal) column = ne column literal.value
 equality_test Eq (Text literal) column = eq_text column literal.bytes
 equality_test Ne (Text literal) column = ne_text column literal.bytes
 
--- how a column lies to a number
+-- a test whether a column is less or greater than a number
 abbrev pub order_test : Order → ℤ → ℕ → plain.Predicate
 order_test Lt bound column = lt column bound
 order_test Le bound column = le column bound
 order_test Gt bound column = gt column bound
 order_test Ge bound column = ge column bound
 
--- two predicates joined
+-- two predicates joined by `and` or `or`
 abbrev pub joined_by : Connective → plain.Predicate → plain.Predicate → plain.Predicate
 joined_by And left right = conjunction left right
 joined_by Or left right = disjunction left right
 
--- the same, where there are both
+-- the same, if there are both
 abbrev pub both : Connective → Option plain.Predicate → Option plain.Predicate
     → Option plain.Predicate
 both connective (Some left) (Some right) = Some (joined_by connective left right)
 both connective _ _ = None
 
--- the predicate over these columns, if each name in it is one of theirs
+-- the predicate over these columns, if each name in it is a column's
 abbrev pub resolved_over : List Column → Predicate → Option plain.Predicate
 resolved_over columns (any span) = Some plain.any
 resolved_over columns (equality operator column literal span) =

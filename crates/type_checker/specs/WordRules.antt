@@ -1,5 +1,5 @@
--- Statement. The rules of words: at each node they are asked over all words of items of the node's
--- stream, the rule of the lower number first.
+-- Statement. The rules of words. At each node they are checked over all words of items of the
+-- node's stream; of two broken rules that of the lower number counts.
 use Rattle.std.specs.Prelude.{◌+◌, ◌⊎◌, ◌≡◌, List, [], ◌∷◌, Option, None, Some}
 use Rattle.std.specs.List.{AllByRecursion, Contains}
 use Rattle.language_base.specs.declared.refusal.Refusal.{Refusal}
@@ -31,15 +31,15 @@ abbrev pub ReachManyStates : List Column → Expression → Type 0
 ReachManyStates columns r =
     (sets : Sets) × AreSetsOf sets r × ReachStates columns sets (max_reach + 1)
 
--- the first rule that the rates of a combination's operands break, or that they break none
+-- the first rule that the rates of a combination's operands break, or none
 abbrev pub BreaksEqual : List Column → Expression → Expression → Option Rule → Type 0
 BreaksEqual columns r s (Some Reach) = ReachManyPairs columns r s
 BreaksEqual columns r s (Some Rates) = (ReachManyPairs columns r s → ⊥) × HaveDifference columns r s
 BreaksEqual columns r s None = (ReachManyPairs columns r s → ⊥) × AreEqual columns r s
 BreaksEqual columns r s _ = ⊥
 
--- the same of the rate of the right operand of a composition, which is bound only if its value is
--- never missing
+-- the same of the rate of a composition's right operand, which is checked only where the
+-- composition is bound: there its value may never be missing
 abbrev pub BreaksFed : Standing → List Column → Expression → Option Rule → Type 0
 BreaksFed free columns r None = Unit {0}
 BreaksFed bound columns r (Some Reach) = ReachManyStates columns r
@@ -54,8 +54,7 @@ BreaksMet columns preds (Some Empty) =
 BreaksMet columns preds None = AllByRecursion (IsMet columns) preds
 BreaksMet columns preds _ = ⊥
 
--- the first rule of words that a query over these columns breaks at its root, or that it breaks
--- none there
+-- the first rule of words that a query over these columns breaks at its root, or none
 abbrev pub BreaksAt : List Column → Standing → Qre → Option Rule → Type 0
 BreaksAt columns standing (atom pred expression) (Some Empty) = IsUnmet columns pred
 BreaksAt columns standing (atom pred expression) None = IsMet columns pred
@@ -81,7 +80,7 @@ BreaksAt columns standing _ _ = ⊥
 abbrev pub Breaks : Node → Option Rule → Type 0
 Breaks node broken = BreaksAt node.columns node.standing node.query broken
 
--- the first rule that one of the nodes breaks, with the place of the node, or none where none does
+-- the refusal by the first node that breaks a rule, or none
 abbrev pub FirstBroken : List Node → Option Refusal → Type 0
 FirstBroken (node ∷ nodes) why =
     ((rule : Rule) × Breaks node (Some rule) × (why ≡ Some (refusal rule node.place)))

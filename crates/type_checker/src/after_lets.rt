@@ -12,7 +12,7 @@ use std::alloc::Global;
 
 const MAX_NODES: u32 = 256;
 
-/// Whether the names of a program are right, and its main query after lets has few nodes.
+/// Whether all names of columns and lets are right, and the main query after lets has few nodes.
 pub fn keep_nodes(alloc: Global, program: &Program) -> Result<(), CheckStop>
     ensures counted { OnOk result (IsCounted (plain_program program.now)) }
     ensures refused { IfErr result (IsUnresolved (counted (plain_program program.now))) }

@@ -1,4 +1,5 @@
-//! The cells of the streams of values inside of a query.
+//! The cells of the values that a composition passes from its left operand to its right one, whose
+//! predicates must not distinguish too many of them.
 ghost use Rattle.std.specs.Prelude.{◌≡◌, Some, None, not, if◌then◌else◌, IfOk};
 ghost use Rattle.std.specs.Option.{option_or};
 ghost use Rattle.predicate_cells.specs.Cells.{AllFit};
@@ -17,7 +18,8 @@ use predicate_cells::CellStop;
 use query_model::{Query, Shape, cells_of};
 use std::alloc::{AllocError, Global};
 
-/// The place of the first composition that tells too many of its first operand's values apart.
+/// The place of the first composition whose right operand distinguishes too many values of the left
+/// one.
 #[cycle(apart)]
 pub fn first_apart(
     alloc: Global,
@@ -61,7 +63,7 @@ fn first_of_two(
     Ok(left.or(right))
 }
 
-// The same of a composition at the place, with its operands.
+// The same of a composition with these operands, which stands at the place.
 #[cycle(apart)]
 fn first_composed(
     alloc: Global,
@@ -84,7 +86,8 @@ fn first_composed(
     Ok(left.or(behind))
 }
 
-// The same of the second operand of a composition, and of the composition itself.
+// The same of the right operand of a composition and, if nothing is found there, of the composition
+// itself.
 #[cycle(apart)]
 fn first_behind(
     alloc: Global,
@@ -105,7 +108,7 @@ fn first_behind(
     Ok(right.or(here))
 }
 
-// The place, where the predicates of the query tell too many items of its stream apart.
+// The place, if the predicates of the query make too many cells of the stream.
 fn place_of_many(
     alloc: Global,
     schema: &Schema,

@@ -49,7 +49,7 @@ pub fn atom(
     Ok(Typed::new(alloc, Shape::Atom(pred, value), span, ty)?)
 }
 
-// The predicate, the value and its type, where names are resolved and types fit.
+// The predicate, the value and its type, if names are resolved and types fit.
 fn typed_atom(
     alloc: Global,
     items: &Items<'_>,

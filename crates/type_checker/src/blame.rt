@@ -1,4 +1,4 @@
-//! What a query with a word of two readings is refused for.
+//! Why a query is refused by a rule that forbids a word with two readings.
 ghost use Rattle.std.specs.Prelude.{◌≡◌};
 ghost use Rattle.type_checker.specs.Blames.{IsAskOf, ambiguity_of, refusal_of};
 
@@ -13,7 +13,7 @@ pub struct Operands {
     pub(crate) right: Nfa,
 }
 
-/// A broken rule that forbids a word with two readings, with the automata that it asks about.
+/// A broken rule that forbids a word with two readings, with the automata that it is about.
 #[derive(Drop)]
 pub enum Ambiguity {
     /// A word is in the rates of both operands.
@@ -25,7 +25,7 @@ pub enum Ambiguity {
 }
 
 impl Ambiguity {
-    /// The rule, as it is asked for an example.
+    /// The rule as the question that an example answers.
     pub fn ask(&self) -> Ask<'_>
         ensures { IsAskOf self.now result }
     {
@@ -58,7 +58,8 @@ impl Blame {
         self.refusal
     }
 
-    /// The broken rule, with its automata over the cells of the stream of the node that breaks it.
+    /// The broken rule as such a question. Its automata are over the cells of the stream of the
+    /// node that breaks it.
     pub fn ask(&self) -> Ask<'_>
         ensures { IsAskOf (ambiguity_of self.now) result }
     {

@@ -1,4 +1,5 @@
-//! The top calls.
+//! The calls of the crate: `check` gives a query or a refusal, and `judge` also the automata by
+//! which an example is found.
 ghost use Rattle.std.specs.Prelude.{◌≡◌, IfErr, IfOk, None, OnOk};
 ghost use Rattle.query_lets.specs.Unfolded.{unfolded};
 ghost use Rattle.query_model.specs.Monitors.{monitor_of};
@@ -43,7 +44,8 @@ pub fn check(alloc: Global, program: &Program) -> Result<Checked, CheckStop>
     }
 }
 
-/// The same, with the automata of the first broken rule where it forbids a word with two readings.
+/// The same as `check`. Where the broken rule forbids a word with two readings, the automata that
+/// it is about are given too.
 pub fn judge(alloc: Global, program: &Program) -> Result<Judgment, AllocError>
     requires { IsWithin (plain_stream program.now.stream) }
     ensures judged { IfOk result (IsJudgmentOf (plain_program program.now)) }
@@ -56,7 +58,7 @@ pub fn judge(alloc: Global, program: &Program) -> Result<Judgment, AllocError>
     }
 }
 
-// The judgment on a program of which this was made, by the rules of words.
+// The judgment on a program that has passed all rules but those of words.
 fn judge_words(alloc: Global, found: Measured) -> Result<Judgment, AllocError>
     requires { (program : syntax.Program) × IsMeasured program found }
     ensures judged { IfOk result (λ judgment. (program : syntax.Program)
@@ -75,7 +77,7 @@ fn judge_words(alloc: Global, found: Measured) -> Result<Judgment, AllocError>
     }
 }
 
-// Whether no node of a main query breaks a rule of words over the cells.
+// Whether no node of the main query breaks a rule of words.
 fn keep_words_over(alloc: Global, cells: Cells, query: &Query) -> Result<(), WordStop>
     requires { CanBeAsked cells (plain_of query.now.shape) }
     ensures kept { OnOk result (FirstBroken

@@ -22,7 +22,7 @@ fn place_named(columns: &[item_schema::Column], name: &[u8]) -> Option<usize>
         .position(|column| name == column.name.as_slice())
 }
 
-/// Whether the column is there and has texts.
+/// Whether the column exists and has texts.
 pub fn has_texts(schema: &Schema, column: u32) -> bool
     ensures { result ≡ has_texts schema.now.columns column }
 {

@@ -30,7 +30,7 @@ struct Both {
     right: Box<Expr>,
 }
 
-/// The expression, if each name in it stands for something.
+/// The expression with each name resolved. There is none if a name is not known in the scope.
 #[cycle(resolve)]
 pub fn expression_over(
     alloc: Global,
@@ -135,7 +135,7 @@ fn binary_over(
     }
 }
 
-// Both expressions, if each name in them stands for something.
+// Both expressions, if each name in them is known.
 #[cycle(resolve)]
 fn both_over(
     alloc: Global,

@@ -10,7 +10,7 @@ ghost use Rattle.type_checker.specs.Steps.{refusal};
 ghost use Rattle.type_checker.specs.WordRules.{Breaks, FirstBroken};
 ghost use Rattle.type_checker.specs.declared.blame.Blame.{Blame};
 
-/// A program is judged in one way, and it cannot be that it is judged in none.
+/// A program has at most one verdict, and it cannot be that it has none.
 pub fn one_verdict()
     ensures only { (program : Program) (one other : Verdict) → IsJudged program one
         → IsJudged program other → other ≡ one }
@@ -18,8 +18,8 @@ pub fn one_verdict()
         → ((verdict : Verdict) → IsJudged program verdict → ⊥) → ⊥ }
 {}
 
-/// The first node that breaks a rule decides, and a program with a blame is refused for it. Where
-/// what is broken is a question of readings, some word has two.
+/// The first node that breaks a rule decides, and a program with a blame is refused for it. A
+/// question of readings that is not kept is broken by some word with two readings.
 pub fn blame_refuses()
     ensures first { (nodes : List Node) (node : Node) (rule : Rule) → IsFirstBroken nodes node rule
         → FirstBroken nodes (Some (refusal rule node.place)) }

@@ -1,4 +1,5 @@
-//! The passes before the rules of words.
+//! The rules that are checked before the rules of words: names, nodes, types, positions, slots,
+//! cells.
 ghost use Rattle.std.specs.Prelude.{◌≡◌, IfErr, IfOk, None, Ok, OnOk};
 ghost use Rattle.std.specs.List.{Contains};
 ghost use Rattle.item_schema.specs.Layout.{Layout};
@@ -34,7 +35,7 @@ use query_model::{Query, cells_of};
 use query_syntax::Program;
 use std::alloc::Global;
 
-// What is kept for a query, at the most.
+// The most slots that an engine may keep for a query.
 const MAX_SLOTS: u32 = 1_048_576;
 
 /// A query that keeps all rules but those of words, its stream, and the cells of its items.
@@ -62,7 +63,7 @@ pub fn measure(alloc: Global, program: &Program) -> Result<Measured, CheckStop>
     })
 }
 
-// The main query after lets, whose names and types are resolved.
+// The main query after lets, with names resolved and types that fit.
 fn query_in(alloc: Global, schema: &Schema, program: &Program) -> Result<Box<Query>, CheckStop>
     requires stands { MayStand outside schema.now.columns }
     requires right { wrong_name (plain_program program.now) ≡ None }
@@ -77,7 +78,7 @@ fn query_in(alloc: Global, schema: &Schema, program: &Program) -> Result<Box<Que
     Ok(typed.query)
 }
 
-// The cells of a stream's items, where the query keeps the limits.
+// The cells of the stream's items, if the query keeps the limits on positions, slots and cells.
 fn cells_within(
     alloc: Global,
     schema: &Schema,
@@ -100,7 +101,7 @@ fn cells_within(
     Ok(cells)
 }
 
-// Whether each node has few positions, and little is kept for the query.
+// Whether no node has too many positions, nor the query too many slots.
 fn keep_limits(query: &Query) -> Result<(), CheckStop>
     ensures limited { OnOk result (IsLimited query.now) }
     ensures refused { IfErr result (λ stop. (layout : Layout) (tree : syntax.Query)
@@ -136,7 +137,7 @@ fn cells_in(alloc: Global, schema: &Schema, query: &Query, stream: Span) -> Resu
     }
 }
 
-// Whether the values inside of a query are told apart in few ways.
+// Whether no right operand of a composition distinguishes too many values of the left one.
 fn keep_values(alloc: Global, schema: &Schema, query: &Query) -> Result<(), CheckStop>
     requires { KeepsTypes schema.now.columns (plain_of query.now.shape) }
     ensures few { OnOk result (values_apart schema.now.columns query.now ≡ Ok tt) }

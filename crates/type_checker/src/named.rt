@@ -1,4 +1,4 @@
-//! Names in expressions, and what is made of them.
+//! Names in expressions, and the expressions that are made of the name of a table.
 ghost use Rattle.std.specs.Prelude.{◌≡◌, IfSome, option_map};
 ghost use Rattle.type_checker.specs.Expressions.{extremum_of, named_in, summary_of};
 ghost use Rattle.type_checker.specs.Scopes.{HasFittingNumbers, plain_scope};
@@ -9,7 +9,7 @@ use crate::expression::Scope;
 use query_syntax::{Extremum, Name, Summary};
 use value_ops::{Expr, Var};
 
-/// The name itself.
+/// The name itself, read.
 pub fn read_over(scope: Scope<'_>, name: &Name) -> Option<Expr>
     ensures made { option_map plain_of result
         ≡ option_map read (named_in (plain_scope scope.entry) name.now.bytes) }
@@ -21,7 +21,7 @@ pub fn read_over(scope: Scope<'_>, name: &Name) -> Option<Expr>
     }
 }
 
-/// A number of the table that it names.
+/// The sum or the count of the named table.
 pub fn summary_over(scope: Scope<'_>, summary: Summary, table: &Name) -> Option<Expr>
     ensures made { option_map plain_of result
         ≡ option_map (summary_of summary) (named_in (plain_scope scope.entry) table.now.bytes) }
@@ -71,7 +71,7 @@ fn summary_of(summary: Summary, table: Var) -> Expr
     }
 }
 
-/// The greatest or the least in a table, where a first number is one of them.
+/// The greatest or the least number in a table and the first number that is given.
 pub fn extremum_with(extremum: Extremum, table: Var, first: Box<Expr>) -> Expr
     ensures made { plain_of result ≡ extremum_of extremum table (plain_of first.value) }
     ensures numbers { HasFittingNumbers (plain_of first.value)

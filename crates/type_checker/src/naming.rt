@@ -26,7 +26,7 @@ impl Typed {
     }
 }
 
-/// The types of the fields in the columns.
+/// The types of the fields in the columns; a text has none.
 pub fn types_of(alloc: Global, columns: &[Column]) -> Result<Vec<Option<ValueType>>, AllocError>
     ensures { IfOk result (λ types. types.items ≡ (of_columns columns.now).fields) }
 {

@@ -17,7 +17,7 @@ use predicate_cells::Pred;
 use query_syntax::{Connective, Equality, Literal, Order, Predicate};
 use std::alloc::{AllocError, Global};
 
-/// The predicate over the columns of the schema, if each name in it is one of theirs.
+/// The predicate over the columns of the schema, if each name in it is a column's.
 #[cycle(resolve)]
 pub fn pred_over(
     alloc: Global,
@@ -67,7 +67,7 @@ pub fn pred_over(
     }
 }
 
-/// The predicate of a node at the place, if each name in it is a column's.
+/// The same for a node at the place, where an unknown name is refused.
 pub fn named_pred(
     alloc: Global,
     schema: &Schema,

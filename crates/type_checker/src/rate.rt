@@ -18,7 +18,7 @@ use query_syntax::Join;
 use rate_expr::Rate;
 use std::alloc::{AllocError, Global};
 
-/// The rate over the columns of the schema, if each name in it is one of theirs.
+/// The rate over the columns of the schema, if each name in it is a column's.
 #[cycle(resolve)]
 pub fn rate_over(
     alloc: Global,
@@ -57,7 +57,7 @@ pub fn rate_over(
     }
 }
 
-/// The rate of a node at the place, if each name in it is a column's.
+/// The same for a node at the place, where an unknown name is refused.
 pub fn named_rate(
     alloc: Global,
     schema: &Schema,

@@ -61,7 +61,7 @@ fn resolve_over(
     resolve_root(alloc, nesting, items, scope.root())
 }
 
-// The same, where the query is behind names.
+// The same of a query that is not the name of a let.
 #[cycle(resolve)]
 fn resolve_root(
     alloc: Global,
@@ -227,7 +227,7 @@ fn resolve_collection(
     collect(alloc, nesting, items, &written, inner, *span)
 }
 
-// The second operand on the stream of the values of the first.
+// The right operand of a composition, on the stream of the values of the left one.
 #[cycle(resolve)]
 fn resolve_fed(
     alloc: Global,

@@ -1,4 +1,5 @@
-//! The root of a query: its rule of words, and its positions, made from those of its operands.
+//! The root of a query: its rule of words is checked, and its positions are made from those of its
+//! operands.
 ghost use Rattle.std.specs.Prelude.{◌≡◌, ◌+◌, ◌≤◌, ℕ, ℤ, None, Some, IfErr, IfOk, OnOk, length};
 ghost use Rattle.std.specs.List.{Contains};
 ghost use Rattle.language_base.specs.Limits.{max_positions};
@@ -31,7 +32,7 @@ use std::alloc::{AllocError, Global};
 use std::rc::Rc;
 use symbolic_nfa::Nfa;
 
-/// One item that meets the predicate.
+/// The positions of an atom: one item that meets the predicate.
 pub(crate) fn one_item(
     alloc: Global,
     cells: &Rc<Cells>,
@@ -48,7 +49,7 @@ pub(crate) fn one_item(
     Ok(Positions::one(alloc, pred)?)
 }
 
-/// A word of either operand.
+/// The positions of a choice: a word of either operand.
 pub(crate) fn choice(alloc: Global, operands: Operands, span: Span) -> Result<Positions, WordStop>
     requires cells { operands.left.cells ≡ operands.right.cells }
     requires few { length operands.left.sets.preds + length operands.right.sets.preds
@@ -70,7 +71,7 @@ pub(crate) fn choice(alloc: Global, operands: Operands, span: Span) -> Result<Po
     }
 }
 
-/// A word of the first operand, and then one of the second.
+/// The positions of a split: a word of the first operand, and then one of the second.
 pub(crate) fn split(alloc: Global, operands: Operands, span: Span) -> Result<Positions, WordStop>
     requires cells { operands.left.cells ≡ operands.right.cells }
     requires few { length operands.left.sets.preds + length operands.right.sets.preds
@@ -93,7 +94,7 @@ pub(crate) fn split(alloc: Global, operands: Operands, span: Span) -> Result<Pos
     }
 }
 
-/// Words of the operand, one after the other.
+/// The positions of an iteration: words of the operand, one after the other.
 pub(crate) fn iterated(alloc: Global, operand: Nfa, span: Span) -> Result<Positions, WordStop>
     ensures kept { IfOk result (λ sets. (f : Qre) (number : ℤ) (step : Expression)
         → IsAutomatonOf f operand
@@ -111,7 +112,7 @@ pub(crate) fn iterated(alloc: Global, operand: Nfa, span: Span) -> Result<Positi
     }
 }
 
-/// A word of both operands, which have the same.
+/// The positions of a combination: a word that is in both rates, which are to be equal.
 pub(crate) fn side_by_side(
     alloc: Global,
     operands: Operands,
@@ -128,7 +129,8 @@ pub(crate) fn side_by_side(
     Ok(operands.left.into_positions())
 }
 
-/// Whether a query on the values of another has one behind each of them, where that is asked.
+/// Whether the right operand of a composition has a value after each value of the left one. This is
+/// checked only where the composition is bound.
 pub(crate) fn fed(
     alloc: Global,
     standing: Standing,
@@ -151,7 +153,7 @@ pub(crate) fn fed(
     }
 }
 
-/// Words of a written rate.
+/// The positions of a collection: those of its written rate.
 pub(crate) fn collected(
     alloc: Global,
     cells: &Rc<Cells>,
@@ -171,7 +173,7 @@ pub(crate) fn collected(
     Ok(Positions::of(alloc, rate)?)
 }
 
-// Whether no rule is broken; the rule that is broken is refused at the place.
+// Whether no rule is broken. A broken one is refused at the place.
 fn keep(broken: Option<Rule>, span: Span) -> Result<(), WordStop>
     ensures kept { OnOk result (broken ≡ None) }
     ensures refused { IfErr result (λ stop. (rule : Rule) × (broken ≡ Some rule)
@@ -183,7 +185,7 @@ fn keep(broken: Option<Rule>, span: Span) -> Result<(), WordStop>
     }
 }
 
-// The refusal by this rule at the place, with what it asks about.
+// The refusal by this rule at the place, with the automata that the rule is about.
 fn blame(
     alloc: Global,
     ambiguity: Ambiguity,

@@ -1,4 +1,4 @@
-//! Nodes of queries, over operands that are resolved.
+//! Nodes of queries, made of operands that are resolved.
 ghost use Rattle.std.specs.Prelude.{◌≡◌, IfErr, IfOk, List};
 ghost use Rattle.item_schema.specs.declared.column.Column.{Column};
 ghost use Rattle.query_syntax.specs.Plain.{plain_expression, plain_query};
@@ -29,7 +29,7 @@ pub struct Items<'s> {
     pub types: &'s [Option<ValueType>],
 }
 
-/// How a node stands over two operands on one stream.
+/// Which of the three nodes that have two operands on one stream.
 #[derive(Clone, Copy)]
 pub enum Joint<'t> {
     Choice,
@@ -46,7 +46,7 @@ pub struct Pair<'t> {
     pub span: Span,
 }
 
-/// The query by its parts.
+/// The node by its parts.
 pub fn pair_of(query: &Query) -> Pair<'_>
     requires { IsPair (plain_query query.now) }
     ensures { plain_query query.now ≡ pair_node result }
@@ -84,7 +84,7 @@ pub fn pair_of(query: &Query) -> Pair<'_>
     }
 }
 
-/// The node of two operands on one stream.
+/// The query that joins two resolved operands.
 pub fn joined(
     alloc: Global,
     joint: Joint<'_>,
@@ -194,7 +194,7 @@ pub fn apply(
     Ok(Typed::new(alloc, shape, span, ty)?)
 }
 
-/// The type of the name of one value.
+/// The types of names where `x` alone is known.
 pub fn of_one(value: ValueType) -> Types<'static>
     ensures { shown_types result ≡ of_one value }
 {
@@ -205,7 +205,7 @@ pub fn of_one(value: ValueType) -> Types<'static>
     }
 }
 
-/// The types of the names of two values.
+/// The types of names where `x` and `y` are known.
 pub fn of_two(left: ValueType, right: ValueType) -> Types<'static>
     ensures { shown_types result ≡ of_two left right }
 {

@@ -1,4 +1,4 @@
-//! The positions of the rates of a query's nodes.
+//! How many positions the rates of a query's nodes have.
 ghost use Rattle.std.specs.Prelude.{◌≡◌, ◌≤◌, ◌<◌, ◌+◌, List, None, Some, IfErr, IfOk, OnOk};
 ghost use Rattle.std.specs.Option.{option_or};
 ghost use Rattle.item_schema.specs.declared.column.Column.{Column};
@@ -24,7 +24,7 @@ struct Counts {
     right: u32,
 }
 
-/// The positions of the query's rate, or the place of the first node whose rate has too many.
+/// How many positions the query's rate has, or the place of the first node whose rate has too many.
 #[cycle(positions)]
 pub fn positions_of(query: &Query) -> Result<u32, Span>
     ensures count { IfOk result (λ count.
@@ -51,8 +51,7 @@ pub fn positions_of(query: &Query) -> Result<u32, Span>
     }
 }
 
-// The positions of a node at the place that has those of both operands, or the place of the first
-// node that has too many.
+// The same of a node that has the positions of both operands.
 #[cycle(positions)]
 fn positions_of_both(first: &Query, second: &Query, span: Span) -> Result<u32, Span>
     ensures count { IfOk result (λ count. count ≡ size_of (rate_of (plain_of first.now.shape))
@@ -77,7 +76,7 @@ fn positions_of_both(first: &Query, second: &Query, span: Span) -> Result<u32, S
     few_together(counts.left, counts.right, span)
 }
 
-// The same of a node that has the positions of its first operand.
+// The same of a node that has the positions of its first operand alone.
 #[cycle(positions)]
 fn positions_of_first(first: &Query, second: &Query) -> Result<u32, Span>
     ensures count { IfOk result (λ count. count ≡ size_of (rate_of (plain_of first.now.shape))) }
@@ -97,7 +96,7 @@ fn positions_of_first(first: &Query, second: &Query) -> Result<u32, Span>
     Ok(counts.left)
 }
 
-// The same of a node at the place that has the positions of a written rate.
+// The same of a node that has the positions of a written rate.
 #[cycle(positions)]
 fn positions_of_rate(rate: &Rate, operand: &Query, span: Span) -> Result<u32, Span>
     ensures count { IfOk result (λ count. count ≡ size_of (rates.plain_of rate.now)) }
@@ -114,7 +113,7 @@ fn positions_of_rate(rate: &Rate, operand: &Query, span: Span) -> Result<u32, Sp
     few_in(rate, span)
 }
 
-// The positions of two operands, or the place of the first node of theirs that has too many.
+// The same of each of two operands.
 #[cycle(positions)]
 fn positions_of_two(first: &Query, second: &Query) -> Result<Counts, Span>
     ensures left { IfOk result (λ counts.
@@ -137,7 +136,7 @@ fn positions_of_two(first: &Query, second: &Query) -> Result<Counts, Span>
     Ok(Counts { left, right })
 }
 
-// The positions of two operands, or the place of their node where they are too many.
+// The positions of both operands together, or the place of their node if these are too many.
 fn few_together(first: u32, second: u32, span: Span) -> Result<u32, Span>
     requires first { first ≤ max_positions }
     requires second { second ≤ max_positions }
@@ -152,7 +151,7 @@ fn few_together(first: u32, second: u32, span: Span) -> Result<u32, Span>
     Ok(count)
 }
 
-// The positions of a written rate, or the place of its node where they are too many.
+// The positions of a written rate, or the place of its node if these are too many.
 fn few_in(rate: &Rate, span: Span) -> Result<u32, Span>
     ensures count { IfOk result (λ count. count ≡ size_of (rates.plain_of rate.now)) }
     ensures few { OnOk result (size_of (rates.plain_of rate.now) ≤ max_positions) }

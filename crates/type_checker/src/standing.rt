@@ -1,9 +1,9 @@
-//! Where compositions stand in a query.
+//! Whether a composition may have no value.
 
-/// Whether the value of a composition may be missing where its first operand has one.
+/// Whether a composition at this place of the query may have no value on a word of its rate.
 #[derive(Clone, Copy)]
 pub enum Standing {
-    /// It may, as nothing but compositions stands above it.
+    /// It may, since only compositions stand above it.
     Free,
     Bound,
 }

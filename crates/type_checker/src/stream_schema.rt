@@ -9,7 +9,7 @@ use item_schema::{Column, Kind, Schema};
 use query_syntax::{Mode, Stream};
 use std::alloc::{AllocError, Global};
 
-/// The schema of a stream whose columns have names of their own.
+/// The schema of a stream, no two columns of which have the same name.
 pub fn schema_of(alloc: Global, stream: &Stream) -> Result<Schema, AllocError>
     requires within { IsWithin (plain_stream stream.now) }
     requires distinct { first_wrong (column_words [] stream.now.columns.items) ≡ None }

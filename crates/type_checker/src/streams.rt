@@ -1,4 +1,5 @@
-//! Compositions and collections, over operands that are resolved.
+//! The two nodes with a stream of their own below them: `compose(F, G)` has G on the values of F,
+//! and `collect(NAME, PRED, RATE, F)` has F, for each key, on the items of this key.
 ghost use Rattle.std.specs.Prelude.{◌≡◌, true, IfErr, IfOk, OnOk};
 ghost use Rattle.query_syntax.specs.Plain.{plain_predicate, plain_rate};
 ghost use Rattle.query_syntax.specs.Predicates as p;
@@ -27,7 +28,7 @@ use rate_expr::Rate;
 use std::alloc::{AllocError, Global};
 use value_ops::ValueType;
 
-/// What a collection is written with, beside its operand.
+/// `collect(NAME, PRED, RATE, F)` as it is written, without F.
 #[derive(Clone, Copy)]
 pub struct Collection<'t> {
     pub key: &'t Name,
@@ -35,7 +36,7 @@ pub struct Collection<'t> {
     pub rate: &'t query_syntax::Rate,
 }
 
-/// The parts of a collection, beside its operand.
+/// The same with columns by number in place of their names.
 #[derive(Drop)]
 pub struct Parts {
     pub key: u32,
@@ -43,7 +44,8 @@ pub struct Parts {
     pub rate: Rate,
 }
 
-/// The second on the stream of the values of the first.
+/// The values of `left` are the items of `right`, which was resolved over their one column. The
+/// node adds no rule on names, nesting or types.
 pub fn compose(alloc: Global, left: Typed, right: Typed, span: Span) -> Result<Typed, AllocError>
     ensures { IfOk result (IsComposed span left right) }
 {
@@ -51,7 +53,9 @@ pub fn compose(alloc: Global, left: Typed, right: Typed, span: Span) -> Result<T
     Typed::new(alloc, shape, span, right.ty)
 }
 
-/// A table with the value of the operand for each key.
+/// The value is a table with the value of `operand` for each key; `operand` was resolved over the
+/// same columns, inside of a collection. The rules are checked in the order `name`, `nested`,
+/// `type`.
 pub fn collect(
     alloc: Global,
     nesting: Nesting,
@@ -73,7 +77,7 @@ pub fn collect(
     Ok(Typed::new(alloc, shape, span, ValueType::Table)?)
 }
 
-// The parts of a collection that may stand there, whose names are resolved and whose types fit.
+// The parts, if the node keeps all three rules.
 fn fitting_parts(
     alloc: Global,
     nesting: Nesting,
@@ -100,7 +104,8 @@ fn fitting_parts(
     }
 }
 
-// The parts of a collection, whose names are resolved.
+// The parts, if all names are known: the key is checked first, then the sync predicate, then the
+// rate.
 fn named_parts(
     alloc: Global,
     schema: &Schema,
@@ -122,7 +127,7 @@ fn named_parts(
     Ok(Parts { key, sync, rate })
 }
 
-// Whether a collection of these parts may stand there, and its types fit.
+// Asks `nested`, and then `type`.
 fn keep_parts(nesting: Nesting, schema: &Schema, parts: &Parts, span: Span) -> Result<(), CheckStop>
     ensures stands { OnOk result (may_collect (nesting_of nesting) ≡ true) }
     ensures fit { OnOk result (parts_fit schema.now.columns parts.now ≡ true) }
@@ -140,7 +145,6 @@ fn keep_parts(nesting: Nesting, schema: &Schema, parts: &Parts, span: Span) -> R
     Ok(())
 }
 
-// Whether the key column has texts, and each test's column the test's kind.
 fn parts_fit(schema: &Schema, parts: &Parts) -> bool
     ensures { result ≡ parts_fit schema.now.columns parts.now }
 {

@@ -16,7 +16,7 @@ use query_syntax::Expression;
 use std::alloc::Global;
 use value_ops::{Expr, Types, ValueType};
 
-/// The expression and its type, at a node that stands at the place.
+/// The expression and its type, for a node that stands at the place.
 pub fn value_over(
     alloc: Global,
     scope: Scope<'_>,
@@ -39,7 +39,7 @@ pub fn value_over(
     }
 }
 
-/// The expression, which is to be a number, at a node that stands at the place.
+/// The same of an expression that has to be a number.
 pub fn number_over(
     alloc: Global,
     scope: Scope<'_>,
@@ -62,7 +62,6 @@ pub fn number_over(
     Ok(value)
 }
 
-// Whether the expression is a number.
 fn is_number(types: &Types<'_>, value: &Expr) -> bool
     requires { HasFittingNumbers (values.plain_of value.now) }
     ensures { result ≡ is_number (shown_types types.now) (values.plain_of value.now) }

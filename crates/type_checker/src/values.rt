@@ -1,4 +1,4 @@
-//! The streams that the values of queries make.
+//! The streams of the values of queries.
 ghost use Rattle.std.specs.Prelude.{◌≡◌, IfOk, List};
 ghost use Rattle.item_schema.specs.Layout.{derived_layout};
 ghost use Rattle.item_schema.specs.declared.column.Column.{Column};
@@ -56,7 +56,7 @@ fn type_of(fields: &[Option<ValueType>], query: &Query) -> ValueType
     }
 }
 
-// The type that an expression has if it is well typed.
+// The type of an expression that is well typed.
 fn type_of_expression(types: &Types<'_>, value: &Expr) -> ValueType
     ensures { result ≡ type_of_expression (shown_types types.now) (values.plain_of value.now) }
 {
@@ -77,7 +77,7 @@ fn type_named(types: &Types<'_>, name: Var) -> Option<ValueType>
     }
 }
 
-// A table where this says so.
+// A table if the type is one, and else a number.
 fn table_or_number(ty: Option<ValueType>) -> ValueType
     ensures { result ≡ table_or_number ty }
 {

@@ -1,4 +1,4 @@
-//! The rule of words that a node breaks, told by the automata of its operands.
+//! The rule of words that a node breaks. The automata of its operands decide it.
 ghost use Rattle.std.specs.Prelude.{◌≡◌, ℤ, IfOk};
 ghost use Rattle.std.specs.List.{Contains};
 ghost use Rattle.predicate_cells.specs.Plain.{plain_of};
@@ -20,7 +20,7 @@ use rate_expr::Rate;
 use std::alloc::{AllocError, Global};
 use symbolic_nfa::Nfa;
 
-/// The rule that one item breaks, where no item meets its predicate.
+/// The rule that an atom breaks, if no item meets its predicate.
 pub(crate) fn empty_rule(cells: &Cells, pred: &Pred) -> Option<Rule>
     requires { Contains cells.now.preds (plain_of pred.now) }
     ensures { (standing : Standing) (value : Expression)
@@ -33,7 +33,7 @@ pub(crate) fn empty_rule(cells: &Cells, pred: &Pred) -> Option<Rule>
     }
 }
 
-/// The rule that a choice breaks, where a word is in the rates of both operands.
+/// The rule that a choice breaks, if a word is in the rates of both operands.
 pub(crate) fn choice_rule(
     alloc: Global,
     first: &Nfa,
@@ -51,7 +51,7 @@ pub(crate) fn choice_rule(
     }
 }
 
-/// The rule that a split breaks, where a word splits in two ways.
+/// The rule that a split breaks, if a word splits in two ways.
 pub(crate) fn split_rule(
     alloc: Global,
     first: &Nfa,
@@ -69,7 +69,7 @@ pub(crate) fn split_rule(
     }
 }
 
-/// The rule that an iteration breaks, where a word factors in two ways.
+/// The rule that an iteration breaks, if a word factors in two ways.
 pub(crate) fn iter_rule(alloc: Global, inner: &Nfa) -> Result<Option<Rule>, AllocError>
     ensures { IfOk result (λ broken. (standing : Standing) (f : Qre) (number : ℤ)
         (step : Expression) → IsAutomatonOf f inner.now
@@ -82,8 +82,8 @@ pub(crate) fn iter_rule(alloc: Global, inner: &Nfa) -> Result<Option<Rule>, Allo
     }
 }
 
-/// The rule that a combination breaks, where the rates of its operands differ or too many pairs of
-/// states would have to be compared.
+/// The rule that a combination breaks, if the rates of its operands differ, or if words lead to too
+/// many pairs of states to compare them.
 pub(crate) fn rates_rule(
     alloc: Global,
     first: &Nfa,
@@ -102,8 +102,8 @@ pub(crate) fn rates_rule(
     }
 }
 
-/// The rule that a composition breaks, where it is bound and a word of values is not in the rate of
-/// its second operand or too many states would have to be looked at.
+/// The rule that a bound composition breaks, if some non-empty word of values is not in the rate of
+/// its right operand, or if words lead to too many states to find that out.
 pub(crate) fn fed_rule(alloc: Global, second: &Nfa) -> Result<Option<Rule>, AllocError>
     ensures { IfOk result (λ broken. (r : rate.Expression) → AreSetsOf second.now.sets r
         → BreaksFed bound second.now.cells.layout.columns r broken) }
@@ -116,7 +116,7 @@ pub(crate) fn fed_rule(alloc: Global, second: &Nfa) -> Result<Option<Rule>, Allo
     }
 }
 
-/// The rule that a written rate breaks, where no item meets one of its predicates.
+/// The rule that a written rate breaks, if no item meets one of its predicates.
 pub(crate) fn met_rule(cells: &Cells, rate: &Rate) -> Option<Rule>
     requires { AreAmong cells.now (preds_of (rates.plain_of rate.now)) }
     ensures { BreaksMet cells.now.layout.columns (preds_of (rates.plain_of rate.now)) result }

@@ -1,21 +1,21 @@
-//! Why a query breaks the rules of words.
+//! Why a query does not pass the rules of words.
 ghost use Rattle.std.specs.Prelude.{◌≡◌};
 
 use crate::blame::Blame;
 use language_base::{Refusal, Rule, Span};
 use std::alloc::{AllocError, AllocFailed};
 
-/// The first node that breaks a rule, or want of memory.
+/// The first node that breaks a rule, unless out of memory.
 #[derive(Drop)]
 pub enum WordStop {
-    /// The rule is none that a word with two readings breaks.
+    /// By a rule that does not forbid words with two readings.
     Broken(Refusal),
     Ambiguous(Box<Blame>),
     Memory,
 }
 
 impl WordStop {
-    /// The stop of a node at this place that breaks this rule.
+    /// The stop at a node at this place that breaks this rule.
     pub(crate) fn broken(rule: Rule, span: Span) -> WordStop
         ensures { result ≡ WordStop.Broken (record { rule = rule; span = span }) }
     {

@@ -32,8 +32,8 @@ use std::alloc::{AllocError, Global};
 use std::rc::Rc;
 use symbolic_nfa::Nfa;
 
-/// The positions of the rate of a query that stands so, if no node breaks a rule of words; the
-/// first that does is refused.
+/// The positions of the query's rate, if no node breaks a rule of words. The first node that does
+/// is refused.
 #[cycle(words)]
 pub fn keep_words(
     alloc: Global,
@@ -67,7 +67,7 @@ pub fn keep_words(
     }
 }
 
-// The same of a choice at the place, with its operands.
+// The same of a choice with these operands, which stands at the place.
 #[cycle(words)]
 fn keep_choice(
     alloc: Global,
@@ -95,7 +95,7 @@ fn keep_choice(
     choice(alloc, operands, span)
 }
 
-// The same of a split at the place, with its operands.
+// The same of a split.
 #[cycle(words)]
 fn keep_split(
     alloc: Global,
@@ -123,7 +123,7 @@ fn keep_split(
     split(alloc, operands, span)
 }
 
-// The same of a combination at the place, with its operands.
+// The same of a combination.
 #[cycle(words)]
 fn keep_combination(
     alloc: Global,
@@ -149,7 +149,7 @@ fn keep_combination(
     side_by_side(alloc, operands, span)
 }
 
-// The same of an iteration at the place, with its operand.
+// The same of an iteration.
 #[cycle(words)]
 fn keep_iteration(
     alloc: Global,
@@ -174,7 +174,7 @@ fn keep_iteration(
     iterated(alloc, inner, span)
 }
 
-// The same of a composition that stands so at the place, with its operands.
+// The same of a composition, free or bound.
 #[cycle(words)]
 fn keep_composition(
     alloc: Global,
@@ -201,7 +201,7 @@ fn keep_composition(
     Ok(left)
 }
 
-// The same of a collection at the place, with its operand and its written rate.
+// The same of a collection with its operand and its written rate.
 #[cycle(words)]
 fn keep_collection(
     alloc: Global,
@@ -227,7 +227,7 @@ fn keep_collection(
     collected(alloc, cells, rate, span)
 }
 
-// The automata of two operands, of which no node breaks a rule of words.
+// The automata of two operands, if no node of theirs breaks a rule of words.
 #[cycle(words)]
 fn keep_both(
     alloc: Global,
@@ -258,7 +258,8 @@ fn keep_both(
     })
 }
 
-// The second operand of a composition, on the values of the first, and the composition itself.
+// The right operand of a composition, on the values of the left one, and then the composition
+// itself.
 #[cycle(words)]
 fn keep_fed(
     alloc: Global,
@@ -283,7 +284,8 @@ fn keep_fed(
     fed(alloc, standing, &values, right, span)
 }
 
-// The cells of the values of the first under the predicates of the second, which are few.
+// The cells of the left operand's values under the predicates of the right one. They are few, since
+// the pass over cells came before.
 fn cells_between(
     alloc: Global,
     cells: &Cells,
