@@ -12,6 +12,6 @@ columns_in drawing = drawing.schema.now.columns
 abbrev pub cells_in : Drawing → ℕ → List ℕ
 cells_in drawing = cells_at drawing.readers drawing.example.now
 
--- where its readings part
+-- where its readings differ first
 abbrev pub parting_in : Drawing → ℕ
 parting_in drawing = parting drawing.example.now.first drawing.example.now.second

@@ -7,7 +7,7 @@ use std::alloc::AllocError;
 
 const BLANKS: &str = "         ";
 
-/// Appends which operand a piece is read by.
+/// Appends which operand reads a piece.
 pub(crate) fn push_operand(piece: usize, shown: &mut Vec<u8>) -> Result<(), AllocError>
     ensures { OnOk result (shown.new.items ≡ shown.old.items ++ cell (operand piece)) }
 {

@@ -28,7 +28,7 @@ These items can be parted in two ways into pieces, which are numbered here:
     one way  another
 ";
 
-/// A word with two readings, the columns of its items, and what reads these.
+/// A word with two readings, the columns of its items, and by what these are read.
 #[derive(Drop)]
 pub(crate) struct Drawing<'a> {
     pub(crate) schema: &'a Schema,
@@ -36,7 +36,7 @@ pub(crate) struct Drawing<'a> {
     pub(crate) example: &'a Example,
 }
 
-/// The word of an example of the rule, with both of its readings.
+/// The word of an example for the question, drawn with both of its readings.
 pub fn drawing_of(alloc: Global, ask: Ask<'_>, example: &Example) -> Result<Bytes, AllocError>
     ensures { IfOk result (λ text. (question : Question) → Asks ask.entry question
         → text ≡ drawing (columns_of ask.entry) (readers_of question) example.now) }

@@ -1,4 +1,5 @@
-//! A word with two readings as a person reads it: a line for each item, and beside it what reads the item.
+//! A word with two readings, drawn for a person: a line for each item, and beside it what reads the
+//! item.
 #![tactic(auto)]
 
 mod cell;

@@ -1,4 +1,4 @@
-//! What reads the items of a word with two readings.
+//! By what the items of a word with two readings are read.
 ghost use Rattle.std.specs.Prelude.{◌≡◌};
 ghost use Rattle.ambiguity_example.specs.Asks.{Asks};
 ghost use Rattle.ambiguity_example.specs.Shows.{Question};
@@ -6,10 +6,10 @@ ghost use Rattle.drawn_example.specs.Drawings.{readers_of};
 
 use ambiguity_example::Ask;
 
-/// What reads the items of a word with two readings.
+/// By what the items of a word with two readings are read.
 #[derive(Clone, Copy, Debug, PartialEq, Eq)]
 pub enum Readers {
-    /// One operand reads all of them, and so does the other.
+    /// Each of the operands reads all of them.
     Both,
     /// The left operand reads the first ones, and the right operand the others.
     Operands,
@@ -17,7 +17,7 @@ pub enum Readers {
     Pieces,
 }
 
-/// What reads the items of a word that breaks the rule.
+/// By what the items of a word that breaks the rule are read.
 pub(crate) fn readers_of(ask: Ask<'_>) -> Readers
     ensures { (question : Question) → Asks ask.entry question → result ≡ readers_of question }
 {

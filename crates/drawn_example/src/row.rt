@@ -32,7 +32,7 @@ pub(crate) fn push_row(
     shown.extend_from_slice(b"\n")
 }
 
-// What reads the item at a place in the one reading and in the other.
+// What reads the item at the place, in one reading and in the other.
 fn push_cells(drawing: &Drawing<'_>, place: usize, shown: &mut Vec<u8>) -> Result<(), AllocError>
     ensures { OnOk result (shown.new.items ≡ shown.old.items ++ cells_in drawing.now place) }
 {

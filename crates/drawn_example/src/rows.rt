@@ -11,10 +11,10 @@ use item_schema::Item;
 use itoa::Buffer;
 use std::alloc::{AllocError, Global};
 
-/// The most items that are all drawn.
+/// The most items of a word that is drawn whole.
 const MOST: usize = 16;
 
-/// Appends a row for each item of the word, or for some where it is long.
+/// Appends a row for each item of the word, or for some of them if it is long.
 pub(crate) fn push_rows(
     alloc: Global,
     drawing: &Drawing<'_>,
@@ -58,7 +58,7 @@ fn push_some(
     push_rows_from(alloc, drawing, last, &items[last..], shown)
 }
 
-// The rows of items from a place on.
+// The rows of items from the place on.
 fn push_rows_from(
     alloc: Global,
     drawing: &Drawing<'_>,
@@ -77,7 +77,7 @@ fn push_rows_from(
     push_rows_from(alloc, drawing, place + 1, others, shown)
 }
 
-// How many items are left out, if some are.
+// How many items are left out, if any.
 fn push_gap(items: usize, shown: &mut Vec<u8>) -> Result<(), AllocError>
     ensures { OnOk result (shown.new.items ≡ shown.old.items ++ gap items) }
 {

@@ -1,8 +1,9 @@
-//! Where a long word is drawn.
+//! Which items of a long word are drawn.
 ghost use Rattle.std.specs.Prelude.{◌≡◌, ◌<◌, ◌^◌};
 ghost use Rattle.drawn_example.specs.Drawings.{window_from, window_to};
 
-/// How many items are drawn at each end of a long word, and on each side of where its readings part.
+/// How many items are drawn at each end of a long word, and on each side of the place where its
+/// readings differ first.
 pub(crate) const ENDS: usize = 4;
 
 /// The places of the items that are drawn between those at the ends.
@@ -12,7 +13,7 @@ pub(crate) struct Window {
     pub(crate) to: usize,
 }
 
-/// Of so many items, the places of those around the one where the readings part.
+/// The places around the one where the readings differ first, in a word of `items` items.
 pub(crate) fn window_at(items: usize, place: usize) -> Window
     requires items { 16 < items }
     requires place { place < 2 ^ 32 }

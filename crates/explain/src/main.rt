@@ -1,4 +1,4 @@
-//! The program: each of its words is the file of a query, and the refusal of each is explained.
+//! The program: each of its words names the file of a query, whose refusal is explained.
 #![tactic(auto)]
 
 use explain_run::{Status, explain};
@@ -7,10 +7,10 @@ use std::env;
 use std::io::{self, ErrorKind};
 use std::process::ExitCode;
 
-/// The exit status where there are no words.
+/// The exit status if there are no words.
 const USAGE: u8 = 2;
 
-/// The exit status where the system refuses the words.
+/// The exit status if the system does not give the words.
 const NO_WORDS: u8 = 9;
 
 fn main(rt: HostRuntime) -> ExitCode {
@@ -37,7 +37,7 @@ fn explain_files(rt: HostRuntime, names: &[String]) -> io::Result<Status> {
     explain_each(rt, names, &mut out)
 }
 
-// Up to the first one that is neither accepted nor explained.
+// Explains each query, up to the first call that fails.
 fn explain_each<W: Sink>(rt: HostRuntime, names: &[String], out: &mut W) -> io::Result<Status> {
     let mut status = Status::Accepted;
     for name in names {

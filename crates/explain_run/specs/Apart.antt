@@ -1,5 +1,5 @@
--- Statement. Lines that tell the operands of a refused combination apart: only one of them, as the main query of the
--- text, has a value on the items of the lines.
+-- Statement. Lines that distinguish the operands of a refused combination: only one of them, as the
+-- main query of the text, has a value on the items of the lines.
 use Rattle.std.specs.Prelude.{◌-◌, ℕ, List, ◌++◌, take, drop, length}
 use Rattle.language_base.specs.declared.span.Span.{Span}
 use Rattle.query_model.specs.Monitors.{Monitor}
@@ -14,7 +14,7 @@ use Rattle.separating_word.specs.declared.separation.Separation.{Separation}
 use Rattle.sqre_run.specs.Compiled.{Compiles}
 use Rattle.type_checker.specs.Judged.{accepted}
 
--- the bytes of a text from one place up to another
+-- the bytes of a text from one place to another
 abbrev pub between : List ℕ → ℕ → ℕ → List ℕ
 between text from to = take (to - from) (drop from text)
 
@@ -24,7 +24,8 @@ alone text program place =
     between text 0 (query_span program.main.query).from ++ between text place.from place.to
     ++ between text (query_span program.main.query).to (length text)
 
--- the lines tell a query apart from that of a text which a run takes, by a shortest word in the rate of one alone
+-- the lines distinguish a query from that of a text which a run accepts, by a shortest word in the
+-- rate of only one of them
 abbrev pub SeparatesFrom : Monitor → List ℕ → Separation → Type 0
 SeparatesFrom first right found = (second : Monitor) × Compiles right (accepted second)
     × Separates first second found × IsShortest first second found
@@ -34,7 +35,7 @@ abbrev pub SeparatesTexts : List ℕ → List ℕ → Separation → Type 0
 SeparatesTexts left right found =
     (first : Monitor) × Compiles left (accepted first) × SeparatesFrom first right found
 
--- the texts have each of two parts as main query
+-- the same for the texts with one or the other of two parts as main query
 abbrev pub SeparatesParts : List ℕ → Program → Span → Span → Separation → Type 0
 SeparatesParts text program left right found =
     SeparatesTexts (alone text program left) (alone text program right) found
@@ -45,7 +46,7 @@ SeparatesOperands text program (q.combine f g value span) found =
     SeparatesParts text program (query_span f) (query_span g) found
 SeparatesOperands text program _ found = ⊥
 
--- that is the main query of the program which the text writes
+-- the same for the main query of the program that the text is
 abbrev pub SeparatesMain : List ℕ → Separation → Type 0
 SeparatesMain text found = (program : Program) × IsFileOf text (program_terms program)
     × SeparatesOperands text program program.main.query found

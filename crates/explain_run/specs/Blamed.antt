@@ -1,4 +1,4 @@
--- For the prover. The drawing that is made of a blame.
+-- For the prover. The drawing that is made for a blame.
 use Rattle.std.specs.Prelude.{◌≡◌, ℕ, List}
 use Rattle.language_base.specs.declared.rule.Rule.{Rule}
 use Rattle.ambiguity_example.specs.Shows.{Shown}

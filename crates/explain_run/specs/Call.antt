@@ -8,8 +8,8 @@ use Rattle.explain_run.specs.Explained.{Explains, IsAccepted}
 use Rattle.explain_run.specs.declared.status.Status.{Status}
 use Rattle.explain_run.specs.declared.status.Status.TheVariants.{Accepted, Explained, QueryFault, SinkFault, Memory}
 
--- What was told of the text that was read, which is called by this name: its explanation whole or in part, and
--- nothing of a query that is accepted.
+-- What was written about the text that was read, which is called by this name: its explanation,
+-- whole or in part, and nothing if the query is accepted.
 abbrev pub Told : List ℕ → List ℕ → Option (List ℕ) → Option (List ℕ) → Status → Type 0
 Told name text old new Accepted = IsAccepted text × (new ≡ old)
 Told name text old new Explained = (shown : List ℕ) × Explains name text shown × Appends old new shown
@@ -18,8 +18,8 @@ Told name text old new SinkFault =
 Told name text old new Memory = new ≡ old
 Told name text old new QueryFault = ⊥
 
--- What was read of the query, to its first end or until there were too many bytes, and what was told of it: `left`,
--- `ends` and `old` before the call, `left'`, `ends'` and `new` after it.
+-- What was read of the query, to its first end or until there were too many bytes, and what was
+-- written about it: `left`, `ends` and `old` before the call, `left'`, `ends'` and `new` after it.
 module _ (name : List ℕ) (left left' : Option (List ℕ)) (ends ends' : ℕ)
     (old new : Option (List ℕ)) where
   abbrev pub ReadsText : Status → Type 0

@@ -1,4 +1,4 @@
-//! Lines that tell the operands of a refused combination apart.
+//! Lines that distinguish the operands of a refused combination.
 ghost use Rattle.std.specs.Prelude.{IfOk, IfSome};
 ghost use Rattle.query_model.specs.Monitors.{monitor_of};
 ghost use Rattle.query_parser.specs.Reading.{IsFileOf};
@@ -20,8 +20,8 @@ use separating_word::{Separation, tell_apart};
 use std::alloc::{AllocError, Global};
 use type_checker::{CheckStop, check};
 
-/// What tells the operands of a combination apart that is refused since these have not the same
-/// words.
+/// Lines that distinguish the operands of a combination, if it is refused because the operands do
+/// not have the same words.
 pub(crate) fn found_apart(
     alloc: Global,
     text: &[u8],
@@ -43,7 +43,7 @@ pub(crate) fn found_apart(
     }
 }
 
-// What tells the operands of a text's main query apart.
+// Lines that distinguish the operands of the text's main query.
 fn text_apart(alloc: Global, text: &[u8]) -> Result<Option<Separation>, AllocError>
     ensures { IfOk result (λ found. IfSome found (SeparatesMain text.now)) }
 {
@@ -54,7 +54,7 @@ fn text_apart(alloc: Global, text: &[u8]) -> Result<Option<Separation>, AllocErr
     }
 }
 
-// The same where the text writes this program.
+// The same for a text that is this program.
 fn program_apart(
     alloc: Global,
     text: &[u8],
@@ -71,7 +71,7 @@ fn program_apart(
     }
 }
 
-// What tells two parts of the text apart, each as the main query.
+// Lines that distinguish two parts of the text, each as the main query.
 fn parts_apart(
     alloc: Global,
     text: &[u8],
@@ -87,7 +87,7 @@ fn parts_apart(
     texts_apart(alloc, left_text.as_slice(), right_text.as_slice())
 }
 
-// What tells the queries of two texts apart.
+// Lines that distinguish the queries of two texts.
 fn texts_apart(alloc: Global, left: &[u8], right: &[u8]) -> Result<Option<Separation>, AllocError>
     ensures { IfOk result (λ found. IfSome found (SeparatesTexts left.now right.now)) }
 {
@@ -97,7 +97,7 @@ fn texts_apart(alloc: Global, left: &[u8], right: &[u8]) -> Result<Option<Separa
     }
 }
 
-// What tells a query on the left and that of a text on the right apart.
+// Lines that distinguish the query on the left from that of a text on the right.
 fn apart_from(alloc: Global, left: &Checked, right: &[u8]) -> Result<Option<Separation>, AllocError>
     ensures { IfOk result (λ found.
         IfSome found (SeparatesFrom (monitor_of left.now) right.now)) }
@@ -108,7 +108,7 @@ fn apart_from(alloc: Global, left: &Checked, right: &[u8]) -> Result<Option<Sepa
     }
 }
 
-// The query of a text, if a run takes it.
+// The query of a text, if a run accepts it.
 fn compiled(alloc: Global, text: &[u8]) -> Result<Option<Checked>, AllocError>
     ensures { IfOk result (λ found. IfSome found
         (λ checked. Compiles text.now (accepted (monitor_of checked)))) }
@@ -120,7 +120,7 @@ fn compiled(alloc: Global, text: &[u8]) -> Result<Option<Checked>, AllocError>
     }
 }
 
-// The same where the text writes this program.
+// The same for a text that is this program.
 fn judged(alloc: Global, text: &[u8], program: &Program) -> Result<Option<Checked>, AllocError>
     requires { IsFileOf text.now (program_terms (plain_program program.now)) }
     ensures { IfOk result (λ found. IfSome found

@@ -13,8 +13,8 @@ use std::alloc::{AllocError, Global};
 /// The most bytes that are read of a query, as a run of it reads them.
 const MAX_READ: usize = 65_537;
 
-/// Reads the query as a run of it does, explains its refusal if it is refused, and hands the
-/// explanation on. `name` is what the query is called there.
+/// Reads the query as a run of it does and, if it is refused, writes and flushes an explanation.
+/// The query is called `name` there.
 pub fn explain<Q: Source, W: Sink>(alloc: Global, name: &str, query: &mut Q, out: &mut W) -> Status
     ensures outcome { Outcome name.now (Q.left query.old) (Q.left query.new)
         (Q.ends query.old) (Q.ends query.new) (W.taken out.old) (W.taken out.new) result }
@@ -32,7 +32,7 @@ pub fn explain<Q: Source, W: Sink>(alloc: Global, name: &str, query: &mut Q, out
     }
 }
 
-// Explains the refusal of a text, if it is refused, and hands the explanation on.
+// Writes and flushes the explanation of the refusal of a text, if it is refused.
 fn explain_text<W: Sink>(alloc: Global, name: &str, text: &[u8], out: &mut W) -> Status
     ensures told { Told name.now text.now (W.taken out.old) (W.taken out.new) result }
     ensures faults { FailsBy (W.faults out.old) (W.faults out.new) (result ≡ Status.SinkFault) }
@@ -50,7 +50,7 @@ fn explain_text<W: Sink>(alloc: Global, name: &str, text: &[u8], out: &mut W) ->
     }
 }
 
-// Writes all of the bytes, and hands them on.
+// Writes all of the bytes and flushes them.
 fn hand_over<W: Sink>(bytes: &[u8], out: &mut W) -> Result<(), Failed>
     ensures written { MatchResult result
         (λ _. Appends (W.taken out.old) (W.taken out.new) bytes.now)

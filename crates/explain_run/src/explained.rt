@@ -1,4 +1,4 @@
-//! The explanation of the refusal of a program, and after it what is found of words.
+//! The explanation of the refusal of a program, followed by an example for it.
 ghost use Rattle.std.specs.Prelude.{◌≡◌, ◌++◌, IfOk};
 ghost use Rattle.query_parser.specs.Reading.{IsFileOf};
 ghost use Rattle.query_syntax.specs.Files.{program_terms};
@@ -17,7 +17,7 @@ use query_syntax::Program;
 use std::alloc::{AllocError, Global};
 use type_checker::Blame;
 
-/// The explanation of a refusal by a rule that forbids no word with two readings.
+/// The explanation of a refusal by a rule that does not forbid words with two readings.
 pub(crate) fn refusal_explained(
     alloc: Global,
     name: &str,
@@ -33,7 +33,7 @@ pub(crate) fn refusal_explained(
     explained(alloc, name, text, program, refusal, &found)
 }
 
-/// The explanation of a refusal by a rule that forbids such a word.
+/// The explanation of a refusal by a rule that forbids a word with two readings.
 pub(crate) fn blame_explained(
     alloc: Global,
     name: &str,
@@ -50,7 +50,7 @@ pub(crate) fn blame_explained(
     explained(alloc, name, text, program, blame.refusal(), &found)
 }
 
-// The explanation of the refusal, and the lines of what was found.
+// The explanation of the refusal, followed by the lines of what was found.
 fn explained(
     alloc: Global,
     name: &str,

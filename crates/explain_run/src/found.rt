@@ -1,4 +1,4 @@
-//! What is shown after an explanation.
+//! The example that comes after an explanation.
 ghost use Rattle.std.specs.Prelude.{◌≡◌, ◌++◌, OnOk};
 ghost use Rattle.explain_run.specs.Appended.{found_text};
 
@@ -6,11 +6,11 @@ use language_base::Bytes;
 use separating_word::{Separation, push_separation};
 use std::alloc::AllocError;
 
-/// What is shown after an explanation, of words that the query breaks its rule with.
+/// The words by which the query breaks its rule, as they are shown after an explanation.
 #[derive(Drop)]
 pub(crate) enum Found {
     Nothing,
-    /// Lines that tell the operands of a combination apart.
+    /// Lines that distinguish the operands of a combination.
     Apart(Separation),
     /// A word with two readings, drawn.
     Readings(Bytes),

@@ -1,4 +1,4 @@
-//! A query read and judged as a run of it does, and its refusal explained.
+//! Reads and judges a query as a run of it does, and explains its refusal.
 #![tactic(auto)]
 
 mod alone;

@@ -14,7 +14,8 @@ use query_syntax::{Program, read_syntax};
 use std::alloc::{AllocError, Global};
 use type_checker::{Judgment, judge};
 
-/// The explanation of the refusal of a text, which is a whole query; nothing if a run takes it.
+/// The explanation of the refusal of a text, which is a whole query. There is none if a run accepts
+/// it.
 pub fn explanation_of(alloc: Global, name: &str, text: &[u8]) -> Result<Option<Bytes>, AllocError>
     ensures { IfOk result (λ shown.
         MatchOption shown (IsAccepted text.now) (Explains name.now text.now)) }
@@ -28,7 +29,7 @@ pub fn explanation_of(alloc: Global, name: &str, text: &[u8]) -> Result<Option<B
     }
 }
 
-// The same of a text that writes this program.
+// The same for a text that is this program.
 fn explanation_in(
     alloc: Global,
     name: &str,
@@ -43,7 +44,7 @@ fn explanation_in(
     explanation_by(alloc, name, text, program, &judgment)
 }
 
-// The same of a program that is judged so.
+// The same for a program with this judgment.
 fn explanation_by(
     alloc: Global,
     name: &str,

@@ -17,7 +17,7 @@ pub(crate) fn drawn_readings(alloc: Global, blame: &Blame) -> Result<Bytes, Allo
     let ask = blame.ask();
     match example(alloc, ask)? {
         Some(example) => drawing_of(alloc, ask, &example),
-        // A word with two readings breaks the rule.
+        // The rule is broken, so some word has two readings.
         None => unreachable!(),
     }
 }

@@ -2,7 +2,7 @@
 ghost use Rattle.std.specs.Prelude.{◌≡◌};
 ghost use Rattle.explain_run.specs.Statuses.{number_of};
 
-/// How an explanation ended. Its number is the one that a run of the query would end with.
+/// How an explanation ended. Its number is the one with which a run of the query would end.
 #[derive(Clone, Copy, Debug, PartialEq, Eq)]
 pub enum Status {
     /// The query is accepted, and nothing was written.
@@ -13,7 +13,7 @@ pub enum Status {
     QueryFault = 3,
     /// The sink failed.
     SinkFault = 5,
-    /// Memory was wanting.
+    /// Out of memory.
     Memory = 6,
 }
 

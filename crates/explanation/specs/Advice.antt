@@ -1,5 +1,6 @@
--- Statement. What is told of the rule that is broken: a sentence for it, how a query that breaks it is mended, and what is
--- often meant. For the rule `form` these are the forms of what is to stand at the place.
+-- Statement. What is said about the rule that is broken: a sentence for it, how to mend the query,
+-- and what is often meant. For the rule `form` these are the forms of what has to stand at the
+-- place.
 use Rattle.std.specs.Prelude.{ℕ, List, [], length, nat_lt, ◌++◌, codes, Option, Some, None, if◌then◌else◌}
 use Rattle.language_base.specs.declared.refusal.Refusal.{Refusal}
 use Rattle.language_base.specs.declared.rule.Rule.{Rule}
@@ -21,43 +22,43 @@ use Rattle.explanation.specs.declared.limit.Limit.{Limit}
 abbrev pub line : List ℕ → List ℕ
 line sentence = sentence ++ codes "\n"
 
--- a hint, where there is one
+-- a hint, if there is one
 abbrev pub hint_line : Option Hint → List ℕ
 hint_line (Some hint) = line (hint_sentence hint)
 hint_line None = []
 
--- what is often meant, where that is known
+-- what is often meant, if that is known
 abbrev pub nearest_line : Option (List ℕ) → List ℕ
 nearest_line (Some sentence) = line sentence
 nearest_line None = []
 
--- what is often meant by what stands at the place, and the forms of what is to stand there
+-- what is often meant by the word at the place, and the forms of what has to stand there
 abbrev pub form_lines : List ℕ → Span → List ℕ
 form_lines text place = let standing = standing_at text place.from in
     nearest_line (nearest_to standing (word_at text place)) ++ line (forms_of standing)
 
--- at the end of the text, the word of the call that is open there and opened last
+-- at the end of the text, the word of the innermost open call
 abbrev pub open_call_line : List ℕ → Span → List ℕ
 open_call_line text place =
     if nat_lt place.from (length text) then []
     else named_line OPEN_AFTER.now (word_in text (call_at text (level_of text)).head)
 
--- the same of the rule that terms are complete
+-- the same, for the rule `term` alone
 abbrev pub open_line : Rule → List ℕ → Span → List ℕ
 open_line rule.Term text place = open_call_line text place
 open_line other text place = []
 
--- how a query that breaks another rule than `form` is mended, and what is often meant
+-- how to mend a query that breaks another rule than `form`, and what is often meant
 abbrev pub repair : List ℕ → Refusal → List ℕ
 repair text refusal = line (mended_by refusal.rule) ++ hint_line (hint_of text refusal)
     ++ open_line refusal.rule text refusal.span
 
--- how a query that breaks the rule is mended
+-- how to mend a query that breaks the rule
 abbrev pub mending : Rule → List ℕ → Refusal → List ℕ
 mending rule.Form text refusal = form_lines text refusal.span
 mending other text refusal = repair text refusal
 
--- the rule, or the limit that is passed, and how a query that breaks it is mended
+-- the rule, or the limit that is exceeded, and how to mend the query
 unfoldable pub advice : List ℕ → Refusal → Option Limit → List ℕ
 advice text refusal limit =
     line (broken_in text refusal limit) ++ mending refusal.rule text refusal

@@ -1,5 +1,6 @@
--- Statement. A second place that helps to understand a refusal: the use of a let by which its query stands inside of
--- another, or what on the right side of a composition leaves lists of values without a value.
+-- Statement. A second place that helps to understand a refusal: where a let is used so that its
+-- query stands inside of another, or what in the right operand of a composition leaves lists of
+-- values without a value.
 use Rattle.std.specs.Prelude.{ℕ, List, Option, None, Some, option_map, if◌then◌else◌}
 use Rattle.language_base.specs.declared.refusal.Refusal.{Refusal}
 use Rattle.language_base.specs.declared.rule.Rule.{Rule}
@@ -21,7 +22,7 @@ use Rattle.explanation.specs.declared.parts.TheConstants as words
 use Rattle.explanation.specs.declared.uses.Inside.{Inside}
 use Rattle.explanation.specs.declared.uses.Inside.TheVariants.{Compositions, Collections}
 
--- what is said of the place
+-- what is said about the place
 unfoldable pub said_of_place : Aside → List ℕ
 said_of_place (Use span) = words.USED_HERE.now
 said_of_place (Test span) = words.UNMET.now
@@ -33,17 +34,17 @@ place_aside (Use span) = span
 place_aside (Test span) = span
 place_aside (Single span) = span
 
--- a predicate that some value may not meet
+-- a predicate that some value may not meet, as a place
 abbrev pub test_in : Predicate → Option Aside
 test_in (p.any span) = None
 test_in predicate = Some (Test (predicate_span predicate))
 
--- what is iterated takes only values that meet this
+-- such a predicate of an atom, the values of which are iterated
 abbrev pub test_of : Query → Option Aside
 test_of (q.atom predicate value span) = test_in predicate
 test_of _ = None
 
--- the right side of a composition has a value on few lists of values, since it has this
+-- what in the right operand of a composition leaves lists of values without a value
 abbrev pub lack_of : Query → Option Aside
 lack_of (q.atom predicate value span) = Some (Single span)
 lack_of (q.iter operand first step span) = test_of operand
@@ -55,7 +56,7 @@ abbrev pub aside_or : Option Aside → Option Aside → Option Aside
 aside_or (Some aside) other = Some aside
 aside_or None other = other
 
--- what the composition at the place lacks
+-- the same for the composition at the place
 abbrev pub lack_at : Span → Query → Option Aside
 lack_at place (q.name name) = None
 lack_at place (q.atom predicate value span) = None
@@ -69,12 +70,13 @@ lack_at place (q.compose f g span) =
     if is_at span place then lack_of g else aside_or (lack_at place f) (lack_at place g)
 lack_at place (q.collect key sync rate f span) = lack_at place f
 
--- Inside of what a let is used wrongly: of compositions, where it is refused on values and not on items.
+-- Where the use of a let is wrong: in right operands of compositions, if its query is refused on
+-- values but not on items.
 abbrev pub values_for : Option Culprit → Option Culprit → Option Inside
 values_for None (Some culprit) = Some Compositions
 values_for _ _ = None
 
--- the use of a let inside of these
+-- the first use of a let inside of these
 abbrev pub use_inside : Option Inside → Program → Span → Option Aside
 use_inside (Some inside) program place = option_map Use (first_use inside place program)
 use_inside None program place = None

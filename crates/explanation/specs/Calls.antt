@@ -1,6 +1,6 @@
--- Statement. The calls that are open at the end of a text: its bytes are read from the front, strings and comments told from
--- the rest, and the brackets that are open counted. The call around a place at some level is the one that was opened last
--- at that level.
+-- Statement. The calls that are open at the end of a text. Its bytes are read from the front,
+-- strings and comments are distinguished from the rest, and open brackets are counted. The call
+-- around a place at some level is the one that was opened last at that level.
 use Rattle.std.specs.Prelude.{ℕ, ◌+◌, ◌-◌, ◌==◌, List, if◌then◌else◌}
 use Rattle.std.specs.List.{fold}
 use Rattle.query_tokens.specs.Raw.{is_word_byte}
@@ -9,7 +9,7 @@ use Rattle.explanation.specs.declared.calls.Part.{Part}
 use Rattle.explanation.specs.declared.calls.Part.TheVariants.{Plain, Text, Escape, Comment}
 use Rattle.explanation.specs.declared.calls.Scan.{Scan}
 
--- in what the byte after this one stands
+-- what the byte after this one is part of
 abbrev pub part_after : Part → ℕ → Part
 part_after Plain byte = if byte == 34 then Text else (if byte == 35 then Comment else Plain)
 part_after Text byte = if byte == 34 then Plain else (if byte == 92 then Escape else Text)
@@ -29,7 +29,7 @@ parted level scan =
     if scan.level == level
     then record scan { call = record scan.call { argument = scan.call.argument + 1 } } else scan
 
--- another byte: a word goes on as long as its bytes follow each other
+-- another byte: a word continues as long as its bytes follow each other
 abbrev pub worded : Scan → ℕ → Scan
 worded scan byte =
     if is_word_byte byte
@@ -41,7 +41,7 @@ worded scan byte =
     }
     else scan
 
--- a byte of tokens
+-- a byte outside of strings and comments
 abbrev pub token_byte : ℕ → Scan → ℕ → Scan
 token_byte level scan byte =
     if byte == 40 then opened level scan
@@ -78,6 +78,6 @@ scan_of level text = fold (scanned level) start text
 abbrev pub level_of : List ℕ → ℕ
 level_of text = (scan_of 0 text).level
 
--- the call that is opened last at this level
+-- the call that was opened last at this level
 abbrev pub call_at : List ℕ → ℕ → Call
 call_at text level = (scan_of level text).call

@@ -1,4 +1,4 @@
--- Statement. The lines that tell which name a refusal is about. The words are constants of the code.
+-- Statement. The lines that say which name a refusal is about. The words are constants of the code.
 use Rattle.std.specs.Prelude.{ℕ, List, [], ◌++◌, codes, Option, Some, None}
 use Rattle.language_base.specs.declared.span.Span.{Span}
 use Rattle.explanation.specs.Hints.{term_at}
@@ -6,7 +6,7 @@ use Rattle.explanation.specs.declared.culprit.Culprit.{Culprit}
 use Rattle.explanation.specs.declared.culprit.Culprit.TheVariants.{TwiceColumn, TwiceLet, NoLet, NoColumn, NoValue, OfValue, NotOne, NotTwo, Texts, Numbers, Key, NoTable}
 use Rattle.explanation.specs.declared.culprit_line.TheConstants as words
 
--- which names are right where it stands, if that is what it is about
+-- which names are known where it stands, if that is why it is refused
 unfoldable pub known_there : Culprit → List ℕ
 known_there (TwiceColumn span) = []
 known_there (TwiceLet span) = []
@@ -21,7 +21,7 @@ known_there (Numbers span) = []
 known_there (Key span) = []
 known_there (NoTable span) = []
 
--- what is said of the name
+-- what is said about the name
 unfoldable pub said_of : Culprit → List ℕ
 said_of (TwiceColumn span) = words.TWICE_COLUMN.now
 said_of (TwiceLet span) = words.TWICE_LET.now
@@ -51,11 +51,11 @@ place_of (Numbers span) = span
 place_of (Key span) = span
 place_of (NoTable span) = span
 
--- what is said of a name, and the name
+-- what is said about a name, and the name
 abbrev pub named_line : List ℕ → List ℕ → List ℕ
 named_line what name = what ++ name ++ codes "\n"
 
--- what is told of the name that a refusal is about, where it is about one
+-- the lines for the name that a refusal is about, if it is about one
 abbrev pub culprit_line : List ℕ → Option Culprit → List ℕ
 culprit_line text (Some culprit) =
     known_there culprit ++ named_line (said_of culprit) (term_at text (place_of culprit))

@@ -1,6 +1,7 @@
--- Statement. The name that a refusal is about, in the node that is refused: of the rule `name` the first that is not known
--- there, and of the rule `type` the first column whose kind does not fit. A node of a let may be asked over items
--- or over values: where it is used over values alone, or nothing is wrong with it over items, it was over values.
+-- Statement. The name that a refusal is about, in the node that is refused: for the rule `name` the
+-- first that is not known there, and for the rule `type` the first column whose kind does not fit.
+-- A node of a let may be checked over items or over values. It was checked over values if the let
+-- is used over values alone, or if nothing is wrong with the node over items.
 use Rattle.std.specs.Prelude.{Option, None, Some, find, if◌then◌else◌}
 use Rattle.std.specs.List.{list_any}
 use Rattle.language_base.specs.declared.refusal.Refusal.{Refusal}
@@ -28,7 +29,7 @@ abbrev pub in_name : Rule → Span → Option Culprit
 in_name rule.Name span = Some (NoLet span)
 in_name _ span = None
 
--- in the kinds of an atom: on values each name is one of them
+-- in an atom, a column whose kind does not fit; over values every name is the one column
 abbrev pub kinds_in_atom : Scope → Predicate → Expression → Option Culprit
 kinds_in_atom (of_item columns) predicate value =
     first_of (misfit_test columns predicate) (misfit_read columns value)
@@ -42,19 +43,20 @@ in_atom rule.Name scope predicate value =
 in_atom rule.Type_ scope predicate value = kinds_in_atom scope predicate value
 in_atom _ scope predicate value = None
 
--- in an expression over values of operands
+-- in an expression over the values of operands
 abbrev pub in_fold : Rule → Scope → Expression → Option Culprit
 in_fold rule.Name scope value = unknown_name scope value
 in_fold _ scope value = None
 
--- in the kinds of a collection's key, its items for every key and its rate
+-- in the key, the predicate for items of all keys and the rate of a collection, a column whose kind
+-- does not fit
 abbrev pub kinds_in_keys : Scope → Name → Predicate → Rate → Option Culprit
 kinds_in_keys (of_item columns) key sync rate =
     first_of (unless_key columns key)
     (first_of (misfit_test columns sync) (misfit_item columns rate))
 kinds_in_keys _ key sync rate = None
 
--- in these
+-- in the same parts, by the rule
 abbrev pub in_keys : Rule → Scope → Name → Predicate → Rate → Option Culprit
 in_keys rule.Name scope key sync rate =
     first_of (unless_known scope key)
@@ -75,12 +77,12 @@ node_culprit rule scope (q.apply operand value span) = in_fold rule of_one value
 node_culprit rule scope (q.compose left right span) = None
 node_culprit rule scope (q.collect key sync rate operand span) = in_keys rule scope key sync rate
 
--- the same, where the node is the one that is refused
+-- the same, if the node is the one that is refused
 abbrev pub own_culprit : Refusal → Scope → Query → Option Culprit
 own_culprit refusal scope query =
     if is_at (query_span query) refusal.span then node_culprit refusal.rule scope query else None
 
--- in a query over these columns: of the node that is refused, and of no other
+-- in a query over these columns: only the node that is refused counts
 abbrev pub culprit_in : Refusal → Scope → Query → Option Culprit
 culprit_in refusal scope (q.name name) = own_culprit refusal scope (q.name name)
 culprit_in refusal scope (q.atom predicate value span) =
@@ -107,7 +109,7 @@ culprit_in refusal scope (q.collect key sync rate operand span) =
     first_of (culprit_in refusal scope operand)
     (own_culprit refusal scope (q.collect key sync rate operand span))
 
--- the query of a let, or of what is no let
+-- the query of a let, or the other one if there is no let
 abbrev pub query_or : Option Let → Query → Query
 query_or (Some one) other = one.query
 query_or None other = other
@@ -117,14 +119,14 @@ abbrev pub query_at : Program → Span → Query
 query_at program place =
     query_or (find (λ one. has_in one.span place) program.lets) program.main.query
 
--- a column or a let that has the name of an earlier one: no other name is a place that is refused
+-- a column or a let with the name of an earlier one; the name of any other is never a refused place
 abbrev pub declared_at : Program → Span → Option Culprit
 declared_at program place =
     if list_any (λ c. is_at c.name.span place) program.stream.columns then Some (TwiceColumn place)
     else (if list_any (λ one. is_at one.name.span place) program.lets then Some (TwiceLet place)
     else None)
 
--- over the columns of the stream: in no let that is used over values alone
+-- over the columns of the stream, unless the let is used over values alone
 abbrev pub culprit_on_items : Program → Refusal → Option Culprit
 culprit_on_items program refusal =
     if is_on_values refusal.span program then None

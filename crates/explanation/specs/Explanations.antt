@@ -22,7 +22,7 @@ place_text name line column = name ++ codes ":" ++ decimal line ++ codes ":" ++ 
 unfoldable pub column_unit : List ℕ
 column_unit = codes " (the column in bytes): "
 
--- where the query is refused, and the refusal as a run tells it
+-- where the query is refused, and the refusal as a run writes it
 unfoldable pub heading : List ℕ → ℕ → ℕ → Refusal → List ℕ
 heading name line column refusal = place_text name line column ++ column_unit ++ refusal_text refusal
 
@@ -35,8 +35,8 @@ aside_lines name text (Some aside) =
     ++ marked_line text (place_aside aside).from (place_aside aside).to
 aside_lines name text None = []
 
--- the explanation of a refusal of this text, which is called by this name, for the limit that is passed, about that of
--- the query, beside that place
+-- the explanation of a refusal of this text, which is called by this name, with the limit that is
+-- exceeded, the name in the query that it is about, and the second place
 unfoldable pub explanation : List ℕ → List ℕ → Refusal → Option Limit → Option Culprit → Option Aside → List ℕ
 explanation name text refusal limit culprit aside =
     heading name (line_of text refusal.span.from) (column_of text refusal.span.from) refusal
@@ -44,11 +44,11 @@ explanation name text refusal limit culprit aside =
     ++ advice text refusal limit ++ culprit_line text culprit
     ++ aside_lines name text aside
 
--- that of a text that writes no program
+-- the explanation for a text that is not a program
 abbrev pub text_explanation : List ℕ → List ℕ → Refusal → List ℕ
 text_explanation name text refusal = explanation name text refusal None None None
 
--- that of a text that writes this program
+-- the explanation for a text that is this program
 abbrev pub program_explanation : List ℕ → List ℕ → Program → Refusal → List ℕ
 program_explanation name text program refusal =
     explanation name text refusal (limit_of program refusal) (culprit_of program refusal) (aside_of program refusal)

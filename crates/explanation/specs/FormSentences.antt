@@ -1,4 +1,5 @@
--- Statement. Which sentence tells the forms of what is to stand at a place. Words are constants of the code.
+-- Statement. The sentence for the forms of what has to stand at a place. The words are constants of
+-- the code.
 use Rattle.std.specs.Prelude.{ℕ, List}
 use Rattle.query_forms.specs.declared.place.Place.{Place}
 use Rattle.query_forms.specs.declared.place.Place.TheVariants.{Mode, Column, Kind, Query, Rate, Pred, Literal, Expr, Compare, Name, Number, Text, Digits}
@@ -22,7 +23,7 @@ forms_of_place Number = words.NUMBER.now
 forms_of_place Text = words.TEXT.now
 forms_of_place Digits = words.DIGITS.now
 
--- the forms of what is to stand at a place
+-- the forms of what has to stand at a place
 abbrev pub forms_of : Standing → List ℕ
 forms_of Top = words.TOP.now
 forms_of (In place) = forms_of_place place

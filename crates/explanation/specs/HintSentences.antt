@@ -1,4 +1,4 @@
--- Statement. Which sentence tells a hint. The words are constants of the code.
+-- Statement. The sentence for each hint. The words are constants of the code.
 use Rattle.std.specs.Prelude.{ℕ, List}
 use Rattle.explanation.specs.declared.hint.Hint.{Hint}
 use Rattle.explanation.specs.declared.hint.Hint.TheVariants.{Point, SingleQuote, SmartQuote, BadString, Comment, Comparison, Arithmetic, Connective, Mark, ByteOrderMark, NotAscii, MissingComma, MissingTerm, NoHead, EmptyWord, TwoKinds, TableOrNumber, ValueCells, RateItem}

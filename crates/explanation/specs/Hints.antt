@@ -1,4 +1,5 @@
--- Statement. Which hint fits the place of a refusal: by the bytes there and around it, and by the head of the term.
+-- Statement. Which hint fits the place of a refusal, by the bytes there and around it and by the
+-- head of the term.
 use Rattle.std.specs.Prelude.{ℕ, ◌+◌, ◌-◌, Bool, false, ◌==◌, ◌&&◌, ◌||◌, nat_le, List, [], length, take, drop, codes, slice_get, Option, Some, None, if◌then◌else◌}
 use Rattle.std.specs.Char.{is_ascii_digit}
 use Rattle.std.specs.List.{prefix_len, take_while}
@@ -15,7 +16,7 @@ use Rattle.explanation.specs.declared.hint.Hint.TheVariants.{Point, SingleQuote,
 abbrev pub term_at : List ℕ → Span → List ℕ
 term_at text span = take (span.to - span.from) (drop span.from text)
 
--- the word in front of the brackets of a call; nothing where the term is a single word or no word begins it
+-- the word before the brackets of a call; empty if the term is a single word or begins with none
 abbrev pub head_of : List ℕ → List ℕ
 head_of term =
     if prefix_len is_word_byte term == length term then [] else take_while is_word_byte term
@@ -25,7 +26,7 @@ abbrev pub is_digit : Option ℕ → Bool
 is_digit (Some byte) = is_ascii_digit byte
 is_digit None = false
 
--- a slash or a minus, and after it another one or a star, begins a comment elsewhere
+-- a slash or a minus begins a comment in other languages, if another one or a star comes after it
 abbrev pub begins_comment : ℕ → Option ℕ → Bool
 begins_comment byte None = false
 begins_comment byte (Some after) =
@@ -38,12 +39,12 @@ foreign_of byte second third =
     else (if byte == 226 && second == 128 && nat_le 152 third && nat_le third 159 then SmartQuote
     else NotAscii)
 
--- no token begins at a byte of no ASCII character, before these two
+-- the hint for a byte that is not ASCII, by the two bytes after it
 abbrev pub foreign_hint : ℕ → Option ℕ → Option ℕ → Hint
 foreign_hint byte (Some second) (Some third) = foreign_of byte second third
 foreign_hint byte _ _ = NotAscii
 
--- no token begins at a byte other than a point
+-- the hint for a byte that begins no token, by that byte alone
 abbrev pub mark_hint : ℕ → Option Hint
 mark_hint byte =
     if byte == 39 then Some SingleQuote
@@ -54,27 +55,27 @@ mark_hint byte =
     else (if byte == 91 || byte == 93 || byte == 123 || byte == 125 || byte == 59 || byte == 58
     then Some Mark else None)))))
 
--- no token begins at the byte, behind the one and before the other
+-- the same by the bytes before and after it too
 abbrev pub ascii_hint : Option ℕ → ℕ → Option ℕ → Option Hint
 ascii_hint before byte after =
     if byte == 46 then (if is_digit before then Some Point else None)
     else (if begins_comment byte after then Some Comment else mark_hint byte)
 
--- no token begins at the byte, which stands at this place of the text
+-- the hint for a byte that begins no token and stands at this place of the text
 abbrev pub token_hint : List ℕ → ℕ → ℕ → Option Hint
 token_hint text from byte =
     if nat_le 128 byte
     then Some (foreign_hint byte (slice_get text (from + 1)) (slice_get text (from + 2)))
     else ascii_hint (slice_get text (from - 1)) byte (slice_get text (from + 1))
 
--- the token that begins with the byte can not stand where it does
+-- the hint for a token that may not stand where it does, by its first byte
 abbrev pub piece_hint : ℕ → Option Hint
 piece_hint byte =
     if byte == 40 then Some NoHead
     else (if byte == 41 || byte == 44 then Some MissingTerm
     else (if byte == 43 || byte == 45 then Some Arithmetic else Some MissingComma))
 
--- the operands of the call, or the values of its expression, are of the wrong types
+-- the hint for a call whose operands, or the values of whose expression, have the wrong types
 abbrev pub type_hint : List ℕ → Option Hint
 type_hint head =
     if bytes_eq head (codes "or") then Some TwoKinds

@@ -1,6 +1,7 @@
--- Statement. The first column of an atom or a collection of items, in the order of the text, whose kind does not fit where
--- its name stands: a column of texts is tested for one alone, tests with numbers and expressions take columns of
--- numbers, a key is a text, and no column has tables.
+-- Statement. The first column of an atom or a collection of items, in the order of the text, whose
+-- kind does not fit where it is used. A column of texts may only be compared with a text; other
+-- tests and expressions need columns of numbers, a key needs a column of texts, and no column has
+-- tables.
 use Rattle.std.specs.Prelude.{ℕ, Bool, true, false, not, ◌&&◌, List, Option, None, Some, if◌then◌else◌}
 use Rattle.std.specs.List.{list_any}
 use Rattle.std.specs.Str.{bytes_eq}
@@ -21,7 +22,7 @@ use Rattle.explanation.specs.Unknown.{first_of}
 use Rattle.explanation.specs.declared.culprit.Culprit.{Culprit}
 use Rattle.explanation.specs.declared.culprit.Culprit.TheVariants.{Texts, Numbers, Key, NoTable}
 
--- a text stands in a column of this kind, and no number
+-- values of this kind are written as texts, not as numbers
 abbrev pub is_text : Kind → Bool
 is_text (kind.Int span) = false
 is_text (kind.Text span) = true
@@ -35,23 +36,23 @@ has_texts columns name = list_any (λ c. bytes_eq name c.name.bytes && is_text c
 abbrev pub has_numbers : List Column → List ℕ → Bool
 has_numbers columns name = list_any (λ c. bytes_eq name c.name.bytes && not (is_text c.kind)) columns
 
--- it is the name, where a number is taken and the column has texts
+-- the name, if a number is needed and the column has texts
 abbrev pub unless_number : List Column → Name → Option Culprit
 unless_number columns name = if has_texts columns name.bytes then Some (Texts name.span) else None
 
--- it is the name, where a text is taken and the column has numbers
+-- the name, if a text is needed and the column has numbers
 abbrev pub unless_text : List Column → Name → Option Culprit
 unless_text columns name = if has_numbers columns name.bytes then Some (Numbers name.span) else None
 
--- it is the name, where a key is taken and the column has numbers
+-- the name, if a key is needed and the column has numbers
 abbrev pub unless_key : List Column → Name → Option Culprit
 unless_key columns name = if has_numbers columns name.bytes then Some (Key name.span) else None
 
--- it is the name, where a table is taken and a column has this name: none has tables
+-- the name, if a table is needed and a column has this name, since no column has tables
 abbrev pub unless_table : List Column → Name → Option Culprit
 unless_table columns name = if has_name columns name.bytes then Some (NoTable name.span) else None
 
--- it is the name, where the column is compared with this
+-- the name, if the column is compared with a literal of the other kind
 abbrev pub misfit_with : List Column → Name → Literal → Option Culprit
 misfit_with columns name (literal.Number number) = unless_number columns name
 misfit_with columns name (literal.Text text) = unless_text columns name

@@ -1,5 +1,6 @@
--- Statement. What is often meant by a word that begins no form of its place, or one with other arguments: the rows for
--- what is to stand there are looked up from the first on. Rows and words are constants of the code.
+-- Statement. What is often meant by a word that begins no form of its place, or a form with other
+-- arguments. It is looked up in the rows for what has to stand there, from the first on. Rows and
+-- words are constants of the code.
 use Rattle.std.specs.Prelude.{ℕ, Bool, true, false, ◌&&◌, List, [], ◌∷◌, map, Option, Some, None, if◌then◌else◌}
 use Rattle.std.specs.Borrow.{Bor}
 use Rattle.std.specs.Char.{is_ascii_uppercase}
@@ -30,7 +31,7 @@ rows_of place.Compare = map (λ row. map (λ text. text.now) row) words.COMPARIS
 rows_of place.Number = map (λ row. map (λ text. text.now) row) words.NUMBERS
 rows_of _ = []
 
--- the rows for what is to stand at a place
+-- the rows for what has to stand at a place
 unfoldable pub rows_at : Standing → List (List (List ℕ))
 rows_at Top = map (λ row. map (λ text. text.now) row) words.TOPS
 rows_at (In place) = rows_of place
@@ -51,7 +52,7 @@ abbrev pub nearest_in : List (List (List ℕ)) → List ℕ → Option (List ℕ
 nearest_in [] word = None
 nearest_in (row ∷ rows) word = said_or (said_in row word) (nearest_in rows word)
 
--- words of the language stand at a place in a call, and not names, numbers or strings alone
+-- words of the language may stand at a place in a call, and not only names, numbers or strings
 abbrev pub has_words : Place → Bool
 has_words place.Name = false
 has_words place.Number = false
@@ -60,16 +61,16 @@ has_words place.Text = false
 has_words place.Digits = false
 has_words _ = true
 
--- the same of what is to stand at a place
+-- the same for what has to stand at a place
 abbrev pub has_forms : Standing → Bool
 has_forms (In place) = has_words place
 has_forms _ = true
 
--- some letter is not in lower case
+-- some letter is a capital
 abbrev pub has_upper : List ℕ → Bool
 has_upper word = list_any is_ascii_uppercase word
 
--- what is often meant by the word where this is to stand; no word of the language has a capital letter
+-- what is often meant by the word where this has to stand; no word of the language has a capital
 abbrev pub nearest_to : Standing → List ℕ → Option (List ℕ)
 nearest_to standing word = said_or (nearest_in (rows_at standing) word)
     (if has_forms standing && has_upper word then Some LOWER_CASE.now else None)

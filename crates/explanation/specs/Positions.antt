@@ -1,4 +1,5 @@
--- Statement. The positions of a query's rate: its atoms, or the items of a written rate.
+-- Statement. How many positions a query's rate has: one for each atom, or for each item of a
+-- written rate.
 use Rattle.std.specs.Prelude.{ℕ, ◌+◌, Option, None, Some, nat_le, if◌then◌else◌}
 use Rattle.language_base.specs.Limits.{max_positions}
 use Rattle.query_syntax.specs.Queries as q
@@ -13,7 +14,7 @@ items_of (r.item predicate span) = 1
 items_of (r.joined join a b span) = items_of a + items_of b
 items_of (r.star a span) = items_of a
 
--- so many positions, if a rate may have as many
+-- the count, unless it is more than a rate may have
 abbrev pub few : ℕ → Option ℕ
 few count = if nat_le count max_positions then Some count else None
 
@@ -22,12 +23,12 @@ abbrev pub in_both : Option ℕ → Option ℕ → Option ℕ
 in_both (Some left) (Some right) = few (left + right)
 in_both _ _ = None
 
--- those of the left operand, if the right one has not too many
+-- those of the left operand, unless the right one has too many
 abbrev pub in_left : Option ℕ → Option ℕ → Option ℕ
 in_left left (Some right) = left
 in_left left None = None
 
--- the positions of a query's rate, if no node's rate has more than it may
+-- the positions of a query's rate, unless some node's rate has too many
 abbrev pub few_positions : Query → Option ℕ
 few_positions (q.name name) = Some 0
 few_positions (q.atom predicate value span) = Some 1

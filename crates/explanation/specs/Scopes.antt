@@ -1,4 +1,4 @@
--- Statement. Which names are known where.
+-- Statement. Which names are known at a node.
 use Rattle.std.specs.Prelude.{ℕ, Bool, false, ◌||◌, List, codes, Option, None, Some, if◌then◌else◌}
 use Rattle.std.specs.List.{list_any}
 use Rattle.std.specs.Str.{bytes_eq}
@@ -10,8 +10,8 @@ use Rattle.explanation.specs.declared.culprit.Culprit.TheVariants.{NoColumn, NoV
 use Rattle.explanation.specs.declared.scope.Scope as memory
 use Rattle.explanation.specs.declared.scope.Scope.TheVariants.{Item, Value, Mistyped, One, Two}
 
--- what names stand for: the columns of an item, the one column of values, values of another kind than is taken, one
--- value, or two
+-- what names stand for: the columns of an item, the one column of values, the same where values of
+-- another kind are needed, one value, or two
 pub data Scope : Type 0 where
   of_item : List Column → Scope
   of_value : Scope
@@ -31,7 +31,7 @@ plain_scope Two = of_two
 abbrev pub has_name : List Column → List ℕ → Bool
 has_name columns name = list_any (λ c. bytes_eq name c.name.bytes) columns
 
--- the name stands for something there that is taken
+-- the name stands for something that may be used there
 abbrev pub is_known : Scope → List ℕ → Bool
 is_known (of_item columns) name = has_name columns name
 is_known of_value name = bytes_eq name (codes "value")
@@ -39,7 +39,7 @@ is_known of_mistyped name = false
 is_known of_one name = bytes_eq name (codes "x")
 is_known of_two name = bytes_eq name (codes "x") || bytes_eq name (codes "y")
 
--- a name that does not
+-- a name that does not, by the scope
 abbrev pub unknown_in : Scope → Span → Culprit
 unknown_in (of_item columns) span = NoColumn span
 unknown_in of_value span = NoValue span

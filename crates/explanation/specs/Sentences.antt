@@ -1,4 +1,5 @@
--- Statement. Which sentence tells a rule, and how a query that breaks it is mended. The words are constants of the code.
+-- Statement. The sentence for each rule, and how to mend a query that breaks it. The words are
+-- constants of the code.
 use Rattle.std.specs.Prelude.{ℕ, List, [], length, nat_lt, Option, None, Some, if◌then◌else◌}
 use Rattle.language_base.specs.declared.refusal.Refusal.{Refusal}
 use Rattle.language_base.specs.declared.rule.Rule.{Rule}
@@ -8,7 +9,7 @@ use Rattle.explanation.specs.declared.limit.Limit.TheVariants.{Nodes, Positions,
 use Rattle.explanation.specs.declared.mending.TheConstants as mended
 use Rattle.explanation.specs.declared.rule_sentence.TheConstants as broken
 
--- where the rule is broken
+-- how the rule is broken
 unfoldable pub broken_where : Rule → List ℕ
 broken_where Long = broken.LONG.now
 broken_where Token = broken.TOKEN.now
@@ -29,30 +30,30 @@ broken_where Reach = broken.REACH.now
 broken_where Rates = broken.RATES.now
 broken_where Compose = broken.COMPOSE.now
 
--- the same at the end of the text
+-- the same for a place at the end of the text
 unfoldable pub ended_where : Rule → List ℕ
 ended_where Term = broken.OPEN_BRACKET.now
 ended_where Form = broken.NO_TERM.now
 ended_where rule = broken_where rule
 
--- where the rule of a refusal of the text is broken
+-- how the rule of a refusal of the text is broken
 abbrev pub broken_at : List ℕ → Refusal → List ℕ
 broken_at text refusal =
     if nat_lt refusal.span.from (length text) then broken_where refusal.rule
     else ended_where refusal.rule
 
--- the limit that is passed
+-- the limit that is exceeded
 unfoldable pub passed : Limit → List ℕ
 passed Nodes = broken.NODES.now
 passed Positions = broken.POSITIONS.now
 passed Slots = broken.SLOTS.now
 
--- the limit that is passed, if one is, or else where the rule is broken
+-- the limit that is exceeded, or else how the rule is broken
 abbrev pub broken_in : List ℕ → Refusal → Option Limit → List ℕ
 broken_in text refusal (Some limit) = passed limit
 broken_in text refusal None = broken_at text refusal
 
--- how it is kept; the rule `form` by one of the forms of the place
+-- how to mend the query; for the rule `form` the forms of the place say that
 unfoldable pub mended_by : Rule → List ℕ
 mended_by Long = mended.LONG.now
 mended_by Token = mended.TOKEN.now

@@ -1,4 +1,4 @@
--- Statement. How a place lies to a part of the text.
+-- Statement. Whether a part of the text is a place, or contains it.
 use Rattle.std.specs.Prelude.{Bool, ◌==◌, ◌&&◌, nat_le}
 use Rattle.language_base.specs.declared.span.Span.{Span}
 
@@ -6,6 +6,6 @@ use Rattle.language_base.specs.declared.span.Span.{Span}
 abbrev pub is_at : Span → Span → Bool
 is_at part place = part.from == place.from && part.to == place.to
 
--- the place lies in the part
+-- the part contains the place
 abbrev pub has_in : Span → Span → Bool
 has_in part place = nat_le part.from place.from && nat_le place.to part.to

@@ -1,5 +1,5 @@
--- Statement. What is to stand at a place of a text, by the calls around it: from the outermost one on, the forms of the
--- language say what each of its arguments is.
+-- Statement. What has to stand at a place of a text, by the calls around it: from the outermost one
+-- on, the forms of the language say what each of its arguments is.
 use Rattle.std.specs.Prelude.{ℕ, zero, suc, ◌+◌, ◌-◌, ◌==◌, ◌&&◌, List, codes, slice_get, take, drop, Option, Some, None, if◌then◌else◌}
 use Rattle.std.specs.Str.{bytes_eq}
 use Rattle.query_forms.specs.Forms.{places_of}
@@ -14,14 +14,14 @@ use Rattle.explanation.specs.declared.standing.Standing.TheVariants.{Top, In, No
 abbrev pub word_in : List ℕ → Word → List ℕ
 word_in text word = take (word.to - word.from) (drop word.from text)
 
--- an argument of a stream, a let or a main
+-- an argument of a stream, a let or a main query
 abbrev pub top_argument : List ℕ → ℕ → Standing
 top_argument head argument =
     if bytes_eq head (codes "stream")
     then In (if argument == 0 then place.Mode else place.Column)
     else (if bytes_eq head (codes "let") && (argument == 0) then In place.Name else In place.Query)
 
--- an argument, by the places of all
+-- an argument, by the places of all arguments
 abbrev pub argument_in : Option (List Place) → ℕ → Option Place
 argument_in (Some places) argument = slice_get places argument
 argument_in None argument = None
@@ -31,12 +31,13 @@ abbrev pub place_or : Option Place → Option Place → Option Place
 place_or (Some place) other = Some place
 place_or None other = other
 
--- what is to stand at such a place
+-- what has to stand at such a place
 abbrev pub standing_of : Option Place → Standing
 standing_of (Some place) = In place
 standing_of None = Nothing
 
--- an argument of a call with this head, where this is to stand: forms have from one to four arguments
+-- an argument of a call with this head, given what the call has to be; forms have one to four
+-- arguments
 abbrev pub argument_of : Standing → List ℕ → ℕ → Standing
 argument_of Top head argument = top_argument head argument
 argument_of (In place) head argument = standing_of (place_or
@@ -44,7 +45,7 @@ argument_of (In place) head argument = standing_of (place_or
     (place_or (argument_in (places_of place head 3) argument) (argument_in (places_of place head 4) argument)))
 argument_of Nothing head argument = Nothing
 
--- after a text, in the calls of the first levels
+-- after a text, by the calls at the first levels alone
 abbrev pub standing_in : List ℕ → ℕ → Standing
 standing_in text zero = Top
 standing_in text (suc level) = let call = call_at text (level + 1) in

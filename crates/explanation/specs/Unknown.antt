@@ -1,4 +1,5 @@
--- Statement. The first name of a predicate, a rate or an expression, in the text's order, that is not known there.
+-- Statement. The first name of a predicate, a rate or an expression, in the order of the text, that
+-- is not known in a scope.
 use Rattle.std.specs.Prelude.{Option, None, Some}
 use Rattle.query_syntax.specs.Expressions as e
 use Rattle.query_syntax.specs.Expressions.{Expression}

@@ -1,5 +1,6 @@
--- Statement. The first use, as the main query comes to it, by which the query of a let stands inside of another: on the
--- right side of a composition, or there or in a collection; and whether it is used elsewhere.
+-- Statement. The first use of a let, in the order in which the main query reaches the uses, by
+-- which its query stands inside of another: in the right operand of a composition, or there or in a
+-- collection. Also whether the let is used elsewhere.
 use Rattle.std.specs.Prelude.{ℕ, Bool, false, not, ◌||◌, ◌&&◌, is_some, List, [], ◌∷◌, Option, None, Some, if◌then◌else◌, unwrap_or}
 use Rattle.std.specs.Str.{bytes_eq}
 use Rattle.language_base.specs.declared.span.Span.{Span}
@@ -16,7 +17,7 @@ pub record Known : Type 0 where
   pub name : List ℕ
   pub lead : Lead
 
--- what is known of a name: the first decides
+-- what is known of a name: the latest let with this name counts
 abbrev pub lead_named : List Known → List ℕ → Option Lead
 lead_named [] name = None
 lead_named (first ∷ known) name =
@@ -48,7 +49,7 @@ first_lead known (q.apply f value span) = first_lead known f
 first_lead known (q.compose f g span) = earlier_of (first_lead known f) (first_lead known g)
 first_lead known (q.collect key sync rate f span) = first_lead known f
 
--- some name outside of the right sides of compositions leads to the place
+-- some name outside of the right operands of compositions leads to the place
 abbrev pub leads_outside : List Known → Query → Bool
 leads_outside known (q.name name) = (lead_of known name.bytes).outside
 leads_outside known (q.atom predicate value span) = false
@@ -61,7 +62,7 @@ leads_outside known (q.apply f value span) = leads_outside known f
 leads_outside known (q.compose f g span) = leads_outside known f
 leads_outside known (q.collect key sync rate f span) = leads_outside known f
 
--- the first name that leads to the place and stands inside
+-- the first name that leads to the place and stands inside of these
 abbrev pub first_inside : Inside → List Known → Query → Option Span
 first_inside inside known (q.name name) = (lead_of known name.bytes).used
 first_inside inside known (q.atom predicate value span) = None
@@ -79,7 +80,7 @@ first_inside inside known (q.compose f g span) =
 first_inside Compositions known (q.collect key sync rate f span) = first_inside Compositions known f
 first_inside Collections known (q.collect key sync rate f span) = first_lead known f
 
--- a let leads to the places in it, and where its query leads
+-- a let leads to the places in its query, and to where the names in its query lead
 abbrev pub lead_to : Inside → Span → List Known → Let → Lead
 lead_to inside place known one = record {
   leads = has_in one.span place || is_some (first_lead known one.query);
@@ -87,18 +88,18 @@ lead_to inside place known one = record {
   used = first_inside inside known one.query;
 }
 
--- what is known behind lets, the latest first, where this is known before
+-- what is known after these lets, the latest first, if this is known before them
 abbrev pub known_behind : Inside → Span → List Known → List Let → List Known
 known_behind inside place known [] = known
 known_behind inside place known (one ∷ lets) = known_behind inside place
     ((record { name = one.name.bytes; lead = lead_to inside place known one }) ∷ known) lets
 
--- the first use of a let with the place in it
+-- the first use of the let that contains the place
 abbrev pub first_use : Inside → Span → Program → Option Span
 first_use inside place program =
     first_inside inside (known_behind inside place [] program.lets) program.main.query
 
--- the place is in a let that is used on the right sides of compositions alone
+-- the let that contains the place is used only in the right operands of compositions
 abbrev pub is_on_values : Span → Program → Bool
 is_on_values place program =
     let known = known_behind Compositions place [] program.lets in

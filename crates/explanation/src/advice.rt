@@ -55,7 +55,7 @@ fn push_repair(text: &[u8], refusal: Refusal, shown: &mut Vec<u8>) -> Result<(),
     push_open(refusal.rule, text, refusal.span, shown)
 }
 
-// At the end of the text the word of the call that is open, and opened last.
+// At the end of the text, the word of the innermost open call.
 fn push_open(rule: Rule, text: &[u8], place: Span, shown: &mut Vec<u8>) -> Result<(), AllocError>
     ensures { OnOk result (shown.new.items ≡ shown.old.items ++ open_line rule text.now place) }
 {
@@ -75,7 +75,7 @@ fn push_open_call(text: &[u8], place: Span, shown: &mut Vec<u8>) -> Result<(), A
     push_named(OPEN_AFTER, bytes_between(text, from, to), shown)
 }
 
-// What is often meant by what stands at the place, where that is known, and the forms of the place.
+// What is often meant by the word at the place, if that is known, and the forms of the place.
 fn push_forms(text: &[u8], place: Span, shown: &mut Vec<u8>) -> Result<(), AllocError>
     ensures { OnOk result (shown.new.items ≡ shown.old.items ++ form_lines text.now place) }
 {

@@ -11,10 +11,10 @@ use language_base::{Refusal, Rule, Span};
 use query_syntax::{Predicate, Program, Query};
 use std::alloc::{AllocError, Global};
 
-/// A place beside that of a refusal.
+/// A place other than that of the refusal.
 #[derive(Clone, Copy)]
 pub(crate) enum Aside {
-    /// The use of a let by which its query stands inside of another.
+    /// Where a let is used so that its query stands inside of another.
     Use(Span),
     /// A test that all values are to meet.
     Test(Span),
@@ -66,7 +66,7 @@ fn use_inside(
     }
 }
 
-// What the composition at the place lacks.
+// What leaves lists of values without a value in the composition at the place.
 fn lack_at(place: Span, query: &Query) -> Option<Aside>
     ensures { result ≡ lack_at place (plain_query query.now) }
 {
@@ -88,7 +88,7 @@ fn lack_at(place: Span, query: &Query) -> Option<Aside>
     }
 }
 
-// What the right side of a composition has, for which it has a value on few lists of values.
+// What in the right operand of a composition leaves lists of values without a value.
 fn lack_of(query: &Query) -> Option<Aside>
     ensures { result ≡ lack_of (plain_query query.now) }
 {

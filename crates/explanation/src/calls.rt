@@ -5,27 +5,27 @@ ghost use Rattle.explanation.specs.Calls.{call_at, in_part, level_of, opened, pa
 
 use crate::recognizers::is_word_byte;
 
-/// In what a byte stands.
+/// What a byte is part of.
 #[derive(Clone, Copy, Debug, PartialEq, Eq)]
 pub(crate) enum Part {
     /// Between or in tokens.
     Plain,
     /// In a string.
     Text,
-    /// Behind a backslash in a string.
+    /// After a backslash in a string.
     Escape,
     /// In a comment.
     Comment,
 }
 
-/// A word of the text, by its bytes from and to.
+/// A word of the text, as the places where it begins and ends.
 #[derive(Clone, Copy)]
 pub(crate) struct Word {
     pub(crate) from: usize,
     pub(crate) to: usize,
 }
 
-/// A call: its head, and the number of arguments before the one under way.
+/// A call: its head, and how many arguments come before the current one.
 #[derive(Clone, Copy)]
 pub(crate) struct Call {
     pub(crate) head: Word,
@@ -45,7 +45,7 @@ pub(crate) struct Scan {
     pub(crate) call: Call,
 }
 
-/// The number of calls that are open at the end of the text.
+/// How many calls are open at the end of the text.
 pub(crate) fn level_of(text: &[u8]) -> usize
     ensures is { result ≡ level_of text.now }
     ensures within { result ≤ length text.now }
@@ -53,7 +53,7 @@ pub(crate) fn level_of(text: &[u8]) -> usize
     scan_of(text, 0).level
 }
 
-/// The call that is opened last at this level.
+/// The call that was opened last at this level.
 pub(crate) fn call_at(text: &[u8], level: usize) -> Call
     ensures { result ≡ call_at text.now level }
 {

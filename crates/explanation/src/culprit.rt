@@ -1,31 +1,31 @@
 //! The name that a refusal is about.
 use language_base::Span;
 
-/// A name of the query, by its place, for which the rule `name` or the rule `type` is broken.
+/// A name of the query, by its place, that breaks the rule `name` or the rule `type`.
 #[derive(Clone, Copy)]
 pub(crate) enum Culprit {
-    /// A column that has the name of an earlier one.
+    /// A column with the name of an earlier one.
     TwiceColumn(Span),
-    /// A let that has the name of an earlier one.
+    /// A let with the name of an earlier one.
     TwiceLet(Span),
-    /// The name of a query that no earlier let has.
+    /// A name that stands for a query, and no earlier let has it.
     NoLet(Span),
-    /// A name that is read from items, and is none of their columns.
+    /// A name that is read from items, and no column has it.
     NoColumn(Span),
-    /// A name that is read from values, and is not theirs.
+    /// A name that is read from values, and it is not theirs.
     NoValue(Span),
-    /// The name of values that are of another kind than is taken.
+    /// The name of values, which are of another kind than is needed.
     OfValue(Span),
-    /// Another name than that of one value.
+    /// A name other than `x`, where one value is known.
     NotOne(Span),
-    /// Another name than those of two values.
+    /// A name other than `x` and `y`, where two values are known.
     NotTwo(Span),
-    /// A column of texts, where a number is taken.
+    /// A column of texts, where a number is needed.
     Texts(Span),
-    /// A column of numbers, where a text is taken.
+    /// A column of numbers, where a text is needed.
     Numbers(Span),
-    /// A column of numbers, where a key is taken.
+    /// A column of numbers, where a key is needed.
     Key(Span),
-    /// A column of items, where a table is taken.
+    /// A column of items, where a table is needed.
     NoTable(Span),
 }

@@ -1,4 +1,4 @@
-//! The lines that tell which name a refusal is about.
+//! The lines that say which name a refusal is about.
 ghost use Rattle.std.specs.Prelude.{◌≡◌, ◌++◌, OnOk};
 ghost use Rattle.explanation.specs.CulpritLines.{culprit_line, known_there, named_line, place_of, said_of};
 
@@ -69,7 +69,7 @@ pub(crate) fn push_named(what: &str, name: &[u8], shown: &mut Vec<u8>) -> Result
     shown.extend_from_slice(b"\n")
 }
 
-// Which names are right where it stands, if that is what it is about.
+// Which names are known where it stands, if that is why it is refused.
 #[tactic(auto, unfolding(crate::specs::CulpritLines::known_there))]
 fn known_there(culprit: Culprit) -> &'static str
     ensures { result.now ≡ known_there culprit }

@@ -28,7 +28,7 @@ pub(crate) fn culprit_of(
     Ok(declared_at(program, refusal.span).or(of_node))
 }
 
-/// The same of a node that is asked over items.
+/// The same for a node over items.
 pub(crate) fn culprit_on_items(
     alloc: Global,
     program: &Program,
@@ -44,14 +44,14 @@ pub(crate) fn culprit_on_items(
     Ok(culprit_in(refusal, scope, query_at(program, refusal.span)))
 }
 
-/// The same of a node that is asked over values.
+/// The same for a node over values.
 pub(crate) fn culprit_on_values(program: &Program, refusal: Refusal) -> Option<Culprit>
     ensures { result ≡ culprit_on_values (plain_program program.now) refusal }
 {
     culprit_in(refusal, Scope::Value, query_at(program, refusal.span))
 }
 
-// A column or a let that has the name of an earlier one.
+// A column or a let with the name of an earlier one.
 fn declared_at(program: &Program, place: Span) -> Option<Culprit>
     ensures { result ≡ declared_at (plain_program program.now) place }
 {
@@ -90,7 +90,7 @@ fn let_at(lets: &[Let], place: Span) -> Option<&Let>
     lets.iter().find(|one| has_in(one.span, place))
 }
 
-// In a query over these columns: of the node that is refused, and of no other.
+// In a query over these columns: only the node that is refused counts.
 fn culprit_in(refusal: Refusal, scope: Scope<'_>, query: &Query) -> Option<Culprit>
     ensures { result ≡ culprit_in refusal (plain_scope scope.entry) (plain_query query.now) }
 {
@@ -112,7 +112,7 @@ fn culprit_in(refusal: Refusal, scope: Scope<'_>, query: &Query) -> Option<Culpr
     }
 }
 
-// In a node without its operands, where it is refused.
+// In a node without its operands, if it is the one that is refused.
 fn own_culprit(refusal: Refusal, scope: Scope<'_>, query: &Query) -> Option<Culprit>
     ensures { result ≡ own_culprit refusal (plain_scope scope.entry) (plain_query query.now) }
 {

@@ -1,4 +1,4 @@
-//! The forms of a place in a sentence each.
+//! A sentence for the forms of each place.
 ghost use Rattle.std.specs.Prelude.{◌≡◌};
 ghost use Rattle.explanation.specs.FormSentences.{forms_of, forms_of_place};
 

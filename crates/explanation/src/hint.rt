@@ -1,6 +1,6 @@
 //! What is often meant where a query is refused.
 
-/// What stands at the place of a refusal, as far as it says more than the rule.
+/// What stands at the place of a refusal, if it shows more than the rule what was meant.
 #[derive(Clone, Copy, Debug, PartialEq, Eq)]
 pub(crate) enum Hint {
     /// The point of a number.
@@ -19,23 +19,23 @@ pub(crate) enum Hint {
     Arithmetic,
     /// `&` or `|`.
     Connective,
-    /// A bracket or a mark that the notation has not.
+    /// A bracket or a sign that the language does not have.
     Mark,
     /// A byte order mark.
     ByteOrderMark,
-    /// A byte of no ASCII character.
+    /// A byte that is not ASCII.
     NotAscii,
-    /// A term behind a term.
+    /// A term after a term.
     MissingComma,
-    /// A comma or a closing bracket where a term is missing, or no bracket is open.
+    /// A comma or a closing bracket where a term is missing, or where no bracket is open.
     MissingTerm,
-    /// An opening bracket behind no word.
+    /// An opening bracket that comes after no word.
     NoHead,
-    /// `eps`, where a query is taken.
+    /// `eps`, where a query is needed.
     EmptyWord,
-    /// A table and a number, of which one is to be taken.
+    /// A table and a number, where both are to be of one kind.
     TwoKinds,
-    /// A table where a number is taken, or a number where a table is.
+    /// A table where a number is needed, or a number where a table is.
     TableOrNumber,
     /// The cells of values.
     ValueCells,

@@ -1,4 +1,4 @@
-//! The hints in a sentence each.
+//! A sentence for each hint.
 ghost use Rattle.std.specs.Prelude.{◌≡◌};
 ghost use Rattle.explanation.specs.HintSentences.{hint_sentence};
 

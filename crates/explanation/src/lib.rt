@@ -1,4 +1,5 @@
-//! Why a query is refused, as a person reads it: the place, the rule, how it is mended, what is often meant.
+//! Explains to a person why a query is refused: the place, the rule, how to mend the query, and
+//! what is often meant.
 #![tactic(auto)]
 
 mod advice;

@@ -1,4 +1,4 @@
-//! Which limit a query that breaks the rule `size` has passed.
+//! Which limit a query exceeds that breaks the rule `size`.
 ghost use Rattle.std.specs.Prelude.{◌≡◌, IfOk};
 ghost use Rattle.query_syntax.specs.Plain.{plain_program};
 ghost use Rattle.explanation.specs.Limits.{limit_for, limit_of, passed_limit};
@@ -19,7 +19,7 @@ pub(crate) enum Limit {
     Slots,
 }
 
-/// The limit that the program has passed, if that is why it is refused.
+/// The limit that the program exceeds, if that is why it is refused.
 pub(crate) fn limit_of(
     alloc: Global,
     program: &Program,

@@ -1,4 +1,4 @@
-//! How a query that breaks a rule is mended.
+//! How to mend a query that breaks a rule.
 ghost use Rattle.std.specs.Prelude.{◌≡◌};
 ghost use Rattle.explanation.specs.Sentences.{mended_by};
 
@@ -50,7 +50,7 @@ const RATES: &str =
 const COMPOSE: &str =
     "Give it one, as by an or; overflow and divzero are values: not(gt(..)) in place of le(..).";
 
-/// A query that breaks the rule `form` is mended by the forms of the place.
+/// For the rule `form`, the forms of the place say it, so nothing is said here.
 #[tactic(auto, unfolding(crate::specs::Sentences::mended_by))]
 pub(crate) fn mended_by(rule: Rule) -> &'static str
     ensures { result.now ≡ mended_by rule }

@@ -1,4 +1,4 @@
-//! The first column of an atom or a collection whose kind does not fit where its name stands.
+//! The first column of an atom or a collection whose kind does not fit where it is used.
 ghost use Rattle.std.specs.Prelude.{◌≡◌};
 ghost use Rattle.query_syntax.specs.Plain.{plain_expression, plain_predicate, plain_rate};
 ghost use Rattle.explanation.specs.Misfits.{has_numbers, has_texts, is_text, misfit_item, misfit_read, misfit_test, misfit_with, unless_key, unless_number, unless_table, unless_text};
@@ -7,7 +7,7 @@ use crate::culprit::Culprit;
 use crate::scope::has_name;
 use query_syntax::{Column, Expression, Kind, Literal, Name, Predicate, Rate};
 
-/// The first column in a predicate that is tested as one of the other kind.
+/// The first column in a predicate that is compared with a literal of the other kind.
 pub(crate) fn misfit_test(columns: &[Column], predicate: &Predicate) -> Option<Culprit>
     ensures { result ≡ misfit_test columns.now (plain_predicate predicate.now) }
 {
@@ -42,7 +42,7 @@ pub(crate) fn misfit_item(columns: &[Column], rate: &Rate) -> Option<Culprit>
     }
 }
 
-/// The first column in an expression that has not what is taken there.
+/// The first column in an expression that is not of the kind that is needed there.
 pub(crate) fn misfit_read(columns: &[Column], expression: &Expression) -> Option<Culprit>
     ensures { result ≡ misfit_read columns.now (plain_expression expression.now) }
 {
@@ -96,7 +96,7 @@ fn unless_table(columns: &[Column], name: &Name) -> Option<Culprit>
     has_name(columns, name.bytes.as_slice()).then_some(Culprit::NoTable(name.span))
 }
 
-/// The name of a key column, where it has numbers.
+/// The name of a key column, if that has numbers.
 pub(crate) fn unless_key(columns: &[Column], name: &Name) -> Option<Culprit>
     ensures { result ≡ unless_key columns.now name.now }
 {

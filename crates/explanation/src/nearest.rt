@@ -10,7 +10,7 @@ use query_forms::Place;
 
 const LOWER_CASE: &str = "The words of all forms are written in lower case.";
 
-/// What is often meant by the word where this is to stand, if that is known.
+/// What is often meant by the word where this has to stand, if that is known.
 pub(crate) fn nearest_to(standing: Standing, word: &[u8]) -> Option<&'static str>
     ensures { MatchOption result (nearest_to standing word.now ≡ None)
         (λ sentence. nearest_to standing word.now ≡ Some sentence.now) }
@@ -30,7 +30,7 @@ fn has_forms(standing: Standing) -> bool
     }
 }
 
-// Whether words of the language stand at the place, and not names, numbers or strings alone.
+// Whether words of the language may stand at the place, and not only names, numbers or strings.
 fn has_words(place: Place) -> bool
     ensures { result ≡ has_words place }
 {

@@ -1,4 +1,4 @@
-//! What is often meant by words that begin no form of their place, or one with other arguments.
+//! What is often meant by a word that begins no form of its place, or a form with other arguments.
 
 const STREAM: &str = "A stream is stream(MODE, COL, ..), and stands first.";
 

@@ -1,4 +1,4 @@
-//! The name in a node for which it breaks the rule `name` or the rule `type`.
+//! The name in a node by which it breaks the rule `name` or the rule `type`.
 ghost use Rattle.std.specs.Prelude.{◌≡◌};
 ghost use Rattle.query_syntax.specs.Plain.{plain_expression, plain_predicate, plain_query, plain_rate};
 ghost use Rattle.explanation.specs.Culprits.{in_atom, in_fold, in_keys, in_name, kinds_in_atom, kinds_in_keys, node_culprit};
@@ -74,7 +74,7 @@ fn kinds_in_atom(scope: Scope<'_>, predicate: &Predicate, value: &Expression) ->
     }
 }
 
-// In an expression over values of operands.
+// In an expression over the values of operands.
 fn in_fold(rule: Rule, scope: Scope<'_>, value: &Expression) -> Option<Culprit>
     ensures { result ≡ in_fold rule (plain_scope scope.entry) (plain_expression value.now) }
 {
@@ -84,7 +84,7 @@ fn in_fold(rule: Rule, scope: Scope<'_>, value: &Expression) -> Option<Culprit>
     }
 }
 
-// In the key, the items for every key and the rate of a collection.
+// In the key, the predicate for items of all keys and the rate of a collection.
 fn in_keys(
     rule: Rule,
     scope: Scope<'_>,

@@ -16,8 +16,8 @@ use query_syntax::Program;
 use report_writer::refusal_text;
 use std::alloc::{AllocError, Global};
 
-/// The explanation of the refusal of a text that writes no program: what is refused where, its
-/// line, the rule, how it is mended, and a hint where there is one.
+/// The explanation for a text that is not a program: where it is refused, its line there, the rule,
+/// how to mend it, and a hint if there is one.
 pub fn text_explanation(
     alloc: Global,
     name: &str,
@@ -29,8 +29,8 @@ pub fn text_explanation(
     explanation(alloc, name, text, refusal, None, None, None)
 }
 
-/// The same of a text that writes this program, with the limit that is passed where one is, the name
-/// that it is about where it is about one, and a second place where there is one.
+/// The same for a text that is this program. It also has the limit that is exceeded, the name that
+/// the refusal is about and a second place, where there are such.
 pub fn program_explanation(
     alloc: Global,
     name: &str,

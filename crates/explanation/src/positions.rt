@@ -1,4 +1,4 @@
-//! The positions of the rates of a query's nodes.
+//! How many positions the rates of a query's nodes have.
 ghost use Rattle.std.specs.Prelude.{◌≡◌, ◌-◌, ◌^◌, IfOk, List, map, min};
 ghost use Rattle.query_lets.specs.Unfolded.{Binding, bindings_of, replaced, unfolded};
 ghost use Rattle.query_syntax.specs.Plain.{plain_let, plain_program, plain_query, plain_rate};
@@ -11,8 +11,8 @@ use std::collections::HashMap;
 
 const MAX_POSITIONS: u32 = 128;
 
-/// The positions of the rate of the main query after lets, if no node's rate has too many. It takes
-/// time for each term of the text, however often a name is replaced.
+/// The positions of the rate of the main query after lets, if no node's rate has too many. The time
+/// grows with the terms of the text, not with how often the name of a let is used.
 pub(crate) fn few_positions(alloc: Global, program: &Program) -> Result<Option<u32>, AllocError>
     ensures { IfOk result (λ count.
         count ≡ few_positions (unfolded (plain_program program.now))) }
@@ -21,7 +21,7 @@ pub(crate) fn few_positions(alloc: Global, program: &Program) -> Result<Option<u
     Ok(positions_in(&counted, &program.main.query))
 }
 
-// The same of lets by their names.
+// The same for the lets, by their names.
 fn counted_lets(alloc: Global, lets: &[Let]) -> Result<HashMap<&[u8], Option<u32>>, AllocError>
     ensures { IfOk result (λ counted.
         AreCounted counted (bindings_of (map plain_let lets.now))) }
@@ -34,7 +34,7 @@ fn counted_lets(alloc: Global, lets: &[Let]) -> Result<HashMap<&[u8], Option<u32
     Ok(counted)
 }
 
-// The same of a query after lets that have these.
+// The same for a query that uses these lets.
 fn positions_in(counted: &HashMap<&[u8], Option<u32>>, query: &Query) -> Option<u32>
     ensures { (bindings : List Binding) → AreCounted counted.now bindings
         → result ≡ few_positions (replaced bindings (plain_query query.now)) }

@@ -19,7 +19,7 @@ pub(crate) fn hint_of(text: &[u8], refusal: Refusal) -> Option<Hint>
     }
 }
 
-// The hint where the place begins with this byte.
+// The hint if the place begins with this byte.
 fn hint_at(rule: Rule, text: &[u8], span: Span, byte: u8) -> Option<Hint>
     ensures { result ≡ hint_at rule text.now span byte }
 {
@@ -72,7 +72,7 @@ pub(crate) fn word_at(text: &[u8], span: Span) -> &[u8]
     &term[..word_len(term)]
 }
 
-// The word in front of the brackets of a call; nothing for another term.
+// The word before the brackets of a call; empty for any other term.
 fn head_of(term: &[u8]) -> &[u8]
     ensures { result.now ≡ head_of term.now }
 {
@@ -83,7 +83,7 @@ fn head_of(term: &[u8]) -> &[u8]
     &term[..len]
 }
 
-// No token begins at the byte, which stands at this place of the text.
+// The hint for a byte that begins no token, by the bytes around it.
 fn token_hint(text: &[u8], from: usize, byte: u8) -> Option<Hint>
     requires { from < usize.MAX - 2 }
     ensures { result ≡ token_hint text.now from byte }
@@ -164,7 +164,7 @@ fn mark_hint(byte: u8) -> Option<Hint>
     }
 }
 
-// The token that begins with the byte can not stand where it does.
+// The hint for a token that may not stand where it does, by its first byte.
 fn piece_hint(byte: u8) -> Option<Hint>
     ensures { result ≡ piece_hint byte }
 {

@@ -1,4 +1,4 @@
-//! The rules in a sentence each.
+//! A sentence for each rule.
 ghost use Rattle.std.specs.Prelude.{◌≡◌, ◌≤◌, length};
 ghost use Rattle.explanation.specs.Sentences.{broken_at, broken_in, broken_where, ended_where, passed};
 
@@ -63,7 +63,7 @@ const POSITIONS: &str =
 const SLOTS: &str =
     "The query has over 1,048,576 slots: what an engine keeps for it that keeps no items.";
 
-/// Where the rule of the refusal is broken, or which limit is passed, if one is.
+/// How the rule of the refusal is broken, or which limit is exceeded.
 pub(crate) fn broken_in(text: &[u8], refusal: Refusal, limit: Option<Limit>) -> &'static str
     ensures { result.now ≡ broken_in text.now refusal limit }
 {
@@ -120,7 +120,7 @@ fn broken_where(rule: Rule) -> &'static str
     }
 }
 
-// At the end of the text.
+// The same for a place at the end of the text.
 #[tactic(auto, unfolding(crate::specs::Sentences::ended_where))]
 fn ended_where(rule: Rule) -> &'static str
     ensures { result.now ≡ ended_where rule }

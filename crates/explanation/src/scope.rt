@@ -1,4 +1,4 @@
-//! Which names are known where.
+//! Which names are known at a node.
 ghost use Rattle.std.specs.Prelude.{◌≡◌};
 ghost use Rattle.explanation.specs.Scopes.{has_name, is_known, plain_scope, unknown_in, unless_known};
 
@@ -11,9 +11,9 @@ use query_syntax::{Column, Name};
 pub(crate) enum Scope<'s> {
     /// The columns of an item.
     Item(&'s [Column]),
-    /// The one column of values, `value`.
+    /// The one column of a stream of values, `value`.
     Value,
-    /// Values of another kind than is taken.
+    /// The same column, where values of another kind are needed.
     Mistyped,
     /// One value, `x`.
     One,

@@ -1,4 +1,4 @@
-//! How a place lies to a part of the text.
+//! Whether a part of the text is a place, or contains it.
 ghost use Rattle.std.specs.Prelude.{◌≡◌};
 ghost use Rattle.explanation.specs.Spots.{has_in, is_at};
 

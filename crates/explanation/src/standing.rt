@@ -1,4 +1,4 @@
-//! What is to stand at a place of a text.
+//! What has to stand at a place of a text.
 ghost use Rattle.std.specs.Prelude.{◌≡◌};
 ghost use Rattle.query_forms.specs.Forms.{places_of};
 ghost use Rattle.explanation.specs.Standing.{argument_in, argument_of, place_or, standing_at, standing_in, standing_of, top_argument};
@@ -7,18 +7,18 @@ use crate::calls::{call_at, level_of};
 use place_in_text::bytes_between;
 use query_forms::{Place, places_of};
 
-/// What is to stand at a place.
+/// What has to stand at a place.
 #[derive(Clone, Copy, Debug, PartialEq, Eq)]
 pub(crate) enum Standing {
-    /// A stream, a let or a main.
+    /// A stream, a let or a main query.
     Top,
-    /// What its place in a call says.
+    /// An argument, by its place in a call.
     In(Place),
-    /// Nothing: no call around it has a form.
+    /// Nothing that is known, since no call around it has a form.
     Nothing,
 }
 
-/// What is to stand at a place of the text.
+/// What has to stand at a place of the text.
 pub(crate) fn standing_at(text: &[u8], place: usize) -> Standing
     ensures { result ≡ standing_at text.now place }
 {
@@ -26,7 +26,7 @@ pub(crate) fn standing_at(text: &[u8], place: usize) -> Standing
     standing_in(before, level_of(before))
 }
 
-// What is to stand after the text in the calls of the first levels.
+// What has to stand after the text, by the calls at the first levels alone.
 fn standing_in(text: &[u8], levels: usize) -> Standing
     ensures { result ≡ standing_in text.now levels }
 {
@@ -39,7 +39,7 @@ fn standing_in(text: &[u8], levels: usize) -> Standing
     standing
 }
 
-// What is to stand as this argument of a call with this head, of what is to stand there.
+// What has to stand as this argument of a call with this head, given what the call has to be.
 fn argument_of(standing: Standing, head: &[u8], argument: usize) -> Standing
     ensures { result ≡ argument_of standing head.now argument }
 {
@@ -72,7 +72,7 @@ fn top_argument(head: &[u8], argument: usize) -> Standing
     }
 }
 
-// Of the form with so many arguments, if there is one.
+// The place of an argument in the form with `count` arguments, if there is one.
 fn argument_in(place: Place, head: &[u8], count: usize, argument: usize) -> Option<Place>
     ensures { result ≡ argument_in (places_of place head.now count) argument }
 {

@@ -8,7 +8,7 @@ use crate::culprit::Culprit;
 use crate::scope::{Scope, unless_known};
 use query_syntax::{Expression, Predicate, Rate};
 
-/// The first name in a predicate that is not known there.
+/// The first name in a predicate that is not known in the scope.
 pub(crate) fn unknown_column(scope: Scope<'_>, predicate: &Predicate) -> Option<Culprit>
     ensures { result ≡ unknown_column (plain_scope scope.entry) (plain_predicate predicate.now) }
 {
@@ -25,7 +25,7 @@ pub(crate) fn unknown_column(scope: Scope<'_>, predicate: &Predicate) -> Option<
     }
 }
 
-/// The first name in a rate that is not known there.
+/// The first name in a rate that is not known in the scope.
 pub(crate) fn unknown_item(scope: Scope<'_>, rate: &Rate) -> Option<Culprit>
     ensures { result ≡ unknown_item (plain_scope scope.entry) (plain_rate rate.now) }
 {
@@ -39,7 +39,7 @@ pub(crate) fn unknown_item(scope: Scope<'_>, rate: &Rate) -> Option<Culprit>
     }
 }
 
-/// The first name in an expression that is not known there.
+/// The first name in an expression that is not known in the scope.
 pub(crate) fn unknown_name(scope: Scope<'_>, expression: &Expression) -> Option<Culprit>
     ensures { result ≡ unknown_name (plain_scope scope.entry) (plain_expression expression.now) }
 {

@@ -1,4 +1,4 @@
-//! The first use by which the query of a let stands inside of another.
+//! The first use of a let by which its query stands inside of another.
 ghost use Rattle.std.specs.Prelude.{◌≡◌, [], IfOk, List, map};
 ghost use Rattle.query_syntax.specs.Plain.{plain_let, plain_program, plain_query};
 ghost use Rattle.explanation.specs.Leads.{AreLeads};
@@ -10,17 +10,17 @@ use query_syntax::{Let, Name, Program, Query};
 use std::alloc::{AllocError, Global};
 use std::collections::HashMap;
 
-/// Inside of what a query stands.
+/// What a query stands in.
 #[derive(Clone, Copy)]
 pub(crate) enum Inside {
-    /// On the right side of a composition.
+    /// The right operand of a composition.
     Compositions,
-    /// There, or in a collection.
+    /// The right operand of a composition, or a collection.
     Collections,
 }
 
-/// Whether a name leads to a place, also outside of the right sides of compositions, and the first
-/// use inside of its query that does.
+/// Whether a name leads to a place: at all, and outside of the right operands of compositions; and
+/// the first use inside of its query that leads there.
 #[derive(Clone, Copy)]
 pub(crate) struct Lead {
     pub(crate) leads: bool,
@@ -28,8 +28,8 @@ pub(crate) struct Lead {
     pub(crate) used: Option<Span>,
 }
 
-/// The first use of a let with the place in it, as the main query comes to it. It takes time for
-/// each term of the text, however often a name is used.
+/// The first use of the let that contains the place, in the order in which the main query reaches
+/// the uses. The time grows with the terms of the text, not with how often a name is used.
 pub(crate) fn first_use(
     alloc: Global,
     inside: Inside,
@@ -42,7 +42,7 @@ pub(crate) fn first_use(
     Ok(first_inside(inside, &leads, &program.main.query))
 }
 
-/// Whether the place is in a let that is used on the right sides of compositions alone.
+/// Whether the let that contains the place is used only in the right operands of compositions.
 pub(crate) fn is_on_values(
     alloc: Global,
     place: Span,
@@ -57,7 +57,7 @@ pub(crate) fn is_on_values(
     Ok(inside && !leads_outside(&leads, main))
 }
 
-// What is known of lets by their names.
+// What is known of the lets, by their names.
 fn leads_of(
     alloc: Global,
     inside: Inside,
@@ -120,7 +120,7 @@ fn first_lead(leads: &HashMap<&[u8], Lead>, query: &Query) -> Option<Span>
     }
 }
 
-// Whether a name outside of the right sides of compositions leads to the place.
+// Whether a name outside of the right operands of compositions leads to the place.
 fn leads_outside(leads: &HashMap<&[u8], Lead>, query: &Query) -> bool
     ensures { (known : List Known) → AreLeads leads.now known
         → result ≡ leads_outside known (plain_query query.now) }
@@ -140,7 +140,7 @@ fn leads_outside(leads: &HashMap<&[u8], Lead>, query: &Query) -> bool
     }
 }
 
-// The first name that leads to the place and stands inside.
+// The first name that leads to the place and stands inside of these.
 fn first_inside(inside: Inside, leads: &HashMap<&[u8], Lead>, query: &Query) -> Option<Span>
     ensures { (known : List Known) → AreLeads leads.now known
         → result ≡ first_inside inside known (plain_query query.now) }

@@ -1,4 +1,4 @@
--- For the prover. What a query has on the items of lines.
+-- For the prover. Whether a query has a value on the items of lines.
 use Rattle.std.specs.Prelude.{◌≡◌, ℕ, List}
 use Rattle.value_ops.specs.declared.value.Value.{Value}
 use Rattle.rate_expr.specs.Words.{Word}
@@ -23,7 +23,7 @@ Finds monitor lines finding.Value = HasValueOn monitor lines
 Finds monitor lines finding.NoValue = HasNoneOn monitor lines
 Finds monitor lines finding.NoItem = Unit {0}
 
--- only on the side there is a value
+-- there is a value on this side alone
 abbrev pub TellsSide : Finding → Finding → Side → Type 0
 TellsSide left right Left = (left ≡ finding.Value) × (right ≡ finding.NoValue)
 TellsSide left right Right = (left ≡ finding.NoValue) × (right ≡ finding.Value)

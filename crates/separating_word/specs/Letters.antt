@@ -1,4 +1,4 @@
--- For the prover. What the items of cells meet.
+-- For the prover. Which positions the items of cells meet.
 use Rattle.std.specs.Prelude.{◌≡◌, ◌<◌, ℕ, List, All, bit_and}
 use Rattle.std.specs.List.{Contains}
 use Rattle.predicate_cells.specs.Cells.{cell_count}
@@ -15,13 +15,13 @@ AreMetBy automata cell masks =
 abbrev pub AreOfCells : Automata → List Letter → Type 0
 AreOfCells automata letters = All (λ letter. letter.cell < cell_count automata.left.cells) letters
 
--- and each cell has one with its masks
+-- each cell has a letter with its masks
 pub record AreLetters (automata : Automata) (letters : List Letter) : Type 0 where
   pub cells : AreOfCells automata letters
   pub whole : (cell : ℕ) → cell < cell_count automata.left.cells → (letter : Letter)
       × Contains letters letter × AreMetBy automata cell (letter.left, letter.right)
 
--- so far each cell below one has, whose masks are known
+-- each cell below this one has a letter with its masks, and these are known
 pub record AreGathered (automata : Automata) (cell : ℕ) (known : List (ℕ × ℕ))
     (letters : List Letter) : Type 0 where
   pub cells : AreOfCells automata letters
@@ -30,6 +30,6 @@ pub record AreGathered (automata : Automata) (cell : ℕ) (known : List (ℕ × 
   pub below : (other : ℕ) → other < cell
       → (masks : ℕ × ℕ) × Contains known masks × AreMetBy automata other masks
 
--- the positions of the ways on that the items of the letter's cell meet
+-- the positions that the items of the letter's cell meet, out of those that may come next
 abbrev pub target : ℕ × ℕ → Letter → ℕ × ℕ
 target ways letter = (bit_and ways.0 letter.left, bit_and ways.1 letter.right)

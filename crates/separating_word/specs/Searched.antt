@@ -1,4 +1,4 @@
--- For the prover. What a search through two automata over the same cells has found out.
+-- For the prover. What a search through two automata over the same cells has found so far.
 use Rattle.std.specs.Prelude.{◌≡◌, ◌<◌, ◌≤◌, ◌⊎◌, ◌↔◌, ℕ, List, All, length}
 use Rattle.std.specs.List.{Contains}
 use Rattle.value_ops.specs.declared.field.Field.{Field}
@@ -31,12 +31,12 @@ AgreeBelow automata items = (word : Word) → IsWordOf automata.left.cells.layou
     → (left : State) × (right : State) × AreAfter automata word left right
     × Agree automata left right
 
--- these are cells, and the states after each word of fewer items agree
+-- these are cells of the automata, and the states after each word of fewer items agree
 pub record IsShortestApart (automata : Automata) (cells : List ℕ) : Type 0 where
   pub cells_of : AreCellsOf automata cells
   pub agree : AgreeBelow automata (length cells)
 
--- the states are known, the initial ones from the beginning
+-- the states are known; the initial ones always are
 abbrev pub AreKnown : List (ℕ × ℕ) → State → State → Type 0
 AreKnown known Initial Initial = Unit {0}
 AreKnown known Initial (At right) = ⊥
@@ -56,31 +56,32 @@ pub record IsReachedIn (automata : Automata) (reached : Reached) : Type 0 where
   pub right_of : IsStateOf automata.right.sets reached.right
   pub cells : AreCellsOf automata reached.word.items
 
--- the words have so many cells
+-- the words have this number of cells
 abbrev pub HaveItems : ℕ → List Reached → Type 0
 HaveItems items level = All (λ reached. length reached.word.items ≡ items) level
 
--- the states are among these
+-- these states are in the level
 abbrev pub AreAmong : List Reached → State → State → Type 0
 AreAmong level left right = (reached : Reached) × Contains level reached
     × (reached.left ≡ left) × (reached.right ≡ right)
 
--- states became known that agree and are among the next
+-- the states that became known agree, and are in the next level
 pub record IsGrown (automata : Automata) (old new : List (ℕ × ℕ)) (next : List Reached)
     : Type 0 where
   pub kept : (masks : ℕ × ℕ) → Contains old masks → Contains new masks
   pub more : (masks : ℕ × ℕ) → Contains new masks → Contains old masks
       ⊎ (Agree automata (At masks.0) (At masks.1) × AreAmong next (At masks.0) (At masks.1))
 
--- more are known and next, to which each item leads from the states
+-- each item leads from the states to known ones, by those that were added to the known and to the
+-- next level
 pub record IsExpanded (automata : Automata) (from : Reached) (old : List (ℕ × ℕ))
     (before : List Reached) (new : List (ℕ × ℕ)) (next : List Reached) : Type 0 where
   pub grown : (first : List (ℕ × ℕ)) → IsGrown automata first old before
       → IsGrown automata first new next
   pub gone : LeadIntoKnown automata new from.left from.right
 
--- known states agree; each word of at most so many items leads to known ones; and so does each item
--- from known ones, but for those of the latest level
+-- Known states agree. Each word of at most `items` items leads to known ones, and so does each item
+-- from known ones that are not in the latest level.
 pub record IsSearched (automata : Automata) (items : ℕ) (known : List (ℕ × ℕ))
     (level : List Reached) : Type 0 where
   pub agree : (left right : State) → AreKnown known left right → Agree automata left right
@@ -90,13 +91,13 @@ pub record IsSearched (automata : Automata) (items : ℕ) (known : List (ℕ × 
   pub gone : (left right : State) → AreKnown known left right
       → LeadIntoKnown automata known left right ⊎ AreAmong level left right
 
--- what a level leads to is of the automata
+-- the result of a search is over the cells or the states of the automata
 abbrev pub LeadsOn : Automata → Level → Type 0
 LeadsOn automata (Found word) = AreCellsOf automata word.items
 LeadsOn automata (Next level) = All (IsReachedIn automata) level.items
 LeadsOn automata Stopped = Unit {0}
 
--- it is searched up to words of so many items, or a word of so many was found
+-- the search has covered words of up to `items` items, or has found a word of `items` items
 abbrev pub IsSearchedOn : Automata → ℕ → List (ℕ × ℕ) → Level → Type 0
 IsSearchedOn automata items known (Found word) = length word.items ≡ items
 IsSearchedOn automata items known (Next level) =

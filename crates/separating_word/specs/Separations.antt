@@ -14,7 +14,7 @@ use Rattle.separating_word.specs.declared.separation.Separation.{Separation}
 use Rattle.separating_word.specs.declared.separation.Side.{Side}
 use Rattle.separating_word.specs.declared.separation.Side.TheVariants.{Left, Right}
 
--- each line is read by itself to an item of these columns, and these are the word
+-- the lines, each read by itself, are the items of this word over these columns
 abbrev pub AreRead : List Column → List (List ℕ) → Word → Type 0
 AreRead columns lines word = map (item_of columns) lines ≡ map Ok word
 
@@ -39,11 +39,11 @@ abbrev pub ShareWordsBelow : Monitor → Monitor → ℕ → Type 0
 ShareWordsBelow left right items = (word : Word) → IsWordOf left.layout.columns word
     → length word < items → In (rate_of left.query) word ↔ In (rate_of right.query) word
 
--- the lines are shown as they are, and only the query on the side has a value on their items
+-- the lines can be shown, and only the query on the side has a value on their items
 pub record Separates (left right : Monitor) (found : Separation) : Type 0 where
   pub shown : IsTrue (list_all is_shown found.lines.items)
   pub alone : HasAlone found.side left right found.lines.items
 
--- no word with fewer items than lines is in the rate of one query alone
+-- no word with fewer items than there are lines is in the rate of only one query
 abbrev pub IsShortest : Monitor → Monitor → Separation → Type 0
 IsShortest left right found = ShareWordsBelow left right (length found.lines.items)

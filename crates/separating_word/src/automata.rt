@@ -1,4 +1,4 @@
-//! The automata of two queries over the same cells.
+//! The automata of the rates of two queries over the same cells.
 ghost use Rattle.std.specs.Prelude.{◌≡◌, IfOk, IfSome};
 ghost use Rattle.predicate_cells.specs.Cells.{AllFit};
 ghost use Rattle.query_model.specs.Queries.{plain_of};
@@ -22,7 +22,7 @@ pub(crate) struct Automata {
     pub(crate) right: Nfa,
 }
 
-/// The automata of the queries' rates, over the cells of both.
+/// The automata of the queries' rates, over cells for the predicates of both.
 pub(crate) fn automata_of(
     alloc: Global,
     left: &Checked,
@@ -60,7 +60,7 @@ fn positions_in(alloc: Global, rate: &Rate) -> Result<Option<Box<Positions>>, Al
     Ok(Some(Box::new(alloc, Positions::of(alloc, rate)?)?))
 }
 
-// The cells that the predicates of both tell apart.
+// The cells that the predicates of both queries distinguish.
 fn cells_of(
     alloc: Global,
     schema: &Schema,

@@ -1,4 +1,4 @@
-//! Sets of positions of two automata that are known.
+//! Pairs of sets of positions, one set of each automaton, that the search has reached.
 ghost use Rattle.std.specs.Prelude.{◌≡◌, IfOk, OnOk, false};
 ghost use Rattle.std.specs.List.{Contains};
 ghost use Rattle.separating_word.specs.Known.{IsPut};
@@ -6,7 +6,7 @@ ghost use Rattle.separating_word.specs.Known.{IsPut};
 use indexmap::IndexSet;
 use std::alloc::AllocError;
 
-/// Puts the masks among those that are known, and says whether they are new.
+/// Adds the masks to those that are known, and gives whether they are new.
 pub(crate) fn note(
     known: &mut IndexSet<(u128, u128)>,
     masks: (u128, u128),

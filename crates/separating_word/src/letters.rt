@@ -1,4 +1,4 @@
-//! What the items of cells meet.
+//! Which positions the items of cells meet.
 ghost use Rattle.std.specs.Prelude.{◌≡◌, ◌+◌, ◌<◌, IfOk, OnOk};
 ghost use Rattle.predicate_cells.specs.Cells.{cell_count};
 ghost use Rattle.separating_word.specs.Letters.{AreGathered, AreLetters, target};
@@ -18,7 +18,7 @@ pub(crate) struct Letter {
 }
 
 impl Letter {
-    /// The positions of both to which its items lead along the ways on.
+    /// The positions of both that its items lead to, out of those that may come next.
     pub(crate) fn target(&self, ways: (u128, u128)) -> (u128, u128)
         ensures { result ≡ target ways self.now }
     {
@@ -26,7 +26,7 @@ impl Letter {
     }
 }
 
-/// One letter for each two sets of positions that the items of some cell meet.
+/// One letter for each pair of sets of positions that the items of some cell meet.
 pub(crate) fn letters_of(alloc: Global, automata: &Automata) -> Result<Vec<Letter>, AllocError>
     requires { ShareCells automata.now }
     ensures { IfOk result (λ letters. AreLetters automata.now letters.items) }
@@ -39,7 +39,7 @@ pub(crate) fn letters_of(alloc: Global, automata: &Automata) -> Result<Vec<Lette
     Ok(letters)
 }
 
-// The cell is one more letter where the items of no other so far meet the same positions.
+// Adds the cell as a letter, unless the items of an earlier one meet the same positions.
 fn add_letter(
     automata: &Automata,
     cell: u32,

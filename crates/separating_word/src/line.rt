@@ -1,4 +1,4 @@
-//! Lines of a word that leads to an end of one automaton alone.
+//! The lines of a word that only one of two automata accepts.
 ghost use Rattle.std.specs.Prelude.{◌≡◌, ◌<◌, IfOk, IfSome, IsTrue, length};
 ghost use Rattle.std.specs.List.{list_all};
 ghost use Rattle.predicate_cells.specs.Cells.{cell_count};
@@ -17,8 +17,8 @@ use predicate_cells::Cells;
 use query_model::Checked;
 use std::alloc::{AllocError, Global};
 
-/// Lines of items whose word is a shortest one in the rate of one query alone, if one is found and
-/// its lines are all shown.
+/// The lines of a shortest word in the rate of only one of the queries, if one is found and all of
+/// its lines can be shown.
 pub(crate) fn lines_apart(
     alloc: Global,
     left: &Checked,
@@ -35,7 +35,7 @@ pub(crate) fn lines_apart(
     }
 }
 
-// The same of the automata themselves.
+// The same for the automata of the rates.
 fn lines_between(alloc: Global, automata: &Automata) -> Result<Option<Vec<Bytes>>, AllocError>
     requires { ShareCells automata.now }
     ensures shown { IfOk result (λ found.
@@ -49,7 +49,7 @@ fn lines_between(alloc: Global, automata: &Automata) -> Result<Option<Vec<Bytes>
     }
 }
 
-// A line for each cell, if all are shown.
+// A line for each cell, if all can be shown.
 fn lines_of(
     alloc: Global,
     automata: &Automata,
@@ -71,7 +71,7 @@ fn lines_of(
     Ok(Some(lines))
 }
 
-// The line of an item of the cell, if it is shown.
+// The line of an item of the cell, if it can be shown.
 #[tactic(auto, using(crate::proofs::Found::shown_found))]
 fn line_of(alloc: Global, cells: &Cells, cell: u32) -> Result<Option<Bytes>, AllocError>
     requires { cell < cell_count cells.now }

@@ -1,4 +1,4 @@
-//! What a query has on the items of lines.
+//! Whether a query has a value on the items of lines.
 ghost use Rattle.std.specs.Prelude.{IfOk, IfSome};
 ghost use Rattle.query_model.specs.Monitors.{monitor_of};
 ghost use Rattle.query_model.specs.Queries.{plain_of};
@@ -12,14 +12,14 @@ use query_model::Checked;
 use slow_eval::answer_on;
 use std::alloc::{AllocError, Global};
 
-/// What a query has on the items of lines.
+/// Whether a query has a value on the items of lines.
 #[derive(Clone, Copy)]
 pub(crate) enum Finding {
     /// It has a value.
     Value,
     /// It has no value.
     NoValue,
-    /// A line has no item.
+    /// Some line is no item.
     NoItem,
 }
 
@@ -36,7 +36,7 @@ pub(crate) fn finding_on(
     }
 }
 
-// What the query has on a word of items of its stream.
+// Whether the query has a value on a word of items of its stream.
 fn finding_of(alloc: Global, query: &Checked, word: &[Item]) -> Result<Finding, AllocError>
     requires { IsWordOf query.now.layout.columns word.now }
     ensures { IfOk result (FindsOn (plain_of query.now.main.shape) word.now) }
@@ -47,7 +47,7 @@ fn finding_of(alloc: Global, query: &Checked, word: &[Item]) -> Result<Finding, 
     }
 }
 
-// The items of the lines, if each line has one.
+// The items of the lines, if each line is one.
 fn items_of(
     alloc: Global,
     schema: &Schema,

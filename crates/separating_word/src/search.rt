@@ -1,4 +1,5 @@
-//! The search for a shortest word that leads to an end of one automaton alone.
+//! The search for a shortest word that only one of two automata accepts, level by level: by words
+//! of one cell more each time.
 ghost use Rattle.std.specs.Prelude.{◌≡◌, ◌+◌, ◌++◌, ℕ, [], ◌∷◌, All, IfNone, IfOk, IfSome, MatchBool, OnOk, length};
 ghost use Rattle.rate_expr.specs.declared.state.State.TheVariants.{Initial};
 ghost use Rattle.separating_word.specs.declared.automata.Automata.{Automata};
@@ -13,9 +14,9 @@ use indexmap::IndexSet;
 use std::alloc::{AllocError, Global};
 use symbolic_nfa::State;
 
-/// The most items of a word.
+/// The most items of a word that is searched.
 const MAX_ITEMS: usize = 8;
-/// The most steps, about, that are tried.
+/// About the most steps that are tried.
 const MAX_STEPS: usize = 262_144;
 
 /// The states after a word of cells.
@@ -26,18 +27,18 @@ pub(crate) struct Reached {
     pub(crate) word: Vec<u32>,
 }
 
-/// What comes of words that are one cell longer than those of a level.
+/// The result of a search among words that are one cell longer than those of a level.
 #[derive(Drop)]
 pub(crate) enum Level {
-    /// One leads to an end of one automaton alone.
+    /// One of them is accepted by only one automaton.
     Found(Vec<u32>),
-    /// None does. These are the first to lead to their states.
+    /// None is. These are the first ones that lead to their states.
     Next(Vec<Reached>),
-    /// Too much would have to be tried.
+    /// The search would take too many steps.
     Stopped,
 }
 
-/// The cells of a shortest word that leads to an end of one automaton alone.
+/// The cells of a shortest word that only one automaton accepts.
 pub(crate) fn cells_apart(
     alloc: Global,
     automata: &Automata,
@@ -55,7 +56,7 @@ pub(crate) fn cells_apart(
     search_levels(alloc, automata, &letters, first, &mut known)
 }
 
-// Whether a word that leads to these states may end in one of them alone.
+// Whether a word may end in exactly one of these states.
 fn differ(automata: &Automata, left: State, right: State) -> bool
     ensures { MatchBool result (Agree automata.now left right → ⊥)
         (Agree automata.now left right) }
@@ -63,7 +64,7 @@ fn differ(automata: &Automata, left: State, right: State) -> bool
     automata.left.accepts(left) != automata.right.accepts(right)
 }
 
-// The same of words that are longer than those of the first level.
+// The same among words that are longer than those of the first level.
 fn search_levels(
     alloc: Global,
     automata: &Automata,
@@ -106,7 +107,7 @@ fn first_level(alloc: Global) -> Result<Vec<Reached>, AllocError>
     Ok(level)
 }
 
-// What words that are one cell longer lead to, as far as no other word leads there.
+// The words that are one cell longer, as far as no other word leads to the same states.
 fn next_level(
     alloc: Global,
     automata: &Automata,
@@ -134,8 +135,8 @@ fn next_level(
     Ok(Level::Next(next))
 }
 
-// A word with one cell more than this one that leads to an end of one automaton alone; if there is
-// none, what is reached for the first time is next too.
+// A word with one cell more than this one that only one automaton accepts. If there is none, the
+// states that are reached for the first time are added to the next level.
 fn expand(
     alloc: Global,
     automata: &Automata,

@@ -1,4 +1,4 @@
-//! Lines of items that tell two queries apart.
+//! Lines of items that distinguish two queries.
 ghost use Rattle.std.specs.Prelude.{◌≡◌, IfOk, IfSome, IsTrue};
 ghost use Rattle.std.specs.List.{list_all};
 ghost use Rattle.item_lines.specs.Lines.{is_shown};
@@ -19,17 +19,17 @@ pub enum Side {
     Right,
 }
 
-/// Lines of items on whose word the query on the side has a value, and the other has none.
+/// Lines of items: the query on the side has a value on their word, and the other query has none.
 #[derive(Drop)]
 pub struct Separation {
     pub side: Side,
     pub lines: Vec<Bytes>,
 }
 
-/// A shortest word of items of the queries' stream that is in the rate of one of them alone, where
-/// that one has a value on it. None is found where no such word has at most eight items, or where
-/// more than some 262,144 steps would have to be tried; where the rates have too many positions, or
-/// their predicates too many cells; and where the line of an item is too long or can not be shown.
+/// A shortest word of items of the queries' stream that is in the rate of only one of them, if that
+/// one has a value on it. None is found if each such word has more than eight items, or the search
+/// takes more than about 262,144 steps; if the rates have too many positions or their predicates
+/// too many cells; or if the line of an item is too long or cannot be shown.
 pub fn tell_apart(
     alloc: Global,
     left: &Checked,
@@ -46,7 +46,7 @@ pub fn tell_apart(
     told_apart(alloc, left, right, lines)
 }
 
-// What these lines tell: the queries are asked for their values on them.
+// The same for these lines. Both queries are asked for their values on them.
 fn told_apart(
     alloc: Global,
     left: &Checked,
@@ -66,7 +66,7 @@ fn told_apart(
     }
 }
 
-// The side on which there is a value, where there is none on the other.
+// The side on which there is a value, if there is none on the other.
 fn side_of(left: Finding, right: Finding) -> Option<Side>
     ensures { IfSome result (TellsSide left right) }
 {

@@ -1,4 +1,4 @@
-//! What tells two queries apart, in words.
+//! The text that says by which lines two queries differ.
 ghost use Rattle.std.specs.Prelude.{◌≡◌, ◌++◌, OnOk};
 ghost use Rattle.std.specs.List.{flat_map};
 ghost use Rattle.separating_word.specs.Telling.{said_of, separation_text, shown_line};
@@ -7,7 +7,7 @@ use crate::{Separation, Side};
 use language_base::Bytes;
 use std::alloc::AllocError;
 
-/// Appends which side alone has a value, and the lines.
+/// Appends which query alone has a value, and the lines.
 pub fn push_separation(found: &Separation, shown: &mut Vec<u8>) -> Result<(), AllocError>
     ensures { OnOk result (shown.new.items
         ≡ shown.old.items ++ separation_text found.now.side found.now.lines.items) }

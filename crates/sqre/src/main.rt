@@ -1,4 +1,4 @@
-//! The program: its words, two sources and standard output, handed to the top call.
+//! The program: passes its words, two sources and standard output to the top call.
 #![tactic(auto)]
 
 use io_edge::{LazyFile, WriterSink};
@@ -7,7 +7,7 @@ use std::env;
 use std::io::{self, ErrorKind};
 use std::process::ExitCode;
 
-/// The exit status where the system refuses the words.
+/// The exit status if the system does not give the words.
 const NO_WORDS: u8 = 9;
 
 fn main(rt: HostRuntime) -> ExitCode {
@@ -33,8 +33,8 @@ fn call(rt: HostRuntime, words: &[String]) -> io::Result<Status> {
     Ok(sqre(alloc, words, &mut *query, &mut *items, &mut out))
 }
 
-// What the word names, or standard input where it is missing. It is boxed, since each later exit
-// drops it.
+// The file that the word names, or standard input if there is no word. It is boxed, since each
+// later exit drops it.
 fn source(rt: HostRuntime, words: &[String], at: usize) -> io::Result<Box<LazyFile<HostRuntime>>> {
     let alloc = rt.alloc();
     let path = words.get(at).map_or("-", |word| word.as_str());

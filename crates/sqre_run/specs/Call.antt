@@ -17,16 +17,16 @@ use Rattle.sqre_run.specs.declared.command.Command.TheVariants.{Run, Why}
 use Rattle.sqre_run.specs.declared.status.Status.{Status}
 use Rattle.sqre_run.specs.declared.status.Status.TheVariants.{Done, Refused, Usage, QueryFault, ItemFault, SinkFault, Memory, Limit}
 
--- Each fault comes only where its object's count is one more, and leaves the two other counts as
--- they were. Every other status leaves all three.
+-- A fault is reported only where the count of faults of its object is one more, and then the two
+-- other counts have not changed. With every other status no count has changed.
 pub record FirstFault (status : Status) (queries queries' items items' sinks sinks' : ℕ)
     : Type 0 where
   pub of_query : FailsBy queries queries' (status ≡ QueryFault)
   pub of_items : FailsBy items items' (status ≡ ItemFault)
   pub of_sink : FailsBy sinks sinks' (status ≡ SinkFault)
 
--- What stayed as it was: all three for words that have no form, items and sink where the
--- query source failed, the items where the query was refused.
+-- What has not changed: all three if the words ask for no command, items and sink if the query
+-- source failed, the items if the query was refused.
 abbrev pub Untouched : {Q S W : Type 0} → Status → Q → Q → S → S → W → W → Type 0
 Untouched Usage query query' items items' out out' =
     (query' ≡ query) × (items' ≡ items) × (out' ≡ out)
@@ -34,7 +34,7 @@ Untouched QueryFault query query' items items' out out' = (items' ≡ items) × 
 Untouched Refused query query' items items' out out' = items' ≡ items
 Untouched _ query query' items items' out out' = Unit {0}
 
--- the text is a query, of this monitor, that keeps the rules, and so has a meaning; it went on so
+-- the text is compiled to a query with this monitor, and the run of it was as stated
 abbrev pub Runs : List ℕ → (Monitor → Type 0) → Type 0
 Runs text goes_on = (monitor : Monitor) × Compiles text (accepted monitor) × KeepsRules monitor
     × goes_on monitor
@@ -59,9 +59,8 @@ Outcome text Memory old new = (new ≡ old)
 Outcome text Limit old new = Runs text (λ monitor. (got : List ℕ) × (length got ≡ max_count)
     × Wrote monitor old new got (λ meaning. whole_output (answering meaning) got))
 
--- How `run` or `slow` ends where no count of faults rose: a query at the end of its items or
--- after 2^63-1 bytes of them, and any other text with its refusal. Usage and Memory may come with
--- both.
+-- How `run` or `slow` ends if nothing failed: a query at the end of its items or after 2^63-1 bytes
+-- of them, and a text that is refused with its refusal. Usage and Memory may come with both.
 abbrev pub Completes : Verdict → Status → Type 0
 Completes query Usage = Unit {0}
 Completes query Memory = Unit {0}
@@ -70,18 +69,18 @@ Completes (accepted monitor) Limit = Unit {0}
 Completes (refused refusal) Refused = Unit {0}
 Completes query _ = ⊥
 
--- `run` and `slow` alone read items
+-- only `run` and `slow` read items
 abbrev pub LeavesItems : {S : Type 0} → Option Command → S → S → Type 0
 LeavesItems (Some (Run engine)) items items' = Unit {0}
 LeavesItems command items items' = items' ≡ items
 
--- and are done at their end alone
+-- they are done only at the end of the items
 abbrev pub EndsItems : Option Command → ℕ → ℕ → Type 0
 EndsItems (Some (Run engine)) ends ends' = Rose ends ends'
 EndsItems command ends ends' = Unit {0}
 
--- and do not read after their first end: they meet one where they are done, and none where the
--- items fail or have no end
+-- they do not read after the first end: they meet one if they are done, and none if the items fail
+-- or have no end
 abbrev pub ReadsToFirstEnd : Option Command → Status → ℕ → ℕ → Type 0
 ReadsToFirstEnd (Some (Run engine)) Done ends ends' = ends' ≡ next_count ends
 ReadsToFirstEnd (Some (Run engine)) SinkFault ends ends' = MeetsOneAtMost ends ends'
@@ -95,7 +94,7 @@ OutcomeOf (Some Why) text status old new = WritesReason text status old.taken ne
 OutcomeOf (Some command) text status old new = WritesLine command text status old.taken new.taken
 OutcomeOf None text status old new = new ≡ old
 
--- How a call ends where no count of faults rose, by what the words ask for.
+-- How a call ends if nothing failed, by what the words ask for.
 abbrev pub CompletesOf : Option Command → Verdict → Status → Type 0
 CompletesOf (Some (Run engine)) query status = Completes query status
 CompletesOf command query status = CompletesLine query status

@@ -1,4 +1,4 @@
--- For the prover. What came of a command, for a query that is accepted or refused.
+-- For the prover. What a command has done for a query that is accepted or refused.
 use Rattle.std.specs.Prelude.{◌≡◌, ℕ, List, Option}
 use Rattle.std.specs.Io.KnownBytes.{Appends}
 use Rattle.io_edge.specs.Written.{AppendsSome}
@@ -17,12 +17,12 @@ LineCarried command monitor SinkFault old new = HoldsOfLine command monitor (λ 
 LineCarried command monitor Memory old new = new ≡ old
 LineCarried command monitor _ old new = ⊥
 
--- a run of the items ended, or one line was told
+-- a run of the items ended, or the one line of another command was written
 abbrev pub Carried : Command → Monitor → Status → Outside → Outside → Type 0
 Carried (Run engine) monitor status old new = Ended monitor status old new
 Carried command monitor status old new = LineCarried command monitor status old.taken new.taken
 
--- lines of a refusal, of which this holds, were written whole, in part, or not at all
+-- the lines of a refusal were written whole, in part, or not at all
 abbrev pub RefusalCarried : (List ℕ → Type 0) → Status → Option (List ℕ) → Option (List ℕ) → Type 0
 RefusalCarried Are Refused old new = (lines : List ℕ) × Are lines × Appends old new lines
 RefusalCarried Are SinkFault old new = (lines : List ℕ) × Are lines × AppendsSome old new lines

@@ -19,7 +19,7 @@ max_seed = 2 ^ 64 - 1
 abbrev pub says : List ℕ → List ℕ → Bool
 says word text = pointwise nat_eq word text
 
--- the number of 1 to so many decimal digits that is written, if it is not above the greatest
+-- the number that is written with 1 to `digits` decimal digits, unless it is above the greatest
 abbrev pub number_in : ℕ → ℕ → List ℕ → Option ℕ
 number_in digits greatest word =
     if nat_lt 0 (length word) && nat_le (length word) digits && list_all is_ascii_digit word
@@ -39,19 +39,19 @@ run_of word =
     if says word (codes "run") then Some (Run Runner)
     else if says word (codes "slow") then Some (Run Slow) else None
 
--- a drill of so many items from a seed, if both are numbers
+-- a drill of the first number of items from the second as seed, if both are numbers
 abbrev pub drill_from : Option ℕ → Option ℕ → Option Command
 drill_from (Some count) (Some seed) = Some (Drill count seed)
 drill_from _ _ = None
 
--- `drill`, of 1 to 7 digits and 1 to 20 digits
+-- `drill`, with a count of 1 to 7 digits and a seed of 1 to 20 digits
 abbrev pub drill_of : List ℕ → List ℕ → List ℕ → Option Command
 drill_of word count seed =
     if says word (codes "drill") then drill_from (number_in 7 max_items count) (number_in 20 max_seed seed)
     else None
 
--- what the words ask for, if they have one of the forms: `check QUERY`, `bound QUERY` or `why QUERY`,
--- `run QUERY ITEMS` or `slow QUERY ITEMS`, `drill QUERY COUNT SEED`
+-- what the words ask for, if they have one of the forms: `check QUERY`, `bound QUERY`, `why QUERY`,
+-- `run QUERY ITEMS`, `slow QUERY ITEMS` or `drill QUERY COUNT SEED`
 abbrev pub command_of : List (List ℕ) → Option Command
 command_of (word ∷ query ∷ []) = question_of word
 command_of (word ∷ query ∷ items ∷ []) = run_of word

@@ -7,8 +7,8 @@ use Rattle.query_syntax.specs.Programs.{Program}
 use Rattle.type_checker.specs.Judged.{IsJudged, Verdict, accepted, refused}
 use Rattle.sqre_run.specs.Meanings.{KeepsRules}
 
--- the text is compiled to this: what the program that it writes is judged to be, or the refusal of a text
--- that writes none
+-- the text is compiled to this verdict: that on the program which it writes, or the refusal of a
+-- text that writes no program
 pub data Compiles (text : List ℕ) : Verdict → Type 0 where
   judged : (program : Program) (verdict : Verdict) → IsFileOf text (program_terms program)
       → IsJudged program verdict → Compiles text verdict

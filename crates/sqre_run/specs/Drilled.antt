@@ -1,4 +1,4 @@
--- Statement. What a drill tells of a query: the answers to items that a seed draws, summed up.
+-- Statement. What a drill reports of a query: the answers to items that a seed draws, summed up.
 use Rattle.std.specs.Prelude.{ℕ, true, List, [], ◌∷◌, ◌++◌, length, count_by, is_some, if◌then◌else◌, Option, Some, None, Result, Ok}
 use Rattle.io_edge.specs.Lines.{Shown, lines}
 use Rattle.value_ops.specs.declared.field.Field.{Field}
@@ -9,7 +9,7 @@ use Rattle.report_writer.specs.Texts.{drill_text}
 use Rattle.sqre_run.specs.Meanings.{Meaning}
 use Rattle.sqre_run.specs.Output.{is_header, read_of, value_after}
 
--- the value after a line that gave this: one for an item, and none for any other line
+-- the value after a line that was read to this: one for an item, and none for any other line
 abbrev pub value_for : Option (Result (List Field) Skip) → Option Value → List (Option Value)
 value_for (Some (Ok item)) value = value ∷ []
 value_for _ value = []
@@ -40,6 +40,6 @@ last_of (value ∷ other ∷ values) = last_of (other ∷ values)
 abbrev pub summary : List (Option Value) → List ℕ
 summary values = drill_text (length values) (count_by is_some values) (last_of values)
 
--- what a drill of so many items from a seed tells of a query
+-- what a drill of `count` items from a seed reports of a query
 abbrev pub drilled : Meaning → ℕ → ℕ → List ℕ
 drilled meaning count seed = summary (values_of meaning (lines (drill_bytes meaning.layout count seed) true))

@@ -10,19 +10,20 @@ use Rattle.query_model.specs.Checked.{OnStream}
 use Rattle.sqre_run.specs.Sessions.{IsBehind}
 use Rattle.sqre_run.specs.declared.session.Session.{Session}
 
--- the columns of a query text: some, few, read from lines, and with words as names
+-- the columns are as a query text can declare them: at least one, few, read from lines, and with
+-- words as names
 pub record IsDrillable (layout : Layout) : Type 0 where
   pub some : 0 < length layout.columns
   pub few : length layout.columns ≤ max_columns
   pub read : IsTrue (are_read layout.columns)
   pub names : AllByRecursion NoLf (names_of layout.columns)
 
--- the header, if there is one, and so many lines from a seed
+-- the header, if there is one, and `count` lines from the seed
 abbrev pub drilled_lines : Layout → ℕ → ℕ → List Shown
 drilled_lines layout count seed =
     map ended_by_lf (header_of layout) ++ map text (lines_from layout.columns count seed)
 
--- whatever lines the old session is behind, the new one is behind these and the line
+-- after whichever lines the old session stands, the new one stands after these and the line
 abbrev pub Takes : {F : Type 0} → (F → Word → Type 0) → Shown → Session F → Session F → Type 0
 Takes follows line old new = (on : OnStream) (before : List Shown)
     → IsBehind follows on before old → IsBehind follows on (before ++ line ∷ []) new

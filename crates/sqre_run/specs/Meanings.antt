@@ -1,4 +1,5 @@
--- Statement. What a query file means: how items lie in lines, and the value of the query on words of items.
+-- Statement. What a query file means: how items lie in lines, and the value of the query on words
+-- of items.
 use Rattle.std.specs.Prelude.{◌≡◌, Option, IsTrue}
 use Rattle.std.specs.List.{list_all}
 use Rattle.value_ops.specs.declared.value.Value.{Value}
@@ -18,7 +19,8 @@ pub record KeepsRules (monitor : Monitor) : Type 0 where
   pub read : IsTrue (list_all (λ column. is_read column.kind) monitor.layout.columns)
   pub clear : IsClear free monitor.layout.columns monitor.query
 
--- it is what the monitor means: the items lie so in lines, and on each word of items the value is the query's
+-- this is what the monitor means: items lie so in lines, and the value on each word of items is
+-- that of the query
 pub record IsMeaning (monitor : Monitor) (meaning : Meaning) : Type 0 where
   pub layout : meaning.layout ≡ monitor.layout
   pub value : (word : Word) → IsWordOf monitor.layout.columns word

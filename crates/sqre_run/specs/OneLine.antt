@@ -15,8 +15,8 @@ use Rattle.sqre_run.specs.declared.command.Command.TheVariants.{Run, Check, Boun
 use Rattle.sqre_run.specs.declared.status.Status.{Status}
 use Rattle.sqre_run.specs.declared.status.Status.TheVariants.{Done, Refused, Usage, QueryFault, ItemFault, SinkFault, Memory, Limit}
 
--- This holds of the line for a query that is accepted: that it is, its bounds, or what a drill tells of
--- it, whatever function gives its values. `run` and `slow` have no such line.
+-- P holds of the line for a query that is accepted: that it is, its bounds, or what a drill reports
+-- of it, whatever function gives its values. `run` and `slow` have no such line.
 abbrev pub HoldsOfLine : Command → Monitor → (List ℕ → Type 0) → Type 0
 HoldsOfLine (Run engine) monitor P = ⊥
 HoldsOfLine Check monitor P = P check_text
@@ -25,7 +25,7 @@ HoldsOfLine Bound monitor P = P (bound_text (places_of monitor.query) (slots_of 
 HoldsOfLine (Drill count seed) monitor P =
     (meaning : Meaning) → IsMeaning monitor meaning → P (drilled meaning count seed)
 
--- this holds of the line for a query, or of that of its refusal
+-- P holds of the line for an accepted query, or of the line of its refusal
 abbrev pub HoldsOfReply : Command → Verdict → (List ℕ → Type 0) → Type 0
 HoldsOfReply command (accepted monitor) P = HoldsOfLine command monitor P
 HoldsOfReply command (refused why) P = P (refusal_text why)
@@ -44,8 +44,8 @@ WritesLine command text Memory old new = new ≡ old
 WritesLine command text ItemFault old new = ⊥
 WritesLine command text Limit old new = ⊥
 
--- How a call ends where no count of faults rose: a query with its line, and any other text with its
--- refusal. Usage and Memory may come with both.
+-- How a call ends if nothing failed: a query that is accepted with its line, and any other text
+-- with its refusal. Usage and Memory may come with both.
 abbrev pub CompletesLine : Verdict → Status → Type 0
 CompletesLine query Usage = Unit {0}
 CompletesLine query Memory = Unit {0}

@@ -15,8 +15,8 @@ use Rattle.report_writer.specs.Texts.{answer_text, refusal_text, skip_text}
 use Rattle.type_checker.specs.Judged.{Verdict, accepted, refused}
 use Rattle.sqre_run.specs.Meanings.{IsMeaning, Meaning}
 
--- what a line behind the header gives: an item or the cause why it is skipped, and nothing where it is
--- empty
+-- what a line after the header is read to: an item, or the cause why it is skipped, or nothing if
+-- it is empty
 abbrev pub read_of : List Column → Shown → Option (Result (List Field) Skip)
 read_of columns (text []) = None
 read_of columns (text (b ∷ bytes)) = Some (item_of columns (b ∷ bytes))
@@ -27,7 +27,7 @@ abbrev pub item_in : Option (Result (List Field) Skip) → Word
 item_in (Some (Ok item)) = item ∷ []
 item_in _ = []
 
--- the lines behind the header, if there is one
+-- the lines after the header, if there is one
 abbrev pub body_of : Bool → List Shown → List Shown
 body_of true shown = drop 1 shown
 body_of false shown = shown
@@ -41,12 +41,12 @@ items_of layout shown =
 abbrev pub value_after : Meaning → List Shown → Option Value
 value_after meaning shown = meaning.value (items_of meaning.layout shown)
 
--- the line behind these lines is the header
+-- the line after these lines is the header
 abbrev pub is_header : Layout → List Shown → Bool
 is_header layout [] = layout.has_header
 is_header layout (line ∷ before) = false
 
--- what is written for a line that gave this, where the value after it is this
+-- what is written for a line that was read to this, where the value after it is given
 abbrev pub reply_to : Option (Result (List Field) Skip) → Option Value → List ℕ
 reply_to None value = []
 reply_to (Some (Ok item)) value = answer_text value
@@ -68,12 +68,12 @@ answers_after meaning before (line ∷ rest) =
 abbrev pub answers : Meaning → List Shown → List ℕ
 answers meaning shown = answers_after meaning [] shown
 
--- what is told of a query text: what the query means, or a refusal
+-- what is written about a query text: answers by what the query means, or a refusal
 pub data Spoken : Type 0 where
   answering : Meaning → Spoken
   refusing : Refusal → Spoken
 
--- it is what the verdict tells: whatever function gives the values of the query, or the refusal
+-- it follows the verdict: any function that gives the values of the query, or the refusal
 abbrev pub Tells : Verdict → Spoken → Type 0
 Tells (accepted monitor) (answering meaning) = IsMeaning monitor meaning
 Tells (refused why) (refusing refusal) = refusal ≡ why
@@ -88,6 +88,6 @@ output_lines (refusing refusal) shown = refusal_text refusal
 abbrev pub output : Spoken → List ℕ → List ℕ
 output query bytes = output_lines query (lines bytes true)
 
--- what it writes for the lines alone that an LF ends
+-- what a run writes for the lines that an LF ends, without a last line that none ends
 abbrev pub whole_output : Spoken → List ℕ → List ℕ
 whole_output query bytes = output_lines query (lines bytes false)

@@ -1,4 +1,5 @@
--- Statement. What item source and sink tell at a moment, and how a run ended between two moments.
+-- Statement. What is known of the item source and the sink at a moment, and how a run ended between
+-- two moments.
 use Rattle.std.specs.Prelude.{◌≡◌, ◌⊎◌, ℕ, true, false, List, ◌++◌, length, Option, IfSome}
 use Rattle.std.specs.Io.KnownBytes.{Appends, Consumes}
 use Rattle.io_edge.specs.Counts.{Rose, next_count}
@@ -11,14 +12,14 @@ use Rattle.sqre_run.specs.Output.{answers}
 use Rattle.sqre_run.specs.declared.status.Status.{Status}
 use Rattle.sqre_run.specs.declared.status.Status.TheVariants.{Done, Refused, Usage, QueryFault, ItemFault, SinkFault, Memory, Limit}
 
--- the item bytes that are left and the bytes that the sink took, where these are told, and how often
--- the item source has met its end
+-- the item bytes that are left and the bytes that the sink took, where source and sink report
+-- these, and how often the item source has met its end
 pub record Outside : Type 0 where
   pub left : Option (List ℕ)
   pub ends : ℕ
   pub taken : Option (List ℕ)
 
--- what an item source and a sink tell, by the members of their traits
+-- what an item source and a sink report, by the members of their traits
 abbrev pub outside : {S W : Type 0} → (S → Option (List ℕ)) → (S → ℕ) → (W → Option (List ℕ))
     → S → W → Outside
 outside left ends taken items out =
@@ -32,14 +33,15 @@ pub record Wrote (monitor : Monitor) (old new : Outside) (got : List ℕ) (writt
   pub wrote : (meaning : Meaning) → IsMeaning monitor meaning
       → Appends old.taken new.taken (written meaning)
 
--- for the bytes read, the answers to whole lines among them were written, and no part of a line's
+-- for the bytes read, the answers to the whole lines among them were written, and nothing for a
+-- partial line
 pub record WroteLines (monitor : Monitor) (old new : Outside) (got : List ℕ) : Type 0 where
   pub some : List Shown
   pub others : List Shown
   pub whole : lines got false ≡ some ++ others
   pub wrote : Wrote monitor old new got (λ meaning. answers meaning some)
 
--- a part of `all` was written, from its front, and of `whole` where no end of the items was met
+-- a front of `all` was written, or one of `whole` if the end of the items was not met
 pub record WrotePart (old new : Outside) (all whole : List ℕ) : Type 0 where
   pub part : AppendsSome old.taken new.taken all
   pub no_end : (Rose old.ends new.ends → ⊥) → AppendsSome old.taken new.taken whole
@@ -48,9 +50,9 @@ pub record WrotePart (old new : Outside) (all whole : List ℕ) : Type 0 where
 abbrev pub MeetsOneAtMost : ℕ → ℕ → Type 0
 MeetsOneAtMost ends ends' = (ends' ≡ ends) ⊎ (ends' ≡ next_count ends)
 
--- How a run of a query ended, by its status. A run knows no query text, and a call's `Outcome` says
--- the same by that text. Usage, a fault of the query and a refusal come before any run. After the
--- first end of the items nothing is read.
+-- How a run of a query ended, by its status. A run knows no query text; the `Outcome` of a call
+-- says the same by that text. Usage, a fault of the query and a refusal come before any run. After
+-- the first end of the items nothing is read.
 abbrev pub Ended : Monitor → Status → Outside → Outside → Type 0
 Ended monitor Done old new = (new.ends ≡ next_count old.ends)
     × ((meaning : Meaning) → IsMeaning monitor meaning → IfSome old.left (λ bytes.

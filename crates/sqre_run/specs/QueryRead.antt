@@ -11,7 +11,7 @@ use Rattle.sqre_run.specs.declared.status.Status.TheVariants.{Usage, QueryFault,
 abbrev pub max_read : ℕ
 max_read = max_text + 1
 
--- What was told of it before and after a call: the bytes that are left, and the count of ends.
+-- What was known of it before and after a call: the bytes that are left, and the count of ends.
 module _ (left left' : Option (List ℕ)) (ends ends' : ℕ) where
   -- nothing was read
   abbrev pub ReadsNone : Type 0
@@ -21,7 +21,7 @@ module _ (left left' : Option (List ℕ)) (ends ends' : ℕ) where
   abbrev pub ReadsText : Type 0
   ReadsText = (got : List ℕ) × TakesFirst max_read left left' ends ends' got
 
-  -- what was read where this came of it: a query to run, or why there is none
+  -- what was read, if this is the result: a query to run, or why there is none
   abbrev pub ReadsFor : {A : Type 0} → Result A QueryStop → Type 0
   ReadsFor (Ok query) = ReadsText
   ReadsFor (Err stop.Failed) = TakesFewer max_read left left' ends ends'
@@ -29,7 +29,7 @@ module _ (left left' : Option (List ℕ)) (ends ends' : ℕ) where
   ReadsFor (Err (stop.Ambiguous blame)) = ReadsText
   ReadsFor (Err stop.Memory) = ReadsNone ⊎ ReadsText
 
-  -- what was read by the status of a call: no status but those named comes before the text was read
+  -- what was read, by the status of a call
   abbrev pub ReadsQuery : Status → Type 0
   ReadsQuery Usage = ReadsNone
   ReadsQuery QueryFault = TakesFewer max_read left left' ends ends'

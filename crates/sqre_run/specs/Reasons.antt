@@ -1,5 +1,5 @@
--- Statement. What `why` wrote for a query text, by its status: `ok`, or the refusal of the text, and
--- after a refusal by a rule that forbids a word with two readings a shortest such word.
+-- Statement. What `why` wrote for a query text, by its status: `ok`, or the refusal of the text
+-- and, if its rule forbids a word with two readings, a shortest such word.
 use Rattle.std.specs.Prelude.{◌≡◌, ℕ, List, ◌++◌, Option, Some, Ok}
 use Rattle.std.specs.Io.KnownBytes.{Appends}
 use Rattle.ambiguity_example.specs.Shows.{IsShortestShown, Question, Shown}
@@ -35,8 +35,8 @@ pub record IsRefusedAt (text : List ℕ) (node : Node) (broken : Rule) : Type 0 
       (nodes_in (layout_of program.stream).columns free query (places_of (unfolded program)))
       node broken
 
--- the refusal is by that rule at that node; the word has two readings such as the rule forbids there,
--- and no word of fewer items has them
+-- the refusal is by that rule at that node; the word has two readings such as the rule forbids
+-- there, and no shorter word has
 pub record ShowsWhy (text : List ℕ) (why : Refusal) (shown : Shown) : Type 0 where
   pub node : Node
   pub broken : Rule
@@ -46,8 +46,7 @@ pub record ShowsWhy (text : List ℕ) (why : Refusal) (shown : Shown) : Type 0 w
   pub asked : question_of node.query ≡ Some question
   pub shortest : IsShortestShown node.columns question shown
 
--- the lines of a refusal: its line, and where its rule forbids a word with two readings, such a word
--- after it
+-- the lines of a refusal: its line, and after it a word with two readings if the rule forbids one
 pub data IsReason (text : List ℕ) (why : Refusal) : List ℕ → Type 0 where
   by_line : (ForbidsTwoReadings why.rule → ⊥) → IsReason text why (refusal_text why)
   by_word : (word : Shown) → ShowsWhy text why word

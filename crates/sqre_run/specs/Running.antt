@@ -12,15 +12,15 @@ use Rattle.sqre_run.specs.Outside.{Outside, Wrote}
 use Rattle.sqre_run.specs.Sessions.{IsBehind}
 use Rattle.sqre_run.specs.declared.session.Session.{Session}
 
--- of the bytes taken these lines were shown: the lines of all are these and then those to come
+-- the bytes taken have given these lines: the lines of all bytes are these and then those to come
 pub record Showed (got : List ℕ) (shown : List Shown) (now : Reading) : Type 0 where
   pub goes_on : now.met ≡ false → (more : List ℕ) (ended : Bool)
       → lines (got ++ more) ended ≡ shown ++ lines_after now more ended
   pub at_end : now.met ≡ true → lines got true ≡ shown
   pub count : count_of now ≡ length got
 
--- From old to now a run took bytes and wrote the answers to the lines that they showed, whatever function
--- gives the values of the query. The session is behind these lines.
+-- From old to now a run took bytes and wrote the answers to the lines in them, whatever function
+-- gives the values of the query. The session stands after these lines.
 pub record Running {F : Type 0} (follows : F → Word → Type 0) (on : OnStream) (old now : Outside)
     (reading : Reading) (session : Session F) : Type 0 where
   pub got : List ℕ

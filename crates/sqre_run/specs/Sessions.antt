@@ -28,8 +28,8 @@ is_begun (line ∷ lines) = true
 abbrev pub awaits_header : {F : Type 0} → Session F → Bool
 awaits_header session = session.checked.now.layout.has_header && not session.begun
 
--- what is read from the next line: an item, or the cause of a skip, or nothing where it is the
--- header or empty
+-- what is read from the next line: an item, or the cause of a skip, or nothing if it is the header
+-- or empty
 abbrev pub read_by : {F : Type 0} → Session F → Shown → Option (Result (List Field) Skip)
 read_by session line =
     if awaits_header session then None else read_of session.checked.now.layout.columns line
@@ -41,15 +41,15 @@ IsReplyTo (Some (Err why)) (Skipped skip) = skip ≡ why
 IsReplyTo (Some (Ok item)) Answered = Unit {0}
 IsReplyTo _ _ = ⊥
 
--- how a line moves the follower: by an item of these columns from whichever word it follows to this
--- word and the item; by a skip or nothing not at all
+-- how a line moves the follower: an item of these columns moves it from whichever word it follows
+-- to this word and the item; a skip, or nothing, does not move it
 abbrev pub FollowsOn : {F : Type 0} → (F → Word → Type 0) → List Column
     → Option (Result (List Field) Skip) → F → F → Type 0
 FollowsOn follows columns (Some (Ok item)) old new = IsItemOf columns item × Carries follows old item new
 FollowsOn follows columns _ old new = new ≡ old
 
 -- the session can take a line: its follower has the session's query and columns, is sound, and is
--- not lost, as it may be once out of memory
+-- not lost; out of memory it may get lost
 pub record IsReady {F : Type 0} (query : F → Qre) (columns : F → List Column) (lost : F → Bool)
     (sound : F → Type 0) (session : Session F) : Type 0 where
   pub query_is : query session.follower ≡ plain_of session.checked.now.main.shape

@@ -22,20 +22,20 @@ use Rattle.sqre_run.specs.declared.command.Command.TheVariants.{Why}
 use Rattle.sqre_run.specs.declared.query.QueryStop.{QueryStop}
 use Rattle.sqre_run.specs.declared.query.QueryStop.TheVariants as stop
 
--- the text is refused so, by a rule that forbids no word with two readings
+-- the text is refused so, by a rule that does not forbid words with two readings
 abbrev pub IsRefusedBy : Refusal → List ℕ → Type 0
 IsRefusedBy why text = Compiles text (refused why) × (ForbidsTwoReadings why.rule → ⊥)
 
--- some program is blamed so
+-- there is a program with this blame
 abbrev pub IsBlamed : Blame → Type 0
 IsBlamed blame = (program : Program) × IsBlameOf program blame
 
--- and the text writes it, where the source reports its text
+-- there is one that the text writes, if the source reports its text
 abbrev pub IsBlamedIn : Option (List ℕ) → Blame → Type 0
 IsBlamedIn text blame = (program : Program) × IsBlameOf program blame
     × IfSome text (λ text. IsFileOf text (program_terms program))
 
--- a text that was read is judged so
+-- this is the judgment on a text that was read
 abbrev pub IsJudgmentAt : List ℕ → Judgment → Type 0
 IsJudgmentAt text (judgment.Accepted checked) =
     Compiles text (accepted (monitor_of checked.value)) × IsDrillable checked.value.layout
@@ -49,7 +49,8 @@ IsStopOf text (stop.Refused why) = IfSome text (IsRefusedBy why)
 IsStopOf text (stop.Ambiguous blame) = IsBlamedIn text blame.value
 IsStopOf text _ = Unit {0}
 
--- at each node that may be blamed so, the word is a shortest one with two readings such as the rule forbids
+-- at each node that the blame may be about, the word is a shortest one with two readings such as
+-- the rule forbids
 abbrev pub IsShownFor : Blame → Shown → Type 0
 IsShownFor blame shown = (node : Node) (broken : Rule) → (at : IsBlameAt node broken blame)
     → IsShortestShown node.columns at.question shown
@@ -59,7 +60,7 @@ abbrev pub IsReasonOf : Blame → List ℕ → Type 0
 IsReasonOf blame lines = (shown : Shown) × IsShownFor blame shown
     × (lines ≡ refusal_text (refusal_of blame) ++ example_text shown.items shown.first shown.second)
 
--- what a command writes of a blame: `why` the word too, and any other the refusal alone
+-- what a command writes for a blame: `why` also the word, and any other the refusal alone
 abbrev pub AreLinesOf : Command → Blame → List ℕ → Type 0
 AreLinesOf Why blame lines = IsReasonOf blame lines
 AreLinesOf command blame lines = lines ≡ refusal_text (refusal_of blame)

@@ -1,4 +1,4 @@
-//! What is written of a query that a word with two readings refuses.
+//! What is written about a query that is refused for a word with two readings.
 ghost use Rattle.std.specs.Prelude.{◌≡◌, ◌++◌, IfOk};
 ghost use Rattle.report_writer.specs.Examples.{example_text};
 ghost use Rattle.report_writer.specs.Texts.{refusal_text};
@@ -30,14 +30,14 @@ fn reason_text(alloc: Global, blame: &Blame) -> Result<Bytes, AllocError>
     text_with(alloc, blame.refusal(), &shown)
 }
 
-// A shortest word that has two readings where the broken rule allows one.
+// A shortest word with two readings such as the broken rule forbids.
 fn shortest_word(alloc: Global, blame: &Blame) -> Result<Example, AllocError>
     requires { IsBlamed blame.now }
     ensures { IfOk result (IsShownFor blame.now) }
 {
     match example(alloc, blame.ask())? {
         Some(shown) => Ok(shown),
-        // The rule is broken, so that some word has them.
+        // The rule is broken, so some word has two readings.
         None => unreachable!(),
     }
 }

@@ -20,10 +20,10 @@ use report_writer::refusal_text;
 use std::alloc::Global;
 
 /// Does what the words after the program's name ask for. `run QUERY ITEMS` compiles the query and
-/// answers every line of the items, and so does `slow QUERY ITEMS` by the engine that keeps the
-/// whole word; `check QUERY`, `bound QUERY` and `drill QUERY COUNT SEED` write one line. `why QUERY`
-/// writes as `check QUERY` does, and after a refusal for a word with two readings a shortest such
-/// word. What the words QUERY and ITEMS name is for the caller to open.
+/// answers every line of the items, and so does `slow QUERY ITEMS` with the engine that keeps the
+/// whole word. `check QUERY`, `bound QUERY` and `drill QUERY COUNT SEED` write one line.
+/// `why QUERY` writes as `check QUERY` does, and after a refusal for a word with two readings a
+/// shortest such word. The caller opens what the words QUERY and ITEMS name.
 pub fn sqre<Q: Source, S: Source, W: Sink>(
     alloc: Global,
     words: &[String],
@@ -48,7 +48,7 @@ pub fn sqre<Q: Source, S: Source, W: Sink>(
         OutcomeOf (command_of (map string_bytes words.now)) text result
         (at items.old out.old) (at items.new out.new)) }
 
-    // Where no count of faults rose, it is complete.
+    // Where no source and no sink failed, the call is complete.
     ensures complete { (Rose (Q.faults query.old) (Q.faults query.new) → ⊥)
         → (Rose (S.faults items.old) (S.faults items.new) → ⊥)
         → (Rose (W.faults out.old) (W.faults out.new) → ⊥)

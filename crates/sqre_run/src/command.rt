@@ -4,19 +4,19 @@ ghost use Rattle.std.specs.Char.{is_ascii_digit};
 ghost use Rattle.std.specs.List.{list_all};
 ghost use Rattle.sqre_run.specs.Commands.{command_of, drill_of, number_in, question_of, run_of};
 
-/// The digits of a number of items, and of a seed, at the most.
+/// The most digits of a number of items, and of a seed.
 const COUNT_DIGITS: usize = 7;
 
 const SEED_DIGITS: usize = 20;
 /// The most items of a drill.
 const MAX_ITEMS: u64 = 1_000_000;
 
-/// What follows the items of a run.
+/// Which engine a run uses.
 #[derive(Clone, Copy, Debug, PartialEq, Eq)]
 pub enum Engine {
-    /// The one that goes from item to item and keeps no items.
+    /// It goes from item to item and keeps no items.
     Runner,
-    /// The one that keeps the whole word and searches it anew after each item.
+    /// It keeps the whole word and searches it anew after each item.
     Slow,
 }
 
@@ -27,11 +27,11 @@ pub enum Command {
     Run(Engine),
     /// Whether the query is accepted.
     Check,
-    /// How much is kept for the query.
+    /// How much may be kept for the query.
     Bound,
     /// Why the query is refused, if it is.
     Why,
-    /// What comes of so many items from a seed.
+    /// What the query answers to `count` items that the seed draws, summed up.
     Drill { count: u32, seed: u64 },
 }
 
@@ -82,7 +82,7 @@ fn drill_of(word: &str, count: &str, seed: &str) -> Option<Command>
     })
 }
 
-// The number of 1 to so many digits, if it is not above the greatest.
+// The number that is written with 1 to `digits` digits, unless it is above the greatest.
 fn number_in(word: &str, digits: usize, greatest: u64) -> Option<u64>
     ensures number { result ≡ number_in digits greatest word.now }
     ensures most { IfSome result (λ number. number ≤ greatest) }

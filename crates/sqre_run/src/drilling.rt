@@ -17,7 +17,7 @@ use query_model::{Checked, Follower};
 use report_writer::drill_text;
 use std::alloc::{AllocError, Global};
 
-/// Has the query follow so many items from a seed, and tells what came of them.
+/// Feeds the query `count` items that the seed draws, and gives the line that sums up its answers.
 pub fn drill<F: Follower + Drop>(
     alloc: Global,
     checked: &Checked,

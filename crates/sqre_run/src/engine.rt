@@ -22,7 +22,7 @@ use query_model::Checked;
 use report_writer::{bound_text, check_text};
 use std::alloc::{AllocError, Global};
 
-/// Carries a command out. A run alone reads the items.
+/// Carries a command out. Only a run reads the items.
 pub fn carry_out<S: Source, W: Sink>(
     alloc: Global,
     command: Command,

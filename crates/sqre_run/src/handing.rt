@@ -1,4 +1,4 @@
-//! Handing texts to the sink, and having it hand them on.
+//! Texts are written to the sink, and the sink is flushed.
 ghost use Rattle.std.specs.Prelude.{◌≡◌, ◌⊎◌, IfSome, OnOk};
 ghost use Rattle.io_edge.specs.Counts.{FailsBy, FailsByFault};
 ghost use Rattle.io_edge.specs.Told.{IsQuiet};
@@ -9,7 +9,7 @@ use io_edge::{Failed, Lines, Sink, write_all};
 use language_base::Bytes;
 use std::alloc::AllocError;
 
-/// Writes a text whole, or says why not.
+/// Writes a text whole, or reports why it cannot.
 #[inline(always)]
 pub fn hand_over<W: Sink>(reply: Result<&[u8], AllocError>, out: &mut W) -> Option<Status>
     ensures handed { HandedOver result reply.entry (W.taken out.old) (W.taken out.new) }
@@ -27,7 +27,7 @@ pub fn hand_over<W: Sink>(reply: Result<&[u8], AllocError>, out: &mut W) -> Opti
     }
 }
 
-/// Writes the one line of a call and hands it on, or says why not.
+/// Writes the one line of a call and flushes it, or reports why it cannot.
 pub fn tell<W: Sink>(line: Result<Bytes, AllocError>, out: &mut W) -> Status
     ensures told { Told result line (W.taken out.old) (W.taken out.new) }
     ensures handed_on { (result ≡ Status.SinkFault → ⊥) → W.held out.new ≡ 0 }
@@ -43,7 +43,7 @@ pub fn tell<W: Sink>(line: Result<Bytes, AllocError>, out: &mut W) -> Status
     }
 }
 
-/// Hands on all that the sink holds back, and ends the call so, or by a fault of the sink.
+/// Flushes the sink and ends the call with the status, or with a fault of the sink.
 pub fn end<W: Sink>(status: Status, out: &mut W) -> Status
     requires no_fault { status ≡ Status.SinkFault → ⊥ }
     ensures ends { (result ≡ status) ⊎ (result ≡ Status.SinkFault) }
@@ -58,7 +58,7 @@ pub fn end<W: Sink>(status: Status, out: &mut W) -> Status
     }
 }
 
-/// Hands on all that the sink holds back, where the next line takes a read.
+/// Flushes the sink if a read is needed for the next line.
 #[inline(always)]
 pub fn hand_on_before_read<W: Sink>(lines: &Lines, out: &mut W) -> Result<(), Failed>
     ensures calm { OnOk result (IsQuiet lines.now ⊎ (W.held out.new ≡ 0)) }

@@ -1,4 +1,4 @@
-//! What holds of the output of each query and each list of item bytes.
+//! What holds of the output for each query and all item bytes.
 ghost use Rattle.std.specs.Prelude.{◌≡◌, ℕ, List, ◌++◌};
 ghost use Rattle.sqre_run.specs.Compiled.{Compiles};
 ghost use Rattle.type_checker.specs.Judged.{Verdict};
@@ -7,7 +7,7 @@ ghost use Rattle.query_model.specs.Monitors.{Monitor};
 ghost use Rattle.sqre_run.specs.Meanings.{IsMeaning, KeepsRules, Meaning};
 ghost use Rattle.sqre_run.specs.Output.{Spoken, answering, output, whole_output};
 
-/// What is written for the lines alone that an LF ends is the front of what is written.
+/// What is written for the lines that an LF ends is a front of what is written for all lines.
 pub fn whole_lines_come_first()
     ensures { (query : Spoken) (bytes : List ℕ) → (rest : List ℕ)
         × (output query bytes ≡ whole_output query bytes ++ rest) }
@@ -19,8 +19,8 @@ pub fn one_query_per_text()
         → other ≡ one }
 {}
 
-/// For each query that keeps the rules some function gives its values, and whichever does, the same
-/// is written for all lists of bytes.
+/// For each query that keeps the rules some function gives its values; whichever does, the same is
+/// written for the same bytes.
 pub fn queries_have_meanings()
     ensures some { (monitor : Monitor) → KeepsRules monitor
         → (meaning : Meaning) × IsMeaning monitor meaning }

@@ -10,8 +10,8 @@ use report_writer::{push_answer, push_skip};
 use std::alloc::{AllocError, Global};
 use value_ops::Value;
 
-/// Takes a line and gives what is written for it, in place of what the buffer had. Where there is no
-/// text, the line may still have been taken.
+/// Takes a line, and puts what is written for it into the buffer in place of what was there. Out of
+/// memory for the text, the line may have been taken already.
 pub fn line_text<'b, F: Follower>(
     alloc: Global,
     session: &mut Session<'_, F>,
@@ -30,7 +30,7 @@ pub fn line_text<'b, F: Follower>(
     reply_text(reply, session.answer(), buffer)
 }
 
-/// Takes a line that is too long and gives what is written for it, in place of what the buffer had.
+/// The same of a line that is too long.
 pub fn long_text<'b, F: Follower>(
     session: &mut Session<'_, F>,
     buffer: &'b mut Vec<u8>,

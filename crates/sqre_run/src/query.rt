@@ -24,14 +24,14 @@ const MAX_READ: usize = 65_537;
 #[derive(Drop)]
 pub enum QueryStop {
     Failed,
-    /// By a rule that no word with two readings breaks.
+    /// By a rule that does not forbid words with two readings.
     Refused(Refusal),
-    /// By one that such a word breaks.
+    /// By a rule that forbids a word with two readings.
     Ambiguous(Box<Blame>),
     Memory,
 }
 
-/// Reads the query to its first end, or until it is longer than a query may be, and compiles it.
+/// Reads the query to its end, or until it is longer than a query may be, and compiles it.
 pub fn compile<Q: Source>(alloc: Global, query: &mut Q) -> Result<Box<Checked>, QueryStop>
     ensures accepted { IfOk result (λ compiled.
         IfSome (Q.left query.old) (λ text. Compiles text (accepted (monitor_of compiled.value)))) }

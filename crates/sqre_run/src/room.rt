@@ -1,4 +1,4 @@
-//! That an answer is handed on before the next read, as what a run into little room shows.
+//! Answers are flushed before the next read. A sink with little room shows that.
 ghost use Rattle.std.specs.Prelude.{◌≡◌, ◌≤◌, ◌-◌, ℕ, List, [], Some, length, vec_len, IfSome};
 ghost use Rattle.std.specs.Io.KnownBytes.{Consumes};
 ghost use Rattle.io_edge.specs.Counts.{FailsBy};
@@ -10,7 +10,7 @@ use crate::{Status, sqre};
 use io_edge::{Failed, Sink, Source};
 use std::alloc::{AllocError, Global};
 
-/// Holds back all bytes until it is flushed. It hands on `ROOM` bytes in all, and then fails.
+/// Holds all bytes back until it is flushed. It flushes `ROOM` bytes in all, and then fails.
 #[derive(Drop)]
 struct RoomSink<const ROOM: usize> {
     bytes: Vec<u8>,
@@ -62,9 +62,9 @@ impl<const ROOM: usize> Sink for RoomSink<ROOM> {
     }
 }
 
-/// A run into a sink that hands on `ROOM` bytes in all. Where a read of the items fails, the answers
-/// to all whole lines that were taken by then had room, and none was held back: no read comes while
-/// an answer is.
+/// A run into a sink that flushes `ROOM` bytes in all. If a read of the items fails, the answers to
+/// all whole lines that were taken by then had room and were flushed, since no read comes while an
+/// answer is held back.
 pub fn run_into_room<const ROOM: usize, Q: Source, S: Source>(
     alloc: Global,
     words: &[String],

@@ -18,7 +18,7 @@ use io_edge::{Failed, Line, LineStop, Lines, Sink, Source};
 use query_model::{Checked, Follower};
 use std::alloc::{AllocError, Global};
 
-/// Answers every line of the items, from the empty word on. All answers are handed on before a read
+/// Answers every line of the items, from the empty word on. All answers are flushed before a read
 /// and at the end. One buffer holds the text for each line in turn.
 pub fn run<F: Follower + Drop, S: Source, W: Sink>(
     alloc: Global,
@@ -56,7 +56,7 @@ pub fn run<F: Follower + Drop, S: Source, W: Sink>(
     }
 }
 
-// Answers one line, by way of the buffer: whatever run has come to here goes on, or ends.
+// Answers one line, by way of the buffer. Whatever run has come to this line, it continues or ends.
 fn turn<F: Follower, S: Source, W: Sink>(
     alloc: Global,
     lines: &mut Lines,
@@ -68,7 +68,7 @@ fn turn<F: Follower, S: Source, W: Sink>(
     requires ready { IsReady F.query F.columns F.lost F.sound session.old }
     requires count { F.position session.old.follower ≤ lines.old.answered }
 
-    // A read finds nothing held back.
+    // Before a read, nothing is held back.
     requires handed_on { IsQuiet lines.old ⊎ (W.held out.old ≡ 0) }
     ensures goes_on { let at = outside S.left S.ends W.taken in
         IfNone result ((on : OnStream) (before : Outside)

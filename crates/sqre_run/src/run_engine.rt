@@ -36,7 +36,7 @@ pub fn run_query<S: Source, W: Sink>(
     }
 }
 
-// Runs the query with the engine that goes on from item to item.
+// Runs the query with the engine that goes from item to item.
 fn run_item_by_item<S: Source, W: Sink>(
     alloc: Global,
     checked: &Checked,

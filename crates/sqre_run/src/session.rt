@@ -26,7 +26,7 @@ pub enum Reply {
     Silent,
     /// No item.
     Skipped(Skip),
-    /// An item, behind which there is a new answer.
+    /// An item. There is a new answer after it.
     Answered,
 }
 
@@ -53,7 +53,7 @@ impl<'q, F: Follower> Session<'q, F> {
         }
     }
 
-    /// Takes a line without its line end. Where memory is wanting all is as before, or the follower
+    /// Takes a line without its line end. Out of memory, either nothing has changed or the follower
     /// is lost.
     pub fn line(&mut self, alloc: Global, line: &[u8]) -> Result<Reply, AllocError>
         requires ready { IsReady F.query F.columns F.lost F.sound self.old }
@@ -116,7 +116,6 @@ impl<'q, F: Follower> Session<'q, F> {
         &self.follower
     }
 
-    // Whether the line that comes is the header.
     fn awaits_header(&self) -> bool
         ensures header { result ≡ awaits_header self.now }
         ensures checked { IsChecked self.now.checked.now }

@@ -9,7 +9,7 @@ pub enum Status {
     Done = 0,
     /// The query was refused, and its refusal was written.
     Refused = 1,
-    /// The words have no known form.
+    /// The words do not ask for any command.
     Usage = 2,
     /// The query source failed.
     QueryFault = 3,
@@ -19,7 +19,7 @@ pub enum Status {
     SinkFault = 5,
     /// Out of memory.
     Memory = 6,
-    /// 2^63-1 item bytes were taken without an end.
+    /// 2^63-1 item bytes were taken, and no end was found.
     Limit = 7,
 }
 
