@@ -1,4 +1,4 @@
--- For the prover. What becomes of nodes that are emptied, and of runners whose nodes are.
+-- For the prover. What becomes of nodes and of runners that are emptied.
 use Rattle.std.specs.Prelude.{◌≡◌, ℕ, zero, suc, List, [], ◌∷◌, None}
 use Rattle.item_schema.specs.declared.column.Column.{Column}
 use Rattle.query_model.specs.Queries.{Qre}
@@ -8,21 +8,21 @@ use Rattle.eval_nodes.specs.Represents.{Represents}
 use Rattle.eval_nodes.specs.Sound.{IsSound}
 
 module _ {R : Type 0} (seen : R → Seen R) where
-  -- What is sound stands for the empty word then, without a start, and stays sound. Only runners are
-  -- cleared, and in their queries no collect stands.
+  -- A sound node then stands for the empty word, without a start, and stays sound. Only the nodes
+  -- of runners are emptied, and their queries have no collect.
   abbrev pub IsCleared : Qre → Holding R → Holding R → Type 0
   IsCleared query old new = HasNoCollect query → (columns : List Column) (position : ℕ)
       → IsSound seen columns query position old
       → ((others : List Column) → Represents seen others query new [] [])
       × ((now : ℕ) → IsSound seen columns query now new)
 
-  -- the node of a runner is cleared, it has no answer, and its position is as before
+  -- the node of the runner is emptied, it has no answer, and its position is as before
   pub record IsClearedIn (query : Qre) (old new : R) : Type 0 where
     pub position : (seen new).position ≡ (seen old).position
     pub answer : (seen new).answer ≡ None
     pub node : IsCleared query (seen old).node (seen new).node
 
-  -- the first so many runners are cleared, and the others are as before
+  -- the runners below this number are emptied, and the others are as before
   abbrev pub AreCleared : Qre → ℕ → List R → List R → Type 0
   AreCleared query zero old new = new ≡ old
   AreCleared query (suc count) (runner ∷ old) (cleared ∷ new) =

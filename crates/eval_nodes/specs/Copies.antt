@@ -1,4 +1,4 @@
--- Statement. What a copy of a node keeps: the same, and for each runner a copy of it.
+-- Statement. What a copy of a node keeps: the same, with a copy of each runner.
 use Rattle.std.specs.Prelude.{◌≡◌, List, [], ◌∷◌}
 use Rattle.query_model.specs.Queries.{Qre, atom, eps, choice, split, iter, combine, apply, compose, collect}
 use Rattle.compose_eval.specs.Followers.{Contents, followers_of, outers_of}
@@ -8,7 +8,7 @@ use Rattle.map_collect.specs.declared.keys.Keys.{Keys}
 use Rattle.map_collect.specs.declared.track.Track.{Track}
 use Rattle.eval_nodes.specs.Holdings.{Holding, atom_held, eps_held, choice_held, combine_held, apply_held, split_held, iter_held, compose_held, collect_held, Seen}
 
--- each of the one list is so to the one of the other at the same place
+-- each of one list has the relation to the one at the same place of the other
 abbrev pub AreAlike : {A : Type 0} → (A → A → Type 0) → List A → List A → Type 0
 AreAlike P [] [] = Unit {0}
 AreAlike P (x ∷ xs) (y ∷ ys) = P x y × AreAlike P xs ys
@@ -45,7 +45,7 @@ module _ {R : Type 0} (seen : R → Seen R) where
     pub nfa : new.nfa ≡ old.nfa
     pub tracks : AreAlike (IsCopiedTrack is_copy) old.tracks new.tracks
 
-  -- for nodes of the query; of one of another shape nothing is kept
+  -- for nodes of the query's shape; the copy of any other node is empty
   abbrev pub IsCopy : Qre → Holding R → Holding R → Type 0
   IsCopy (atom pred expression) (atom_held found) new = new ≡ atom_held found
   IsCopy (eps number) eps_held new = new ≡ eps_held

@@ -1,6 +1,7 @@
--- Statement. How much is kept: one for each start that waits, for each left value two and what the
--- value takes, for each runner of a compose, idle or not, one and what the runner keeps, and for each
--- start of a collect one, the positions of its state and what its runners keep, one more for each key.
+-- Statement. How much is kept. A start that waits counts one, and a left value counts two and what
+-- the value takes. A runner of a compose, idle or not, counts one and what the runner keeps. A
+-- start of a collect counts one, the positions of its state and what its runners keep, and one for
+-- each key.
 use Rattle.std.specs.Prelude.{ℕ, ◌+◌, List, Option, None, Some, count_ones, length}
 use Rattle.std.specs.List.{sum_by}
 use Rattle.value_ops.specs.declared.value.Value.{Value}
@@ -15,7 +16,7 @@ use Rattle.map_collect.specs.declared.keys.Keys.{Keys}
 use Rattle.map_collect.specs.declared.track.Track.{Track}
 use Rattle.eval_nodes.specs.Holdings.{Holding, atom_held, choice_held, combine_held, apply_held, split_held, iter_held, compose_held, collect_held, Seen}
 
--- a value: one, and one for each entry of a table
+-- a scalar counts one, and a table one and one for each of its entries
 abbrev pub size_of_value : Value → ℕ
 size_of_value (value.Scalar scalar) = 1
 size_of_value (value.Table entries) = length entries + 1
@@ -44,7 +45,7 @@ module _ {R : Type 0} (seen : R → Seen R) where
   size_of_runner size runner =
       size (seen runner).node + size_of_answer (seen runner).answer + 1
 
-  -- the runners for keys: each with one for its key
+  -- the runners of a collect's start, with one more for each key
   abbrev pub size_of_keys : (Holding R → ℕ) → Keys R → ℕ
   size_of_keys size keys = size_of_runner size (fallback_of keys)
       + sum_by (λ runner. 1 + size_of_runner size runner) (keyed_followers keys)

@@ -1,5 +1,5 @@
--- Statement. What it is that runners for keys stand for a word: each follows what the word has for
--- its key.
+-- Statement. What it means that the runners for keys stand for a word: each follows what the word
+-- has for its key.
 use Rattle.std.specs.Prelude.{◌≡◌, ◌↔◌, ℕ, List, [], filter}
 use Rattle.std.specs.List.{AllZip, Contains}
 use Rattle.predicate_cells.specs.Predicates.{Predicate}
@@ -13,8 +13,9 @@ use Rattle.map_collect.specs.declared.track.Track.{Track}
 use Rattle.eval_nodes.specs.Starts.{AreDifferent}
 
 module _ {R : Type 0} where
-  -- the one for later keys follows what the word has for all keys, the keys are those of the word in
-  -- the order in which they appear, and the runner of each follows what the word has for it
+  -- the runner that is copied for new keys follows what the word has for all keys; the keys are
+  -- those of the word, in the order in which they appear; and the runner of each key follows what
+  -- the word has for it
   pub record StandFor (follows : Word → R → Type 0) (column : ℕ) (sync : Predicate) (word : Word)
       (keys : Keys R) : Type 0 where
     pub fallback : follows (filter (holds sync) word) (fallback_of keys)
@@ -22,7 +23,7 @@ module _ {R : Type 0} where
     pub each : AllZip (λ key runner. follows (projection column sync key word) runner)
         (names_of keys) (followers_of keys)
 
-  -- each start that can go on is there once, with the state and the keys after its piece
+  -- each live start is there once, with the state and the keys after its piece
   pub record AreTracked (lives : ℕ → Type 0) (tracks : ℕ → Track R → Type 0)
       (all : List (Track R)) : Type 0 where
     pub distinct : AreDifferent (starts_of all)

@@ -1,4 +1,4 @@
--- For the prover. Which starts can go on, as it is read off what is kept.
+-- For the prover. Which starts are live, as it is found in what is kept.
 use Rattle.std.specs.Prelude.{◌==◌, ◌||◌, ℕ, Bool, false, List, Option, None, Some}
 use Rattle.std.specs.List.{list_any}
 use Rattle.value_ops.specs.declared.value.Value.{Value}
@@ -7,7 +7,7 @@ use Rattle.split_eval.specs.declared.entry.Entry.{Entry}
 use Rattle.map_collect.specs.Tracks.{begins_at}
 use Rattle.eval_nodes.specs.Holdings.{Holding, atom_held, choice_held, combine_held, apply_held, split_held, iter_held, compose_held, collect_held}
 
--- the start is the one that waits
+-- this is the start that waits
 abbrev pub is_waiting : Option ℕ → ℕ → Bool
 is_waiting None start = false
 is_waiting (Some found) start = found == start

@@ -1,4 +1,4 @@
--- Statement. What it is that a start is live in a node.
+-- Statement. What it means that a start is live in a node.
 use Rattle.std.specs.Prelude.{◌↔◌, ℕ, Bool, IsTrue, List}
 use Rattle.item_schema.specs.declared.column.Column.{Column}
 use Rattle.rate_expr.specs.Words.{Word, IsWordOf}
@@ -9,7 +9,7 @@ use Rattle.eval_nodes.specs.Represents.{Represents}
 use Rattle.eval_nodes.specs.Starts.{ArePositions, IsLive}
 
 module _ {R : Type 0} (seen : R → Seen R) where
-  -- where it stands for a word and starts, exactly the starts that can go on are live
+  -- if the node stands for a word and starts, exactly the live ones among these are live in it
   abbrev pub Lives : Qre → Holding R → ℕ → Bool → Type 0
   Lives query holding start live = (standing : Standing) (columns : List Column) (word : Word)
       (starts : List ℕ) → IsClear standing columns query → IsWordOf columns word

@@ -1,4 +1,4 @@
--- For the prover. When a node can be made of those of its operands, and what a new one is.
+-- For the prover. When a node can be made of those of its operands, and what a new node is.
 use Rattle.std.specs.Prelude.{◌≤◌, List, [], Option}
 use Rattle.item_schema.specs.declared.column.Column.{Column}
 use Rattle.predicate_cells.specs.Cells.{Partition}
@@ -10,12 +10,12 @@ use Rattle.eval_nodes.specs.Represents.{Represents}
 use Rattle.eval_nodes.specs.Sound.{IsSound}
 use Rattle.eval_nodes.specs.Streams.{AreColumnsOf, CanBeMade}
 
--- there are cells for its collects, and few slots are kept for it
+-- there are cells for its collects, and the query does not have too many slots
 pub record CanBeNew (partition : Option Partition) (query : Qre) : Type 0 where
   pub cells : CanBeMade partition query
   pub small : slots_of query ≤ max_slots
 
--- on the streams of the cells it is sound, and it stands for the empty word without a start
+-- on streams of these cells it is sound, and it stands for the empty word without a start
 pub record IsNewNode {R : Type 0} (seen : R → Seen R) (cells : Option Partition) (query : Qre)
     (node : Holding R) : Type 0 where
   pub word : (columns : List Column) → AreColumnsOf cells columns

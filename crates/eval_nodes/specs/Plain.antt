@@ -9,12 +9,12 @@ use Rattle.eval_nodes.specs.declared.node.State.TheOpen.{State-F}
 use Rattle.eval_nodes.specs.declared.node.State.TheVariants.{Atom, Eps, Or', Apply', Split', Combine', Iter', Compose', Collect'}
 use Rattle.eval_nodes.specs.declared.progress.Progress.{Progress}
 
--- the runners of a compose; there are none of another shape
+-- the runners of a compose; none in a node of another shape
 abbrev pub runners_of : State-F State Node Progress → Contents Progress
 runners_of (State-F.Compose a held) = held
 runners_of state = record { live = []; idle = []; room = 0 }
 
--- the starts of a collect; there are none of another shape
+-- the starts of a collect; none in a node of another shape
 abbrev pub tracks_of : State-F State Node Progress → tracks.Contents Progress
 tracks_of (State-F.Collect all) = all
 tracks_of state = record {
@@ -25,7 +25,7 @@ tracks_of state = record {
   tracks = [];
 }
 
--- what is kept
+-- what is kept for a node
 abbrev pub holding_of : State → Holding Progress
 holding_of (Atom found) = atom_held found
 holding_of Eps = eps_held

@@ -1,5 +1,5 @@
--- Statement. What it is that a node stands for a word and starts in it: its lists have exactly the
--- readings of the word from these starts that can go on.
+-- Statement. What it means that a node stands for a word and starts in it: its lists have exactly
+-- the readings of the word from these starts that can be extended.
 use Rattle.std.specs.Prelude.{◌≡◌, ◌≤◌, ◌↔◌, ℕ, ◌+◌, ◌*◌, List, [], ◌∷◌, Some, drop, length}
 use Rattle.std.specs.List.{AllByRecursion, Contains}
 use Rattle.value_ops.specs.declared.value.Value.{Value}
@@ -25,18 +25,19 @@ use Rattle.eval_nodes.specs.Holdings.{Holding, atom_held, eps_held, choice_held,
 use Rattle.eval_nodes.specs.Keyed.{AreTracked, StandFor}
 use Rattle.eval_nodes.specs.Starts.{IsLive, IsPiece, AreDifferent}
 
--- the positions at which pieces of the set end that begin at the starts
+-- the positions at which the pieces from these starts end that are in the set
 abbrev pub AreReached : (Word → Type 0) → Word → List ℕ → List ℕ → Type 0
 AreReached A word starts ends = (end : ℕ) → Contains ends end
     ↔ ((start : ℕ) × (piece : Word) × Contains starts start
     × IsPiece word start piece end × A piece)
 
--- an entry of these starts and this value is found
+-- the entry that is found at the inner start has this outer start and this value
 abbrev pub IsEntry : List (Entry Value) → ℕ → ℕ → Value → Type 0
 IsEntry entries inner outer value =
     entry_at entries inner ≡ Some (record { inner = inner; outer = outer; value = value })
 
--- the entries are the values of pieces that begin at the starts, and after which more may go on
+-- the entries are the values of pieces that begin at the starts and end where a further piece is
+-- live
 pub record AreWaiting (D : Word → Value → Type 0) (goes_on : Word → Type 0) (word : Word)
     (starts : List ℕ)
     (entries : List (Entry Value)) : Type 0 where
@@ -46,23 +47,24 @@ pub record AreWaiting (D : Word → Value → Type 0) (goes_on : Word → Type 0
       × goes_on (drop inner word))
 
 module _ {R : Type 0} (seen : R → Seen R) where
-  -- a runner follows a word of a query: what is kept for it stands for the word and the one start 0
+  -- a runner follows a word of a query: what is kept for it stands for the word and the single
+  -- start 0
   pub record IsFollowing (stands : Holding R → Word → List ℕ → Type 0) (query : Qre) (word : Word)
       (runner : R) : Type 0 where
     pub position : (seen runner).position ≡ length word
     pub node : stands (seen runner).node word (0 ∷ [])
     pub answer : IsAnswer query word (seen runner).answer
 
-  -- it follows what comes out of the left operand on the word
+  -- the runner follows the values that the left operand has on the word, one after the other
   abbrev pub IsFed : (Word → Value → Type 0) → (Word → R → Type 0) → Word → R → Type 0
   IsFed D follows word runner = (out : Word) × Outputs D [] word out × follows out runner
 
-  -- it keeps at most so much
+  -- the runner keeps at most this much
   abbrev pub KeepsFew : (Holding R → ℕ) → ℕ → R → Type 0
   KeepsFew size most runner = size_of_runner seen size runner ≤ most
 
-  -- each start that can go on has one runner, which follows what it is to see; with the idle ones
-  -- they are so many
+  -- each live start has one runner, which follows what it has to see; with the idle ones there are
+  -- `count` runners
   pub record AreFed (lives : ℕ → Type 0) (sees : ℕ → R → Type 0) (count : ℕ)
       (held : Contents R) : Type 0 where
     pub distinct : AreDifferent (outers_of held.live)

@@ -1,4 +1,4 @@
--- Statement. What it is that a runner is sound for a query and follows a word.
+-- Statement. What it means that a runner is sound for a query and follows a word.
 use Rattle.std.specs.Prelude.{List}
 use Rattle.item_schema.specs.declared.column.Column.{Column}
 use Rattle.rate_expr.specs.Words.{Word, IsWordOf}

@@ -1,5 +1,5 @@
--- Statement. What holds of a node whatever words went by: it has the query's shape, its lists have
--- their rooms, no start stands twice in one, and values have their types.
+-- Statement. What holds of a node whatever word it stands for: it has the query's shape, its lists
+-- have their rooms, no start stands twice in one of them, and values have their types.
 use Rattle.std.specs.Prelude.{◌≡◌, ◌≤◌, ℕ, ◌+◌, List, Option, MatchOption, length}
 use Rattle.std.specs.List.{AllByRecursion}
 use Rattle.value_ops.specs.declared.value.Value.{Value}
@@ -20,11 +20,11 @@ use Rattle.map_collect.specs.declared.keys.Keys.{Keys}
 use Rattle.eval_nodes.specs.Holdings.{Holding, atom_held, eps_held, choice_held, combine_held, apply_held, split_held, iter_held, compose_held, collect_held, Seen}
 use Rattle.eval_nodes.specs.Starts.{AreDifferent}
 
--- an answer that is there has the type
+-- the answer, if there is one, has the type
 abbrev pub IsTyped : ValueType → Option Value → Type 0
 IsTyped type answer = MatchOption answer (Unit {0}) (IsValueOf type)
 
--- entries of values of the type, in a room of so many
+-- the entries have values of the type, and there is room for this many
 pub record AreEntriesOf (type : ValueType) (places : ℕ) (held : Contents Value) : Type 0 where
   pub room : held.room ≡ places
   pub few : length held.entries ≤ held.room
@@ -38,17 +38,17 @@ module _ {R : Type 0} (seen : R → Seen R) where
     pub node : sound (seen runner).position (seen runner).node
     pub answer : IsTyped type (seen runner).answer
 
-  -- a runner with at most so many items, sound
+  -- a runner that is sound, after at most this many items
   pub record IsSoundWithin (is_sound : R → Type 0) (most : ℕ) (runner : R) : Type 0 where
     pub within : (seen runner).position ≤ most
     pub sound : is_sound runner
 
-  -- the runners for keys, and the one for later keys
+  -- the runners for keys, and the one that is copied for new keys
   pub record AreSoundKeys (is_sound : R → Type 0) (most : ℕ) (keys : Keys R) : Type 0 where
     pub fallback : IsSoundWithin is_sound most (fallback_of keys)
     pub keyed : AllByRecursion (IsSoundWithin is_sound most) (followers_of keys)
 
-  -- what is kept for the query is sound where so many items of its stream went by
+  -- what is kept for the query is sound after `position` items of its stream
   abbrev pub IsSound : List Column → Qre → ℕ → Holding R → Type 0
   IsSound columns (atom pred expression) position (atom_held found) = Unit {0}
   IsSound columns (eps number) position eps_held = Unit {0}

@@ -1,4 +1,4 @@
--- Statement. Starts in a word, the pieces after them, and which of them can still come to a value.
+-- Statement. Starts in a word, the pieces after them, and which of them are live.
 use Rattle.std.specs.Prelude.{◌≡◌, ◌≤◌, ℕ, ◌+◌, List, [], ◌∷◌, ◌++◌, drop, length}
 use Rattle.std.specs.List.{Contains}
 use Rattle.item_schema.specs.declared.column.Column.{Column}
@@ -8,7 +8,7 @@ use Rattle.rate_expr.specs.Words.{Word, IsWordOf}
 use Rattle.query_model.specs.Queries.{Qre}
 use Rattle.query_model.specs.Rates.{rate_of}
 
--- from one position of the word to another it has the piece
+-- the piece lies in the word from one position to another
 pub record IsPiece (word : Word) (from : ℕ) (piece : Word) (to : ℕ) : Type 0 where
   pub end : to ≡ from + length piece
   pub inside : to ≤ length word
@@ -18,13 +18,14 @@ pub record IsPiece (word : Word) (from : ℕ) (piece : Word) (to : ℕ) : Type 0
 abbrev pub ArePositions : Word → List ℕ → Type 0
 ArePositions word starts = (start : ℕ) → Contains starts start → start ≤ length word
 
--- no two starts have pieces in the rate that end at the same place of the word or after it
+-- the starts are apart: no two of them have pieces in the rate with the same end, in the word or in
+-- a longer one
 abbrev pub AreApart : List Column → Qre → Word → List ℕ → Type 0
 AreApart columns query word starts = (i j : ℕ) (more : Word) → IsWordOf columns more
     → Contains starts i → Contains starts j
     → In (rate_of query) (drop i word ++ more) → In (rate_of query) (drop j word ++ more) → i ≡ j
 
--- it is one of the starts, and its piece goes on to a word of the rate by at least one item
+-- it is one of the starts, and by at least one more item its piece can become a word of the rate
 abbrev pub IsLive : List Column → Qre → Word → List ℕ → ℕ → Type 0
 IsLive columns query word starts start =
     Contains starts start × HasExtension columns (rate_of query) (drop start word)

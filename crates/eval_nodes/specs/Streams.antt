@@ -1,4 +1,4 @@
--- Statement. With which cells a node can be made, and the streams on which it then goes.
+-- Statement. With which cells a node can be made, and on which streams it then runs.
 use Rattle.std.specs.Prelude.{◌≡◌, ◌≤◌, List, Option, MatchOption, None}
 use Rattle.std.specs.List.{AllByRecursion, Contains}
 use Rattle.language_base.specs.Limits.{max_positions}
@@ -7,7 +7,7 @@ use Rattle.predicate_cells.specs.Cells.{Partition}
 use Rattle.rate_expr.specs.Rates.{Expression, preds_of, size_of}
 use Rattle.query_model.specs.Queries.{Qre, atom, eps, choice, split, iter, combine, apply, compose, collect}
 
--- the rate has few positions, and its predicates distinguish the cells
+-- the rate does not have too many positions, and its predicates distinguish the cells
 pub record CanRead (cells : Partition) (rate : Expression) : Type 0 where
   pub few : size_of rate ≤ max_positions
   pub decided : AllByRecursion (λ pred. Contains cells.preds pred) (preds_of rate)
@@ -16,8 +16,8 @@ pub record CanRead (cells : Partition) (rate : Expression) : Type 0 where
 abbrev pub CanReadWith : Option Partition → Expression → Type 0
 CanReadWith cells rate = MatchOption cells ⊥ (λ found. CanRead found rate)
 
--- There are cells that can read the rate of each collect. Runners have none, so that no collect
--- stands in their queries.
+-- The cells can read the rate of each collect. Runners have no cells, so their queries have no
+-- collect.
 abbrev pub CanBeMade : Option Partition → Qre → Type 0
 CanBeMade cells (atom pred expression) = Unit {0}
 CanBeMade cells (eps number) = Unit {0}
@@ -29,7 +29,7 @@ CanBeMade cells (apply f expression) = CanBeMade cells f
 CanBeMade cells (compose f g) = CanBeMade cells f × CanBeMade None g
 CanBeMade cells (collect column sync rate f) = CanReadWith cells rate
 
--- the columns of the cells, and any where there are none
+-- these are the columns of the cells; any are, if there are no cells
 abbrev pub AreColumnsOf : Option Partition → List Column → Type 0
 AreColumnsOf cells columns =
     MatchOption cells (Unit {0}) (λ found. found.layout.columns ≡ columns)

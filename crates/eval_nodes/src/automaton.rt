@@ -15,7 +15,7 @@ use std::alloc::{AllocError, Global};
 use std::rc::Rc;
 use symbolic_nfa::Nfa;
 
-/// Its states are those of no start yet.
+/// The automaton, without a start yet.
 pub(crate) fn no_tracks(
     alloc: Global,
     rate: &Rate,

@@ -1,4 +1,4 @@
-//! The cells by which a query's collects read the items of its stream.
+//! The cells by which the collects of a query read the items of its stream.
 ghost use Rattle.std.specs.Prelude.{◌↔◌, IfOk, IsTrue};
 ghost use Rattle.std.specs.Option.{option_map};
 ghost use Rattle.std.specs.Rc.{rc_value};
@@ -11,7 +11,7 @@ use query_model::{Checked, Query, Shape, cells_of};
 use std::alloc::{AllocError, Global};
 use std::rc::Rc;
 
-/// The cells of the stream, where a collect stands in the query.
+/// The cells of the stream, if there is a collect in the query.
 pub fn stream_cells(alloc: Global, checked: &Checked) -> Result<Option<Rc<Cells>>, AllocError>
     ensures made { IfOk result (λ cells. CanBeMade (option_map rc_value cells)
         (plain_of checked.now.main.shape)) }
@@ -24,7 +24,7 @@ pub fn stream_cells(alloc: Global, checked: &Checked) -> Result<Option<Rc<Cells>
     }
     match cells_of(alloc, checked.schema(), query) {
         Ok(cells) => Ok(Some(Rc::new(alloc, cells)?)),
-        // A checked query distinguishes few items.
+        // The predicates of a checked query do not make too many cells.
         Err(CellStop::TooMany) => unreachable!(),
         Err(CellStop::Memory) => Err(AllocError),
     }

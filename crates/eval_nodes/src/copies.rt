@@ -1,4 +1,4 @@
-//! Copies of what is kept.
+//! Copies of nodes.
 ghost use Rattle.std.specs.Prelude.{◌≡◌, ◌+◌, ◌≤◌, [], length, IfOk};
 ghost use Rattle.compose_eval.specs.Followers.{followers_of, outers_of};
 ghost use Rattle.map_collect.specs.Keys.{fallback_of, followers_of as keyed_followers, keyed_of, names_of};
@@ -18,7 +18,7 @@ use split_eval::Pending;
 use std::alloc::{AllocError, Global};
 use value_ops::Value;
 
-/// It keeps the same for the query.
+/// A node that keeps the same for the query.
 #[cycle(copy)]
 pub fn copy(query: &Query, node: &Node, alloc: Global) -> Result<Node, AllocError>
     ensures { IfOk result (λ copy. IsCopy seen_of (plain_of query.now.shape)
@@ -45,7 +45,7 @@ pub(crate) fn boxed_copy(query: &Query, node: &Node, alloc: Global) -> Result<Bo
     Ok(Box::new(alloc, copy(query, node, alloc)?)?)
 }
 
-/// The position, the answer and a copy of the node.
+/// A copy of a runner: its position, its answer and a copy of its node.
 #[cycle(copy)]
 pub fn copy_of_runner(
     query: &Query,
@@ -83,7 +83,7 @@ pub(crate) fn copied_runners(
     Ok(copy)
 }
 
-// Copies of those that are fed, from the same starts, in as much room.
+// Copies of the runners that are fed, from the same starts and with as much room.
 #[cycle(copy)]
 fn copied_live(
     query: &Query,
@@ -107,7 +107,7 @@ fn copied_live(
     Ok(copy)
 }
 
-/// The same starts and states, and copies of the runners.
+/// Copies of the starts of a collect: the same starts and states, and copies of the runners.
 #[cycle(copy)]
 pub(crate) fn copied_tracks(
     query: &Query,
@@ -145,7 +145,7 @@ fn copied_keys(
     }
 }
 
-// The keys, each with a copy of its runner.
+// The same keys, each with a copy of its runner.
 #[cycle(copy)]
 fn copy_followers(
     query: &Query,
@@ -167,7 +167,7 @@ fn copy_followers(
     Ok(())
 }
 
-/// Equal left values, in the same order and in as much room.
+/// The same left values, in the same order and with as much room.
 pub(crate) fn copied(alloc: Global, held: &Pending<Value>) -> Result<Pending<Value>, AllocError>
     ensures { IfOk result (λ copy. copy ≡ held.now) }
 {

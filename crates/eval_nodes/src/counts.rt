@@ -17,7 +17,7 @@ use query_model::{Query, Shape};
 use split_eval::Pending;
 use value_ops::Value;
 
-/// What is kept for the query, counted; 2^64 - 1 where it is more.
+/// How much is kept for the query, or 2^64 - 1 if it is more.
 #[cycle(stored)]
 pub fn stored(query: &Query, node: &Node) -> u64
     ensures { result ≡ min (stored_in seen_of (plain_of query.now.shape)
@@ -36,7 +36,7 @@ pub fn stored(query: &Query, node: &Node) -> u64
     }
 }
 
-/// What is kept for a runner: its position, its answer and its node.
+/// How much is kept for a runner: its position, its answer and its node.
 #[cycle(stored)]
 pub fn size_of_runner(query: &Query, runner: &Progress) -> u64
     ensures { result ≡ min (size_of_runner seen_of
@@ -77,7 +77,7 @@ pub(crate) fn size_of_idle(query: &Query, runners: &Instances<Progress>) -> u64
     sum
 }
 
-/// Each start, its state and its runners.
+/// How much is kept for the starts of a collect: each start, its state and its runners.
 #[cycle(stored)]
 pub(crate) fn size_of_tracks(query: &Query, tracks: &Tracks<Progress>) -> u64
     ensures { result ≡ min (sum_by (λ track. size_of_track seen_of

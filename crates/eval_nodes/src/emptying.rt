@@ -1,4 +1,4 @@
-//! Nodes that are emptied. The memory that they have taken stays.
+//! Nodes are emptied, so that they stand for the empty word again. Their memory is not freed.
 ghost use Rattle.std.specs.Prelude.{◌≡◌, ℤ, length};
 ghost use Rattle.predicate_cells.specs.Predicates.{Predicate};
 ghost use Rattle.value_ops.specs.Expressions.{Expression};
@@ -10,7 +10,7 @@ use crate::{Node, Progress, State};
 use compose_eval::Instances;
 use query_model::{Query, Shape};
 
-/// It stands for the empty word, without a start.
+/// The node then stands for the empty word, without a start.
 #[cycle(clear)]
 pub fn clear(query: &Query, node: &mut Node)
     ensures { IsCleared seen_of (plain_of query.now.shape) (holding_of node.old.state)
@@ -25,7 +25,7 @@ pub fn clear(query: &Query, node: &mut Node)
         Shape::Combine(first, second, _) => clear_combine(first, second, node),
         Shape::Iter(inner, ..) => clear_iter(inner, node),
         Shape::Compose(first, second) => clear_compose(first, second, node),
-        // Only runners are cleared, and in their queries no collect stands.
+        // Only the nodes of runners are emptied, and their queries have no collect.
         Shape::Collect(..) => {}
     }
 }

@@ -1,5 +1,5 @@
-//! What is kept for a query while its word goes by: nodes are made, copied, counted and emptied, and
-//! asked which starts can go on.
+//! What is kept for a query while its word goes by: nodes are made, copied, counted and emptied,
+//! and live starts are found.
 #![tactic(auto)]
 
 mod automaton;

@@ -1,4 +1,4 @@
-//! Which starts can go on.
+//! Which starts are live.
 ghost use Rattle.std.specs.Prelude.{◌≡◌, ℕ, ℤ, Bool};
 ghost use Rattle.predicate_cells.specs.Predicates.{Predicate};
 ghost use Rattle.rate_expr.specs.Rates as rates;
@@ -13,7 +13,7 @@ use query_model::{Query, Shape};
 use split_eval::Pending;
 use value_ops::Value;
 
-/// Whether the start is there and can go on by at least one item.
+/// Whether the start is there and its piece can be extended by at least one item.
 #[cycle(is_live)]
 pub fn is_live(query: &Query, node: &Node, start: u64) -> bool
     ensures lives { Lives seen_of (plain_of query.now.shape) (holding_of node.now.state) start
@@ -115,7 +115,7 @@ fn is_live_in_compose(first: &Query, node: &Node, start: u64) -> bool
     }
 }
 
-// Only starts that can go on are kept.
+// A collect keeps only live starts.
 #[inline(always)]
 fn is_live_in_collect(node: &Node, start: u64) -> bool
     ensures { (column : ℕ) (sync : Predicate) (rate : rates.Expression) (inner : Qre) → result
@@ -127,7 +127,7 @@ fn is_live_in_collect(node: &Node, start: u64) -> bool
     }
 }
 
-/// Whether a left value waits whose whole begins at the start.
+/// Whether a left value waits that has this outer start.
 fn has_outer(held: &Pending<Value>, start: u64) -> bool
     ensures { result ≡ is_outer held.now.entries start }
 {

@@ -70,7 +70,7 @@ impl Node {
     }
 }
 
-/// So many runners that are fed from nowhere.
+/// As many runners as the count says, all of them idle.
 #[cycle(make)]
 pub(crate) fn idle_runners(
     alloc: Global,

@@ -1,4 +1,4 @@
-//! A new node for a query of each shape, of those of its operands.
+//! A new node of each shape, made of the nodes of its operands.
 ghost use Rattle.std.specs.Prelude.{◌≤◌, ℕ, ℤ, IfOk, None};
 ghost use Rattle.std.specs.Option.{option_copied, option_map};
 ghost use Rattle.std.specs.Rc.{rc_value};
@@ -87,7 +87,7 @@ pub(crate) fn new_apply(
     })
 }
 
-/// No left value waits.
+/// A split in which no left value waits.
 #[cycle(make)]
 pub(crate) fn new_split(
     alloc: Global,
@@ -112,7 +112,7 @@ pub(crate) fn new_split(
     })
 }
 
-/// No value so far waits.
+/// An iter in which no value so far waits.
 #[cycle(make)]
 pub(crate) fn new_iter(
     alloc: Global,
@@ -132,7 +132,7 @@ pub(crate) fn new_iter(
     })
 }
 
-/// All its runners are idle.
+/// A compose all of whose runners are idle.
 #[cycle(make)]
 pub(crate) fn new_compose(
     alloc: Global,
@@ -154,7 +154,7 @@ pub(crate) fn new_compose(
     })
 }
 
-/// No start is there.
+/// A collect without a start.
 pub(crate) fn new_collect(
     alloc: Global,
     rate: &Rate,

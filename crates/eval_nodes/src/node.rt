@@ -7,7 +7,7 @@ use map_collect::Tracks;
 use split_eval::Pending;
 use value_ops::Value;
 
-/// The readings of a query, from all starts at once.
+/// All pieces of the word that the query reads, from all live starts at once.
 #[derive(Drop)]
 #[cycle(node)]
 pub struct Node {
@@ -18,23 +18,23 @@ pub struct Node {
 #[derive(Drop)]
 #[cycle(node)]
 pub enum State {
-    /// For an atom: the start at the end of the word, if there is one.
+    /// For an atom: the start at the end of the word, if it is one.
     Atom(Option<u64>),
     /// For the empty word: nothing.
     Eps,
-    /// For either of two: both.
+    /// For an or: both operands.
     Or(Box<Node>, Box<Node>),
-    /// For an expression on a value: the operand.
+    /// For an apply: the operand.
     Apply(Box<Node>),
-    /// For a split: the operands, and the left values after which a right piece may go on.
+    /// For a split: the operands, and the left values after which a right piece may still come.
     Split(Box<Node>, Box<Node>, Pending<Value>),
     /// For a combine: the operands.
     Combine(Box<Node>, Box<Node>),
-    /// For an iter: the operand, and the values so far after which a further piece may go on.
+    /// For an iter: the operand, and the values so far after which a further piece may come.
     Iter(Box<Node>, Chain<Value>),
-    /// For a compose: the left operand, and the runners of the right one that it feeds.
+    /// For a compose: the left operand, and the runners of the right one, fed or idle.
     Compose(Box<Node>, Instances<Progress>),
-    /// For a collect: the starts that can go on, each with a state of the rate's automaton, with a
-    /// runner for each key, and with the one that those of later keys begin as.
+    /// For a collect: the live starts, each with a state of the rate's automaton, a runner for each
+    /// key, and the runner that is copied for a new key.
     Collect(Tracks<Progress>),
 }

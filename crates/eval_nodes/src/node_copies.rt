@@ -1,5 +1,5 @@
-//! A copy of a node of each shape, of those of its operands. Of a node of another shape nothing is
-//! kept.
+//! A copy of a node of each shape, made of copies of its operands. A node that is not of the
+//! query's shape is copied as empty.
 ghost use Rattle.std.specs.Prelude.{ℕ, ℤ, IfOk};
 ghost use Rattle.predicate_cells.specs.Predicates.{Predicate};
 ghost use Rattle.rate_expr.specs.Rates as rates;

@@ -1,4 +1,4 @@
-//! How much is kept in a node of each shape. In a node of another shape nothing is.
+//! How much is kept in a node of each shape. A node that is not of the query's shape counts as 0.
 ghost use Rattle.std.specs.Prelude.{◌≡◌, ◌-◌, ◌^◌, ℕ, ℤ, min};
 ghost use Rattle.predicate_cells.specs.Predicates.{Predicate};
 ghost use Rattle.rate_expr.specs.Rates as rates;

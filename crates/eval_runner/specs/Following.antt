@@ -18,20 +18,20 @@ query_of runner = plain_of runner.checked.now.main.shape
 abbrev pub columns_of : Runner → List Column
 columns_of runner = runner.checked.now.layout.columns
 
--- how many items went by
+-- how many items have gone by
 abbrev pub position_of : Runner → ℕ
 position_of runner = runner.progress.position
 
--- it was out of memory
+-- it was out of memory, and so has lost its word
 abbrev pub is_lost : Runner → Bool
 is_lost runner = runner.failed
 
--- what it keeps, counted: its position, its answer, and what is kept for the query
+-- what it keeps, in slots: its position, its answer, and what is kept for the query
 abbrev pub kept_of : Runner → ℕ
 kept_of runner =
     size_of_runner seen_of (stored_in seen_of (query_of runner)) runner.progress
 
--- where it is not lost it is sound, and one without a collect is never lost
+-- it is sound if it is not lost, and it is never lost if the query has no collect
 pub record IsSoundly (runner : Runner) : Type 0 where
   pub sound : ((runner.failed ≡ true) × (HasNoCollect (query_of runner) → ⊥)) ⊎ IsSoundRunner seen_of
       (IsSound seen_of (columns_of runner) (query_of runner))

@@ -1,4 +1,5 @@
-//! A checked query and how far a word of it has come. It takes the items one by one.
+//! The engine `run`: a checked query and how far a word of it has come. It takes the items one by
+//! one.
 #![tactic(auto)]
 
 mod follow;

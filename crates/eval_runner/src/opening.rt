@@ -1,4 +1,4 @@
-//! How far a word of a query has come that has no item yet.
+//! How far a query is before the first item of its word.
 ghost use Rattle.std.specs.Prelude.{[], IfOk};
 ghost use Rattle.query_model.specs.Queries.{plain_of};
 ghost use Rattle.eval_nodes.specs.Runners.{IsAt};
@@ -8,7 +8,7 @@ use eval_tree::{start, value_of};
 use query_model::Checked;
 use std::alloc::{AllocError, Global};
 
-/// Before the first item.
+/// The runner's state before the first item.
 pub(crate) fn open(alloc: Global, checked: &Checked) -> Result<Progress, AllocError>
     ensures { IfOk result (IsAt checked.now.layout.columns
         (plain_of checked.now.main.shape) []) }

@@ -1,4 +1,4 @@
-//! A query and how far a word of it has come.
+//! The runner of a checked query.
 ghost use Rattle.std.specs.Prelude.{◌≡◌};
 ghost use Rattle.query_model.specs.Queries.{plain_of};
 
@@ -8,7 +8,7 @@ use eval_tree::renew;
 use query_model::Checked;
 use std::alloc::{AllocError, Global};
 
-/// It follows a word item by item. What it keeps does not grow with the word.
+/// Follows a word item by item. What it keeps grows with the keys of the word, not with its length.
 #[derive(Drop)]
 pub struct Runner<'q> {
     pub(crate) checked: &'q Checked,
@@ -21,7 +21,7 @@ impl<'q> Runner<'q> {
     ghost use Rattle.query_model.specs.Rules.{HasNoCollect};
     ghost use Rattle.eval_runner.specs.Following.{columns_of, Follows, is_lost, IsSoundly, position_of, query_of};
 
-    /// It follows the empty word.
+    /// A runner that follows the empty word.
     pub fn new(alloc: Global, checked: &'q Checked) -> Result<Runner<'q>, AllocError>
         ensures word { IfOk result (λ runner. Follows runner []) }
         ensures position { IfOk result (λ runner. position_of runner ≡ 0) }
@@ -37,7 +37,7 @@ impl<'q> Runner<'q> {
         })
     }
 
-    /// Back before the first item, in place.
+    /// Puts the runner back before the first item, in place.
     pub(crate) fn begin_anew(&mut self, alloc: Global)
         requires sound { IsSoundly self.old }
         requires no_collect { HasNoCollect (query_of self.old) }

@@ -1,4 +1,4 @@
--- Statement. What becomes of runners for keys where an item goes by, and the table that they make.
+-- Statement. What becomes of runners for keys when an item goes by, and the table that they make.
 use Rattle.std.specs.Prelude.{◌≡◌, ◌<◌, ℕ, ◌+◌, ◌^◌, List, [], ◌∷◌, ◌++◌}
 use Rattle.value_ops.specs.declared.field.Field.{Field}
 use Rattle.value_ops.specs.declared.scalar.Scalar.{Scalar}
@@ -24,11 +24,11 @@ module _ {R : Type 0} (seen : R → Seen R) where
   StandsFor columns query column sync word keys =
       StandFor (FollowsWord seen columns query) column sync word keys
 
-  -- they are sound, with at most so many items each
+  -- they are sound, each after at most this many items
   abbrev pub AreSoundOf : List Column → Qre → ℕ → Keys R → Type 0
   AreSoundOf columns query most keys = AreSoundKeys seen (IsSoundOf seen columns query) most keys
 
-  -- an item may go by
+  -- an item may go by at the runners for keys
   pub record CanPush (query : Qre) (keys : Keys R) (item : List Field) : Type 0 where
     pub standing : Standing
     pub columns : List Column

@@ -1,5 +1,5 @@
--- For the prover. What becomes of runners: they take items and begin anew, and those of a compose do
--- so by the hits of its left operand.
+-- For the prover. What becomes of runners: they take items and are put back before the first one.
+-- Those of a compose do so by the hits of its left operand.
 use Rattle.std.specs.Prelude.{◌≡◌, ◌<◌, ◌⊎◌, ℕ, ◌+◌, ◌^◌, Bool, List, [], ◌∷◌, ◌++◌, Option, None, Some, MatchOption, if◌then◌else◌, length, slice_get}
 use Rattle.std.specs.Option.{option_map}
 use Rattle.std.specs.List.{AllByRecursion}
@@ -31,7 +31,7 @@ abbrev pub IsHitIn : List Column → Option Hit → Type 0
 IsHitIn columns hit =
     MatchOption hit (Unit {0}) (λ found. IsItemOf columns (item_of found.value))
 
--- one is idle, and the start feeds none
+-- some runner is idle, and none is fed from the start
 pub record HasIdle {R : Type 0} (held : Contents R) (at : ℕ) : Type 0 where
   pub idle : 0 < length held.idle
   pub fresh : instance_at held.live at ≡ None
@@ -46,7 +46,7 @@ module _ {R : Type 0} (seen : R → Seen R) where
     pub is_item : IsItemOf columns item
     pub room : (seen runner).position + 1 + composes_of query < 2 ^ 64
 
-  -- a runner may begin anew, and then take the value of a hit
+  -- a runner may be put back before the first item, and then take the value of a hit
   pub record CanBegin (query : Qre) (runner : R) (left : Option Hit) : Type 0 where
     pub standing : Standing
     pub columns : List Column
@@ -67,7 +67,7 @@ module _ {R : Type 0} (seen : R → Seen R) where
     pub is_item : IsHitIn columns left
     pub room : most + 1 + composes_of query < 2 ^ 64
 
-  -- an idle one may begin with it
+  -- an idle runner may begin with it
   pub record CanFeed (query : Qre) (held : Contents R) (left : Option Hit) : Type 0 where
     pub standing : Standing
     pub columns : List Column
@@ -88,7 +88,7 @@ module _ {R : Type 0} (seen : R → Seen R) where
         → IsSoundOf seen columns query new
     pub position : (seen new).position ≡ (seen old).position + 1
 
-  -- it follows the empty word, and stays sound
+  -- the runner follows the empty word, and stays sound
   pub record IsRenewed (query : Qre) (old new : R) : Type 0 where
     pub word : (standing : Standing) (columns : List Column) → IsClear standing columns query
         → FollowsWord seen columns query [] new
@@ -96,17 +96,17 @@ module _ {R : Type 0} (seen : R → Seen R) where
         → IsSoundOf seen columns query old → IsSoundOf seen columns query new
     pub position : (seen new).position ≡ 0
 
-  -- it takes the value of a hit, and its answer is a hit of the same start
+  -- the runner takes the value of a hit, and its answer is a hit of the same start
   pub record IsTold (query : Qre) (old : R) (left : Hit) (new : R) (hit : Option Hit) : Type 0 where
     pub carried : IsCarried query old (item_of left.value) new
     pub answers : hit ≡ hit_at left.start (seen new).answer
 
-  -- it begins anew, and where there is a hit takes its value
+  -- the runner is put back before the first item, and takes the value of a hit if there is one
   abbrev pub IsBegun : Qre → R → Option Hit → R → Option Hit → Type 0
   IsBegun query old left new hit = MatchOption left (IsRenewed query old new × (hit ≡ None))
       (λ found. (between : R) × IsRenewed query old between × IsTold query between found new hit)
 
-  -- the runner that the start of the hit feeds takes its value
+  -- the runner that is fed from the start of the hit takes its value
   pub record IsPassed (query : Qre) (old : Contents R) (left : Hit) (new : Contents R)
       (hit : Option Hit) : Type 0 where
     pub place : ℕ
@@ -120,13 +120,13 @@ module _ {R : Type 0} (seen : R → Seen R) where
     }
     pub tells : IsTold query runner left told hit
 
-  -- where the start feeds none nothing changes
+  -- if no runner is fed from the start, nothing changes
   abbrev pub PassesOn : Qre → Contents R → Option Hit → Contents R → Option Hit → Type 0
   PassesOn query old left new hit = MatchOption left ((new ≡ old) × (hit ≡ None)) (λ found.
       IsPassed query old found new hit
       ⊎ ((instance_at old.live found.start ≡ None) × (new ≡ old) × (hit ≡ None)))
 
-  -- the last idle one begins anew, and is fed from the start where this can go on
+  -- the last idle runner begins, and is fed from the start if this is live
   pub record IsFedFrom (query : Qre) (old : Contents R) (live : Bool) (at : ℕ) (left : Option Hit)
       (new : Contents R) (hit : Option Hit) : Type 0 where
     pub front : List R
@@ -140,7 +140,7 @@ module _ {R : Type 0} (seen : R → Seen R) where
       room = old.room;
     }) else (record { live = old.live; idle = front ++ next ∷ []; room = old.room }))
 
-  -- where none is idle, or the start feeds one already, nothing changes
+  -- if no runner is idle, or one is fed from the start already, nothing changes
   abbrev pub Feeds : Qre → Contents R → Bool → ℕ → Option Hit → Contents R → Option Hit → Type 0
   Feeds query old live at left new hit =
       (HasIdle old at × IsFedFrom query old live at left new hit)

@@ -1,5 +1,5 @@
--- For the prover. What becomes of left values: they are put, found for a right hit, and joined with
--- it.
+-- For the prover. What becomes of left values: they are put in, found for a right hit, and joined
+-- with it.
 use Rattle.std.specs.Prelude.{◌≡◌, ◌<◌, ◌⊎◌, ℕ, Bool, true, List, [], ◌∷◌, ◌++◌, Option, None, Some, MatchOption, length}
 use Rattle.value_ops.specs.declared.value.Value.{Value}
 use Rattle.value_ops.specs.declared.value.ValueType.{ValueType}
@@ -11,27 +11,27 @@ use Rattle.split_eval.specs.Entries.{Contents, entry_at}
 use Rattle.split_eval.specs.declared.entry.Entry.{Entry}
 use Rattle.eval_tree.specs.declared.hit.Hit.{Hit}
 
--- it is put where it can go on, none has its inner start, and there is room
+-- the value is put in if the start is live, no value has its inner start, and there is room
 pub record CanPut (goes_on : Bool) (held : Contents Value) (inner : ℕ) : Type 0 where
   pub live : goes_on ≡ true
   pub fresh : entry_at held.entries inner ≡ None
   pub room : length held.entries < held.room
 
--- the entry is put where it can be, and else nothing changes
+-- the entry is put in if it can be, and else nothing changes
 abbrev pub IsPut : Bool → Contents Value → Entry Value → Contents Value → Type 0
 IsPut live old entry new =
     (CanPut live old entry.inner × (new.entries ≡ old.entries ++ entry ∷ [])
     × (new.room ≡ old.room))
     ⊎ ((CanPut live old entry.inner → ⊥) × (new ≡ old))
 
--- a hit at the start, with what the expression gives on the value and that of the right hit, and
--- none without it
+-- a hit at the start with what the expression computes of the left value and the right one, and no
+-- hit if there is no right one
 abbrev pub IsJoined : Expression → ℕ → Value → Option Hit → Option Hit → Type 0
 IsJoined expression start left right joined = MatchOption right (joined ≡ None) (λ found.
     (value : Value) × (joined ≡ Some (record { start = start; value = value }))
     × (on_both expression left found.value ≡ Some value))
 
--- the same with the left value that waits at the start of the right hit, and none where none does
+-- the same with the left value that waits at the start of the right hit, and no hit if none waits
 abbrev pub IsJoinedWith : Expression → Option (Entry Value) → Option Hit → Option Hit → Type 0
 IsJoinedWith expression waiting right joined =
     MatchOption waiting (joined ≡ None)
@@ -41,19 +41,19 @@ abbrev pub IsEnded : Expression → List (Entry Value) → Option Hit → Option
 IsEnded expression entries right joined = MatchOption right (joined ≡ None) (λ found.
     IsJoinedWith expression (entry_at entries found.start) right joined)
 
--- a hit where both have one, with the start of the left one and what the expression gives on both
--- values, and none where either has none
+-- if both have a hit, one at the left one's start with what the expression computes of both values,
+-- and else none
 abbrev pub AreCombined : Expression → Option Hit → Option Hit → Option Hit → Type 0
 AreCombined expression left right combined = MatchOption left (combined ≡ None) (λ found.
     IsJoined expression found.start found.value right combined)
 
--- what the expression gives on the value of a hit
+-- a hit with what the expression computes of the value of the operand's hit
 abbrev pub IsApplied : Expression → Option Hit → Option Hit → Type 0
 IsApplied expression inner applied = MatchOption inner (applied ≡ None) (λ found.
     (value : Value) × (applied ≡ Some (record { start = found.start; value = value }))
     × (on_one expression found.value ≡ Some value))
 
--- the expression is well typed on a value, and on two
+-- the expression is well typed on one value, and on two
 abbrev pub IsTypedOnOne : Expression → Value → Type 0
 IsTypedOnOne expression left =
     (type : ValueType) × HasType (types_of (given [] (Some left) None)) expression type
@@ -62,8 +62,8 @@ abbrev pub IsTypedOnBoth : Expression → Value → Value → Type 0
 IsTypedOnBoth expression left right =
     (type : ValueType) × HasType (types_of (given [] (Some left) (Some right))) expression type
 
--- it is well typed on the value of a hit, on a left value and that of a right hit, on the values of
--- two hits, and on the one that waits and that of a right hit
+-- the expression is well typed on the value of a hit; on a left value and that of a right hit; on
+-- the values of two hits; and on a value that waits and that of a right hit
 abbrev pub IsTypedOnHit : Expression → Option Hit → Type 0
 IsTypedOnHit expression inner = MatchOption inner (Unit {0})
     (λ found. IsTypedOnOne expression found.value)
@@ -80,7 +80,7 @@ abbrev pub AreTypedWith : Expression → List (Entry Value) → Option Hit → T
 AreTypedWith expression entries right = MatchOption right (Unit {0}) (λ found. (entry : Entry Value)
     → entry_at entries found.start ≡ Some entry → IsTypedOnBoth expression entry.value found.value)
 
--- it is a number on a value, and on two
+-- the expression is a number on one value, and on two
 abbrev pub IsNumberOnOne : Expression → Value → Type 0
 IsNumberOnOne expression left = IsNumber (types_of (given [] (Some left) None)) expression
 
@@ -88,7 +88,7 @@ abbrev pub IsNumberOnBoth : Expression → Value → Value → Type 0
 IsNumberOnBoth expression left right =
     IsNumber (types_of (given [] (Some left) (Some right))) expression
 
--- and on the same of hits and of what waits
+-- the expression is a number on the same of hits and of what waits
 abbrev pub IsNumberOnHit : Expression → Option Hit → Type 0
 IsNumberOnHit expression inner =
     MatchOption inner (Unit {0}) (λ found. IsNumberOnOne expression found.value)

@@ -1,6 +1,6 @@
--- For the prover. What the calls of an operand promise whose value is joined with a left value:
--- with one that waits, where an item goes by, and with one that was just found, where a start is
--- added. Where a piece of an iteration is added, the value so far waits for it.
+-- For the prover. What is promised by the calls of an operand whose value is joined with a left
+-- value: with one that waits, when an item goes by, or with one that was just found, when a start
+-- is added. For a further piece of an iteration, the value so far waits.
 use Rattle.std.specs.Prelude.{◌≡◌, ◌==◌, ◌&&◌, ℕ, Bool, not, List, Option, Ok}
 use Rattle.value_ops.specs.declared.field.Field.{Field}
 use Rattle.value_ops.specs.declared.value.Value.{Value}
@@ -16,7 +16,7 @@ use Rattle.eval_tree.specs.Lefts.{AreNumbersWith, AreTypedWith, IsEnded, IsJoine
 use Rattle.eval_tree.specs.Numbers.{StartsNumbers, StepsNumbers}
 use Rattle.eval_tree.specs.Steps.{CanStart, CanStep, StartsSoundly, StepsSoundly}
 
--- what waits elsewhere than at the position stays where its start can go on, and nothing else does
+-- what waits elsewhere than at the position stays if its start is live, and nothing else stays
 abbrev pub KeepsLive : (ℕ → Bool) → ℕ → Contents Value → Contents Value → Type 0
 KeepsLive live at old new =
     (new.entries ≡ live_entries (λ start. not (start == at) && live start) old.entries)
@@ -65,7 +65,7 @@ module _ {R : Type 0} (seen : R → Seen R) where
       pub joins : (new : Holding R) (right : Option Hit)
           → StartsSoundly seen operand old at new right → IsNumberWith expression left.value right
 
-  -- a piece of an iteration began after a value so far, which waits for it where it can go on
+  -- a piece of an iteration began after a value so far, which waits for it if the start is live
   pub record GoesOn (operand : Qre) (hit : Hit) (old : Holding R) (waiting : Contents Value)
       (at : ℕ) (new : Holding R) (more : Contents Value) : Type 0 where
     pub begun : Option Hit

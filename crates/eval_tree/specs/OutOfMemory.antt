@@ -1,4 +1,4 @@
--- Statement. What is left of runners for keys where an item finds no memory.
+-- Statement. What becomes of runners for keys if memory runs out while an item goes by.
 use Rattle.std.specs.Prelude.{◌≡◌, ◌⊎◌, ℕ, List, false}
 use Rattle.value_ops.specs.declared.field.Field.{Field}
 use Rattle.predicate_cells.specs.Predicates.{Predicate}
@@ -12,8 +12,8 @@ use Rattle.eval_nodes.specs.Holdings.{Seen}
 use Rattle.eval_tree.specs.Pushes.{HasKey}
 
 module _ {R : Type 0} (seen : R → Seen R) where
-  -- the key is there, as it was or with a copy of the runner for later keys, and its runner alone
-  -- has changed
+  -- the key is there, as it was or with a copy of the runner for new keys, and only its runner has
+  -- changed
   pub record IsRunnerLeft (query : Qre) (key : List ℕ) (old new : Keys R) : Type 0 where
     pub place : ℕ
     pub mid : Keys R
@@ -22,11 +22,11 @@ module _ {R : Type 0} (seen : R → Seen R) where
     pub fallback : fallback_of new ≡ fallback_of mid
     pub keyed : keyed_of new ≡ with_follower (keyed_of mid) place runner
 
-  -- all is as before, so that a new key that finds no memory leaves no trace; or the key is there
+  -- all is as before, so that a new key leaves no trace if it is out of memory; or the key is there
   abbrev pub IsKeyLeft : Qre → List ℕ → Keys R → Keys R → Type 0
   IsKeyLeft query key old new = (new ≡ old) ⊎ IsRunnerLeft query key old new
 
-  -- so an item of one key leaves them; one of all keys may have gone by at some
+  -- an item of one key leaves the runners so; an item of all keys may have gone by at some of them
   abbrev pub IsLeft : Qre → ℕ → Predicate → Keys R → List Field → Keys R → Type 0
   IsLeft query column sync old item new =
       (holds sync item ≡ false) → IsKeyLeft query (key_of column item) old new

@@ -1,5 +1,5 @@
--- For the prover. What becomes of the starts of a collect: an item goes by at each, the one that it
--- ends in a word of the rate gives a table, and one more start may be put.
+-- For the prover. What becomes of the starts of a collect: an item goes by at each, the first one
+-- whose piece is then in the rate gives a table, and one more start may be put in.
 use Rattle.std.specs.Prelude.{◌≡◌, ◌≤◌, ◌<◌, ◌⊎◌, ℕ, zero, suc, ◌+◌, ◌^◌, List, [], ◌∷◌, ◌++◌, Option, None, Some, MatchOption, slice_get}
 use Rattle.std.specs.List.{AllByRecursion, AllZip, Contains, cons_option}
 use Rattle.value_ops.specs.declared.field.Field.{Field}
@@ -32,13 +32,13 @@ use Rattle.eval_tree.specs.declared.hit.Hit.{Hit}
 use Rattle.eval_tree.specs.Collects.{AreSoundOf, IsPushed, IsTableOf}
 use Rattle.eval_tree.specs.Feeds.{IsCarried}
 
--- the entry of a key with a number, and none without
+-- the entry of a key whose answer is a number, and none for another answer
 abbrev pub entry_with : List ℕ → Option Value → Option (List ℕ × Scalar)
 entry_with key None = None
 entry_with key (Some (value.Scalar scalar)) = Some (key, scalar)
 entry_with key (Some (value.Table entries)) = None
 
--- the number that an answer is
+-- the number that an answer is, if it is one
 abbrev pub scalar_of : Option Value → Option Scalar
 scalar_of None = None
 scalar_of (Some (value.Scalar scalar)) = Some scalar
@@ -53,29 +53,29 @@ pub record CanMake (query : Qre) : Type 0 where
   pub small : slots_of query ≤ max_slots
   pub room : composes_of query < 2 ^ 64
 
--- a word can begin, and the start is not there
+-- a word of the rate can begin there, and the start is not there yet
 abbrev pub CanTrack : {R : Type 0} → Contents R → ℕ → Type 0
 CanTrack all at = Extends all.nfa Initial × (Contains (starts_of all.tracks) at → ⊥)
 
--- the hit of a new start of a collect: the empty table, if the empty word is one of the rate
+-- the hit of a new start of a collect: the empty table, if the empty word is in the rate
 abbrev pub IsFirstTable : Sets → ℕ → Option Hit → Type 0
 IsFirstTable sets at hit = MatchOption hit (IsAccepted sets Initial → ⊥)
     (λ found. (found.start ≡ at) × (found.value ≡ value.Table []) × IsTable []
     × IsAccepted sets Initial)
 
 module _ {R : Type 0} (seen : R → Seen R) where
-  -- the entries of keys with what their runners answer
+  -- the entries of keys whose runners answer with a number
   abbrev pub entries_in : List (List ℕ) → List R → List (List ℕ × Scalar)
   entries_in (key ∷ names) (runner ∷ runners) =
       cons_option (entry_with key (seen runner).answer) (entries_in names runners)
   entries_in names runners = []
 
-  -- each takes the item
+  -- each runner takes the item
   abbrev pub AreCarried : Qre → List Field → List R → List R → Type 0
   AreCarried query item old new =
       AllZip (λ runner carried. IsCarried seen query runner item carried) old new
 
-  -- the first so many take it, and the others are as before
+  -- the runners below this number take the item, and the others are as before
   abbrev pub AreCarriedBelow : Qre → List Field → ℕ → List R → List R → Type 0
   AreCarriedBelow query item zero old new = new ≡ old
   AreCarriedBelow query item (suc count) (runner ∷ old) (carried ∷ new) =
@@ -83,13 +83,13 @@ module _ {R : Type 0} (seen : R → Seen R) where
   AreCarriedBelow query item (suc count) [] [] = Unit {0}
   AreCarriedBelow query item (suc count) old new = ⊥
 
-  -- all take it: that for later keys and those of the keys
+  -- all take the item: the runner for new keys, and those of the keys
   pub record AllCarried (query : Qre) (item : List Field) (old new : Keys R) : Type 0 where
     pub fallback : IsCarried seen query (fallback_of old) item (fallback_of new)
     pub names : names_of new ≡ names_of old
     pub keyed : AreCarried query item (followers_of old) (followers_of new)
 
-  -- the key is there, at this place; where it was not, with a copy of the runner for later keys
+  -- the key is there at this place; a new one has a copy of the runner for new keys
   pub record HasKey (query : Qre) (key : List ℕ) (old : Keys R) (place : ℕ)
       (new : Keys R) : Type 0 where
     pub there : slice_get (names_of new) place ≡ Some key
@@ -107,7 +107,7 @@ module _ {R : Type 0} (seen : R → Seen R) where
     pub fallback : fallback_of new ≡ fallback_of old
     pub is : keyed_of new ≡ with_follower (keyed_of old) place carried
 
-  -- the runner of the key, which is there then, takes the item
+  -- the key is there, and its runner takes the item
   pub record IsKeyPushed (query : Qre) (key : List ℕ) (item : List Field)
       (old new : Keys R) : Type 0 where
     pub place : ℕ
@@ -125,24 +125,24 @@ module _ {R : Type 0} (seen : R → Seen R) where
     pub is_item : IsItemOf columns item
     pub room : most + 1 + composes_of query < 2 ^ 64
 
-  -- and lead each state on
+  -- the item may go by, and lead each state to the next
   pub record CanPassBy (query : Qre) (all : Contents R) (item : List Field) : Type 0 where
     pub is_item : IsItemOf all.nfa.cells.layout.columns item
     pub keys : CanPushAll query all.tracks item
 
-  -- it goes by at the keys of one
+  -- the item goes by at the keys of one start
   pub record IsPushedAt (query : Qre) (column : ℕ) (sync : Predicate) (item : List Field)
       (old new : Track R) : Type 0 where
     pub start : new.start ≡ old.start
     pub state : new.state ≡ old.state
     pub keys : IsPushed seen query column sync old.keys item new.keys
 
-  -- and of all
+  -- the item goes by at the keys of all starts
   abbrev pub ArePushed : Qre → ℕ → Predicate → List Field → List (Track R) → List (Track R)
       → Type 0
   ArePushed query column sync item old new = AllZip (IsPushedAt query column sync item) old new
 
-  -- of the first so many, and the others are as before
+  -- the item goes by at the starts below this number, and the others are as before
   abbrev pub ArePushedBelow : Qre → ℕ → Predicate → List Field → ℕ → List (Track R)
       → List (Track R) → Type 0
   ArePushedBelow query column sync item zero old new = new ≡ old
@@ -152,7 +152,7 @@ module _ {R : Type 0} (seen : R → Seen R) where
   ArePushedBelow query column sync item (suc count) [] [] = Unit {0}
   ArePushedBelow query column sync item (suc count) old new = ⊥
 
-  -- the start is the first whose state is accepted, and the value is the table of its keys
+  -- the start is the first one whose state is accepted, and the value is the table of its keys
   pub record IsTabledAt (all : Contents R) (found : Hit) : Type 0 where
     pub place : ℕ
     pub keys : Keys R
@@ -164,7 +164,7 @@ module _ {R : Type 0} (seen : R → Seen R) where
     pub value : found.value ≡ value.Table table
     pub typed : IsTable table
 
-  -- or there is no hit, and no state is accepted
+  -- the same if there is a hit; otherwise no state is accepted
   abbrev pub IsTabled : Contents R → Option Hit → Type 0
   IsTabled all hit = MatchOption hit (NoneAccepted all.nfa.sets all.tracks) (IsTabledAt all)
 
@@ -175,26 +175,26 @@ module _ {R : Type 0} (seen : R → Seen R) where
     pub sound : (standing : Standing) (columns : List Column) → IsClear standing columns query
         → IsSoundWithin seen (IsSoundOf seen columns query) 0 runner
 
-  -- no keys, and the runner for later ones is new
+  -- there are no keys, and the runner for new keys is new
   pub record AreNew (query : Qre) (keys : Keys R) : Type 0 where
     pub keyed : keyed_of keys ≡ record { names = []; followers = [] }
     pub fallback : IsNew query (fallback_of keys)
 
-  -- where it can be put it is put, and else nothing changes
+  -- the start is put in if it can be, and else nothing changes
   abbrev pub AddsStart : Qre → Contents R → ℕ → Contents R → Type 0
   AddsStart query old at new = (new.nfa ≡ old.nfa)
       × ((CanTrack old at × (keys : Keys R) × AreNew query keys
       × (new.tracks ≡ old.tracks ++ record { start = at; state = Initial; keys = keys } ∷ []))
       ⊎ ((CanTrack old at → ⊥) × (new.tracks ≡ old.tracks)))
 
-  -- and the hit
+  -- the start is put in, and the hit is that of a new start
   pub record BeginsAt (query : Qre) (old : Contents R) (at : ℕ) (new : Contents R)
       (hit : Option Hit) : Type 0 where
     pub puts : AddsStart query old at new
     pub first : IsFirstTable old.nfa.sets at hit
 
-  -- the item leads each state on and goes by at the keys, the hit is that of the first accepted
-  -- start, and those that extend stay
+  -- the item leads each state to the next and goes by at the keys; the hit is that of the first
+  -- accepted start, and the live starts stay
   pub record PassesBy (query : Qre) (column : ℕ) (sync : Predicate) (item : List Field)
       (old new : Contents R) (hit : Option Hit) : Type 0 where
     pub advanced : List (Track R)

@@ -19,7 +19,7 @@ use Rattle.eval_nodes.specs.Sound.{IsSound}
 use Rattle.eval_nodes.specs.Starts.{AreApart, ArePositions}
 use Rattle.eval_tree.specs.declared.hit.Hit.{Hit}
 
--- a hit is a start whose piece has the value, and where there is no hit no piece has one
+-- a hit is a start whose piece has the value; without a hit, no piece has one
 pub record IsHit (D : Word → Value → Type 0) (word : Word) (starts : List ℕ)
     (hit : Option Hit) : Type 0 where
   pub sound : MatchOption hit (Unit {0})
@@ -36,13 +36,13 @@ IsFirstHit D start hit = MatchOption hit ((value : Value) → D [] value → ⊥
 abbrev pub IsHitOf : ValueType → Option Hit → Type 0
 IsHitOf type hit = MatchOption hit (Unit {0}) (λ found. IsValueOf type found.value)
 
--- and it is one of the start
+-- the same, and the hit is one of the start
 abbrev pub IsHitAt : ValueType → ℕ → Option Hit → Type 0
 IsHitAt type start hit =
     MatchOption hit (Unit {0}) (λ found. (found.start ≡ start) × IsValueOf type found.value)
 
 module _ {R : Type 0} (seen : R → Seen R) where
-  -- a start may be added after so many items
+  -- a start may be added after `at` items
   pub record CanStart (query : Qre) (old : Holding R) (at : ℕ) : Type 0 where
     pub standing : Standing
     pub columns : List Column
@@ -50,7 +50,7 @@ module _ {R : Type 0} (seen : R → Seen R) where
     pub sound : IsSound seen columns query at old
     pub room : at + composes_of query < 2 ^ 64
 
-  -- an item may go by, after which there are so many
+  -- an item may go by, after which there are `now`
   pub record CanStep (query : Qre) (old : Holding R) (now : ℕ) (item : List Field) : Type 0 where
     pub standing : Standing
     pub columns : List Column
@@ -61,8 +61,8 @@ module _ {R : Type 0} (seen : R → Seen R) where
     pub is_item : IsItemOf columns item
     pub room : now + composes_of query < 2 ^ 64
 
-  -- What stood for a word and starts stands for the word and one more start at its end, and the hit
-  -- is the value of the empty word. The starts are to be apart.
+  -- What stood for a word and starts stands for the word and one more start at its end. The hit is
+  -- the value of the empty word. The starts have to be apart.
   pub record IsStarted (columns : List Column) (query : Qre) (word : Word)
       (starts : List ℕ) (at : ℕ)
       (new : Holding R) (answer : Option Hit) : Type 0 where
@@ -77,8 +77,8 @@ module _ {R : Type 0} (seen : R → Seen R) where
       → AreApart columns query word (starts ++ at ∷ [])
       → IsStarted columns query word starts at new hit
 
-  -- What stood for a word and starts stands for the word with one more item, and the hit is the
-  -- start whose piece has a value, with this value. The starts are to be apart on the longer word.
+  -- What stood for a word and starts stands for the word with one more item. The hit is the start
+  -- whose piece has a value, with this value. The starts have to be apart on the longer word.
   pub record IsStepped (columns : List Column) (query : Qre) (word : Word) (starts : List ℕ)
       (new : Holding R) (answer : Option Hit) : Type 0 where
     pub after : Represents seen columns query new word starts
@@ -92,7 +92,7 @@ module _ {R : Type 0} (seen : R → Seen R) where
       → AreApart columns query (word ++ item ∷ []) starts
       → IsStepped columns query (word ++ item ∷ []) starts new hit
 
-  -- it stays sound, and a hit is of the new start and of the type
+  -- it stays sound, and a hit has the new start and the type
   pub record IsSoundlyStarted (columns : List Column) (query : Qre) (at : ℕ) (new : Holding R)
       (answer : Option Hit) : Type 0 where
     pub node : IsSound seen columns query at new
@@ -103,7 +103,7 @@ module _ {R : Type 0} (seen : R → Seen R) where
       → IsClear standing columns query → IsSound seen columns query at old
       → IsSoundlyStarted columns query at new hit
 
-  -- it stays sound, with one more item, and a hit has the type
+  -- it stays sound, after one more item, and a hit has the type
   pub record IsSoundlyStepped (columns : List Column) (query : Qre) (now : ℕ) (new : Holding R)
       (answer : Option Hit) : Type 0 where
     pub node : IsSound seen columns query now new

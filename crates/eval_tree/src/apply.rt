@@ -1,4 +1,4 @@
-//! The calls of an apply: those of the operand, with the expression on its value.
+//! The calls of an apply: those of the operand, with the expression computed of its value.
 ghost use Rattle.std.specs.Prelude.{◌≡◌, None};
 ghost use Rattle.value_ops.specs.Expressions as values;
 ghost use Rattle.query_model.specs.Queries.{apply, plain_of};

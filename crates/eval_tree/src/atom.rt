@@ -15,7 +15,7 @@ use predicate_cells::{Pred, holds};
 use std::alloc::{AllocError, Global};
 use value_ops::Expr;
 
-/// It has no value on the empty word.
+/// An atom has no value on the empty word.
 #[inline(always)]
 pub(crate) fn start_atom(node: &mut Node, at: u64)
     requires { (pred : Predicate) × (expression : values.Expression)

@@ -1,4 +1,4 @@
-//! The calls of a node, by which it follows a word.
+//! The calls by which a node follows a word.
 ghost use Rattle.query_model.specs.Queries.{plain_of};
 ghost use Rattle.eval_nodes.specs.Plain.{holding_of, seen_of};
 ghost use Rattle.eval_tree.specs.Calls.{HasStarted, HasStepped};

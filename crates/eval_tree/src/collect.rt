@@ -70,8 +70,8 @@ pub(crate) fn step_collect(
     }
 }
 
-/// The item goes by at each start. The first from which the word is in the rate then has the table of
-/// its keys, and those from which it can go on stay.
+/// The item goes by at each start. The hit is the table of the first start from which the word is
+/// in the rate, and only the live starts stay.
 #[cycle(step)]
 fn pass_by(
     query: &Query,
@@ -89,7 +89,8 @@ fn pass_by(
 {
     tracks.advance(item);
     push_all(query, tracks, alloc, column, sync, item)?;
-    // A start may end here, so its table is made before what can't go on is given up.
+    // A start that is no longer live may end here, so its table is made before dead starts are
+    // dropped.
     *hit = tabled(tracks, alloc)?;
     tracks.keep();
     Ok(())
@@ -116,7 +117,7 @@ fn push_all(
     Ok(())
 }
 
-/// One more start. It has the empty table where the empty word is in the rate.
+/// Adds a start. It has the empty table if the empty word is in the rate.
 #[cycle(step)]
 fn begin_at(
     query: &Query,
@@ -135,7 +136,8 @@ fn begin_at(
     Ok(())
 }
 
-/// It is put where a word can begin. Where the starts are apart it is not there yet.
+/// Puts the start in if a word of the rate can begin there. If the starts are apart (`AreApart`),
+/// it is not there yet.
 #[cycle(step)]
 fn track(
     query: &Query,
@@ -156,7 +158,7 @@ fn track(
     Ok(())
 }
 
-/// Whether a word can begin there, and none has yet.
+/// Whether a word of the rate can begin there, and the start is not there yet.
 fn can_track(tracks: &Tracks<Progress>, at: u64) -> bool
     ensures { IsTrue result ↔ CanTrack tracks.now at }
 {

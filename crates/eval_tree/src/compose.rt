@@ -63,7 +63,8 @@ pub(crate) fn step_compose(
         State::Compose(a, runners) => {
             let mut left = None;
             step_into(first, a, alloc, now, item, &mut left)?;
-            // A runner may come to rest that has just taken a value, so its answer is taken before.
+            // A runner that has just taken a value may become idle, so its answer is taken out
+            // before.
             pass_on(second, runners, alloc, left, hit)?;
             retire(first, a, runners);
             Ok(())
@@ -72,7 +73,7 @@ pub(crate) fn step_compose(
     }
 }
 
-/// The runners that are fed from starts which can't go on come to rest.
+/// Runners that are fed from dead starts become idle.
 #[inline(always)]
 fn retire(first: &Query, node: &Node, runners: &mut Instances<Progress>)
     ensures live { runners.new.live ≡ live_instances

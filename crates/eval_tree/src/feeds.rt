@@ -1,4 +1,5 @@
-//! Runners of the right operand of a compose. The values of the left operand are their items.
+//! Runners of the right operand of a compose, which take the values of the left operand as their
+//! items.
 ghost use Rattle.std.specs.Prelude.{◌≡◌, IfOk, None, IsOk};
 ghost use Rattle.query_model.specs.Queries.{plain_of};
 ghost use Rattle.eval_nodes.specs.Plain.{seen_of};
@@ -14,8 +15,9 @@ use item_schema::Item;
 use query_model::Query;
 use std::alloc::{AllocError, Global};
 
-/// The last idle runner begins anew, takes the value of a hit, and is fed from the start where this
-/// can go on. Where the starts are apart one is idle, and none is fed from there.
+/// The last idle runner is emptied, takes the value of the hit if there is one, and is fed from the
+/// start if this is live. If the starts are apart (`AreApart`), there is an idle one and none is
+/// fed from this start.
 #[cycle(step)]
 pub(crate) fn feed(
     query: &Query,
@@ -44,8 +46,8 @@ pub(crate) fn feed(
     Ok(())
 }
 
-/// The runner that is fed from the start of a hit takes its value, and its answer is the hit of the
-/// whole.
+/// The runner that is fed from the start of the hit takes its value. Its answer is the hit of the
+/// compose.
 #[cycle(step)]
 pub(crate) fn pass_on(
     query: &Query,
@@ -119,7 +121,7 @@ fn tell(
     }
 }
 
-/// One more item.
+/// The runner takes one more item.
 #[cycle(step)]
 pub fn carry(
     query: &Query,
@@ -141,7 +143,7 @@ pub fn carry(
     Ok(())
 }
 
-/// Before the first item.
+/// Puts the runner back before the first item.
 #[cycle(step)]
 pub fn renew(query: &Query, runner: &mut Progress, alloc: Global) -> Result<(), AllocError>
     requires { CanBegin seen_of (plain_of query.now.shape) runner.old None }

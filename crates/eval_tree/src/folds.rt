@@ -1,4 +1,4 @@
-//! Values of an iteration so far: each goes on with the next piece.
+//! Values of an iteration so far: each is folded with the value of the next piece.
 ghost use Rattle.std.specs.Prelude.{◌≡◌, None, IfOk, IsOk};
 ghost use Rattle.split_eval.specs.Entries.{entry_at};
 ghost use Rattle.value_ops.specs.Values.{IsNoTable};
@@ -9,8 +9,8 @@ use iter_eval::Chain;
 use std::alloc::{AllocError, Global};
 use value_ops::Value;
 
-/// The value so far waits at the end of its pieces, where a further piece may go on. Where the starts
-/// are apart there is always room.
+/// The value so far waits at the end of its pieces if a further piece may come. If the starts are
+/// apart (`AreApart`), there is room for it.
 #[inline(always)]
 pub(crate) fn go_on(
     alloc: Global,
@@ -30,7 +30,7 @@ pub(crate) fn go_on(
     Ok(())
 }
 
-/// The same where one may wait there already, which stays.
+/// The same where a value may wait there already, which then stays.
 pub(crate) fn go_on_if_new(
     alloc: Global,
     so_far: &mut Chain<Value>,

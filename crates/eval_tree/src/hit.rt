@@ -54,7 +54,7 @@ impl Hit {
     }
 }
 
-/// Puts the hit of a number into the place.
+/// Sets the hit to this number at the start.
 #[inline(always)]
 pub(crate) fn put_number(hit: &mut Option<Hit>, start: u64, number: i64)
     ensures { hit.new
@@ -63,7 +63,7 @@ pub(crate) fn put_number(hit: &mut Option<Hit>, start: u64, number: i64)
     *hit = Some(Hit::of_number(start, number));
 }
 
-/// Puts the other hit into the place where there is none.
+/// Sets the hit to the other one if there is none.
 #[inline(always)]
 pub(crate) fn put_if_none(hit: &mut Option<Hit>, other: Option<Hit>)
     ensures { hit.new ≡ option_or hit.old other }

@@ -40,7 +40,7 @@ pub(crate) fn start_iter(
 {
     match &mut node.state {
         State::Iter(a, so_far) => {
-            // No piece is empty, so the operand has no hit here.
+            // No piece of an iteration is empty, so the operand has no hit here.
             start_only(inner, a, alloc, at)?;
             let begun = Hit::of_number(at, number);
             go_on_if_new(alloc, so_far, is_live(inner, a, at), at, &begun)?;
@@ -73,7 +73,7 @@ pub(crate) fn step_iter(
 {
     match &mut node.state {
         State::Iter(a, so_far) => {
-            // The value before the piece is looked up before what can't go on is given up.
+            // The value before the piece is looked up before values at dead starts are dropped.
             let held = so_far.as_pending();
             step_and_end(inner, a, expression, held, alloc, now, item, hit)?;
             let node = &**a;
@@ -87,7 +87,7 @@ pub(crate) fn step_iter(
     }
 }
 
-/// A further piece begins after the value so far, which waits for it where it can go on.
+/// A further piece begins after the value so far, which waits for it if this start is live.
 #[cycle(step)]
 #[inline(always)]
 fn next_piece(

@@ -1,4 +1,4 @@
-//! Runners for keys, where an item goes by.
+//! The runners for keys, when an item goes by.
 ghost use Rattle.std.specs.Prelude.{◌≡◌, IfOk, OnErr};
 ghost use Rattle.predicate_cells.specs.Plain as predicates;
 ghost use Rattle.query_model.specs.Denotation.{key_of};
@@ -16,8 +16,8 @@ use predicate_cells::{Pred, holds};
 use query_model::Query;
 use std::alloc::{AllocError, Global};
 
-/// An item that meets the predicate is one of all keys, also of those that come later. Any other is
-/// one of its key, whose runner begins as the one for later keys where it is new.
+/// An item that meets the predicate is one of every key, also of keys that are still to come. Any
+/// other is one of its own key; for a new key, a runner is copied first.
 #[cycle(step)]
 pub fn keys_push(
     query: &Query,
@@ -76,7 +76,7 @@ fn push_to_key(
     carry(query, keys.follower_mut(place), alloc, item)
 }
 
-/// A new key goes last, with a copy of the runner for later keys.
+/// A new key is put last, with a copy of the runner that is kept for new keys.
 fn place_or_new(
     query: &Query,
     keys: &mut Keys<Progress>,
@@ -98,7 +98,7 @@ fn place_or_new(
     }
 }
 
-/// The text in the column.
+/// The text in the key column.
 fn key_of(item: &Item, column: u32) -> &[u8]
     ensures { result.now ≡ key_of column item.now }
 {

@@ -1,4 +1,4 @@
-//! Left values of a split: they wait, and are joined with the right values after them.
+//! Left values of a split: they wait for right values, and are joined with them.
 ghost use Rattle.std.specs.Prelude.{◌≡◌, ◌<◌, ◌++◌, ◌∷◌, [], ℕ, Bool, None, Some, length, IfOk, IsOk};
 ghost use Rattle.std.specs.Option.{option_copied};
 ghost use Rattle.value_ops.specs.Expressions.{plain_of};
@@ -10,8 +10,8 @@ use split_eval::Pending;
 use std::alloc::{AllocError, Global};
 use value_ops::{Expr, Value};
 
-/// The left value waits after its piece, where more may go on. Where the starts are apart there is
-/// always room.
+/// The left value waits after its piece if this start is live. If the starts are apart
+/// (`AreApart`), there is room for it.
 pub(crate) fn wait(held: &mut Pending<Value>, live: bool, at: u64, left: Hit)
     requires { entry_at held.old.entries at ≡ None }
     ensures { IsPut live held.old
@@ -23,7 +23,7 @@ pub(crate) fn wait(held: &mut Pending<Value>, live: bool, at: u64, left: Hit)
     }
 }
 
-/// The same where one may wait there already, which stays.
+/// The same where a value may wait there already, which then stays.
 pub(crate) fn wait_if_new(held: &mut Pending<Value>, live: bool, at: u64, left: Hit)
     ensures { IsPut live held.old
         (record { inner = at; outer = left.start; value = left.value }) held.new }
@@ -33,7 +33,7 @@ pub(crate) fn wait_if_new(held: &mut Pending<Value>, live: bool, at: u64, left: 
     }
 }
 
-/// The hit has what the expression gives on its value.
+/// The hit gets what the expression computes of its value.
 pub(crate) fn apply_to(
     alloc: Global,
     expression: &Expr,
@@ -52,8 +52,8 @@ pub(crate) fn apply_to(
     }
 }
 
-/// The hit where both operands have one, from the same start. That of the left operand stands in
-/// its place.
+/// The hit of a combine, if both operands have one, from the same start. It replaces the hit of the
+/// left operand.
 pub(crate) fn combine_with(
     alloc: Global,
     expression: &Expr,
@@ -81,8 +81,7 @@ pub(crate) fn combine_with(
     }
 }
 
-/// The hit of the whole whose left value was just found. That of the right operand stands in its
-/// place.
+/// The hit of a whole whose left value was just found. It replaces the hit of the right operand.
 pub(crate) fn join_to(
     alloc: Global,
     expression: &Expr,
@@ -101,7 +100,7 @@ pub(crate) fn join_to(
     }
 }
 
-/// The hit of the whole whose left value waited. That of the right operand stands in its place.
+/// The hit of a whole whose left value has waited. It replaces the hit of the right operand.
 #[inline(always)]
 pub(crate) fn end_waiting(
     alloc: Global,
@@ -127,7 +126,8 @@ pub(crate) fn end_waiting(
     }
 }
 
-// The right hit becomes that of the whole, with the start and the value of the left one.
+// The hit of the whole, from that of the right operand and from the start and the value of the left
+// one.
 #[inline(always)]
 fn with_left(
     alloc: Global,

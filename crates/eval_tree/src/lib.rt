@@ -1,5 +1,5 @@
-//! The value of a query on a word, found item by item from starts and values that stand for all of
-//! its readings.
+//! The value of a query on a word, found item by item. Starts, and values that wait, stand for all
+//! readings of the word.
 #![tactic(auto)]
 
 mod apply;

@@ -15,7 +15,7 @@ use split_eval::Pending;
 use std::alloc::{AllocError, Global};
 use value_ops::{Expr, Value};
 
-/// Its value ends a whole whose left value waits.
+/// Steps an operand whose value ends a whole, the left value of which has waited.
 #[cycle(step)]
 #[inline(always)]
 pub(crate) fn step_and_end(
@@ -42,7 +42,8 @@ pub(crate) fn step_and_end(
     end_waiting(alloc, expression, held, hit)
 }
 
-/// Its value on the empty word, if it has one, is joined with a left value that was just found.
+/// Starts an operand. Its value on the empty word, if it has one, is joined with a left value that
+/// was just found.
 #[cycle(step)]
 #[inline(always)]
 pub(crate) fn start_and_join(

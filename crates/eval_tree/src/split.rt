@@ -90,8 +90,7 @@ pub(crate) fn step_split(
     }
 }
 
-/// The right operand ends wholes whose left values wait. A left value after which no right piece
-/// can go on is given up.
+/// The right operand ends wholes whose left values wait. Left values at dead starts are dropped.
 #[cycle(step)]
 #[inline(always)]
 fn end_right(
@@ -116,16 +115,16 @@ fn end_right(
         (values.plain_of expression.now) held.old.entries (holding_of b.old.state) now item.now
         → IsOk result }
 {
-    // What waits for a right value is looked up before what can't go on is given up. None waits at
-    // the end yet, so what is put there needs no look.
+    // The left value of a right one is looked up before those at dead starts are dropped. None
+    // waits at the end of the word then, so that one is put there without a look-up.
     step_and_end(second, b, expression, held, alloc, now, item, hit)?;
     let node = &*b;
     held.keep(|start| start != now && is_live(second, node, start));
     Ok(())
 }
 
-/// A left value was just found: its right piece begins, and it waits where this can go on. The hit
-/// of the whole that begins so is put where there is none.
+/// A left value was just found: its right piece begins, and it waits if this start is live. The hit
+/// of a whole with an empty right piece is put in if there is no hit yet.
 #[cycle(step)]
 #[inline(always)]
 fn begin_right(

@@ -1,4 +1,4 @@
-//! The calls that carry a node along its word. A hit is put into its place, which has none before.
+//! The calls by which a node follows a word. They put a hit into a place that is empty before.
 ghost use Rattle.std.specs.Prelude.{◌≡◌, None, Option};
 ghost use Rattle.query_model.specs.Queries.{plain_of};
 ghost use Rattle.eval_nodes.specs.Plain.{holding_of, seen_of};
@@ -97,7 +97,7 @@ pub(crate) fn step_into(
     }
 }
 
-/// Adds the start where no hit is wanted.
+/// Adds the start where its hit is not needed.
 #[cycle(step)]
 #[inline(always)]
 pub(crate) fn start_only(

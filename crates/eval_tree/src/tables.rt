@@ -1,4 +1,4 @@
-//! The tables that runners for keys make.
+//! The tables made of the answers of runners for keys.
 ghost use Rattle.std.specs.Prelude.{◌≡◌, IfOk};
 ghost use Rattle.eval_nodes.specs.Plain.{seen_of};
 ghost use Rattle.eval_tree.specs.Collects.{IsTableOf};
@@ -11,7 +11,7 @@ use rate_expr::State;
 use std::alloc::{AllocError, Global};
 use value_ops::{Scalar, Table, Value};
 
-/// The keys whose runners answer a scalar, with it.
+/// The table of the keys whose runners answer with a scalar.
 pub fn keys_table(keys: &Keys<Progress>, alloc: Global) -> Result<Table, AllocError>
     ensures { IfOk result (IsTableOf seen_of keys.now) }
 {
@@ -34,7 +34,7 @@ fn scalar_of(answer: &Option<Value>) -> Option<Scalar>
     }
 }
 
-/// The first start from which the word is in the rate, with the table of its keys.
+/// The hit of the first start from which the word is in the rate: the table of its keys.
 pub(crate) fn tabled(tracks: &Tracks<Progress>, alloc: Global) -> Result<Option<Hit>, AllocError>
     ensures { IfOk result (IsTabled seen_of tracks.now) }
 {
@@ -47,7 +47,7 @@ pub(crate) fn tabled(tracks: &Tracks<Progress>, alloc: Global) -> Result<Option<
     }
 }
 
-/// The empty word has no keys.
+/// The hit of a new start: the empty table, since the empty word has no keys.
 pub(crate) fn first_table(tracks: &Tracks<Progress>, alloc: Global, at: u64) -> Option<Hit>
     ensures { IsFirstTable tracks.now.nfa.sets at result }
 {
