@@ -1,4 +1,4 @@
-//! Automata whose positions all come behind one another.
+//! Automata whose positions may all come after each other, but for the last one.
 
 use item_schema::{Column, Kind, Schema, are_columns};
 use predicate_cells::{CellStop, Cells, Pred, Preds};
@@ -8,8 +8,8 @@ use std::rc::Rc;
 use symbolic_nfa::Nfa;
 use value_ops::Bytes;
 
-/// An automaton of so many positions, whose predicates ask whether one of two numbers is at least one of so many; or
-/// none, where these are too many.
+/// An automaton of `size` positions. Each predicate asks whether one of two numbers is at least one
+/// of `tests` bounds. There is none if positions or cells are too many.
 pub(crate) fn crowd(alloc: Global, size: u32, tests: u32) -> Result<Option<Nfa>, AllocError> {
     let Some(cells) = cells(alloc, tests)? else {
         return Ok(None);
@@ -35,7 +35,7 @@ fn boxed(alloc: Global, rate: Rate) -> Result<Box<Rate>, AllocError> {
     Ok(Box::new(alloc, rate)?)
 }
 
-// Any of the tests again and again, and any item at the end.
+// Any of the tests, again and again, and then any item.
 fn rate(alloc: Global, size: u32, tests: u32) -> Result<Box<Rate>, AllocError> {
     let mut choice = boxed(alloc, Rate::Empty)?;
     for at in 1..size {
@@ -51,7 +51,7 @@ fn test(at: u32, tests: u32) -> Pred {
     Pred::Ge(at % 2, i64::from(at / 2 % tests.max(1)))
 }
 
-// All tests, and the predicate that any item meets.
+// All tests, and the predicate that every item meets.
 fn preds(alloc: Global, tests: u32) -> Result<Preds, AllocError> {
     let mut preds = Preds::new(alloc);
     add(&mut preds, Pred::Any)?;

@@ -1,4 +1,4 @@
-//! Decisions on an automaton and itself.
+//! Decisions on an automaton paired with itself.
 
 use ambiguity_check::{disjoint, one_factoring, one_split};
 use rate_equal::{EqualStop, same};
@@ -15,7 +15,7 @@ pub(crate) enum Decision {
 }
 
 impl Decision {
-    /// The last answer of so many.
+    /// Decides `times` times, and gives the last answer.
     pub(crate) fn repeated(self, alloc: Global, nfa: &Nfa, times: u32) -> Result<bool, EqualStop> {
         let mut answer = true;
         for _ in 0..times {

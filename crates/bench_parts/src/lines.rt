@@ -1,4 +1,4 @@
-//! Counts lines: what reading and splitting alone cost.
+//! Counts lines: what it costs only to read and split them.
 
 use io_edge::{LazyFile, Line, LineStop, Lines, Source};
 use std::alloc::{AllocError, Global};
@@ -11,7 +11,7 @@ pub(crate) fn count_lines(rt: HostRuntime, words: &[String]) -> io::Result<()> {
     println!(rt; "{told}")
 }
 
-/// How many lines the file has, or why they are not counted.
+/// How many lines the file has, or why they cannot be counted.
 fn told_of(rt: HostRuntime, file: &str) -> Result<String, AllocError> {
     let alloc = rt.alloc();
     let mut source = LazyFile::new(rt, alloc, file)?;

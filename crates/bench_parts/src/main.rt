@@ -1,5 +1,6 @@
-//! What parts of a run cost by themselves. The first word chooses one: `lines FILE` reads and splits lines, `sums FILE KIND ..`
-//! has items and answers without a query, and `rates WORK POSITIONS TESTS TIMES` has steps and decisions of automata.
+//! What parts of a run cost by themselves. The first word chooses one: `lines FILE` reads and
+//! splits lines, `sums FILE KIND ..` reads items and writes answers without a query, and
+//! `rates WORK POSITIONS TESTS TIMES` takes steps of automata and makes decisions on them.
 #![tactic(auto)]
 
 mod crowd;
@@ -15,7 +16,7 @@ use crate::sums::sum_items;
 use std::alloc::{AllocError, Global};
 use std::{env, io};
 
-/// What is done where there are no words: each part once, on something small.
+/// What is done if there are no words: each part once, on something small.
 const SMALL: [&str; 3] = [
     "lines -",
     "sums items text hundredths int",

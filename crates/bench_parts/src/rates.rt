@@ -1,4 +1,4 @@
-//! Takes steps of a large automaton, or makes a decision on it, as often as asked: what these cost.
+//! Takes steps of a large automaton, or makes a decision on it, as often as asked: what this costs.
 
 use crate::crowd::crowd;
 use crate::work::Work;
@@ -7,8 +7,8 @@ use std::alloc::AllocError;
 use std::io;
 use symbolic_nfa::Nfa;
 
-/// The words are a kind of work, how many positions the automaton has, how many numbers each of its two columns is
-/// tested for, and how often the work is done.
+/// The words are a kind of work, how many positions the automaton has, for how many numbers each of
+/// its two columns is tested, and how often the work is done.
 pub(crate) fn work_on_rates(rt: HostRuntime, words: &[String]) -> io::Result<()> {
     let Some(work) = Work::named(words.get(0).map_or("", |word| word.as_str())) else {
         return println!(rt; "step, extends, disjoint, one_split, one_factoring or same");

@@ -1,4 +1,5 @@
-//! Adds up the last column of items and writes the sum behind each: what lines, items and answers cost without a query.
+//! Adds up the last column of items and writes the sum after each: what lines, items and answers
+//! cost without a query.
 
 use io_edge::{LazyFile, Line, Lines, Sink, Source, WriterSink, write_all};
 use item_schema::{Column, Item, ItemStop, Kind, Schema, are_columns, read_item};
@@ -8,7 +9,7 @@ use std::alloc::{AllocError, Global};
 use std::io;
 use value_ops::{Scalar, Value};
 
-/// The first word is the file, or `-` for standard input, and the others are the kinds of the columns.
+/// The first word is the file, or `-` for standard input. The others are the kinds of the columns.
 pub(crate) fn sum_items(rt: HostRuntime, words: &[String]) -> io::Result<()> {
     let alloc = rt.alloc();
     let [file, kinds @ ..] = words else {
@@ -33,12 +34,12 @@ fn sum_source<S: Source>(
     let alloc = rt.alloc();
     let mut out = WriterSink::new(io::writer(&rt), alloc)?;
     let ended = sum_lines(alloc, schema, source, &mut out);
-    // What was written goes out, whichever way it ended.
+    // However it ended, what was written is flushed.
     let _at_end = out.flush();
     ended
 }
 
-/// Answers line by line. All answers are handed on before a read.
+/// Answers line by line. All answers are flushed before a read.
 fn sum_lines<S: Source, W: Sink>(
     alloc: Global,
     schema: &Schema,
@@ -60,7 +61,7 @@ struct Reply {
     text: Vec<u8>,
 }
 
-/// Until a line or its reply is wanting.
+/// Ends after the last line, or if a reply cannot be written.
 fn sum_each<S: Source, W: Sink>(
     alloc: Global,
     schema: &Schema,
@@ -77,7 +78,7 @@ fn sum_each<S: Source, W: Sink>(
     Ok(())
 }
 
-/// Whether there was one more line, and its reply is written.
+/// Whether there was one more line, whose reply is then written.
 fn sum_line<S: Source, W: Sink>(
     alloc: Global,
     schema: &Schema,
@@ -125,7 +126,7 @@ fn kind_of(word: &str) -> Kind {
     }
 }
 
-/// Appends what is written for a line: the sum behind it, or why it is no item.
+/// Appends what is written for a line: the sum after it, or why it is no item.
 fn push_reply(
     alloc: Global,
     schema: &Schema,
@@ -142,7 +143,7 @@ fn push_reply(
     }
 }
 
-/// The sum with the number in the last column, if one stands there.
+/// The sum with the number in the last column, if there is one.
 fn sum_with(sum: Scalar, item: &Item) -> Scalar {
     match item.fields().last().and_then(|field| field.scalar()) {
         Some(scalar) => sum + scalar,

@@ -1,4 +1,4 @@
-//! What is done with an automaton.
+//! What is done with an automaton, often enough to be measured.
 ghost use Rattle.std.specs.Prelude.{◌<◌};
 ghost use Rattle.predicate_cells.specs.Cells.{cell_count};
 
@@ -14,7 +14,7 @@ use value_ops::Field;
 pub(crate) enum Work {
     /// A step from state to state.
     Step,
-    /// A step, and whether a word may go on behind it.
+    /// A step, and whether a word can be extended after it.
     Extends,
     Decide(Decision),
 }
@@ -32,7 +32,7 @@ impl Work {
         }
     }
 
-    /// The last answer of so many.
+    /// Does the work `times` times, and gives the last answer.
     pub(crate) fn done(self, alloc: Global, nfa: &Nfa, times: u32) -> Result<bool, EqualStop> {
         let cell = nfa.cells().of(&greatest(alloc)?);
         match self {
@@ -49,7 +49,7 @@ fn greatest(alloc: Global) -> Result<Item, AllocError> {
     Ok(Item::from_fields(fields))
 }
 
-// The state behind so many items of the cell.
+// The state after `times` items of the cell.
 fn behind(nfa: &Nfa, cell: u32, times: u32) -> State
     requires { cell < cell_count nfa.now.cells }
 {
@@ -60,7 +60,7 @@ fn behind(nfa: &Nfa, cell: u32, times: u32) -> State
     state
 }
 
-// Whether the state behind each of these items extends.
+// Whether a word can be extended after each of `times` items of the cell.
 fn all_extend(nfa: &Nfa, cell: u32, times: u32) -> bool
     requires { cell < cell_count nfa.now.cells }
 {

@@ -3,7 +3,7 @@ use Rattle.std.specs.Prelude.{Bool, ◌+◌, ◌*◌, if◌then◌else◌, nat_l
 use Rattle.cases_queries.specs.declared.hostile.kept.Bound.{Bound}
 use Rattle.cases_queries.specs.declared.hostile.kept.Kept.{Kept}
 
--- at most the slots, and where tables are made as many again for each text
+-- at most the slots, and where tables are made, as many again for each text
 abbrev pub is_within : Bound → Kept → Bool
 is_within bound kept =
     nat_le kept.stored (bound.slots * (if bound.makes_tables then kept.texts + 1 else 1))

@@ -1,4 +1,5 @@
-//! Cases that are made to hurt, drawn from a number and run over memory, and where a run is not as each run is to be.
+//! Hostile cases: they are drawn from a number and run in memory, and what is wrong in a run is
+//! reported.
 
 mod answers;
 mod bound;
@@ -30,7 +31,8 @@ use crate::spelling::push_spelled;
 use std::alloc::{AllocError, Global};
 use std::{fs, io};
 
-/// Draws so many cases, the first of this seed and each later one of the next, and tells what is found of them.
+/// Draws `count` cases, the first by this seed and each later one by the next, and reports what is
+/// found in them.
 pub(crate) fn judge_cases(rt: HostRuntime, count: u64, first: u64) -> io::Result<()> {
     let text = fs::read_to_string(&rt, "grammar")?;
     match grammar_of(rt.alloc(), text.as_str())? {
@@ -50,7 +52,7 @@ fn judge_drawn(rt: HostRuntime, grammar: &Grammar, count: u64, first: u64) -> io
     print!(rt; "{summary}")
 }
 
-/// What was found in the case of the seed, if anything was.
+/// What was found in the case of the seed, if anything.
 fn told_of(
     alloc: Global,
     grammar: &Grammar,

@@ -1,5 +1,5 @@
-//! Goes through tables of queries and of lines, through a table of queries that are refused since a word has two readings,
-//! and through cases that are made to hurt, and tells what is found of each.
+//! Goes through tables of queries and of lines, through a table of queries that are refused since a
+//! word has two readings, and through hostile cases, and reports what is found in each.
 #![tactic(auto)]
 
 mod accepted;
@@ -21,7 +21,7 @@ fn main(rt: HostRuntime) -> io::Result<()> {
     judge_by_words(rt)
 }
 
-/// The words are how many cases are made to hurt, and the seed of the first.
+/// The words are how many hostile cases are drawn, and the seed of the first.
 fn judge_by_words(rt: HostRuntime) -> io::Result<()> {
     let words: Vec<String> = env::args(&rt)?.skip(1).collect(rt.alloc())?;
     judge_cases(rt, number(&words, 0), number(&words, 1))

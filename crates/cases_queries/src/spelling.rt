@@ -1,5 +1,5 @@
-//! Bytes as they are spelled in tables: line ends and tabs as `\n`, `\r` and `\t`, others that are not
-//! printed, and the backslash, as `\xNN`.
+//! Bytes as they are spelled in tables: line ends and tabs as `\n`, `\r` and `\t`, and the
+//! backslash and other bytes that are not printed as `\xNN`.
 
 use std::alloc::{AllocError, Global};
 
@@ -16,7 +16,7 @@ pub(crate) fn bytes_of(alloc: Global, spelled: &str) -> Result<Vec<u8>, AllocErr
     Ok(bytes)
 }
 
-/// Appends what a backslash spells with the bytes behind it.
+/// Appends what a backslash and the bytes after it spell.
 fn push_piece(bytes: &mut Vec<u8>, piece: &[u8]) -> Result<(), AllocError> {
     match piece {
         [b'n', rest @ ..] => push_both(bytes, b'\n', rest),

@@ -1,5 +1,6 @@
-//! Tables of queries: what each is read to, how it is judged, what a run of it writes, and where the runner and the search
-//! differ on it; and a table of lines, each read by `csv`'s reader and to an item.
+//! Tables of queries: what each is read to, how it is judged, what a run of it writes, and where
+//! the runner and the search differ on it. Also a table of lines, each read by `csv`'s reader and
+//! to an item.
 
 mod constructors;
 mod csv_lines;
@@ -20,18 +21,18 @@ use crate::tables::verdict::verdict;
 use std::alloc::{AllocError, Global};
 use std::{fs, io};
 
-/// What is told of the cases of a table.
+/// What is reported of the cases of a table.
 #[derive(Clone, Copy)]
 enum Question {
     /// The constructors that queries are read to.
     Constructors,
-    /// Whether they are accepted.
+    /// Whether the queries are accepted.
     Verdict,
-    /// What runs of them write.
+    /// What runs of the queries write.
     Run,
 }
 
-/// Tells of each case of each table.
+/// Reports each case of each table.
 pub(crate) fn tell_of_tables(rt: HostRuntime) -> io::Result<()> {
     for (name, question) in [
         ("constructors", Question::Constructors),

@@ -1,5 +1,5 @@
-//! A table of queries that are refused since a word has two readings: how many items the example has that is found of each,
-//! and which changed examples are examples as well.
+//! A table of queries that are refused since a word has two readings: how many items the example
+//! has that is found for each, and which changed examples are examples as well.
 
 mod case;
 mod confirmed;
@@ -18,7 +18,7 @@ use std::{fs, io};
 /// More lines than a table has.
 const LINES: u32 = 1_000;
 
-/// Tells of each case of the table.
+/// Reports each case of the table.
 pub(crate) fn tell_of_examples(rt: HostRuntime) -> io::Result<()> {
     let table = fs::read_to_string(&rt, "why")?;
     let mut text = String::new(rt.alloc());

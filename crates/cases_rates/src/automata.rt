@@ -45,7 +45,7 @@ fn add_tests(rate: &Rate, tests: &mut Preds) -> Result<(), AllocError> {
     }
 }
 
-/// The rate of the query that is written so.
+/// The rate of the query that is written as this text.
 pub(crate) fn rate_of(alloc: Global, scope: &Scope, text: &str) -> Result<Box<Rate>, Stop> {
     let query = scope.query(alloc, text)?;
     Ok(Box::new(alloc, query.rate(alloc)?)?)

@@ -1,4 +1,4 @@
-//! How many starts of queries may live at one time, and how much is kept for them.
+//! How many starts of queries may be live at one time, and how much is kept for them.
 
 use crate::scope::Scope;
 use crate::stop::Stop;

@@ -1,4 +1,4 @@
-//! What is found of one test.
+//! What is found for one test.
 
 ghost use Rattle.std.specs.Prelude.{◌<◌};
 ghost use Rattle.predicate_cells.specs.Cells.{cell_count};
@@ -33,7 +33,8 @@ impl<'t> Case<'t> {
         })
     }
 
-    /// How many cells there are, which of them meet the test, and of each item its cell and whether it meets the test.
+    /// How many cells there are and which of them meet the test, and for each item its cell and
+    /// whether it meets the test.
     pub(crate) fn answer(&self, alloc: Global) -> Result<String, Stop> {
         let test = self.test.as_ref();
         let cells = cells_of(alloc, &self.stream.scope.schema, test)?;
@@ -51,7 +52,7 @@ impl<'t> Case<'t> {
     }
 }
 
-/// The test that is written so.
+/// The test that is written as this text.
 fn test_of(alloc: Global, scope: &Scope, text: &str) -> Result<Box<Pred>, Stop> {
     let atom = format!(in alloc; "atom({text}, 0)")?;
     let query = scope.query(alloc, atom.as_str())?;
@@ -86,7 +87,7 @@ fn push_cells(
     push_met(told, cells, test)
 }
 
-/// Appends the cells whose samples are in others.
+/// Appends the cells whose samples lie in other cells.
 fn push_strays(alloc: Global, told: &mut String, cells: &Cells) -> Result<(), AllocError> {
     for cell in 0..cells.count() {
         if !has_its_sample(alloc, cells, cell)? {

@@ -4,8 +4,8 @@ use crate::cell_case::Case;
 use crate::stop::Stop;
 use std::alloc::Global;
 
-/// Each case of the table with what is found. A line that begins with `stream`, or `values`, is the stream of the lines
-/// below it, and one that begins with `#` is a remark.
+/// Each case of the table with what is found. A line that begins with `stream`, or `values`, is the
+/// stream of the lines below it, and one that begins with `#` is a remark.
 pub(crate) fn report(alloc: Global, table: &str) -> Result<String, Stop> {
     let mut text = String::new(alloc);
     let mut stream = "";

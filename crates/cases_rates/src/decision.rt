@@ -1,4 +1,4 @@
-//! What is decided of rates.
+//! What is decided about rates.
 
 ghost use Rattle.std.specs.Prelude.{◌≡◌};
 
@@ -48,7 +48,7 @@ impl Decision {
         }
     }
 
-    /// The same in a word.
+    /// The decision as a word.
     pub(crate) fn told(
         self,
         alloc: Global,

@@ -11,7 +11,8 @@ use predicate_cells::Cells;
 use rate_expr::Rate;
 use std::alloc::{AllocError, Global};
 
-/// A rate as it is written, behind which words it stands in the table, and for each short word whether it is in the rate.
+/// A rate as it is written, what the table says of its words, and for each short word whether it is
+/// in the rate.
 #[derive(Drop)]
 pub(crate) struct Entry<'t> {
     pub(crate) words: &'t str,
@@ -21,7 +22,7 @@ pub(crate) struct Entry<'t> {
 }
 
 impl Entry<'_> {
-    /// Whether every word of at least one item is in the rate, as far as short words go.
+    /// Whether every short word of at least one item is in the rate.
     pub(crate) fn has_all_but_empty(&self) -> bool {
         // The empty word is the first.
         self.members.iter().skip(1).all(|member| *member)

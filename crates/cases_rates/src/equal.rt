@@ -1,4 +1,4 @@
-//! Rates of a table compared by `rate_equal` and by all words of up to six items, each with each.
+//! Rates of a table compared with each other, by `rate_equal` and by all words of up to six items.
 
 use crate::automata::cells_of;
 use crate::entry::{Entry, entries_of};
@@ -11,7 +11,8 @@ use std::rc::Rc;
 
 const HEAD: &str = "same  by words   all_but_empty  by words   its words\n";
 
-/// A line for each rate and for each pair that is not agreed on, and how many pairs and rates are.
+/// A line for each rate and each pair on which the answers differ, and on how many pairs and rates
+/// they agree.
 pub(crate) fn report(alloc: Global, table: &str) -> Result<String, Stop> {
     let table = table_of(alloc, table)?;
     let cells = cells_of(alloc, &table.scope)?;
@@ -41,7 +42,7 @@ fn add_finding(
     add_disputes(text, entry, others, finding)
 }
 
-/// On how many pairs, and on how many rates alone, all agree.
+/// On how many pairs, and on how many single rates, all answers agree.
 #[derive(Clone, Copy)]
 struct Agreed {
     pairs: usize,

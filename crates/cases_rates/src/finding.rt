@@ -1,4 +1,4 @@
-//! What is found of a rate of the table.
+//! What is found for a rate of the table.
 
 use crate::decision::Decision;
 use crate::entry::Entry;
@@ -12,9 +12,9 @@ use std::rc::Rc;
 pub(crate) struct Finding {
     /// Where the rate stands in the table.
     at: usize,
-    /// What is said of it and each rate of the table.
+    /// The answers on it and each rate of the table.
     pub(crate) opinions: Vec<Opinion>,
-    /// Whether every word of at least one item is in it, by `all_but_empty` and by words.
+    /// Whether every word of at least one item is in it, by `all_but_empty` and by short words.
     pub(crate) has_all: bool,
     pub(crate) has_all_by_words: bool,
 }

@@ -6,7 +6,7 @@ use item_schema::{Item, Schema, read_item};
 use std::alloc::Global;
 use value_ops::{Scalar, Value, ValueType};
 
-/// Lines, or the values of another query.
+/// A stream of lines, or one of the values of another query.
 #[derive(Drop)]
 pub(crate) struct Stream {
     pub(crate) scope: Scope,
@@ -14,7 +14,7 @@ pub(crate) struct Stream {
 }
 
 impl Stream {
-    /// The stream that is declared so, or the one of values.
+    /// The stream that is declared by this text, or the one of values.
     pub(crate) fn of(alloc: Global, declared: &str) -> Result<Stream, Stop> {
         if declared != "values" {
             return Ok(Stream {

@@ -1,4 +1,4 @@
-//! The nodes that no shorter walk of a graph leads to, behind each number of items.
+//! The nodes of a search, by the number of items that leads to them and no fewer.
 
 use crate::automata::automata_of;
 use crate::stop::Stop;
@@ -9,17 +9,17 @@ use rate_expr::{MAX_POSITIONS, Rate};
 use std::alloc::{AllocError, Global};
 use std::rc::Rc;
 
-/// The phases, with their letters.
+/// The phases, with a letter for each.
 const PHASES: [(Phase, char); 3] = [
     (Phase::Together, 't'),
     (Phase::Parted, 'p'),
     (Phase::Rejoined, 'r'),
 ];
 
-/// No walk to a node is longer without being at some node twice.
+/// A path of more steps would come to some node twice.
 const NODES: u32 = 3 * MAX_POSITIONS * MAX_POSITIONS;
 
-/// The levels of the search for a word of both rates.
+/// The levels of the search for a word in both rates.
 pub(crate) fn levels_of_pairs(
     alloc: Global,
     cells: &Rc<Cells>,

@@ -1,5 +1,5 @@
-//! Goes through tables of queries, tests and rates, and tells what is found of each: bounds, cells, sets of positions, states,
-//! what is decided, and which rates are equal.
+//! Goes through tables of queries, tests and rates, and reports what is found for each: bounds,
+//! cells, sets of positions, states, what is decided, and which rates are equal.
 #![tactic(auto)]
 
 mod automata;
@@ -33,7 +33,7 @@ use crate::stop::Stop;
 use std::alloc::Global;
 use std::{fs, io};
 
-/// What is told of a table.
+/// What is reported of a table.
 #[derive(Clone, Copy)]
 enum Report {
     Bounds,

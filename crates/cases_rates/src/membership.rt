@@ -1,4 +1,4 @@
-//! The words of a rate, by its parts.
+//! Which words are in a rate, by its parts.
 
 use crate::places::{PLACES, Places};
 use item_schema::Item;
@@ -30,7 +30,7 @@ fn ends(rate: &Rate, word: &[Item], starts: Places) -> Places {
     }
 }
 
-/// Those of the places before an item that meets the test.
+/// Those of the places after which an item comes that meets the test.
 fn met(test: &Pred, word: &[Item], starts: Places) -> Places {
     let mut met = Places::NONE;
     for (place, item) in (0..PLACES).zip(word) {

@@ -1,4 +1,4 @@
-//! What is said of two rates.
+//! Answers on two rates.
 
 use crate::decision::Decision;
 use crate::entry::Entry;
@@ -7,7 +7,7 @@ use predicate_cells::Cells;
 use std::alloc::Global;
 use std::rc::Rc;
 
-/// Whether two rates have the same words, by each that says so.
+/// Whether two rates have the same words, by each of three ways to decide it.
 #[derive(Clone, Copy)]
 pub(crate) struct Opinion {
     pub(crate) by_same: bool,
@@ -21,7 +21,7 @@ impl Opinion {
     }
 }
 
-/// What is said of the rate and each of the others, itself included.
+/// The answers on the rate and each of the others, itself included.
 pub(crate) fn opinions_of(
     alloc: Global,
     cells: &Rc<Cells>,

@@ -1,4 +1,4 @@
-//! What is found of each two rates of a table.
+//! What is found for each pair of rates of a table.
 
 use crate::automata::{cells_of, rate_of};
 use crate::decision::Decision;
@@ -9,7 +9,7 @@ use rate_expr::Rate;
 use std::alloc::Global;
 use std::rc::Rc;
 
-/// Of each rate whether words factor in one way, and a letter for it and each rate of the table.
+/// For each rate, whether words factor in one way, and a letter for it with each rate of the table.
 pub(crate) fn report(alloc: Global, table: &str) -> Result<String, Stop> {
     let table = table_of(alloc, table)?;
     report_on(alloc, &table)

@@ -2,7 +2,7 @@
 
 use crate::words::ITEMS;
 
-/// How many places there are before, between and behind the items of the longest.
+/// How many places the longest word has before, between and after its items.
 pub(crate) const PLACES: u32 = ITEMS + 1;
 
 /// Some of the places of a word, each as a bit.
@@ -14,7 +14,7 @@ pub(crate) struct Places {
 impl Places {
     pub(crate) const NONE: Places = Places { bits: 0 };
 
-    /// The place alone, if words have it.
+    /// This place alone, if words have it.
     pub(crate) fn at(place: u32) -> Places {
         if place >= PLACES {
             return Places::NONE;
@@ -32,7 +32,7 @@ impl Places {
         }
     }
 
-    /// The places one item on.
+    /// The places one item later.
     pub(crate) fn moved_on(self) -> Places {
         Places {
             bits: self.bits << 1,

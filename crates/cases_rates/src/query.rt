@@ -1,4 +1,4 @@
-//! Queries over the columns of a stream. What they make of values is left out, since no table asks for it.
+//! Queries over the columns of a stream. What they compute is left out, since no table asks for it.
 
 use crate::predicate::pred_over;
 use crate::rate::rate_over;
@@ -148,7 +148,7 @@ fn collection_over(
     Ok(Shape::Collect(key, sync, rate, inner))
 }
 
-/// The items of all keys, and the rate of each.
+/// The predicate for items of all keys, and the rate.
 fn keys_over(
     alloc: Global,
     scope: &Scope,

@@ -14,7 +14,7 @@ use rate_expr::Rate;
 use std::alloc::Global;
 use std::rc::Rc;
 
-/// What is asked.
+/// The question that is asked.
 #[derive(Clone, Copy)]
 enum Call {
     Sets,
@@ -22,7 +22,7 @@ enum Call {
     OfTwo(OfTwo),
 }
 
-/// What is asked of two rates; the second is the first again where there is one alone.
+/// A question on two rates. If there is only one, it is also the second.
 #[derive(Clone, Copy)]
 enum OfTwo {
     Parts,
@@ -91,7 +91,8 @@ fn answers(alloc: Global, table: &Table<'_>, cells: &Rc<Cells>) -> Result<String
     Ok(text)
 }
 
-/// A question is a call, and what it is asked of: a rate, and behind a stroke another rate or a word.
+/// A question is a call and what it is asked about: a rate, and after a stroke another rate or a
+/// word.
 fn answer(alloc: Global, scope: &Scope, cells: &Rc<Cells>, line: &str) -> Result<String, Stop> {
     let Some((name, asked)) = line.split_once(' ') else {
         return Err(Stop::Line);

@@ -47,7 +47,7 @@ impl Scope {
         Ok(())
     }
 
-    /// The query that is written so.
+    /// The query that is written as this text.
     pub(crate) fn query(&self, alloc: Global, text: &str) -> Result<Box<Query>, Stop> {
         let program = read(alloc, "stream(plain, col(n, int))", text)?;
         query_over(alloc, self, &program.main.query)
@@ -64,7 +64,7 @@ impl Scope {
             .ok_or(Stop::Name)
     }
 
-    /// The query of the let.
+    /// The query of the let with the name.
     pub(crate) fn named(&self, name: &Name) -> Result<&Query, Stop> {
         match self
             .lets

@@ -1,4 +1,4 @@
-//! Where words of a rate begin, end and go on.
+//! The first, last and follow sets of a rate.
 
 use crate::automata::positions_of;
 use crate::stop::Stop;
@@ -6,7 +6,7 @@ use rate_expr::masks::has;
 use rate_expr::{MAX_POSITIONS, Positions, Rate};
 use std::alloc::{AllocError, Global};
 
-/// The sets of the rate, through a copy.
+/// The sets of the rate, printed from a copy.
 pub(crate) fn sets_of(alloc: Global, rate: &Rate) -> Result<String, Stop> {
     let sets = copied_sets(alloc, rate)?;
     let mut told = String::new(alloc);
@@ -31,7 +31,7 @@ fn push_sets(told: &mut String, sets: &Positions) -> Result<(), AllocError> {
     push_follows(told, sets)
 }
 
-/// Appends where words go on behind each position.
+/// Appends the follow set of each position.
 fn push_follows(told: &mut String, sets: &Positions) -> Result<(), AllocError> {
     for position in 0..sets.count() {
         told.push_str(" ")?;

@@ -1,4 +1,4 @@
-//! The states behind the beginnings of a word.
+//! The states after the beginnings of a word.
 
 use crate::automata::nfa_of;
 use crate::stop::Stop;
@@ -10,7 +10,8 @@ use std::rc::Rc;
 use symbolic_nfa::{Nfa, State};
 use value_ops::Field;
 
-/// What the automaton of the rate says before the word, each digit of which is an item, and behind each item.
+/// What the automaton of the rate answers before the word and after each of its items. Each digit
+/// of the word is an item.
 pub(crate) fn states(
     alloc: Global,
     cells: &Rc<Cells>,
@@ -41,7 +42,7 @@ fn item_of(alloc: Global, digit: u8) -> Result<Item, AllocError> {
     Ok(Item::from_fields(vec![in alloc; Field::Int(number)]?))
 }
 
-/// Whether a word may end in the state, go on to an end by at least one item, both, or neither.
+/// Whether a word may end in the state, be extended by at least one item, both, or neither.
 fn answer(nfa: &Nfa, state: State) -> char {
     match (nfa.accepts(state), nfa.extends(state)) {
         (true, true) => 'b',

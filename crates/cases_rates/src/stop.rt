@@ -1,4 +1,4 @@
-//! Why a table is not gone through.
+//! Why a table cannot be gone through.
 
 use item_schema::ItemStop;
 use predicate_cells::CellStop;
@@ -9,11 +9,11 @@ use std::fmt;
 
 #[derive(Clone, Copy)]
 pub(crate) enum Stop {
-    /// A line is none of its table.
+    /// A line does not belong in its table.
     Line,
-    /// A name is none of a column, or of a query before it.
+    /// A name is neither that of a column nor that of an earlier query.
     Name,
-    /// A test is none of the items of its stream, or the cells do not tell it.
+    /// A test does not fit the items of its stream, or the cells do not decide it.
     Test,
     /// There are too many positions or cells.
     Size,

@@ -1,4 +1,4 @@
-//! The schema of a stream as it is written.
+//! The schema of a stream that is written as text.
 
 use crate::stop::Stop;
 use item_schema::{Column, Kind, Schema, are_columns};

@@ -11,7 +11,8 @@ pub(crate) struct Table<'t> {
     pub(crate) cases: Vec<&'t str>,
 }
 
-/// A line that begins with `stream` or `let` is a part of a query file, and one that begins with `#` is a remark.
+/// Lines that begin with `stream` or `let` are parts of a query file, and those that begin with `#`
+/// are remarks.
 pub(crate) fn table_of<'t>(alloc: Global, text: &'t str) -> Result<Box<Table<'t>>, Stop> {
     let scope = scope_of(alloc, text)?;
     let cases = cases_of(alloc, text)?;

@@ -7,7 +7,7 @@ use std::alloc::{AllocError, Global};
 /// The most items of a word.
 pub(crate) const ITEMS: u32 = 6;
 
-/// All words of up to six items, one item a cell, shorter ones first.
+/// All words of up to six items, with one item of each cell, shorter words first.
 pub(crate) fn short_words(alloc: Global, cells: &Cells) -> Result<Vec<Vec<Item>>, AllocError> {
     let items = samples(alloc, cells)?;
     words_of(alloc, &items)
@@ -33,7 +33,7 @@ fn samples(alloc: Global, cells: &Cells) -> Result<Vec<Item>, AllocError> {
     Ok(items)
 }
 
-/// Each of the words with each of the items behind it.
+/// Each of the words with each of the items after it.
 fn longer_words(
     alloc: Global,
     words: &[Vec<Item>],

@@ -1,4 +1,4 @@
-//! Runs the examples, one after the other: each is a folder with a query and its readings.
+//! Runs the examples, one after the other. Each is a folder with a query and its readings.
 #![tactic(auto)]
 
 use io_edge::{LazyFile, Source, WriterSink};
@@ -16,7 +16,7 @@ fn main(rt: HostRuntime) -> io::Result<()> {
     Ok(())
 }
 
-/// The folders where the program runs, in the order of their names.
+/// The folders where the program is started, in the order of their names.
 fn folders(rt: &HostRuntime) -> io::Result<Vec<String>> {
     let mut names = Vec::new(rt.alloc());
     for entry in fs::read_dir(rt, ".")? {
@@ -38,7 +38,7 @@ fn run(rt: HostRuntime, name: &str) -> io::Result<Status> {
     run_with(rt, &words)
 }
 
-/// The words of a run over the files of the folder.
+/// The words for a run over the files of the folder.
 fn words(alloc: Global, name: &str) -> Result<Vec<String>, AllocError> {
     let mut words = Vec::new(alloc);
     words.push(String::from_str(alloc, "run")?)?;

@@ -5,7 +5,7 @@ use Rattle.query_model.specs.Following.{composes_of}
 use Rattle.eval_runner.specs.Following.{columns_of, is_lost, query_of, IsSoundly}
 use Rattle.eval_runner.specs.declared.runner.Runner.{Runner}
 
--- it is sound and not lost, on these columns, and at most one compose stands in its query
+-- it is sound and not lost, it is on these columns, and its query has at most one compose
 pub record TakesItems (columns : List Column) (runner : Runner) : Type 0 where
   pub sound : IsSoundly runner
   pub found : is_lost runner ≡ false

@@ -9,16 +9,16 @@ use Rattle.predicate_cells.specs.Predicates.{Predicate, any, eq_text}
 use Rattle.rate_expr.specs.Rates.{one, sequence, star}
 use Rattle.query_model.specs.Queries.{Qre, atom, collect, combine, compose, iter, split}
 
--- items of a number
+-- items of one number
 abbrev pub numbers : List Column
 numbers = record { name = codes "a"; kind = kind.Int } ∷ []
 
--- the one number less the next
+-- a number less the next one
 abbrev pub difference : Qre
 difference = split (atom any (read (var.Field 0))) (atom any (read (var.Field 0)))
     (binary op.Sub (read var.Left) (read var.Right))
 
--- what the expression gives on each item, summed
+-- the sum of what the expression gives on each item
 abbrev pub total : Expression → Qre
 total value = iter (atom any value) (pos 0) (binary op.Add (read var.Left) (read var.Right))
 

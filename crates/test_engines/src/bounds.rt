@@ -1,5 +1,5 @@
-// What no clause says: that a bound is found as it was by hand. The program cases_rates goes through a table of queries
-// and their bounds.
+// What no clause says: that a bound is the one that was found by hand. The program cases_rates goes
+// through a table of queries and their bounds.
 use crate::assertions::same;
 use memory_bound::{places, slots};
 use predicate_cells::Pred;
@@ -22,7 +22,7 @@ fn split(alloc: Global) -> Result<Box<Query>, AllocError> {
     query(alloc, Shape::Split(left, right, Expr::Read(Var::Right)))
 }
 
-// Of 1 + 1 places, 1 + 1 + 3 * 1 slots for both operands, and 2 more.
+// It has 1 + 1 places. Slots are 1 + 1 + 3 * 1 for both operands, and 2 more.
 #[test]
 fn a_split_waits_for_its_right_operand(rt: HostRuntime) -> Result<(), Fail> {
     let split = split(rt.alloc())?;

@@ -30,7 +30,7 @@ fn column(alloc: Global, name: &[u8], kind: Kind) -> Result<Column, AllocError>
     Ok(Column { name, kind })
 }
 
-// A text and a number.
+// The columns of a text and a number.
 fn schema(alloc: Global) -> Result<Schema, AllocError>
     ensures { IfOk result (λ schema. schema.columns ≡ tested.keyed) }
 {
@@ -88,7 +88,7 @@ fn item(alloc: Global, key: &[u8], number: i64) -> Result<Item, AllocError>
     Ok(Item::from_fields(fields))
 }
 
-// How many keys there are, and what stands under the two.
+// How many keys there are, and the values of the two.
 fn sums(runner: &Runner<'_>) -> Option<(usize, Option<Scalar>, Option<Scalar>)> {
     match runner.answer() {
         Some(Value::Table(table)) => Some((table.len(), table.get(b"A"), table.get(b"B"))),
@@ -96,7 +96,7 @@ fn sums(runner: &Runner<'_>) -> Option<(usize, Option<Scalar>, Option<Scalar>)> 
     }
 }
 
-// What stands there with these numbers under the two.
+// What `sums` gives if these numbers are the values of the two.
 fn two(of_a: i64, of_b: i64) -> Option<(usize, Option<Scalar>, Option<Scalar>)> {
     Some((2, Some(Scalar::Number(of_a)), Some(Scalar::Number(of_b))))
 }
@@ -132,7 +132,7 @@ fn copy_of<'q>(alloc: Global, runner: &Runner<'q>) -> Result<Box<Runner<'q>>, Al
     Ok(Box::new(alloc, copy)?)
 }
 
-// Takes a 1 under A, a 2 under B and a tick.
+// Takes a 1 for A, a 2 for B and a tick.
 fn feed_to_tick(alloc: Global, runner: &mut Runner<'_>) -> Result<(), AllocError>
     requires fed { TakesItems tested.keyed runner.old }
     requires few { position_of runner.old < 90 }

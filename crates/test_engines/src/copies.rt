@@ -1,4 +1,4 @@
-// What a copy of a runner answers, and a runner that is reset, with ample memory.
+// What a copy of a runner answers, and what a runner that is reset answers, with ample memory.
 ghost use Rattle.std.specs.Prelude.{◌≡◌, ◌≤◌, IfOk, OnOk};
 ghost use Rattle.query_model.specs.Following.{composes_of};
 ghost use Rattle.query_model.specs.Queries.{plain_of};
@@ -22,7 +22,7 @@ fn copy_of<'q>(alloc: Global, runner: &Runner<'q>) -> Result<Box<Runner<'q>>, Al
     Ok(Box::new(alloc, copy)?)
 }
 
-// A runner goes on with a 4, and its copy with a 9.
+// A runner that takes a 4, and its copy that takes a 9.
 #[derive(Drop)]
 struct Apart {
     of_runner: Option<i64>,
@@ -59,7 +59,7 @@ fn copied_behind(alloc: Global, runner: &mut Runner<'_>) -> Result<Apart, AllocE
     go_on(alloc, runner, &mut copy)
 }
 
-// It is copied behind a 9.
+// The copy is made after a 9.
 fn copied(alloc: Global, checked: &Checked) -> Result<Apart, AllocError>
     requires stream { checked.now.layout.columns ≡ tested.numbers }
     requires composes { composes_of (plain_of checked.now.main.shape) ≤ 1 }
@@ -103,7 +103,7 @@ fn begin_anew(alloc: Global, runner: &mut Runner<'_>) -> Result<(), AllocError>
     runner.reset(alloc)
 }
 
-// A runner that was reset, and then goes on with a 4.
+// A runner that was reset and then takes a 4.
 #[derive(Drop)]
 struct Anew {
     value: Option<i64>,
@@ -129,7 +129,7 @@ fn reset_behind(alloc: Global, runner: &mut Runner<'_>) -> Result<Anew, AllocErr
     })
 }
 
-// It is reset behind a 9 and a 4.
+// It is reset after a 9 and a 4.
 fn reset(alloc: Global, checked: &Checked) -> Result<Anew, AllocError>
     requires stream { checked.now.layout.columns ≡ tested.numbers }
     requires composes { composes_of (plain_of checked.now.main.shape) ≤ 1 }

@@ -76,7 +76,7 @@ pub fn total_of_totals(alloc: Global) -> Result<Box<Query>, AllocError>
     query(alloc, Shape::Compose(first, second))
 }
 
-// A number.
+// The column of a number.
 pub fn numbers(alloc: Global) -> Result<Schema, AllocError>
     ensures { IfOk result (λ schema. schema.columns ≡ tested.numbers) }
 {

@@ -1,5 +1,5 @@
-//! Calls of `query_model`, `memory_bound`, `slow_eval`, `eval_nodes`, `eval_tree` and `eval_runner` with
-//! ample memory. They stand here because a crate with tests is proved twice.
+//! Calls of `query_model`, `memory_bound`, `slow_eval`, `eval_nodes`, `eval_tree` and `eval_runner`
+//! with ample memory. They stand here because a crate with tests is proved twice.
 #![tactic(auto)]
 
 #[cfg(test)]

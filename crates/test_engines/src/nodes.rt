@@ -17,7 +17,7 @@ use std::process::Abort;
 use std::test::Fail;
 use value_ops::{Scalar, Value};
 
-// A start and the number from there.
+// A start and the number of the piece that begins there.
 type Found = Option<(u64, i64)>;
 
 fn number_of(hit: &Option<Hit>) -> Found {
@@ -32,7 +32,7 @@ fn number_of(hit: &Option<Hit>) -> Found {
     }
 }
 
-// The node without a start.
+// A node without a start.
 fn resting(alloc: Global, query: &Query) -> Result<Box<Node>, AllocError>
     requires { plain_of query.now.shape ≡ tested.difference }
     ensures { IfOk result (λ node.
@@ -42,7 +42,7 @@ fn resting(alloc: Global, query: &Query) -> Result<Box<Node>, AllocError>
     Ok(Box::new(alloc, node)?)
 }
 
-// What a start at 0 gives.
+// The hit of a start at 0.
 fn hit_at_first(alloc: Global, query: &Query, node: &mut Node) -> Result<Found, AllocError>
     requires query { plain_of query.now.shape ≡ tested.difference }
     requires sound { IsSound seen_of tested.numbers (plain_of query.now.shape) 0
@@ -54,7 +54,7 @@ fn hit_at_first(alloc: Global, query: &Query, node: &mut Node) -> Result<Found, 
     Ok(number_of(&hit))
 }
 
-// What one more item gives, behind which there are `now`.
+// The hit of one more item, after which there are `now`.
 fn hit_behind(
     alloc: Global,
     query: &Query,
@@ -75,7 +75,7 @@ fn hit_behind(
     Ok(number_of(&hit))
 }
 
-// The same of a number.
+// The same for an item with this number.
 fn hit_after(
     alloc: Global,
     query: &Query,
@@ -95,7 +95,7 @@ fn hit_after(
     hit_behind(alloc, query, node, now, &item)
 }
 
-// Behind a start, a 9, and a 9 and a 4.
+// After a start, after a 9, and after a 9 and a 4.
 fn hits(alloc: Global, query: &Query, node: &mut Node) -> Result<(Found, Found, Found), AllocError>
     requires query { plain_of query.now.shape ≡ tested.difference }
     requires sound { IsSound seen_of tested.numbers (plain_of query.now.shape) 0
@@ -141,7 +141,7 @@ fn a_start_is_live_until_no_word_goes_on(rt: HostRuntime) -> Result<(), Fail> {
     is_live_once(&rt, rt.alloc(), &query, &mut node)
 }
 
-// What a node and its copy keep behind a 9.
+// How much a node and its copy keep after a 9.
 fn stored_in_both(alloc: Global, query: &Query, node: &mut Node) -> Result<(u64, u64), AllocError>
     requires query { plain_of query.now.shape ≡ tested.difference }
     requires sound { IsSound seen_of tested.numbers (plain_of query.now.shape) 0

@@ -60,7 +60,7 @@ pub fn value(runner: &Runner<'_>) -> Option<i64> {
     }
 }
 
-// The value behind one more number.
+// The value after one more number.
 pub fn value_after(
     alloc: Global,
     runner: &mut Runner<'_>,
@@ -76,7 +76,7 @@ pub fn value_after(
     Ok(value(runner))
 }
 
-// Before the first number, behind a 9, and behind a 9 and a 4.
+// Before the first number, after a 9, and after a 9 and a 4.
 fn values(
     alloc: Global,
     runner: &mut Runner<'_>,

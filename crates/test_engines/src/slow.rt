@@ -1,4 +1,4 @@
-// Values by the rules of the language, on words so short that these can be asked here.
+// Values by the rules of the language, on words so short that the rules can be asked here.
 ghost use Rattle.std.specs.Prelude.{◌≡◌, [], ◌∷◌, codes, pos, IfOk};
 ghost use Rattle.value_ops.specs.Expressions.{binary, literal, read};
 ghost use Rattle.predicate_cells.specs.Predicates.{any, eq_text};
@@ -116,7 +116,7 @@ fn keys_in(answer: &Option<Value>) -> Option<(&[u8], &[u8])> {
     }
 }
 
-// The query gives a table of these two keys on the items.
+// Whether the query gives a table of these two keys on the items.
 fn has_keys(
     rt: &impl Abort,
     alloc: Global,

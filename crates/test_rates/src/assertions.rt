@@ -1,4 +1,5 @@
-// Assertions as calls, since a macro's text for a failure is written out at each place where it stands.
+// Assertions as calls, since the text that a macro has for a failure is written out at each place
+// where it stands.
 ghost use Rattle.std.specs.Prelude.{IsTrue};
 
 use std::fmt::Debug;
@@ -8,7 +9,7 @@ pub(crate) fn same<T: PartialEq + Debug + Drop>(rt: &impl Abort, found: T, wante
     assert_eq!(rt; found, wanted);
 }
 
-// What the calls after it rest on.
+// The calls that come after it rest on the fact.
 pub(crate) fn holds(rt: &impl Abort, fact: bool)
     ensures { IsTrue fact }
 {

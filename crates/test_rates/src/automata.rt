@@ -1,5 +1,5 @@
-// What no clause says: that automata and copies are made at all, and what they answer after a word. The program
-// cases_rates goes through a table of rates and words.
+// What no clause says: that automata and copies are made at all, and what they answer after a word.
+// The program cases_rates goes through a table of rates and words.
 use crate::assertions::{holds, same};
 use crate::given::{boxed, item, items, sets_of};
 use crate::one_number::{any_item, cells_under, nfa_of, numbers};
@@ -27,7 +27,7 @@ fn preds(alloc: Global, number: i64) -> Result<Preds, AllocError> {
     Ok(preds)
 }
 
-// The cells of a stream of numbers, by which one is told from all others.
+// The cells of a stream of numbers that distinguish one number from all others.
 fn cells_with(rt: &impl Abort, alloc: Global, number: i64) -> Result<Rc<Cells>, CellStop> {
     let schema = numbers(alloc)?;
     let preds = preds(alloc, number)?;
@@ -52,7 +52,7 @@ fn nfa(rt: &impl Abort, alloc: Global) -> Result<Nfa, CellStop> {
     Ok(nfa_of(rt, alloc, &cells, &rate)?)
 }
 
-// A copy of the automaton, which is gone by then.
+// A copy of the automaton, which itself is dropped by then.
 fn copied(rt: &impl Abort, alloc: Global) -> Result<Nfa, CellStop> {
     let nfa = nfa(rt, alloc)?;
     Ok(nfa.try_copy(alloc)?)
@@ -96,7 +96,7 @@ fn states_answer_for_the_words_behind_them(rt: HostRuntime) -> Result<(), Fail> 
     Ok(())
 }
 
-// Words go on in both positions, and items of the cell are in the first alone.
+// From the initial state both positions may come next, and items of the cell meet only the first.
 fn goes_on_in_the_first(rt: &impl Abort, nfa: &Nfa, cell: u32) {
     holds(rt, nfa.has_state(State::Initial));
     let ways = nfa.ways_on(State::Initial);

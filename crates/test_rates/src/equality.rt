@@ -1,5 +1,5 @@
-// What no clause says: that answers are found at all. The program cases_rates goes through a table of rates and the
-// answers on them, and also compares many with each other.
+// What no clause says: that answers are found at all. The program cases_rates goes through a table
+// of rates and the answers on them, and also compares many with each other.
 ghost use Rattle.std.specs.Prelude.{◌≡◌};
 
 use crate::assertions::same;

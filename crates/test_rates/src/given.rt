@@ -1,4 +1,4 @@
-// Rates and their positions, each behind a box as soon as it is made.
+// Rates and their positions, each in a box as soon as it is made.
 use crate::assertions::holds;
 use predicate_cells::Pred;
 use rate_expr::{MAX_POSITIONS, Positions, Rate};
@@ -9,18 +9,18 @@ pub(crate) fn boxed(alloc: Global, rate: Rate) -> Result<Box<Rate>, AllocError> 
     Ok(Box::new(alloc, rate)?)
 }
 
-// An item that meets the predicate.
+// The rate of an item that meets the predicate.
 pub(crate) fn item(alloc: Global, pred: Pred) -> Result<Box<Rate>, AllocError> {
     boxed(alloc, Rate::One(pred))
 }
 
-// An item, again and again.
+// The rate of any items, one after the other.
 pub(crate) fn items(alloc: Global) -> Result<Box<Rate>, AllocError> {
     let any = item(alloc, Pred::Any)?;
     boxed(alloc, Rate::Star(any))
 }
 
-// An item, and an item again and again.
+// The rates of an item, and of any items.
 #[derive(Drop)]
 pub(crate) struct Rates {
     pub(crate) item: Box<Rate>,

@@ -1,4 +1,4 @@
-// Cells that no position tells apart: searches over what the items of cells meet see them as one.
+// Cells that no position distinguishes. A search by what the items of cells meet sees them as one.
 use crate::assertions::{holds, same};
 use crate::given::item;
 use crate::one_number::{cells_under, nfa_of};
@@ -12,7 +12,7 @@ use std::test::Fail;
 use symbolic_nfa::Nfa;
 use value_ops::Bytes;
 
-// Two cells each make 4,096.
+// Two cells for each column make 4,096 in all.
 const COLUMNS: u32 = 12;
 
 fn texts(rt: &impl Abort, alloc: Global) -> Result<Schema, AllocError> {

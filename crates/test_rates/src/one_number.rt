@@ -41,7 +41,7 @@ pub(crate) fn any_item(alloc: Global) -> Result<Preds, AllocError> {
     Ok(preds)
 }
 
-// One cell of all items.
+// A single cell for all items.
 fn cells(rt: &impl Abort, alloc: Global) -> Result<Rc<Cells>, CellStop> {
     let schema = numbers(alloc)?;
     let preds = any_item(alloc)?;

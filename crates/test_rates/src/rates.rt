@@ -1,5 +1,5 @@
-// What no clause says: that positions, masks and copies are made at all. The masks were found by hand. The program
-// cases_rates goes through a table of rates and their sets.
+// What no clause says: that positions, masks and copies are made at all. The masks were found by
+// hand. The program cases_rates goes through a table of rates and their sets.
 use crate::assertions::{holds, same};
 use crate::given::{boxed, held, item, sets_of};
 use predicate_cells::Pred;
@@ -19,7 +19,7 @@ fn two_items(alloc: Global) -> Result<Box<Rate>, AllocError> {
     boxed(alloc, Rate::Seq(first, second))
 }
 
-// A copy of the sets of a rate, which are gone by then.
+// A copy of the sets of a rate, which themselves are dropped by then.
 fn copied_sets(rt: &impl Abort, alloc: Global, rate: &Rate) -> Result<Box<Positions>, AllocError> {
     let sets = sets_of(rt, alloc, rate)?;
     held(alloc, sets.try_copy(alloc)?)
@@ -60,7 +60,7 @@ fn item_or_none(rt: &impl Abort, alloc: Global) -> Result<Positions, AllocError>
     empty.or(one)
 }
 
-// An item or none, and then another.
+// An item or none, and then another item.
 fn parts_in_sequence(rt: &impl Abort, alloc: Global) -> Result<Positions, AllocError> {
     let either = item_or_none(rt, alloc)?;
     let next = position_of(alloc, 2)?;
@@ -92,7 +92,7 @@ fn many_items(alloc: Global) -> Result<Box<Rate>, AllocError> {
     Ok(rate)
 }
 
-// The same again after a copy of them.
+// The same items, and then a copy of them.
 fn twice_as_many_items(alloc: Global) -> Result<Box<Rate>, AllocError> {
     let rate = many_items(alloc)?;
     let copy = boxed(alloc, rate.try_copy(alloc)?)?;
@@ -106,7 +106,7 @@ fn positions_are_counted_in_a_copy_too(rt: HostRuntime) -> Result<(), Fail> {
     Ok(())
 }
 
-// The first predicate again after both.
+// Both items, and then the first one again.
 fn three_items(alloc: Global) -> Result<Box<Rate>, AllocError> {
     let both = two_items(alloc)?;
     let third = item(alloc, Pred::Lt(0, 5))?;

@@ -1,5 +1,5 @@
-// What no clause says: that answers and levels are found at all. The program cases_rates goes through tables of rates and
-// the answers on them.
+// What no clause says: that answers and levels are found at all. The program cases_rates goes
+// through tables of rates and the answers on them.
 use crate::assertions::same;
 use crate::given::{Rates, boxed, item, item_and_items, items};
 use crate::one_number::{automata_of, nfa};
@@ -82,7 +82,7 @@ fn words_factor_in_one_way_or_more(rt: HostRuntime) -> Result<(), Fail> {
     Ok(())
 }
 
-// Both words end after the first item alone.
+// Both automata have only words of one item, so the search is over after it.
 fn is_over_after_one(rt: &impl Abort, alloc: Global, item: &Nfa) -> Result<(), AllocError> {
     let pairs = Pairs::new(alloc, item, item)?;
     let mut search = Search::begin(alloc, &pairs)?;
@@ -100,8 +100,8 @@ fn a_search_is_over_where_nothing_is_new(rt: HostRuntime) -> Result<(), Fail> {
     Ok(())
 }
 
-// The first item is in the first part of both, or in the second of the left one; the next one may be in the second part
-// of both.
+// The first item is in the first part of both splits, or in the second part of the left one only.
+// The next item may be in the second part of both.
 fn rejoins_after_one(rt: &impl Abort, alloc: Global, items: &Nfa) -> Result<(), AllocError> {
     let splits = Splits::new(alloc, items, items)?;
     let mut search = Search::begin(alloc, &splits)?;

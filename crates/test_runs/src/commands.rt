@@ -1,4 +1,4 @@
-// The commands that write one line. Where an item is read at all, its source fails at once.
+// The commands that write one line. They read no item: the source of the items fails at once.
 use crate::assertions::same_at;
 use crate::given::{Given, SUM, outcome, sum_over};
 use sqre_run::Status;
@@ -34,7 +34,7 @@ const WORDS: &[(&str, Status)] = &[
     ("why q -", Status::Usage),
 ];
 
-// Where they ask for one, the query is read, and that fails.
+// If the words ask for a command, the query is read, and that fails.
 #[test]
 fn words_ask_for_a_command(rt: HostRuntime) -> Result<(), Fail> {
     for &(words, wanted) in WORDS {
@@ -49,7 +49,7 @@ fn words_ask_for_a_command(rt: HostRuntime) -> Result<(), Fail> {
     Ok(())
 }
 
-// The words, the query, the status and what is written.
+// The words, the query, the status, and what is written.
 const LINES: &[(&str, &[u8], Status, &[u8])] = &[
     ("check q", SUM, Status::Done, b"ok\n"),
     ("bound q", SUM, Status::Done, b"places 1 slots 6\n"),
@@ -86,14 +86,14 @@ const LINES: &[(&str, &[u8], Status, &[u8])] = &[
     ("check q", b"", Status::Refused, b"refused form 0..0\n"),
     ("bound q", b"", Status::Refused, b"refused form 0..0\n"),
     ("drill q 2 0", b"", Status::Refused, b"refused form 0..0\n"),
-    // The sum of a plain loop over the draws of the seed 1.
+    // The sum by a plain loop over the numbers that the seed 1 draws.
     (
         "drill q 200 1",
         SUM,
         Status::Done,
         b"items 200 defined 200 last 5883\n",
     ),
-    // And of those of 7 and of 2^64-1.
+    // The same for the seeds 7 and 2^64-1.
     (
         "drill q 0000002 00000000000000000007",
         SUM,
@@ -124,7 +124,7 @@ fn each_command_writes_its_line(rt: HostRuntime) -> Result<(), Fail> {
     Ok(())
 }
 
-// There is room for one byte.
+// There is room for only one byte.
 fn ends_at_a_write(rt: &impl Abort, alloc: Global, words: &str) -> Result<(), AllocError> {
     let given = Given {
         words,

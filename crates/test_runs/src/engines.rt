@@ -14,7 +14,7 @@ const SUM_OF_DIFFERENCES: &[u8] = b"stream(plain, col(a, int))
 main(iter(split(atom(any, a), atom(any, a), sub(x, y)), 0, add(x, y)))
 ";
 
-// The sum behind the last `end`.
+// The sum after the last `end`.
 const SUM_BEHIND_END: &[u8] = b"stream(plain, col(k, text), col(a, int))
 main(split(
     split(iter(atom(any, 0), 0, 0), atom(eq(k, \"end\"), 0), 0),

@@ -1,5 +1,5 @@
-// What no clause says: that explanations are written at all, which hint is for which place, and
-// which name and which second place are told.
+// What no clause says: that explanations are written at all, which hint is given for which place,
+// and which name and which second place are reported.
 use crate::assertions::same_at;
 use explanation::{program_explanation, text_explanation};
 use language_base::{Bytes, Refusal, Rule, Span};
@@ -267,7 +267,7 @@ fn tells(
     Ok(shown.as_slice().ends_with(wanted.as_bytes()))
 }
 
-// A rule, a program that breaks it, where, and the last lines of its explanation.
+// A rule, a program that breaks it, the place, and the last lines of its explanation.
 const NAMES: &[(Rule, &str, (u32, u32), &str)] = &[
     (
         Rule::Name,
@@ -364,7 +364,7 @@ fn a_name_that_is_not_right_is_told(rt: HostRuntime) -> Result<(), Fail> {
     Ok(())
 }
 
-// The same of programs whose second place is shown too.
+// The same for programs with a second place, which is shown too.
 const SECOND_PLACES: &[(Rule, &str, (u32, u32), &str)] = &[
     (
         Rule::Name,

@@ -1,5 +1,5 @@
-// A call of the outside that fails, at each place where it may: whole lines up to there, or the bytes
-// that were taken. All reads are of one byte.
+// A read or a write fails, at each place where it may. What is written are the answers to the whole
+// lines before it, or the bytes that the sink took. All reads are of one byte.
 use crate::assertions::{same, same_at};
 use crate::given::{Given, READS, SUM, outcome, run_of, sum_over};
 use sqre_run::Status;
@@ -86,7 +86,7 @@ fn a_line_is_cut_where_its_second_write_fails(rt: HostRuntime) -> Result<(), Fai
     Ok(())
 }
 
-// Pieces of one byte make no difference, however many there are.
+// Writes in pieces of one byte make no difference, however many there are.
 #[test]
 fn the_cuts_of_the_writes_change_nothing(rt: HostRuntime) -> Result<(), Fail> {
     let given = Given {

@@ -1,15 +1,15 @@
-// What a run is given, and what comes of it.
+// What a run is given, and what it gives.
 use io_edge::{MemorySink, MemorySource};
 use sqre_run::{Status, sqre};
 use std::alloc::{AllocError, Global};
 
 pub const SUM: &[u8] = b"stream(plain, col(a, int))\nmain(iter(atom(any, a), 0, add(x, y)))\n";
 
-// More reads than one for each byte of a source take.
+// More reads than a source takes that gives one byte at a time.
 pub const READS: usize = 80;
 
-// What a run is given. Each read takes at most `cut` bytes, each write its cut, and the calls of these
-// numbers fail.
+// What a run is given. Each read takes at most `cut` bytes, each write its own cut, and the calls
+// of these numbers fail.
 #[derive(Clone, Copy)]
 pub struct Given<'a> {
     pub words: &'a str,

@@ -1,5 +1,5 @@
 // What a source sees of a sink at each of its reads: the answers to all whole lines before it were
-// handed on.
+// flushed.
 ghost use Rattle.std.specs.Prelude.{◌-◌, None, Some};
 
 use crate::assertions::same_at;
@@ -10,10 +10,10 @@ use std::alloc::{AllocError, Global};
 use std::cell::Cell;
 use std::test::Fail;
 
-// The most reads that are looked at.
+// The most reads that are recorded.
 const SEEN: usize = 8;
 
-// Holds back every byte until it is flushed, and shows how many it has handed on.
+// Holds back every byte until it is flushed, and shows how many were flushed.
 #[derive(Drop)]
 struct HoldingSink<'a> {
     taken: usize,
@@ -42,7 +42,7 @@ impl Sink for HoldingSink<'_> {
     }
 }
 
-// Looks at each read how many bytes were handed on.
+// Records at each read how many bytes were flushed.
 #[derive(Drop)]
 struct LookingSource<'a> {
     source: MemorySource,
@@ -70,8 +70,8 @@ impl Source for LookingSource<'_> {
     }
 }
 
-// How many bytes were handed on at each read of a run over items whose reads are cut so, and at its
-// end.
+// How many bytes were flushed at each read of a run whose items are read in these pieces, and at
+// its end.
 fn seen_at_reads(alloc: Global, cuts: &[usize]) -> Result<([usize; SEEN], usize), AllocError> {
     let words = words_of(alloc, "run q -")?;
     let shown = Cell::new(0);

@@ -1,5 +1,5 @@
-//! Calls of `sqre_run`, `explanation` and `explain_run`, and the bytes that come of them. They stand here
-//! because a crate with tests is proved twice.
+//! Calls of `sqre_run`, `explanation` and `explain_run`, and the bytes that they write. They stand
+//! here because a crate with tests is proved twice.
 #![tactic(auto)]
 
 #[cfg(test)]

@@ -1,4 +1,4 @@
-// Runs over many items, whose answers are those of a plain loop, and what is kept on the way.
+// Runs over many items, whose answers are those of a plain loop, and how much is kept meanwhile.
 ghost use Rattle.std.specs.Prelude.{◌≡◌, IfOk};
 
 use crate::assertions::same;
@@ -15,7 +15,7 @@ use std::process::Abort;
 use std::test::Fail;
 use value_ops::Field;
 
-// The number of lines by which each of the three shapes below is tried.
+// The number of lines that each of the three queries below is run on.
 const LINES: u64 = 20_000;
 
 // The sum of the items before the first one below zero, less that of the others.
@@ -36,7 +36,7 @@ const SUM_OF_KEYS: &[u8] = b"stream(plain, col(k, text), col(a, int))
 main(apply(collect(k, not(any), star(item(any)), iter(atom(any, a), 0, add(x, y))), tsum(x)))
 ";
 
-// The column of the sum's items.
+// The column of the items that are summed.
 fn column(alloc: Global) -> Result<Column, AllocError>
     ensures { IfOk result (λ column. column.kind ≡ Kind.Int) }
 {
@@ -100,7 +100,7 @@ fn million_lines(alloc: Global) -> Result<Drawn, AllocError> {
     Ok(drawn)
 }
 
-// A line for each of a million items, the last of which has the sum.
+// A line for each of a million items; the last line is the sum.
 fn answers_with_sum(
     rt: &impl Abort,
     alloc: Global,
@@ -156,7 +156,7 @@ fn numbers_to(alloc: Global, last: u64) -> Result<Vec<u8>, AllocError> {
 }
 
 // Whether a run answers each of the lines by its number. The engine that keeps the whole word would
-// take many minutes, since after each item it looks through all pieces of the word.
+// take many minutes, since it looks through all pieces of the word after each item.
 fn is_counted(alloc: Global, query: &[u8], items: &str) -> Result<bool, AllocError> {
     let given = Given {
         room: 262_144,
@@ -190,7 +190,7 @@ fn a_collect_of_many_items_is_answered_in_time(rt: HostRuntime) -> Result<(), Fa
     Ok(())
 }
 
-// As much as the bound of the query says, which has 6 slots.
+// It keeps as much as the bound of the query says, which is 6 slots.
 #[test]
 fn a_sum_keeps_as_much_after_each_item(rt: HostRuntime) -> Result<(), Fail> {
     let alloc = rt.alloc();

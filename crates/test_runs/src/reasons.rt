@@ -1,4 +1,4 @@
-// The command `why`. Where it reads an item, its source fails at once.
+// The command `why`. It reads no item: the source of the items fails at once.
 use crate::assertions::same_at;
 use crate::given::{Given, SUM, outcome, sum_over};
 use sqre_run::Status;
@@ -18,7 +18,7 @@ const ITER: &[u8] =
 const COMBINE: &[u8] =
     b"stream(plain, col(a, int))\nmain(combine(iter(atom(any, a), 0, add(x, y)), atom(any, a), x))\n";
 
-// A number in its smallest unit, beside a text.
+// A number in its smallest unit, next to a text.
 const FIXED: &[u8] =
     b"stream(plain, col(k, text), col(p, fixed(2)))\nmain(or(atom(and(eq(k, \"a\"), eq(p, 150)), 1), atom(eq(k, \"a\"), 2)))\n";
 
@@ -30,7 +30,7 @@ const TEXT: &[u8] =
 const VALUE: &[u8] =
     b"stream(plain, col(a, int))\nmain(compose(iter(atom(any, a), 0, add(x, y)), or(atom(eq(value, 3), 1), atom(any, 2))))\n";
 
-// What `why` writes of the query.
+// Whether this is what `why` writes for the query.
 fn says(
     rt: &impl Abort,
     alloc: Global,

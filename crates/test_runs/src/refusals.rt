@@ -1,4 +1,4 @@
-// What no clause says: that a refusal is explained at all, and how that looks, written out.
+// What no clause says: that a refusal is explained at all, and how that looks, byte for byte.
 use crate::assertions::same;
 use explain_run::{Status, explain, explanation_of};
 use io_edge::{MemorySink, MemorySource};
@@ -58,7 +58,7 @@ fn a_name_that_is_not_known_is_told(rt: HostRuntime) -> Result<(), Fail> {
 const TOLD: &str =
     "Give both operands the same predicates in the same places; expressions may differ.";
 
-// Whether this is what stands behind the rule, where the operands are combined.
+// Whether this comes after the rule if these operands are combined.
 fn tells(alloc: Global, left: &str, right: &str, wanted: &str) -> Result<bool, Fail> {
     let text = format!(in alloc;
         "stream(plain, col(t, text), col(n, fixed(2)))\nmain(combine({left}, {right}, x))\n"
@@ -101,7 +101,7 @@ fn a_word_of_one_operand_is_shown(rt: HostRuntime) -> Result<(), Fail> {
             "eps(0)",
             "Only the right operand has a value on no items at all.\n",
         ),
-        // A byte that is not shown as it is.
+        // A byte that cannot be shown as it is.
         ("atom(any, 0)", "atom(ne(t, \"\\x1B\"), 0)", ""),
     ] {
         assert!(rt;
@@ -112,7 +112,7 @@ fn a_word_of_one_operand_is_shown(rt: HostRuntime) -> Result<(), Fail> {
     Ok(())
 }
 
-// So many items.
+// A sequence of `count` items.
 fn items(alloc: Global, count: usize) -> Result<String, AllocError> {
     let mut text = String::from_str(alloc, "atom(any, 0)")?;
     for _ in 1..count {

@@ -1,4 +1,4 @@
-// What no clause says: that runs come to their end, and the very bytes that they write. The program
+// What no clause says: that runs come to an end, and the very bytes that they write. The program
 // `cases_queries` shows more lines, queries and refusals.
 use crate::assertions::{same, same_at};
 use crate::given::{Given, SUM, outcome, run_of, sum_over, words_of};
@@ -25,7 +25,7 @@ fn the_cuts_of_the_reads_change_nothing(rt: HostRuntime) -> Result<(), Fail> {
     Ok(())
 }
 
-// What was taken is told as its length alone.
+// Of what was taken, only the length is reported.
 #[test]
 fn a_run_needs_no_source_that_fails(rt: HostRuntime) -> Result<(), Fail> {
     let words = words_of(rt.alloc(), "run q -")?;
@@ -38,7 +38,7 @@ fn a_run_needs_no_source_that_fails(rt: HostRuntime) -> Result<(), Fail> {
     Ok(())
 }
 
-// The words, the query and the reads of it that fail, the status and what is written.
+// The words, the query, which reads of it fail, the status, and what is written.
 const NOT_BEGUN: &[(&str, &[u8], &[u64], Status, &[u8])] = &[
     ("run q", SUM, &[1], Status::Usage, b""),
     ("run q - x", SUM, &[1], Status::Usage, b""),
@@ -56,7 +56,7 @@ const NOT_BEGUN: &[(&str, &[u8], &[u64], Status, &[u8])] = &[
     ),
 ];
 
-// Where it is read at all, the source fails at once.
+// If it is read at all, the source fails at once.
 #[test]
 fn a_run_that_is_not_begun_reads_nothing(rt: HostRuntime) -> Result<(), Fail> {
     for &(words, query, query_fails, wanted, written) in NOT_BEGUN {
@@ -97,7 +97,7 @@ fn a_fault_ends_the_run_behind_the_last_answer(rt: HostRuntime) -> Result<(), Fa
     Ok(())
 }
 
-// The sum over these items into a room, where the second read fails.
+// The run of the sum over these items into little room, where the second read fails.
 fn sum_into_room<const ROOM: usize>(alloc: Global, items: &[u8]) -> Result<Status, AllocError> {
     let words = words_of(alloc, "run q -")?;
     let mut query = SteadySource::new(alloc, SUM)?;

@@ -1,4 +1,4 @@
-// A session with the engine that keeps the whole word: each reply, and the value behind it.
+// A session with the engine that keeps the whole word: each reply, and the value after it.
 use crate::assertions::same;
 use crate::compiled::compiled;
 use item_schema::{Cause, Skip};
@@ -47,7 +47,7 @@ fn a_session_says_what_each_line_was(rt: HostRuntime) -> Result<(), Fail> {
     Ok(())
 }
 
-// A header may be too long, and the line behind it is an item.
+// A header may be too long, and the line after it is an item.
 #[test]
 fn a_second_header_is_an_item(rt: HostRuntime) -> Result<(), Fail> {
     let alloc = rt.alloc();

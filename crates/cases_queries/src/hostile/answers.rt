@@ -4,9 +4,9 @@ ghost use Rattle.std.specs.Prelude.{◌≡◌, ◌-◌, length, slice_index_or, 
 use crate::hostile::stop::{Finding, Stop};
 use std::alloc::Global;
 
-/// The causes why a line is no item.
+/// The causes for which a line is no item.
 const CAUSES: [&str; 6] = ["long", "cr", "columns", "number", "digits", "range"];
-/// The greatest number of a column.
+/// The greatest number that a column may have.
 const COLUMNS: u32 = 32;
 
 /// What a run wrote.
@@ -14,7 +14,7 @@ const COLUMNS: u32 = 32;
 pub(crate) struct Answers {
     /// The lines for items, in their order.
     pub(crate) answered: String,
-    /// How many these are.
+    /// How many answers to items there are.
     pub(crate) items: u32,
     /// How many lines there are in all.
     pub(crate) lines: u32,
@@ -87,7 +87,7 @@ pub(crate) fn is_bound(text: &str) -> bool {
     }
 }
 
-/// Whether the text is the line of a drill of 20 items.
+/// Whether the text is the line that a drill of 20 items writes.
 pub(crate) fn is_drill(text: &str) -> bool {
     let Some(rest) = text.strip_prefix("items 20 defined ") else {
         return false;

@@ -34,17 +34,18 @@ impl Outcome {
     }
 }
 
-/// A call of a command that reads no items.
+/// The outcome of a command that reads no items.
 pub(crate) fn asked(alloc: Global, words: &[&str], case: &Case) -> Result<Outcome, Stop> {
     outcome_of(alloc, words, case, &[])
 }
 
-/// A run, whose first reads and writes give and take as many bytes as `cuts` says.
+/// The outcome of a run whose first reads give, and whose first writes take, as many bytes as
+/// `cuts` says.
 pub(crate) fn run(alloc: Global, case: &Case, cuts: &[usize]) -> Result<Outcome, Stop> {
     outcome_of(alloc, &["run", "query", "items"], case, cuts)
 }
 
-/// A run on the engine that keeps the whole word.
+/// The outcome of a run with the engine that keeps the whole word.
 pub(crate) fn run_slowly(alloc: Global, case: &Case) -> Result<Outcome, Stop> {
     outcome_of(alloc, &["slow", "query", "items"], case, &[])
 }

@@ -8,7 +8,7 @@ pub(crate) struct Case {
 }
 
 impl Case {
-    /// All bytes are the query where the place is none of them.
+    /// If the cut is not a place in the bytes, all bytes are the query.
     pub(crate) fn new(bytes: Vec<u8>, cut: usize) -> Case {
         Case { bytes, cut }
     }

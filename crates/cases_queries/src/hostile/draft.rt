@@ -1,4 +1,4 @@
-//! A case as it is drawn.
+//! Cases as they are drawn.
 
 use crate::hostile::case::Case;
 use crate::hostile::draws::Draws;
@@ -9,20 +9,20 @@ use std::alloc::{AllocError, Global};
 /// More parts than a case has.
 const PARTS: u32 = 100_000;
 
-/// From so many bytes of a query, or of items, on, a rule stands for its first alternative. The
-/// greater number is that of one case in ten.
+/// When a query, or the items, have this many bytes, only the first alternative of a rule is drawn.
+/// The greater number is that of one case in ten.
 const LONG: usize = 600;
 
 const VERY_LONG: usize = 6_000;
-/// The rule of what has none of the forms.
+/// The rule for a term that has no form.
 const MISS: &str = "miss";
 
-/// The bytes so far, and the parts that are to come, the next one at the end.
+/// The bytes so far, and the parts that are still to come, the next one last.
 #[derive(Drop)]
 struct Draft {
     alloc: Global,
     draws: Draws,
-    /// One part of so many is spoiled, and none at 0.
+    /// One part in this many is spoiled, and none if it is 0.
     rarity: usize,
     long: usize,
     bytes: Vec<u8>,
@@ -33,7 +33,7 @@ struct Draft {
     cut: Option<usize>,
 }
 
-/// The case of a seed. Some are drawn as the grammar says, and some are spoiled here and there.
+/// The case of a seed. Some cases are drawn as the grammar says, and some have spoiled parts.
 pub(crate) fn case_of(alloc: Global, grammar: &Grammar, seed: u64) -> Result<Case, AllocError> {
     let mut draft = Draft::new(alloc, seed);
     if let Some(rule) = grammar.rules.first() {
@@ -73,7 +73,7 @@ impl Draft {
         Case::new(bytes, cut)
     }
 
-    /// Draws what stands for the rule, as what comes next.
+    /// Draws an alternative of the rule, whose parts come next.
     fn plan(&mut self, rule: &Rule) -> Result<(), AllocError> {
         let alternative = if self.is_long() {
             rule.alternatives.first()
@@ -88,7 +88,7 @@ impl Draft {
         Ok(())
     }
 
-    /// Whether the query, or behind it the items, are long.
+    /// Whether the query, or the items after it, are long.
     fn is_long(&self) -> bool {
         self.bytes.len().saturating_sub(self.cut.unwrap_or(0)) >= self.long
     }

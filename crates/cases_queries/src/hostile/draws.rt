@@ -35,7 +35,7 @@ impl Draws {
         word.checked_rem(bound).unwrap_or(0)
     }
 
-    /// Whether one of so many draws is this one. None is of 0.
+    /// Whether one draw in `count` hits this one. If the count is 0, none does.
     pub(crate) fn is_one_of(&mut self, count: usize) -> bool {
         count > 0 && self.below(count) == 0
     }

@@ -13,8 +13,8 @@ use query_model::Checked;
 use slow_eval::Slow;
 use std::alloc::Global;
 
-/// Asks that both engines answer the first items as a run does, and that the one which goes item by
-/// item keeps no more than it may. The number of these items.
+/// Checks that both engines answer the first items as a run does, and that the runner keeps no more
+/// than it may. Gives how many items these are.
 pub(crate) fn ask_engines(
     alloc: Global,
     checked: &Checked,
@@ -27,7 +27,7 @@ pub(crate) fn ask_engines(
     Ok(wanted.kept.len() as u64)
 }
 
-/// What the engine answers that searches all readings.
+/// What the engine that searches all readings answers.
 fn wanted(alloc: Global, checked: &Checked, items: &[u8]) -> Result<Told, Stop> {
     let slow = Slow::new(alloc, checked)?;
     let wanted = told_by(alloc, checked, slow, items)?;
@@ -35,7 +35,7 @@ fn wanted(alloc: Global, checked: &Checked, items: &[u8]) -> Result<Told, Stop> 
     Ok(wanted)
 }
 
-/// Asks that the engine that goes item by item answers as is wanted.
+/// Checks that the runner answers as wanted.
 fn ask_runner(alloc: Global, checked: &Checked, items: &[u8], wanted: &Told) -> Result<(), Stop> {
     let runner = Runner::new(alloc, checked)?;
     let told = told_by(alloc, checked, runner, items)?;
@@ -44,7 +44,7 @@ fn ask_runner(alloc: Global, checked: &Checked, items: &[u8], wanted: &Told) -> 
     ask_bound(bound_of(checked.main()), &told)
 }
 
-/// Asks of an engine that copies answer as it does, and that it goes back.
+/// Checks that copies of an engine answer as it does, and that it can be reset.
 fn ask_alone(told: &Told) -> Result<(), Stop>
     ensures { IsOk result ↔ ((told.now.back.items ≡ told.now.begun.items)
         × (told.now.copies.items ≡ told.now.answers.items)) }
@@ -58,7 +58,7 @@ fn ask_alone(told: &Told) -> Result<(), Stop>
     Ok(())
 }
 
-/// Asks that one engine answers as the other.
+/// Checks that one engine answers as the other.
 fn ask_both(told: &Told, wanted: &Told) -> Result<(), Stop>
     ensures { IsOk result ↔ ((told.now.begun.items ≡ wanted.now.begun.items)
         × (told.now.answers.items ≡ wanted.now.answers.items)) }
@@ -69,7 +69,7 @@ fn ask_both(told: &Told, wanted: &Told) -> Result<(), Stop>
     Ok(())
 }
 
-/// Asks that no more is kept after any item than is allowed.
+/// Checks that no more than the bound is kept after any item.
 fn ask_bound(bound: Bound, told: &Told) -> Result<(), Stop>
     ensures { IsOk result ↔ IsTrue (list_all (is_within bound) told.now.kept.items) }
 {
@@ -79,7 +79,7 @@ fn ask_bound(bound: Bound, told: &Told) -> Result<(), Stop>
     Ok(())
 }
 
-/// Asks that a run writes these answers first.
+/// Checks that a run writes these answers first.
 fn ask_run(told: &Told, answers: &Answers) -> Result<(), Stop>
     ensures { IsOk result ↔ IsTrue (starts_with nat_eq
         (string_bytes answers.now.answered) told.now.answers.items) }

@@ -1,4 +1,4 @@
-//! The grammar that cases are drawn from.
+//! The grammar from which cases are drawn.
 
 use crate::hostile::draws::Draws;
 use std::alloc::{AllocError, Global};
@@ -7,11 +7,11 @@ use std::alloc::{AllocError, Global};
 #[derive(Drop)]
 pub(crate) struct Grammar {
     pub(crate) rules: Vec<Rule>,
-    /// The bytes of all parts, one behind the other.
+    /// The bytes of all parts, one after the other.
     texts: Vec<u8>,
 }
 
-/// What may stand for a name: one of the alternatives, each as often as its weight says.
+/// What a name may stand for: one of the alternatives, drawn by their weights.
 #[derive(Drop)]
 pub(crate) struct Rule {
     pub(crate) name: String,
@@ -28,12 +28,12 @@ pub(crate) struct Alternative {
 #[derive(Clone, Copy)]
 pub(crate) enum Part {
     Bytes(Place),
-    /// The rule that is the so many-th of the grammar.
+    /// A rule by its place in the grammar.
     Rule(usize),
     Mark(Mark),
 }
 
-/// Where bytes stand among those of all parts.
+/// Where bytes lie among those of all parts.
 #[derive(Clone, Copy)]
 pub(crate) struct Place {
     from: usize,
@@ -42,17 +42,17 @@ pub(crate) struct Place {
 
 #[derive(Clone, Copy)]
 pub(crate) enum Mark {
-    /// Some byte.
+    /// Any byte.
     Byte,
-    /// A number that is one more with each time.
+    /// A number that is one more each time.
     Count,
-    /// Here what is kept begins.
+    /// What is kept begins here.
     Keep,
-    /// Here the part that began last ends, and is what is kept.
+    /// The part that began last ends here, and is kept.
     Kept,
     /// What is kept, once more.
     Again,
-    /// Here the query ends and the items begin.
+    /// The query ends here, and the items begin.
     Items,
 }
 
@@ -64,19 +64,19 @@ impl Grammar {
         }
     }
 
-    /// Which of the rules has the name.
+    /// The place of the rule with the name.
     pub(crate) fn number_of(&self, name: &str) -> Option<usize> {
         self.rules
             .iter()
             .position(|rule| rule.name.as_str() == name)
     }
 
-    /// Some rule.
+    /// Any rule.
     pub(crate) fn any_rule(&self, draws: &mut Draws) -> Option<&Rule> {
         self.rules.get(draws.below(self.rules.len()))
     }
 
-    /// A part of these bytes.
+    /// Adds a part with these bytes.
     pub(crate) fn add_bytes(&mut self, bytes: &[u8]) -> Result<Part, AllocError> {
         let from = self.texts.len();
         self.texts.extend_from_slice(bytes)?;
@@ -90,7 +90,7 @@ impl Grammar {
 }
 
 impl Rule {
-    /// An alternative that is drawn by the weights.
+    /// An alternative, drawn by the weights.
     pub(crate) fn drawn(&self, draws: &mut Draws) -> Option<&Alternative> {
         let mut left = draws.below(self.weight);
         for alternative in self.alternatives.iter() {

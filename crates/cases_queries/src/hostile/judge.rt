@@ -1,4 +1,4 @@
-//! What is asked of each case.
+//! What is checked in each case.
 ghost use Rattle.std.specs.Prelude.{◌≡◌, ◌⊎◌, OnOk};
 ghost use Rattle.cases_queries.specs.Outcomes.{IsSame};
 
@@ -30,7 +30,7 @@ struct Calls {
     run_in_pieces: Outcome,
 }
 
-/// Asks all that needs no second program: how calls end, and what they write.
+/// Checks all that needs no second program: how calls end, and what they write.
 pub(crate) fn judge(alloc: Global, case: &Case, tally: &mut Tally) -> Result<(), Stop> {
     let calls = calls_on(alloc, case)?;
     judge_calls(alloc, case, &calls, tally)
@@ -46,7 +46,7 @@ fn calls_on(alloc: Global, case: &Case) -> Result<Calls, Stop> {
     })
 }
 
-/// Asks that short reads and writes change nothing, and that the query is accepted or refused.
+/// Checks that short reads and writes change nothing, and that the query is accepted or refused.
 fn judge_calls(alloc: Global, case: &Case, calls: &Calls, tally: &mut Tally) -> Result<(), Stop>
     ensures pieces { OnOk result (IsSame calls.now.run calls.now.run_in_pieces) }
     ensures status { OnOk result ((calls.now.check.status ≡ Status.Done)
@@ -62,7 +62,7 @@ fn judge_calls(alloc: Global, case: &Case, calls: &Calls, tally: &mut Tally) -> 
     }
 }
 
-/// Asks that all calls accept the query, and write lines of their commands.
+/// Checks that all calls accept the query, and write lines of their commands.
 fn judge_accepted(alloc: Global, case: &Case, calls: &Calls, tally: &mut Tally) -> Result<(), Stop>
     ensures bound { OnOk result (calls.now.bound.status ≡ Status.Done) }
     ensures drill { OnOk result (calls.now.drill.status ≡ Status.Done) }
@@ -80,7 +80,7 @@ fn judge_accepted(alloc: Global, case: &Case, calls: &Calls, tally: &mut Tally) 
     judge_run(alloc, case, &calls.run, tally)
 }
 
-/// Asks what a run is to write.
+/// Checks what a run writes.
 fn judge_run(alloc: Global, case: &Case, run: &Outcome, tally: &mut Tally) -> Result<(), Stop> {
     let checked = checked(alloc, case.query())?;
     let answers = Answers::of(alloc, run.text.as_str())?;
@@ -95,7 +95,7 @@ fn judge_run(alloc: Global, case: &Case, run: &Outcome, tally: &mut Tally) -> Re
     Ok(())
 }
 
-/// Asks that all calls refuse the query alike.
+/// Checks that all calls refuse the query in the same way.
 fn judge_refused(alloc: Global, case: &Case, calls: &Calls, tally: &mut Tally) -> Result<(), Stop>
     ensures bound { OnOk result (IsSame calls.now.bound calls.now.check) }
     ensures drill { OnOk result (IsSame calls.now.drill calls.now.check) }

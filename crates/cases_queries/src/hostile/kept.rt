@@ -11,8 +11,7 @@ pub(crate) struct Kept {
     pub(crate) texts: u32,
 }
 
-/// What it may keep: the slots of the query, and where this makes tables as many again for each
-/// key.
+/// What it may keep: the slots of the query, and if that makes tables, as many again for each key.
 #[derive(Clone, Copy)]
 pub(crate) struct Bound {
     pub(crate) slots: u32,

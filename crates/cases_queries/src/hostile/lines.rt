@@ -1,6 +1,6 @@
-//! The lines of items that are to be answered.
+//! The lines of items that a run has to answer.
 
-/// How many lines are no header and not empty. A CR before an LF is no part of its line.
+/// How many lines are neither the header nor empty. A CR before an LF is no part of the line.
 pub(crate) fn lines_due(items: &[u8], has_header: bool) -> u32 {
     let mut due: u32 = 0;
     let mut is_header = has_header;

@@ -1,4 +1,4 @@
-//! The grammar read from its file.
+//! The grammar, read from its file.
 
 use crate::hostile::grammar::{Alternative, Grammar, Mark, Part, Rule};
 use std::alloc::{AllocError, Global};
@@ -11,8 +11,8 @@ struct Entry<'t> {
     text: &'t str,
 }
 
-/// The grammar of the text, with the rules in the order in which they come first. There is none
-/// where a line is no entry, or a text names no rule. Lines that are empty or begin with `#` are remarks.
+/// The grammar of the text, with the rules in the order in which they come first. There is none if
+/// a line is no entry, or names no rule. Empty lines and lines that begin with `#` are remarks.
 pub(crate) fn grammar_of(alloc: Global, text: &str) -> Result<Option<Grammar>, AllocError> {
     let mut grammar = named_rules(alloc, text)?;
     for line in text.lines() {
@@ -58,7 +58,7 @@ fn entry_of(line: &str) -> Option<Entry<'_>> {
     }
 }
 
-/// Adds a rule where there is none of the name.
+/// Adds a rule unless there is one with the name.
 fn add_rule(alloc: Global, grammar: &mut Grammar, name: &str) -> Result<(), AllocError> {
     if grammar.number_of(name).is_none() {
         let name = String::from_str(alloc, name)?;
@@ -71,7 +71,7 @@ fn add_rule(alloc: Global, grammar: &mut Grammar, name: &str) -> Result<(), Allo
     Ok(())
 }
 
-/// Whether the line is an entry, all names of which are known.
+/// Whether the line is an entry in which all names are known. Its alternative is added then.
 fn add_alternative(alloc: Global, grammar: &mut Grammar, line: &str) -> Result<bool, AllocError> {
     let Some(entry) = entry_of(line) else {
         return Ok(false);
@@ -135,7 +135,7 @@ fn mark_of(name: &str) -> Option<Mark> {
     }
 }
 
-/// What has no sign of its own in the file.
+/// Bytes that the file can only name.
 fn bytes_of(name: &str) -> Option<&'static [u8]> {
     match name {
         "lf" => Some(b"\n"),

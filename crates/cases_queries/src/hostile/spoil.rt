@@ -8,9 +8,9 @@ pub(crate) enum Spoil {
     Missing,
     /// It comes twice.
     Doubled,
-    /// Some rule stands in its place, or some byte behind it.
+    /// Another rule stands in its place, or another byte comes after it.
     Other,
-    /// What has none of the forms stands in its place. Bytes are as they are.
+    /// A term without a form stands in its place. Bytes stay as they are.
     Miss,
 }
 
@@ -25,7 +25,7 @@ impl Spoil {
     }
 }
 
-/// One part of how many is spoiled in a case, and 0 where none is.
+/// In a case, one part in this many is spoiled, and none if it is 0.
 pub(crate) fn rarity(draws: &mut Draws) -> usize {
     match draws.below(8) {
         0 => 12,

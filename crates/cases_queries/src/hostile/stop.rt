@@ -1,4 +1,4 @@
-//! Why a case is not judged to its end.
+//! Why a case is not judged to the end.
 
 use std::alloc::{AllocError, AllocFailed};
 use std::fmt;
@@ -10,26 +10,26 @@ pub(crate) enum Stop {
     Memory,
 }
 
-/// What is not as it is to be in each run.
+/// What is wrong in a run.
 #[derive(Clone, Copy)]
 pub(crate) enum Finding {
-    /// A call ended otherwise than accepted or refused.
+    /// A call ended neither with an accepted query nor with a refusal.
     Status,
-    /// `check`, `bound` and `run` do not say the same of the query.
+    /// `check`, `bound` and `run` do not judge the query alike.
     Verdicts,
-    /// What is written is no line of the command, or not whole.
+    /// What is written is no line of the command, or not a whole one.
     Line,
-    /// The answers are fewer or more than the lines.
+    /// There are fewer or more answers than lines.
     Count,
     /// Short reads and writes change what is written.
     Pieces,
-    /// What is accepted in a call is not where the query is read by itself.
+    /// A query that a call accepts is refused when it is read by itself.
     Accepted,
-    /// The engines answer in two ways.
+    /// The engines answer differently.
     Engines,
-    /// A copy of an engine answers in another way.
+    /// A copy of an engine answers differently.
     Copy,
-    /// An engine that goes back to the empty word answers in another way.
+    /// An engine that is reset to the empty word answers differently.
     Reset,
     /// More is kept than the bound allows.
     Bound,

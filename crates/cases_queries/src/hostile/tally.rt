@@ -26,8 +26,7 @@ impl Tally {
         }
     }
 
-    /// Adds a query that is accepted, with what was written, and how many answers both engines
-    /// gave.
+    /// Counts a query that is accepted, with what was written, and how many answers were compared.
     pub(crate) fn add_accepted(&mut self, answers: &Answers, compared: u64) {
         self.accepted = self.accepted.saturating_add(1);
         self.lines = self.lines.saturating_add(u64::from(answers.lines));
@@ -35,7 +34,7 @@ impl Tally {
         self.compared = self.compared.saturating_add(compared);
     }
 
-    /// Adds a refusal by the rule of this place.
+    /// Counts a refusal by the rule at this place of the list.
     pub(crate) fn add_refused(&mut self, rule: usize) {
         if let Some(count) = self.refused.get_mut(rule) {
             *count = count.saturating_add(1);

@@ -23,7 +23,7 @@ impl<'q> Texts<'q> {
         u32::try_from(self.texts.len()).unwrap_or(u32::MAX)
     }
 
-    /// Adds those of a line that is an item by the reply.
+    /// Adds those of a line, if the reply says that it is an item.
     pub(crate) fn add(
         &mut self,
         alloc: Global,

@@ -11,7 +11,7 @@ use report_writer::push_answer;
 use sqre_run::{Reply, Session};
 use std::alloc::{AllocError, Global};
 
-/// The most items that an engine is asked for, and the most lines that they stand on.
+/// The most items that an engine is asked about, and the most lines on which they stand.
 const ITEMS: usize = 8;
 
 const LINES: u32 = 1_000;
@@ -19,13 +19,13 @@ const LINES: u32 = 1_000;
 /// What an engine answered, a line for each answer.
 #[derive(Drop)]
 pub(crate) struct Told {
-    /// To the empty word.
+    /// The answer to the empty word.
     pub(crate) begun: Vec<u8>,
-    /// After each item.
+    /// The answers after each item.
     pub(crate) answers: Vec<u8>,
-    /// After each item, by a copy.
+    /// The answers of a copy after each item.
     pub(crate) copies: Vec<u8>,
-    /// At the end, by a copy that goes back to the empty word.
+    /// The answer at the end of a copy that is reset to the empty word.
     pub(crate) back: Vec<u8>,
     /// What was kept after each item.
     pub(crate) kept: Vec<Kept>,
@@ -94,7 +94,7 @@ fn take<F: Follower>(
     }
 }
 
-// Adds the answer and that of a copy, and the more of what both keep.
+// Adds the answer and that of a copy, and the greater of what both keep.
 fn tell<F: Follower + Drop>(
     alloc: Global,
     session: &Session<'_, F>,
@@ -111,7 +111,7 @@ fn tell<F: Follower + Drop>(
     Ok(told.kept.push(Kept { stored, texts })?)
 }
 
-// Adds the answer of a copy that goes back to the empty word.
+// Adds the answer of a copy that is reset to the empty word.
 fn tell_of_reset<F: Follower + Drop>(
     alloc: Global,
     session: &Session<'_, F>,

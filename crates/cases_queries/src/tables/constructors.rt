@@ -8,8 +8,8 @@ use query_syntax::{
 };
 use std::alloc::{AllocError, Global};
 
-/// The constructor of the query, with those of the predicate and the value of an atom or of the rate
-/// of a collection, or the refusal where it is not read.
+/// The constructor of the query, with those of the predicate and the value of an atom or of the
+/// rate of a collection, or the refusal if the query is not read.
 pub(crate) fn constructors(alloc: Global, query: &[u8]) -> Result<String, AllocError> {
     match read_syntax(alloc, query) {
         Ok(program) => query_constructors(alloc, &program.main.query),

@@ -1,4 +1,4 @@
-//! Lines read by `csv`'s reader and to items.
+//! Lines that are read by `csv`'s reader and to items.
 
 use csv::{ByteRecord, Error, ReaderBuilder};
 use io_edge::{LazyFile, Line, Lines, Source};
@@ -8,13 +8,13 @@ use std::alloc::{AllocError, Global};
 use std::fmt::Write;
 use std::io;
 
-/// Longer fields are told by their lengths.
+/// Of longer fields only the lengths are reported.
 const SHORT: usize = 60;
 
-/// The lines that are gone through, at the most.
+/// The most lines that are read.
 const LINES: u32 = 1_000;
 
-/// Tells the fields of each line by the one, and whether the other has them.
+/// Reports the fields of each line as `csv` reads it, and whether the item has the same.
 pub(crate) fn read_lines(rt: HostRuntime, path: &str) -> io::Result<()> {
     let mut source = LazyFile::new(rt, rt.alloc(), path)?;
     read_source(rt, &mut source)
@@ -47,7 +47,7 @@ fn told(alloc: Global, line: &[u8]) -> Result<String, AllocError> {
     }
 }
 
-/// The first row of the line by `csv`; where there is none, one without fields.
+/// The first row of the line by `csv`, or one without fields if there is none.
 fn csv_row(alloc: Global, line: &[u8]) -> Result<ByteRecord, Error> {
     let mut reader = ReaderBuilder::new()
         .has_headers(false)
@@ -58,7 +58,7 @@ fn csv_row(alloc: Global, line: &[u8]) -> Result<ByteRecord, Error> {
     Ok(row)
 }
 
-/// The fields of the row, and whether the line is read to an item with the same.
+/// The fields of the row, and whether the item of the line has the same.
 fn told_of(alloc: Global, row: &ByteRecord, line: &[u8]) -> Result<String, AllocError> {
     let mut text = String::new(alloc);
     push_fields(&mut text, row)?;
@@ -97,7 +97,7 @@ fn push_byte(text: &mut String, byte: u8) -> Result<(), AllocError> {
     }
 }
 
-/// What comes of the line where it is to have the fields of the row, as texts.
+/// Whether the line is read to an item of texts with the fields of the row.
 fn verdict(alloc: Global, row: &ByteRecord, line: &[u8]) -> Result<&'static str, AllocError> {
     let columns = texts(alloc, row.len().max(1))?;
     if !are_columns(&columns) {
@@ -120,7 +120,7 @@ fn verdict_under(
     }
 }
 
-/// So many columns of texts, or as many as there are bytes to name them.
+/// `count` columns of texts, or as many as there are bytes to name them.
 fn texts(alloc: Global, count: usize) -> Result<Vec<Column>, AllocError> {
     let mut columns = Vec::new(alloc);
     for name in (0..=u8::MAX).take(count) {

@@ -8,16 +8,17 @@ use query_model::Checked;
 use slow_eval::Slow;
 use std::alloc::Global;
 
-/// What was seen on a word.
+/// What was found on a word.
 #[derive(Clone, Copy, Default)]
 pub(crate) struct Seen {
     pub(crate) answers: u32,
     pub(crate) values: u32,
-    /// How often the engines answered in two ways, or more was kept than the bound allows.
+    /// How often the engines answered differently, or more was kept than the bound allows.
     pub(crate) faults: u32,
 }
 
-/// Answers after each item, the empty word included. Runners for so many keys at most are kept.
+/// Compares the answers after each item, and on the empty word. At most this many runners for keys
+/// are kept.
 pub(crate) fn side_by_side(
     alloc: Global,
     checked: &Checked,

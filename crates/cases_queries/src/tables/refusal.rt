@@ -5,7 +5,7 @@ use language_base::{Refusal, Span};
 use report_writer::refusal_text;
 use std::alloc::{AllocError, Global};
 
-/// Longer terms are told by their places alone.
+/// Of longer terms only the places are reported.
 const SHORT: usize = 200;
 
 /// The refusal of the query, as the program writes it, and the term that is refused.

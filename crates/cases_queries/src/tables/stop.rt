@@ -1,4 +1,4 @@
-//! Why a table is not run.
+//! Why a table cannot be run.
 
 use std::alloc::AllocError;
 use std::fmt;
@@ -6,8 +6,7 @@ use type_checker::CheckStop;
 
 #[derive(Clone, Copy)]
 pub(crate) enum Stop {
-    /// A line is not a query that is accepted and has a node for each shape, or its items are not
-    /// numbers.
+    /// The line is no accepted query with a node for each shape, or its items are not numbers.
     Line,
     Memory,
 }

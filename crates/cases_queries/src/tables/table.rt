@@ -8,13 +8,13 @@ const LINES: u32 = 1_000;
 
 #[derive(Drop)]
 pub(crate) struct Case {
-    /// The line of the table where it stands.
+    /// The number of its line in the table.
     pub(crate) number: u32,
     pub(crate) query: Vec<u8>,
     pub(crate) items: Vec<u8>,
 }
 
-/// What stands before and behind the part of a query.
+/// What comes before and after the part of a query.
 #[derive(Drop)]
 struct Frame {
     front: Vec<u8>,
@@ -39,9 +39,9 @@ impl Frame {
     }
 }
 
-/// The cases of the table, a line each: a part of a query, and behind a bar the items, if any. A line
-/// that begins with `frame` has the frame of the parts that follow. Lines that are empty or begin with
-/// `#` are none.
+/// The cases of the table, a line each: a part of a query, and after a bar the items, if any. A
+/// line that begins with `frame` has the frame of the parts below it. Empty lines and lines that
+/// begin with `#` are no cases.
 pub(crate) fn cases_of(alloc: Global, table: &str) -> Result<Vec<Case>, AllocError> {
     let mut frame = Frame::of(alloc, "...")?;
     let mut cases = Vec::new(alloc);

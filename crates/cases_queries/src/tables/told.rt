@@ -37,8 +37,8 @@ impl Told {
     }
 }
 
-/// The answers to the empty word, then after each item those of the engine and of its copy, and at
-/// the end that of a copy which goes back to the empty word.
+/// The answer to the empty word; then after each item the answer and that of a copy; at the end the
+/// answer of a copy that is reset to the empty word.
 pub(crate) fn told_by<F: Follower + Drop>(
     alloc: Global,
     checked: &Checked,
@@ -93,7 +93,7 @@ fn tell<F: Follower + Drop>(
     told.add(alloc, &copy)
 }
 
-// Adds the answer of a copy that goes back to the empty word.
+// Adds the answer of a copy that is reset to the empty word.
 fn tell_of_reset<F: Follower + Drop>(
     alloc: Global,
     session: &Session<'_, F>,

@@ -1,4 +1,4 @@
-//! Queries on the runner and on the search side by side, and where they differ.
+//! Queries with the runner and with the search side by side, and where the answers differ.
 
 use crate::accepted::checked;
 use crate::tables::pair::{Seen, side_by_side};
@@ -23,9 +23,9 @@ impl Totals {
     }
 }
 
-/// A line for each word on which the engines differ or that is not run, and how much was compared.
-/// Lines that begin with `#` are remarks, and one that begins with `stream` is the stream of the
-/// lines below it.
+/// A line for each word on which the engines differ or that cannot be run, and how much was
+/// compared. Lines that begin with `#` are remarks, and one that begins with `stream` is the stream
+/// of the lines below it.
 pub(crate) fn report(alloc: Global, table: &str) -> Result<String, Stop> {
     let mut text = String::new(alloc);
     let mut stream = "";
@@ -60,7 +60,7 @@ fn push_totals(text: &mut String, totals: Totals) -> Result<(), AllocError> {
     writeln!(text, "{words} words, {answers} answers, {values} values")
 }
 
-/// What was seen on the word of the line: nothing, where it is not run.
+/// What was found on the word of the line, or nothing if it cannot be run.
 fn seen_or_none(alloc: Global, stream: &str, line: &str) -> Result<Seen, Stop> {
     match seen_of(alloc, stream, line) {
         Err(Stop::Line) => Ok(Seen::default()),
@@ -83,7 +83,7 @@ fn boxed(alloc: Global, checked: Checked) -> Result<Box<Checked>, AllocError> {
     Ok(Box::new(alloc, checked)?)
 }
 
-/// How many texts stand first in items of more than one field.
+/// How many different texts stand first in items of more than one field.
 fn keys_of(alloc: Global, items: &str) -> Result<u32, AllocError> {
     let mut keys = BTreeSet::new(alloc);
     for item in items.split_whitespace() {

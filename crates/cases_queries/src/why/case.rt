@@ -9,7 +9,7 @@ use std::alloc::{AllocError, Global};
 #[derive(Drop)]
 pub(crate) struct Case<'t> {
     pub(crate) query: String,
-    /// Where the node stands that is refused.
+    /// Where the refused node stands.
     pub(crate) span: Span,
     /// The rule that it breaks, and how many items a shortest example has.
     pub(crate) wanted: &'t str,
@@ -17,7 +17,7 @@ pub(crate) struct Case<'t> {
 }
 
 impl<'t> Case<'t> {
-    /// The case of the query after this head, with brackets around the node that is refused.
+    /// The case of a query after this head. Brackets in it mark the refused node.
     pub(crate) fn of(
         alloc: Global,
         head: &str,

@@ -1,4 +1,4 @@
-//! Which examples are confirmed of those that one is changed to.
+//! Which changes of an example make an example again.
 ghost use Rattle.ambiguity_example.specs.Asks.{ShareCells, columns_of};
 ghost use Rattle.rate_expr.specs.Words.{IsWordOf};
 ghost use Rattle.std.specs.Prelude.{◌<◌, length};
@@ -10,7 +10,7 @@ use ambiguity_example::{Ask, Cuts, Example, confirm};
 use item_schema::Item;
 use std::alloc::{AllocError, Global};
 
-/// Tells whether the example is confirmed, and in which ways it may be changed.
+/// Reports whether the example is confirmed, and which of its changes are.
 pub(crate) fn push_confirmed(
     alloc: Global,
     ask: Ask<'_>,
@@ -29,7 +29,8 @@ pub(crate) fn push_confirmed(
     push_with_others(alloc, ask, example, readings, text)
 }
 
-/// The same of its items, with the cuts of one reading for both, or of each for the other.
+/// The same for its items with the cuts of one reading for both readings, and with those of the two
+/// readings exchanged.
 fn push_with_these_cuts(
     alloc: Global,
     ask: Ask<'_>,
@@ -50,7 +51,7 @@ fn push_with_these_cuts(
     Ok(())
 }
 
-/// The same with a cut moved, and with an item left out.
+/// The same with a cut moved by an item, and with an item left out.
 fn push_with_others(
     alloc: Global,
     ask: Ask<'_>,
@@ -72,7 +73,7 @@ fn push_with_others(
     Ok(())
 }
 
-/// Whether some example has a cut of the first reading moved by an item.
+/// Whether it is an example with some cut of the first reading moved by an item.
 fn is_example_with_first_moved(
     alloc: Global,
     ask: Ask<'_>,
@@ -92,7 +93,7 @@ fn is_example_with_first_moved(
     Ok(false)
 }
 
-/// The same of the second reading.
+/// The same for the second reading.
 fn is_example_with_second_moved(
     alloc: Global,
     ask: Ask<'_>,
@@ -112,7 +113,7 @@ fn is_example_with_second_moved(
     Ok(false)
 }
 
-/// Whether some example has an item left out.
+/// Whether it is an example with some item left out.
 fn is_example_with_less(alloc: Global, ask: Ask<'_>, example: &Example) -> Result<bool, AllocError>
     requires cells { ShareCells ask }
     requires items { IsWordOf (columns_of ask) example.now.items }
@@ -125,7 +126,7 @@ fn is_example_with_less(alloc: Global, ask: Ask<'_>, example: &Example) -> Resul
     Ok(false)
 }
 
-/// Whether an example has the item at the place left out, with the cuts as they were or moved up.
+/// Whether it is an example without the item at the place, the cuts as they were or moved up.
 fn is_example_without(
     alloc: Global,
     ask: Ask<'_>,
@@ -144,7 +145,7 @@ fn is_example_without(
     )
 }
 
-/// Whether the items are an example with the cuts of another moved up to the place.
+/// Whether the items are an example with the cuts of another one, moved up at the place.
 fn is_example_moved_up(
     alloc: Global,
     ask: Ask<'_>,

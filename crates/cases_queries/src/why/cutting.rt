@@ -4,8 +4,8 @@ ghost use Rattle.std.specs.Prelude.{◌<◌, length};
 use crate::why::readings::Readings;
 use std::alloc::{AllocError, Global};
 
-/// The cuts with one of them moved by an item, in each way; the first or the last one, where words have more than two
-/// readings.
+/// All the ways to move one of the cuts by an item. If words have more than two readings, only the
+/// first or the last cut is moved.
 pub(crate) fn moved(
     alloc: Global,
     cuts: &[u32],
@@ -21,7 +21,7 @@ pub(crate) fn moved(
     Ok(all)
 }
 
-/// Adds the cuts with the one at the place moved on, and moved back.
+/// Adds the cuts with the one at the place moved on by an item, and moved back by one.
 fn push_moved(
     alloc: Global,
     cuts: &[u32],
@@ -46,7 +46,7 @@ fn with_cut(alloc: Global, cuts: &[u32], place: usize, cut: u32) -> Result<Vec<u
     Ok(changed)
 }
 
-/// The cuts of the word without the item at the place.
+/// The cuts for the word without the item at the place.
 pub(crate) fn moved_up(alloc: Global, cuts: &[u32], place: usize) -> Result<Vec<u32>, AllocError> {
     let mut moved = Vec::new(alloc);
     for &cut in cuts {

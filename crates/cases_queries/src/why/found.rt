@@ -1,4 +1,4 @@
-//! What is found of a query.
+//! What is found for a query.
 ghost use Rattle.language_base.specs.declared.rule.Rule.{Rule};
 ghost use Rattle.query_syntax.specs.Programs as syntax;
 ghost use Rattle.std.specs.Prelude.{IfOk};
@@ -15,7 +15,8 @@ use query_syntax::read_syntax;
 use std::alloc::{AllocError, Global};
 use type_checker::{Blame, Judgment, judge};
 
-/// Tells how the query is judged; of a word with two readings, how long it is, and which examples of it are confirmed.
+/// Reports how the query is judged. For a word with two readings this is how long it is, and which
+/// changes of it are examples too.
 pub(crate) fn push_found(alloc: Global, case: &Case<'_>, text: &mut String) -> Result<(), Stop> {
     match judged(alloc, case.query.as_bytes())? {
         Judgment::Accepted(_) => Ok(text.push_str("accepted")?),
@@ -56,7 +57,7 @@ fn push_blame(
     }
 }
 
-/// Tells the rule and the length, and what is not as the table says.
+/// Reports the rule and the length, and what is not as the table says.
 fn push_verdict(
     alloc: Global,
     case: &Case<'_>,

@@ -14,7 +14,7 @@ pub(crate) fn copied(alloc: Global, items: &[Item]) -> Result<Vec<Item>, AllocEr
     Ok(copy)
 }
 
-/// The items but the one at the place.
+/// All items but the one at the place.
 pub(crate) fn without(alloc: Global, items: &[Item], place: usize) -> Result<Vec<Item>, AllocError>
     requires { place < length items.now }
     ensures { IfOk result (λ left. left.items ≡ take place items.now ++ drop (place + 1) items.now) }

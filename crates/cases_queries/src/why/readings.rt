@@ -1,4 +1,4 @@
-//! How many readings the shortest words have.
+//! How many readings the shortest words with two readings have.
 
 #[derive(Clone, Copy, PartialEq, Eq)]
 pub(crate) enum Readings {
@@ -9,7 +9,7 @@ pub(crate) enum Readings {
 }
 
 impl Readings {
-    /// What is said before it, and what is said of readings.
+    /// What the table says before that, and what it says about readings.
     pub(crate) fn of(wanted: &str) -> (&str, Readings) {
         match wanted.strip_suffix(" more") {
             Some(wanted) => (wanted, Readings::More),

@@ -1,4 +1,4 @@
-//! Why a table is not gone through.
+//! Why a table cannot be gone through.
 
 use query_parser::ReadStop;
 use std::alloc::AllocError;
