@@ -1,5 +1,5 @@
 -- The pairs to which letters lead, as those to which items lead, and as the search keeps them.
-use Rattle.std.proofs.Common.{◌≡◌, ℕ, ◌+◌, List, [], ◌∷◌, ◌++◌, Some, refl, slice_get, subst, inl, inr}
+use Rattle.std.proofs.Common.{◌≡◌, ℕ, ◌+◌, List, [], ◌∷◌, ◌++◌, Some, refl, slice_get, subst, sym, inl, inr}
 use Rattle.std.specs.List.{Contains}
 use Rattle.std.proofs.lemmas.List.Elements.{All-contains, Contains-push_cases}
 use Rattle.value_ops.specs.declared.field.Field.{Field}
@@ -120,3 +120,11 @@ module _ (letters : List Letter) where
     | inl was ↦ targets_grown other.ways old new other.targets found.grown (before other was)
     | inr is ↦ subst (λ (k : Known). HasTargets letters k.ways new k.targets) is found.targets
   ]
+
+  -- the same by its parts
+  pub known_put : (old new : List Pair) (gone : List Known) (known : Known) (ways : ℕ × ℕ) (places : List ℕ)
+      → known.ways ≡ ways → known.targets ≡ places → AreKnown letters old gone
+      → AreFound letters ways old new places → AreKnown letters new (gone ++ known ∷ [])
+  known_put old new gone known ways places same same' before found = known_more old new gone known before
+      (subst (λ w. AreFound letters w old new known.targets) (sym same)
+      (subst (λ ps. AreFound letters ways old new ps) (sym same') found))

@@ -130,17 +130,23 @@ module _ (old : List ℕ) (place mask : ℕ) where
   ]
 
 module _ (rows : List ℕ) (mask block : ℕ) where
+  -- some position of the mask has the place in its row
+  abbrev IsInSome : ℕ → Type 0
+  IsInSome place = (position : ℕ) × Has mask position × HasRow rows position place
+
   -- what is in the rows of the positions was found, but for those that are left
   pub record IsGathering (rest found : ℕ) : Type 0 where
     pub left : (position : ℕ) → Has rest position → Has mask position
     pub found_in : (position place : ℕ) → Has mask position → place / 128 ≡ block → HasRow rows position place
         → Has rest position ⊎ Has found (place % 128)
+    pub only : (place : ℕ) → place / 128 ≡ block → Has found (place % 128) → IsInSome place
 
   -- all are left
-  pub gathering_begun : (found : ℕ) → IsGathering mask found
-  gathering_begun found = record {
+  pub gathering_begun : IsGathering mask 0
+  gathering_begun = record {
     left = λ position has. has;
     found_in = λ position place has here row. inl has;
+    only = λ place here has. absurd (has_zero (place % 128) has);
   }
 
   -- the lowest of them
@@ -159,6 +165,13 @@ module _ (rows : List ℕ) (mask block : ℕ) where
             inr (has_second found word (place % 128) (subst (λ (m : ℕ). Has m (place % 128)) same row.bit))
         | inr still ↦ inl still
       ]
+    ];
+    only = λ place here has. elim (has_or found word (place % 128) has) [
+      | inl was ↦ before.only place here was
+      | inr bit ↦
+          let same : word ≡ get_or rows (low * block_count + place / 128) 0 =
+          read ∙ ap (λ (b : ℕ). get_or rows (low * block_count + b) 0) (sym here) in
+          (low, before.left low is.has, record { bit = subst (λ (m : ℕ). Has m (place % 128)) same bit })
     ];
   }
 

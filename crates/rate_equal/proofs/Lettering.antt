@@ -62,7 +62,7 @@ module _ (mask : Letter → ℕ) (letters : List Letter) where
           (sym found' ∙ subst (λ (p : ℕ). slice_get letters p ≡ Some letter) here found)
 
 -- masks that have the same positions on the ways have the same in common with them
-same_on : (ways met met' : ℕ) → ((position : ℕ) → Has ways position → Has met position ↔ Has met' position)
+pub same_on : (ways met met' : ℕ) → ((position : ℕ) → Has ways position → Has met position ↔ Has met' position)
     → bit_and ways met ≡ bit_and ways met'
 same_on ways met met' same = same-has (bit_and ways met) (bit_and ways met') (λ position. (
   λ has. let both = has-and ways met position has in

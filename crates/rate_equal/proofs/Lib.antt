@@ -12,9 +12,11 @@ pub mod Holding
 pub mod Inserted
 pub mod Lettering
 pub mod Narrowed
+pub mod Patterns
 pub mod Pigeons
 pub mod PlaceSets
 pub mod SameRows
 pub mod Searched
+pub mod Sifting
 pub mod Stepping
 pub mod Verdicts

@@ -47,7 +47,7 @@ module _ (first second : List ℕ) (letters : List Letter) (in_first : AreRows (
     (in_second : AreRows (λ l. l.second) second letters (length letters)) (few : length letters ≤ max_reach)
     (twin position : ℕ) (same : HaveSameRow first second twin position) where
   -- a letter has a position where it has its twin
-  letter_twin : (letter : Letter) → Contains letters letter → Has letter.second position ↔ Has letter.first twin
+  pub letter_twin : (letter : Letter) → Contains letters letter → Has letter.second position ↔ Has letter.first twin
   letter_twin letter c = let (place, at) = stands_at letters letter c in
       let within = slice_get_within letters place letter at in
       let below : place < max_reach = omega (arith, within, few) in (

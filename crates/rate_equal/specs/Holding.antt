@@ -11,6 +11,10 @@ use Rattle.rate_equal.specs.declared.pair.Pair.{Pair}
 pub record HasRow (rows : List ℕ) (position place : ℕ) : Type 0 where
   pub bit : Has (slice_index rows (position * block_count + place / 128)) (place % 128)
 
+-- the place is in the rows of all positions in the mask
+abbrev pub IsInRows : List ℕ → ℕ → ℕ → Type 0
+IsInRows rows mask place = (position : ℕ) → Has mask position → HasRow rows position place
+
 -- the rows have at least the places that they had
 abbrev pub KeepsRows : List ℕ → List ℕ → Type 0
 KeepsRows old new = (position place : ℕ) → HasRow old position place → HasRow new position place

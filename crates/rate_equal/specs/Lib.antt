@@ -5,6 +5,7 @@ pub mod Holding
 pub mod Letters
 pub mod Narrowed
 pub mod Pairs
+pub mod Patterns
 pub mod PlaceSets
 pub mod Reach
 pub mod Targets

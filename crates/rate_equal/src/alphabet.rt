@@ -1,17 +1,20 @@
 //! The letters of two automata, and which have a position.
-ghost use Rattle.std.specs.Prelude.{◌≡◌, ◌≤◌, ◌⊎◌, ℕ, IfOk, IfSome, OnOk, Some, length, slice_get};
+ghost use Rattle.std.specs.Prelude.{◌≡◌, ◌≤◌, ◌<◌, ◌/◌, ◌%◌, ◌⊎◌, ◌↔◌, ℕ, IfOk, IfSome, None, OnOk, Some, length, slice_get};
 ghost use Rattle.std.specs.List.{Contains};
 ghost use Rattle.rate_expr.specs.Sets.{Has};
 ghost use Rattle.rate_equal.specs.Holding.{AreRows, AreTwins};
-ghost use Rattle.rate_equal.specs.PlaceSets.{HasPlace};
+ghost use Rattle.rate_equal.specs.Patterns.{DecideAll, IsLike};
+ghost use Rattle.rate_equal.specs.PlaceSets.{block_count, HasPlace};
 ghost use Rattle.rate_equal.specs.Reach.{max_reach};
 ghost use Rattle.rate_equal.specs.Targets.{target};
 ghost use Rattle.rate_equal.specs.declared.letters.Letter.{Letter as LetterOf};
 
 use crate::letters::Letter;
+use crate::pattern::Pattern;
 use crate::places::{BLOCKS, Places};
-use crate::rows::{ROWS, gather, hold, insert_rows, insert_unlike};
+use crate::rows::{ROWS, gather, hold, in_all, insert_rows, insert_unlike, without};
 use crate::twins::{twins, without_twins};
+use rate_expr::masks::lowest;
 use std::alloc::{AllocError, Global};
 
 /// The letters, and for each position of either automaton the places of those that have it.
@@ -116,6 +119,65 @@ impl Alphabet {
         ensures { IfSome result (λ letter. Contains self.now.letters.items letter) }
     {
         self.letters.get(places.first()?).copied()
+    }
+
+    /// The positions on the ways, without those of the second automaton that have a twin there.
+    pub(crate) fn without_twins(&self, ways: (u128, u128)) -> (u128, u128)
+        ensures { DecideAll self.now.letters.items ways result }
+    {
+        (ways.0, without_twins(&self.twins, ways.0, ways.1))
+    }
+
+    /// A letter of the pattern.
+    pub(crate) fn first_like(&self, pattern: Pattern) -> Option<Letter>
+        ensures some { IfSome result (λ letter. Contains self.now.letters.items letter
+            × IsLike pattern letter) }
+        ensures none { result ≡ None → (letter : LetterOf) → Contains self.now.letters.items letter
+            → IsLike pattern letter → ⊥ }
+    {
+        'parts: for block in 0..BLOCKS {
+            let found = self.like_in(pattern, block);
+            if found.is_some() {
+                return found;
+            }
+        }
+        None
+    }
+
+    // The same of those whose places are in a block.
+    fn like_in(&self, pattern: Pattern, block: usize) -> Option<Letter>
+        requires { block < block_count }
+        ensures some { IfSome result (λ letter. Contains self.now.letters.items letter
+            × IsLike pattern letter) }
+        ensures none { result ≡ None → (place : ℕ) (letter : LetterOf) → place / 128 ≡ block
+            → slice_get self.now.letters.items place ≡ Some letter → IsLike pattern letter → ⊥ }
+    {
+        let like = self.block_like(pattern, block);
+        if like == 0 {
+            return None;
+        }
+        let place = block * 128 + lowest(like) as usize;
+        if place >= self.letters.len() {
+            return None;
+        }
+        Some(self.letters[place])
+    }
+
+    // The places of those, and maybe some at which no letter stands.
+    fn block_like(&self, pattern: Pattern, block: usize) -> u128
+        requires { block < block_count }
+        ensures { (place : ℕ) (letter : LetterOf) → place / 128 ≡ block
+            → slice_get self.now.letters.items place ≡ Some letter
+            → Has result (place % 128) ↔ IsLike pattern letter }
+    {
+        let first = in_all(&self.first, pattern.has.0, block, u128::MAX);
+        let has = in_all(&self.second, pattern.has.1, block, first);
+        if has == 0 {
+            return 0;
+        }
+        let lacked = gather(&self.first, pattern.lacks.0, block);
+        let also = gather(&self.second, pattern.lacks.1, block);
+        without(without(has, lacked), also)
     }
 
     /// Takes the places of the letters out of the set that lead where this one does.

@@ -4,8 +4,9 @@
 //! Items lead from pairs with the same ways on to the same pairs, so the search asks once for each
 //! set of ways; and where two sets are alike, the pairs of the one, cut down to what both have, are
 //! most of the pairs of the other. So for new ways the search looks for a known set that is like
-//! them, and asks the letters only about the positions that this set has not.
-ghost use Rattle.std.specs.Prelude.{◌≤◌, ◌<◌, IfSome, length};
+//! them, and asks the letters only about the positions that this set has not. How like two sets are
+//! is counted by their positions without twins.
+ghost use Rattle.std.specs.Prelude.{◌≡◌, ◌≤◌, ◌<◌, IfSome, length};
 
 use crate::alphabet::Alphabet;
 use crate::places::Places;
@@ -13,8 +14,6 @@ use crate::rows::without;
 
 // How many of the last known sets are compared, even where they lack some of the ways.
 const RECENT: usize = 32;
-// The same for narrow ways.
-const RECENT_FOR_NARROW: usize = 4;
 // A known set that differs by at most this is near enough: the comparison ends with it.
 const CLOSE: u32 = 2;
 // What a position costs that a known set lacks, where one that it has beyond the ways costs 1.
@@ -22,61 +21,84 @@ const GAINED: u32 = 4;
 // The letters that have a position that the known set lacks are few if they are at most this part
 // of all.
 const FEW: usize = 16;
-// Ways of at most this many positions are narrow: the letters that have one of them are asked at
-// little cost.
-const NARROW: u32 = 8;
 
 /// The ways on from some pair, and the places of all pairs to which items lead along them. Places
 /// of other pairs may be among these, whose positions are all on the ways.
 #[derive(Drop)]
 pub(crate) struct Known {
     pub(crate) ways: (u128, u128),
+    // The ways without twins, and how many these are.
+    asked: (u128, u128),
+    size: u32,
     pub(crate) targets: Places,
 }
 
 impl Known {
-    // How many of its positions are not on these ways.
-    fn lost(&self, ways: (u128, u128)) -> u32
-        ensures { result ≤ 256 }
+    pub(crate) fn new(ways: (u128, u128), asked: (u128, u128), targets: Places) -> Known
+        ensures ways { result.ways ≡ ways }
+        ensures targets { result.targets ≡ targets }
     {
-        without(self.ways.0, ways.0).count_ones() + without(self.ways.1, ways.1).count_ones()
+        Known {
+            ways,
+            asked,
+            size: count(asked),
+            targets,
+        }
     }
 
-    // How many positions of these ways it lacks.
-    fn gained(&self, ways: (u128, u128)) -> u32
-        ensures { result ≤ 256 }
-    {
-        without(ways.0, self.ways.0).count_ones() + without(ways.1, self.ways.1).count_ones()
+    // Whether it has all of these positions.
+    fn has_all(&self, asked: (u128, u128)) -> bool {
+        without(asked.0, self.asked.0) == 0 && without(asked.1, self.asked.1) == 0
+    }
+
+    // What these positions, whose number is given, cost from it on.
+    fn cost(&self, asked: (u128, u128), size: u32) -> u32 {
+        let common = count((self.asked.0 & asked.0, self.asked.1 & asked.1));
+        let gained = size.saturating_sub(common);
+        let lost = self.size.saturating_sub(common);
+        lost.saturating_add(gained.saturating_mul(GAINED))
     }
 }
 
-/// The place of a known set that is like these ways, if any is known.
-pub(crate) fn nearest(known: &[Known], alphabet: &Alphabet, ways: (u128, u128)) -> Option<usize>
+/// How many positions of either automaton these are.
+pub(crate) fn count(positions: (u128, u128)) -> u32
+    ensures { result ≤ 256 }
+{
+    // Mostly each position of the second automaton has a twin.
+    if positions.1 == 0 {
+        return positions.0.count_ones();
+    }
+    positions.0.count_ones() + positions.1.count_ones()
+}
+
+/// The place of a known set that is like the ways of which these are asked, if any is known.
+pub(crate) fn nearest(known: &[Known], alphabet: &Alphabet, asked: (u128, u128)) -> Option<usize>
     ensures { IfSome result (λ place. place < length known.now) }
 {
-    if ways.0.count_ones() + ways.1.count_ones() <= NARROW {
-        return closest(known, known.len().saturating_sub(RECENT_FOR_NARROW), ways);
-    }
     let start = known.len().saturating_sub(RECENT);
-    let recent = closest(known, start, ways)?;
+    let recent = closest(known, start, asked)?;
     let near = &known[recent];
-    let gained = (without(ways.0, near.ways.0), without(ways.1, near.ways.1));
+    let gained = (
+        without(asked.0, near.asked.0),
+        without(asked.1, near.asked.1),
+    );
     if alphabet.count_having(gained) as usize <= alphabet.letters.len() / FEW {
         return Some(recent);
     }
-    narrowest(known, start, ways).or(Some(recent))
+    narrowest(known, start, asked).or(Some(recent))
 }
 
 // The place of the set that costs least, of those from a place on.
-fn closest(known: &[Known], start: usize, ways: (u128, u128)) -> Option<usize>
+fn closest(known: &[Known], start: usize, asked: (u128, u128)) -> Option<usize>
     ensures { IfSome result (λ place. place < length known.now) }
 {
+    let size = count(asked);
     let mut best = None;
     let mut least = u32::MAX;
     'known: for place in (start..known.len()).rev() {
-        let far = known[place].lost(ways) + GAINED * known[place].gained(ways);
-        if far < least {
-            least = far;
+        let cost = known[place].cost(asked, size);
+        if cost < least {
+            least = cost;
             best = Some(place);
         }
         if least <= CLOSE {
@@ -86,20 +108,21 @@ fn closest(known: &[Known], start: usize, ways: (u128, u128)) -> Option<usize>
     best
 }
 
-// The place of the smallest set that has all of these ways, of those below a place.
-fn narrowest(known: &[Known], end: usize, ways: (u128, u128)) -> Option<usize>
+// The place of the smallest set that has all of these positions, of those below a place.
+fn narrowest(known: &[Known], end: usize, asked: (u128, u128)) -> Option<usize>
     requires { end ≤ length known.now }
     ensures { IfSome result (λ place. place < length known.now) }
 {
+    let enough = count(asked) + CLOSE;
     let mut best = None;
     let mut least = u32::MAX;
     'known: for place in (0..end).rev() {
         let wider = &known[place];
-        if wider.gained(ways) == 0 && wider.lost(ways) < least {
-            least = wider.lost(ways);
+        if wider.size < least && wider.has_all(asked) {
+            least = wider.size;
             best = Some(place);
         }
-        if least <= CLOSE {
+        if least <= enough {
             return best;
         }
     }

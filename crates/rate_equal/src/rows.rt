@@ -1,7 +1,7 @@
 //! For each position, the places of what has it, in blocks of 128 bits.
 ghost use Rattle.std.specs.Prelude.{◌≡◌, ◌<◌, ◌/◌, ◌%◌, ◌⊎◌, ◌↔◌, ℕ, length};
 ghost use Rattle.rate_expr.specs.Sets.{Has};
-ghost use Rattle.rate_equal.specs.Holding.{HasRow, KeepsRows};
+ghost use Rattle.rate_equal.specs.Holding.{IsInRows, HasRow, KeepsRows};
 ghost use Rattle.rate_equal.specs.PlaceSets.{block_count, HasPlace, KeepsPlaces};
 ghost use Rattle.rate_equal.specs.Reach.{max_reach};
 
@@ -31,13 +31,31 @@ pub(crate) fn hold(rows: &mut [u128], mask: u128, place: usize)
 pub(crate) fn gather(rows: &[u128], mask: u128, block: usize) -> u128
     requires rows { length rows.now ≡ max_reach }
     requires block { block < block_count }
-    ensures { (position place : ℕ) → Has mask position → place / 128 ≡ block
+    ensures has { (position place : ℕ) → Has mask position → place / 128 ≡ block
         → HasRow rows.now position place → Has result (place % 128) }
+    ensures only { (place : ℕ) → place / 128 ≡ block → Has result (place % 128)
+        → (position : ℕ) × Has mask position × HasRow rows.now position place }
 {
     let mut found = 0;
     let mut rest = mask;
     'positions: while rest != 0 {
         found |= rows[lowest(rest) as usize * BLOCKS + block];
+        rest = without_lowest(rest);
+    }
+    found
+}
+
+/// The bits of some that are in a block of all of the rows of the positions.
+pub(crate) fn in_all(rows: &[u128], mask: u128, block: usize, some: u128) -> u128
+    requires rows { length rows.now ≡ max_reach }
+    requires block { block < block_count }
+    ensures { (place : ℕ) → place / 128 ≡ block → Has result (place % 128)
+        ↔ (Has some (place % 128) × IsInRows rows.now mask place) }
+{
+    let mut found = some;
+    let mut rest = mask;
+    'positions: while rest != 0 && found != 0 {
+        found &= rows[lowest(rest) as usize * BLOCKS + block];
         rest = without_lowest(rest);
     }
     found

@@ -3,22 +3,29 @@ ghost use Rattle.std.specs.Prelude.{◌≡◌, ◌≤◌, Err, IfOk, length};
 ghost use Rattle.rate_equal.specs.declared.stop.EqualStop.TheVariants.{Reach};
 ghost use Rattle.rate_equal.specs.Added.{AreTooMany};
 ghost use Rattle.rate_equal.specs.Holding.{AreHeld};
+ghost use Rattle.rate_equal.specs.Patterns.{DecideAll};
 ghost use Rattle.rate_equal.specs.Reach.{max_reach};
 ghost use Rattle.rate_equal.specs.Targets.{AreFound, AreKnown, HasTargets, IsTarget};
 
 use crate::alphabet::Alphabet;
 use crate::going::go_on;
 use crate::holders::Holders;
-use crate::known::{Known, nearest};
+use crate::known::{Known, count, nearest};
 use crate::narrow::narrow;
 use crate::pair::Pair;
+use crate::pattern::Pattern;
 use crate::places::Places;
 use crate::rows::without;
+use crate::sift::sift;
 use crate::stop::EqualStop;
 use indexmap::IndexSet;
 use std::alloc::Global;
 
-/// Adds the pairs to which letters lead, and tells where they stand, and maybe some others that
+// Where at most this many positions are asked, the letters are sifted: each one more may double the
+// number of parts.
+const FEW: u32 = 4;
+
+/// Adds the pairs to which letters lead, and gives their places, and maybe those of some others that
 /// have no positions but those on the ways.
 pub(crate) fn targets(
     alloc: Global,
@@ -26,8 +33,10 @@ pub(crate) fn targets(
     known: &[Known],
     holders: &Holders,
     ways: (u128, u128),
+    asked: (u128, u128),
     pairs: &mut IndexSet<Pair>,
 ) -> Result<Places, EqualStop>
+    requires decide { DecideAll alphabet.now.letters.items ways asked }
     requires known { AreKnown alphabet.now.letters.items pairs.old.keys known.now }
     requires held { AreHeld holders.now.first.items holders.now.second.items
         pairs.old.keys (length pairs.old.keys) }
@@ -37,10 +46,37 @@ pub(crate) fn targets(
     ensures too_many { result ≡ Err Reach
         → AreTooMany pairs.old.keys (IsTarget alphabet.now.letters.items ways) }
 {
-    match nearest(known, alphabet, ways) {
+    if count(asked) <= FEW {
+        return from_few(alloc, alphabet, ways, asked, pairs);
+    }
+    match nearest(known, alphabet, asked) {
         Some(place) => from_known(alloc, alphabet, &known[place], holders, ways, pairs),
         None => from_all(alloc, alphabet, ways, pairs),
     }
+}
+
+// The same by what the letters have of few positions.
+fn from_few(
+    alloc: Global,
+    alphabet: &Alphabet,
+    ways: (u128, u128),
+    asked: (u128, u128),
+    pairs: &mut IndexSet<Pair>,
+) -> Result<Places, EqualStop>
+    requires few { length pairs.old.keys ≤ max_reach }
+    requires decide { DecideAll alphabet.now.letters.items ways asked }
+    ensures found { IfOk result (λ targets.
+        AreFound alphabet.now.letters.items ways pairs.old.keys pairs.new.keys targets) }
+    ensures too_many { result ≡ Err Reach
+        → AreTooMany pairs.old.keys (IsTarget alphabet.now.letters.items ways) }
+{
+    let mut targets = Places::none(alloc)?;
+    let all = Pattern::of_all();
+    let Some(letter) = alphabet.first_like(all) else {
+        return Ok(targets);
+    };
+    sift(alphabet, ways, all, letter, asked, pairs, &mut targets)?;
+    Ok(targets)
 }
 
 // The same by the targets of known ways, and by the letters that have a position that those lack.

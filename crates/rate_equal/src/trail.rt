@@ -62,8 +62,17 @@ impl Trail {
             return Ok(());
         }
         self.holders.enter(pairs.as_slice());
-        let targets = targets(alloc, alphabet, &self.known, &self.holders, ways, pairs)?;
-        self.known.push(Known { ways, targets })?;
+        let asked = alphabet.without_twins(ways);
+        let targets = targets(
+            alloc,
+            alphabet,
+            &self.known,
+            &self.holders,
+            ways,
+            asked,
+            pairs,
+        )?;
+        self.known.push(Known::new(ways, asked, targets))?;
         Ok(())
     }
 }

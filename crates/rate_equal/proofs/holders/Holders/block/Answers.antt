@@ -6,11 +6,11 @@ use Rattle.rate_equal.proofs.holders.Holders.block.Goals as goal
 pub returns-clause-first : goal.returns-clause-first
 returns-clause-first c = λ position place has here among row.
     let same : c.args.self.now.first.items ≡ c.deref.result.now = cc in
-    has_first _ _ _ (c.gather-first.ensures position place has here
+    has_first _ _ _ (c.gather-first.ensures.has position place has here
     (subst (λ (rows : List ℕ). HasRow rows position place) same row))
 
 pub returns-clause-second : goal.returns-clause-second
 returns-clause-second c = λ position place has here among row.
     let same : c.args.self.now.second.items ≡ c.deref-2.result.now = cc in
-    has_second _ _ _ (c.gather-second.ensures position place has here
+    has_second _ _ _ (c.gather-second.ensures.has position place has here
     (subst (λ (rows : List ℕ). HasRow rows position place) same row))
