@@ -182,17 +182,42 @@ test_install() {
     mkdir -p "$folder"
     ln -s "$fresh/sqre" "$folder/sqre"
     cp "$fresh/sqre" "$room/kept"
-    same 'install' "installed $folder/sqre
-installed $folder/sqre-explain
+    same 'install' "installed $folder/sqre-explain
+installed $folder/sqre-program
+installed $folder/sqre
 status 0" "$(answer without_rt "$fresh/sqre" --install "$folder")"
     holds 'install over a link leaves the script' cmp -s "$room/kept" "$fresh/sqre"
-    same 'what is installed' 'release' "$(without_rt "$folder/sqre" which)"
-    has 'what is installed explains' 'is explained, release' "$(without_rt "$folder/sqre-explain" it)"
     same 'install to the checkout' 'status 10' "$(cd "$fresh" && answer without_rt ./sqre --install .)"
     holds 'install to the checkout leaves the script' cmp -s "$room/kept" "$fresh/sqre"
     mkdir -p "$folder/two/sqre"
     same 'install where a folder has the name' 'status 10' "$(answer without_rt "$fresh/sqre" --install "$folder/two")"
     same 'nothing else is left there' 'sqre' "$(ls -A "$folder/two")"
+}
+
+# What is installed runs and explains as the checkout does, and can be installed again, without it.
+test_installed() {
+    version=$(without_rt "$fresh/sqre" --version)
+    mv "$fresh" "$fresh.away"
+    same 'what is installed' 'release' "$(without_rt "$folder/sqre" which)"
+    same 'what is installed: a refusal' 'refused
+status 1' "$(answer without_rt "$folder/sqre" check "$room/bad.sqre")"
+    same 'what is installed: its explanation' "$room/bad.sqre is explained, release" "$(cat "$room/errors")"
+    same 'what is installed: version' "$version" "$(without_rt "$folder/sqre" --version)"
+    same 'what is installed by a link' 'release' "$(ln -s "$folder/sqre" "$room/linked" && without_rt "$room/linked" which)"
+    same 'installed again' "installed $room/anew/sqre-explain
+installed $room/anew/sqre-program
+installed $room/anew/sqre
+status 0" "$(answer without_rt "$folder/sqre" --install "$room/anew")"
+    holds 'what is installed again is the same' cmp -s "$folder/sqre" "$room/anew/sqre"
+    same 'what is installed proves nothing' 'status 10' "$(answer without_rt "$folder/sqre" --prove)"
+    has 'where programs are proved' 'in a checkout' "$(cat "$room/errors")"
+    rm "$folder/sqre-explain"
+    same 'what is installed without the explanation' 'refused
+status 1' "$(answer without_rt "$folder/sqre" check "$room/bad.sqre")"
+    has 'the explanation is not there' 'is not there' "$(cat "$room/errors")"
+    rm "$folder/sqre-program"
+    same 'what is installed without the program' 'status 10' "$(answer without_rt "$folder/sqre" which)"
+    mv "$fresh.away" "$fresh"
 }
 
 make_room "$1"
@@ -205,4 +230,5 @@ test_copy_alone
 test_input_and_output
 test_statuses
 test_install
+test_installed
 tell
