@@ -11,7 +11,8 @@ abbrev pub shown_by : Answer → List ℕ → Shown
 shown_by Whole bytes = text bytes
 shown_by Long bytes = long
 
--- the bytes of the line answered last, of which these stand in the chunk and in the buffer
+-- the bytes of the line answered last, where `cut` is the line in the chunk and `kept` the one in
+-- the buffer of the line under way
 abbrev pub shown_at : Place → List ℕ → List ℕ → List ℕ
 shown_at Nowhere cut kept = []
 shown_at InChunk cut kept = cut

@@ -4,14 +4,15 @@ use Rattle.io_edge.specs.Limits.{max_count, max_line}
 use Rattle.io_edge.specs.Started.{Started}
 use Rattle.io_edge.specs.declared.under_way.UnderWay.TheInside.{Inside}
 
--- the bytes kept, and as many zeros as were let go; a line that was answered is not under way
+-- the bytes kept, and a zero for each byte that was only counted; a line that was answered is no
+-- longer under way
 abbrev pub started_of : Inside → Started
 started_of u = record {
   start = if u.is_shown then [] else u.bytes.items ++ replicate u.beyond 0;
   shown = u.bytes.items;
 }
 
--- bytes are let go only of a line that is too long, and there is room for each other line
+-- bytes are only counted if the line is too long, and there is room for any other line
 pub record IsKept (u : Inside) : Type 0 where
   pub fits : vec_len u.bytes ≤ max_line
   pub room : max_line ≤ vec_capacity u.bytes

@@ -1,11 +1,11 @@
--- Statement. The limits of lines and of held bytes, each said once. The last value is accepted.
+-- Statement. The limits of lines and of buffers. A value that is equal to its limit is accepted.
 use Rattle.std.specs.Prelude.{ℕ, ◌-◌, ◌^◌}
 
--- the bytes before the end of a line, where the line is shown
+-- the bytes before its line end of a line that is shown
 abbrev pub max_line : ℕ
 max_line = 65536
 
--- the bytes that are held back from standard output
+-- the bytes that wait to be flushed
 abbrev pub max_held : ℕ
 max_held = 65536
 

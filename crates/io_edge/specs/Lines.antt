@@ -1,4 +1,4 @@
--- Statement. The lines of a byte list: as a relation, and as the function that computes them.
+-- Statement. The lines of a byte list, as a relation and as the function that computes them.
 use Rattle.std.specs.Prelude.{◌≡◌, ◌≢◌, ℕ, Bool, ◌&&◌, List, [], ◌∷◌, ◌++◌, length, All, nat_lt, ◌==◌, if◌then◌else◌, map}
 use Rattle.std.specs.List.{flat_map, AllByRecursion}
 use Rattle.std.specs.Io.BufRead.{strip_last}
@@ -9,16 +9,16 @@ pub data Shown : Type 0 where
   text : List ℕ → Shown
   long : Shown
 
--- what the line of these raw bytes shows where an LF ended it: one CR before the LF is dropped, after
--- the count
+-- what the line of these raw bytes shows if an LF ended it: one CR before the LF is dropped, but it
+-- counts towards the length
 abbrev pub ended_by_lf : List ℕ → Shown
 ended_by_lf raw = if nat_lt max_line (length raw) then long else text (strip_last 13 raw)
 
--- and where the end of the input did: no CR is dropped
+-- the same if the end of the input ended it: no CR is dropped
 abbrev pub ended_by_end : List ℕ → Shown
 ended_by_end raw = if nat_lt max_line (length raw) then long else text raw
 
--- the line of the bytes after the last LF: there is one where the input has ended and there are any
+-- the line of the bytes after the last LF: there is one if there are any and the input has ended
 abbrev pub last_line : List ℕ → Bool → List Shown
 last_line rest ended = if ended && nat_lt 0 (length rest) then ended_by_end rest ∷ [] else []
 
@@ -26,8 +26,8 @@ last_line rest ended = if ended && nat_lt 0 (length rest) then ended_by_end rest
 abbrev pub NoLf : List ℕ → Type 0
 NoLf bytes = All (λ x. x ≢ 10) bytes
 
--- The lines of a byte list. The raw bytes of the lines that an LF ends, each with its LF, and a rest
--- without an LF concatenate to the whole.
+-- The bytes are the raw bytes of lines, an LF after each, and then a rest without an LF. The lines
+-- show what these raw bytes show, and the rest if the input has ended.
 pub record AreLines (bytes : List ℕ) (ended : Bool) (shown : List Shown) : Type 0 where
   pub raws : List (List ℕ)
   pub rest : List ℕ
@@ -36,7 +36,7 @@ pub record AreLines (bytes : List ℕ) (ended : Bool) (shown : List Shown) : Typ
   pub last : NoLf rest
   pub are : shown ≡ map ended_by_lf raws ++ last_line rest ended
 
--- the lines of the bytes behind `start`, where the first line begins with `start`
+-- the lines of the bytes after `start`, where the first line begins with `start`
 abbrev pub lines_from : List ℕ → List ℕ → Bool → List Shown
 lines_from start [] ended = last_line start ended
 lines_from start (x ∷ xs) ended =

@@ -2,7 +2,7 @@
 use Rattle.std.specs.Prelude.{◌≡◌, ◌<◌, ◌≤◌, ℕ, ◌-◌, List, length, drop, slice_index}
 use Rattle.io_edge.specs.Lines.{NoLf}
 
--- behind the last LF, or at the front where there is none
+-- `end` is after the last LF, or 0 if there is none
 pub record EndsLines (bytes : List ℕ) (end : ℕ) : Type 0 where
   pub within : end ≤ length bytes
   pub lf : 0 < end → slice_index bytes (end - 1) ≡ 10

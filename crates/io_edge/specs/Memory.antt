@@ -3,8 +3,8 @@ use Rattle.std.specs.Prelude.{◌≡◌, ◌↔◌, ◌⊎◌, ℕ, ◌-◌, min
 use Rattle.std.specs.List.{Contains}
 use Rattle.io_edge.specs.Counts.{next_count, CountsFault, CountsEnd}
 
--- What a source holds: the bytes to come, the most bytes of each read, the numbers of the reads that
--- fail, and its counts. The reads into some room are numbered, from 1.
+-- What a source holds: the bytes to come, the most bytes of each read, the numbers of the reads
+-- that fail, and its counts. Reads into a buffer that has room are numbered from 1.
 pub record Held : Type 0 where
   pub left : List ℕ
   pub cuts : List ℕ
@@ -13,13 +13,13 @@ pub record Held : Type 0 where
   pub faults : ℕ
   pub ends : ℕ
 
--- the most bytes of the call after so many others: its room, or its cut where that is less, a 0
--- being a 1
+-- the most bytes that a call takes after `calls` others: its room, or its cut if that is less,
+-- where a cut of 0 counts as 1
 abbrev pub room_at_call : List ℕ → ℕ → ℕ → ℕ
 room_at_call cuts calls room =
     if nat_lt calls (length cuts) then min room (max 1 (slice_index cuts calls)) else room
 
--- one read of a source into some room
+-- one read of a source into a buffer that has room
 pub record ReadsHeld {E : Type 0} (old new : Held) (result : Result ℕ E) (room : ℕ) : Type 0 where
   pub calls : new.calls ≡ next_count old.calls
   pub fails : IsErr result ↔ Contains old.fail_at new.calls
@@ -29,8 +29,9 @@ pub record ReadsHeld {E : Type 0} (old new : Held) (result : Result ℕ E) (room
   pub cuts : new.cuts ≡ old.cuts
   pub fail_at : new.fail_at ≡ old.fail_at
 
--- What a sink holds: the bytes that it took, how many it takes in all, the most bytes of each write,
--- the numbers of the writes that fail, and its counts. The writes of some bytes are numbered, from 1.
+-- What a sink holds: the bytes that it took, how many it takes in all, the most bytes of each
+-- write, the numbers of the writes that fail, and its counts. Writes of at least one byte are
+-- numbered from 1.
 pub record Filled : Type 0 where
   pub taken : List ℕ
   pub room : ℕ
@@ -39,7 +40,7 @@ pub record Filled : Type 0 where
   pub calls : ℕ
   pub faults : ℕ
 
--- one write of some bytes to a sink
+-- one write of at least one byte to a sink
 pub record WritesFilled {E : Type 0} (old new : Filled) (result : Result ℕ E) (size : ℕ)
     : Type 0 where
   pub calls : new.calls ≡ next_count old.calls

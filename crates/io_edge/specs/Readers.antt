@@ -1,13 +1,13 @@
 -- Statement. A source over a reader: what is left of it, and that it is closed at its end.
 use Rattle.std.specs.Prelude.{◌≡◌, ◌<◌, ℕ, List, [], Option, Some, None}
 
--- the reader as long as it is open, and the counts
+-- the reader while it is open, and the counts
 pub record ReaderState (I : Type 0) : Type 0 where
   pub input : Option I
   pub faults : ℕ
   pub ends : ℕ
 
--- what the reader tells to be left; nothing is left of one that is closed
+-- the bytes that are left to read, if they are known; nothing is left after the reader is closed
 abbrev pub left_of : {I : Type 0} → (I → Option (List ℕ)) → Option I → Option (List ℕ)
 left_of remaining (Some input) = remaining input
 left_of remaining None = Some []

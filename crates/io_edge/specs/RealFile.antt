@@ -1,12 +1,12 @@
--- Statement. A source over the file of a path, or over standard input. Before it is opened no bytes
--- are told; from then on those that the system's reader tells.
+-- Statement. A source over the file of a path, or over standard input. Its bytes are not known
+-- before it is opened; after that, they are known if the system's reader knows them.
 use Rattle.std.specs.Prelude.{◌≡◌, ◌<◌, ℕ, Bool, false, List, Option, Some, None, Result, Ok, is_some}
 use Rattle.io_edge.specs.Counts.{CountsFault, CountsEnd}
 use Rattle.io_edge.specs.Readers.{left_of}
 use Rattle.io_edge.specs.declared.opened.Opened.{Opened}
 use Rattle.io_edge.specs.declared.opened.Opened.TheVariants.{Input, File}
 
--- what is known of what was opened
+-- the bytes that are left in what was opened, if they are known
 abbrev pub left_in : {I F : Type 0} → (I → Option (List ℕ)) → (F → Option (List ℕ)) → Opened I F
     → Option (List ℕ)
 left_in in_input in_file (Input source) = left_of in_input source.input
@@ -24,12 +24,12 @@ abbrev pub is_open : {I F : Type 0} → Opened I F → Bool
 is_open (Input source) = is_some source.input
 is_open (File source) = is_some source.input
 
--- it was just opened, after so many faults
+-- it was just opened, after `faults` faults
 abbrev pub IsNew : {I F : Type 0} → ℕ → Opened I F → Type 0
 IsNew faults opened = (faults_of opened ≡ faults) × (ends_of opened ≡ 0)
 
--- what is known of the source: the path that it opens, the bytes that are left, its counts, and
--- whether it is open
+-- what contracts say of the source: the path that it opens, the bytes that are left, its counts,
+-- and whether it is open
 pub record FileSource : Type 0 where
   pub path : List ℕ
   pub left : Option (List ℕ)
@@ -37,7 +37,7 @@ pub record FileSource : Type 0 where
   pub ends : ℕ
   pub is_open : Bool
 
--- the same by what was opened, after so many faults in opening
+-- the same, from what was opened and how often opening failed
 abbrev pub source_of : {I F : Type 0} → (I → Option (List ℕ)) → (F → Option (List ℕ)) → List ℕ → ℕ
     → Option (Opened I F) → FileSource
 source_of in_input in_file path faults None =
@@ -50,7 +50,8 @@ source_of in_input in_file path faults (Some opened) = record {
   is_open = is_open opened;
 }
 
--- one read into some room; after its end a file has no more bytes, whatever is written to it
+-- one read into a buffer that has room; once its end was met, a file gives no more bytes, even if
+-- some are written to it
 pub record ReadsFile {E : Type 0} (old new : FileSource) (result : Result ℕ E) : Type 0 where
   pub faults : CountsFault old.faults new.faults result
   pub ends : CountsEnd old.ends new.ends result

@@ -7,14 +7,14 @@ pub record Unread : Type 0 where
   pub left : List ℕ
   pub ends : ℕ
 
--- one read into some room: it gives all bytes to come, or as many as fill the room
+-- one read into a buffer that has room: it gives all bytes to come, or as many as fill the buffer
 pub record ReadsSteadily {E : Type 0} (old new : Unread) (result : Result ℕ E) (room : ℕ)
     : Type 0 where
   pub count : result ≡ Ok (min room (length old.left))
   pub ends : CountsEnd old.ends new.ends result
 
--- one write to a sink that holds a number of bytes: it takes all, and the number rises by as many, up
--- to its last value
+-- one write to a sink that counts its bytes: it takes all, and adds their number to the count,
+-- which stays at its greatest value
 pub record WritesSteadily {E : Type 0} (old new : ℕ) (result : Result ℕ E) (size : ℕ) : Type 0 where
   pub whole : result ≡ Ok size
   pub count : new ≡ min (old + size) (2 ^ 64 - 1)

@@ -9,23 +9,23 @@ use Rattle.io_edge.specs.declared.under_way.Answer.{Answer}
 use Rattle.io_edge.specs.declared.lines.LineStop.{LineStop}
 use Rattle.io_edge.specs.declared.lines.LineStop.TheVariants.{Failed, Limit}
 
--- the line that the first LF among the bytes taken ends is answered
+-- the line that ends at the first LF among the bytes taken is answered
 pub record Cuts (old : Reading) (shown : Shown) (new : Reading) : Type 0 where
   pub shows : Shows old [] (shown ∷ []) new
   pub cut : CutAt old [] new
 
--- there is no LF among the bytes taken, and they all are of the line under way
+-- there is no LF among the bytes taken, and they are all added to the line under way
 pub record Joins (old new : Reading) : Type 0 where
   pub waits : Waits old [] new
   pub no_lf : NoLf old.unread
 
--- bytes are taken behind those of the line under way, and not too many; no line is shown any more
+-- more bytes are taken, within the limit; the line answered last is no longer shown
 pub record Refills (left left' : Option (List ℕ)) (old new : Reading) : Type 0 where
   pub bytes : Consumes left left' new.unread
   pub else_same : new ≡ record old { unread = new.unread; shown = [] }
   pub few : count_of new ≤ max_count
 
--- the end of the input comes again at each call, and so does the limit
+-- once the end of the input or the limit was reached, each later call answers it again
 pub record ComesAgain (old : Reading) (result : Result (Option Answer) LineStop) (new : Reading)
     : Type 0 where
   pub end : old.met ≡ true → (result ≡ Ok None) × (new ≡ old)

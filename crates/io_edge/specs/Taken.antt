@@ -1,10 +1,9 @@
--- Statement. What was taken of a source that is read to its end, or until so many bytes were taken.
+-- Statement. What was taken from a source that is read up to its end, or up to a number of bytes.
 use Rattle.std.specs.Prelude.{◌≡◌, ◌<◌, ◌≤◌, ℕ, List, length, take, Option, IfSome}
 use Rattle.std.specs.Io.KnownBytes.{Consumes}
 use Rattle.io_edge.specs.Ended.{MeetsEnd}
 
--- `got` are the first bytes, at most `limit` of them: as many as that, with no end met, or fewer, up to
--- the first end
+-- `got` are the first bytes: either `limit` of them, with no end met, or fewer, up to the first end
 pub record TakesFirst (limit : ℕ) (left left' : Option (List ℕ)) (ends ends' : ℕ) (got : List ℕ)
     : Type 0 where
   pub consumed : Consumes left left' got
@@ -12,7 +11,7 @@ pub record TakesFirst (limit : ℕ) (left left' : Option (List ℕ)) (ends ends'
   pub within : length got ≤ limit
   pub end : MeetsEnd ends ends' left' (length got < limit)
 
--- fewer bytes were taken from the front, and no end was met
+-- fewer than `limit` bytes were taken, and no end was met
 pub record TakesFewer (limit : ℕ) (left left' : Option (List ℕ)) (ends ends' : ℕ) : Type 0 where
   pub got : List ℕ
   pub consumed : Consumes left left' got

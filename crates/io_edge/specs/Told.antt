@@ -1,4 +1,4 @@
--- Statement. What an answer of `Lines::next` tells.
+-- Statement. What the answers of `Lines::next` mean.
 use Rattle.std.specs.Prelude.{◌≡◌, ◌⊎◌, ◌≤◌, ℕ, true, false, List, [], Option, Result, Ok, Err}
 use Rattle.std.specs.Io.KnownBytes.{Consumes}
 use Rattle.io_edge.specs.Ended.{MeetsEnd}
@@ -10,8 +10,8 @@ use Rattle.io_edge.specs.declared.lines.Line.TheVariants.{Whole, Long, End}
 use Rattle.io_edge.specs.declared.lines.LineStop.{LineStop}
 use Rattle.io_edge.specs.declared.lines.LineStop.TheVariants.{Failed, Limit}
 
--- where no read comes: the end was met, a whole line stands among the bytes taken, or these are the
--- most that are taken
+-- no read is needed: the end was met, the bytes taken hold a whole line, or the limit of bytes is
+-- reached
 abbrev pub IsQuiet : Reading → Type 0
 IsQuiet r = (r.met ≡ true) ⊎ ((NoLf r.unread → ⊥) ⊎ (count_of r ≡ max_count))
 
@@ -23,8 +23,9 @@ Gives old got (Ok End) new = Ends old got [] new × (new.answered ≡ count_of n
 Gives old got (Err Failed) new = Waits old got new
 Gives old got (Err Limit) new = Waits old got new × (count_of new ≡ max_count)
 
--- One call: `left` and `left'` are the bytes that the source told before and after, `ends` and `ends'`
--- its count of ends. The first end that the source tells is the end of the input.
+-- One call: `left` and `left'` are the bytes that the source still held before and after it, if
+-- they are known, and `ends` and `ends'` its counts of ends. The first end that the source reports
+-- is the end of the input.
 pub record Told (left left' : Option (List ℕ)) (ends ends' : ℕ) (old new : Reading)
     (result : Result Line LineStop) : Type 0 where
   pub line : (got : List ℕ) × Consumes left left' got × Gives old got result new

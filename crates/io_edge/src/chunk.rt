@@ -1,4 +1,12 @@
-//! The bytes of one read in a buffer of a fixed size: those that were not gone over yet, behind the line cut off last.
+//! The bytes of one read, in a buffer of a fixed size. Lines are cut off from left to right:
+//!
+//!     earlier lines | last line | its end | unread bytes | free
+//!                   ^           ^         ^              ^
+//!               line_from    line_to     from            to
+//!
+//! The line that was cut off last stays in place until the next read, so that a line which lies
+//! whole in one read is not copied. `lines_end` is the place after the last LF: more whole lines
+//! are unread exactly if `from` is below it.
 ghost use Rattle.std.specs.Prelude.{◌≡◌, ◌<◌, ◌≤◌, ℕ, ◌+◌, [], length, drop, take, Ok, IfOk, IsFalse, IsTrue, OnErr, vec_len};
 ghost use Rattle.std.specs.Io.BufRead.{strip_last};
 ghost use Rattle.std.specs.Io.KnownBytes.{Consumes, Keeps};
@@ -56,21 +64,19 @@ impl Chunk {
         })
     }
 
-    /// What was not gone over yet.
     pub(crate) fn unread(&self) -> &[u8]
         ensures { result.now ≡ self.now.unread }
     {
         &self.bytes[self.from..self.to]
     }
 
-    /// The line that was cut off last.
     pub(crate) fn line(&self) -> &[u8]
         ensures { result.now ≡ self.now.line }
     {
         &self.bytes[self.line_from..self.line_to]
     }
 
-    /// Whether a line ends among the bytes.
+    /// Whether the unread bytes hold a whole line.
     #[inline]
     pub(crate) fn has_lf(&self) -> bool
         ensures some { IsTrue result → NoLf self.now.unread → ⊥ }
@@ -86,7 +92,7 @@ impl Chunk {
         self.from += count;
     }
 
-    /// Cuts a line off at an LF, before which one CR is dropped.
+    /// Cuts off a line at the LF which is `at` bytes from the front. One CR before it is dropped.
     #[inline]
     pub(crate) fn cut(&mut self, at: usize)
         requires { at < length self.old.unread }
@@ -101,7 +107,7 @@ impl Chunk {
         self.from += at + 1;
     }
 
-    /// Reads at most so many bytes, in place of those that it held.
+    /// Reads at most `most` bytes. They replace all bytes held before.
     pub(crate) fn fill<S: Source>(&mut self, source: &mut S, most: usize) -> Result<usize, Failed>
         requires { 0 < most }
         ensures no_line { self.new.line ≡ [] }
@@ -125,7 +131,7 @@ impl Chunk {
     }
 }
 
-/// Reads into the front of the buffer, and at most so many bytes.
+/// Reads at most `most` bytes into the front of the buffer.
 fn read_some<S: Source>(source: &mut S, buf: &mut [u8], most: usize) -> Result<usize, Failed>
     requires room { 0 < length buf.old }
     requires some { 0 < most }
@@ -140,7 +146,7 @@ fn read_some<S: Source>(source: &mut S, buf: &mut [u8], most: usize) -> Result<u
     source.read(&mut buf[..room])
 }
 
-/// How many bytes of a line are shown, where one CR at its end is dropped.
+/// How many bytes the line has without one CR at its end.
 #[inline]
 fn count_without_cr(line: &[u8]) -> usize
     ensures within { result ≤ length line.now }
@@ -152,7 +158,7 @@ fn count_without_cr(line: &[u8]) -> usize
     }
 }
 
-/// The place behind the last LF, or the front where there is none.
+/// The place after the last LF, or 0 if there is none.
 fn lines_end(bytes: &[u8]) -> usize
     ensures { EndsLines bytes.now result }
 {

@@ -1,8 +1,8 @@
-//! Calls that take no more than their cuts.
+//! The cuts of a source or a sink in memory: how many bytes each of its calls takes at most.
 ghost use Rattle.std.specs.Prelude.{◌≡◌};
 ghost use Rattle.io_edge.specs.Memory.{room_at_call};
 
-/// A cut of zero leaves one byte.
+/// A cut of 0 counts as 1, since a call that takes nothing means the end or a fault.
 pub(crate) fn room_at_call(cuts: &[usize], calls: u64, room: usize) -> usize
     ensures { result ≡ room_at_call cuts.now calls room }
 {

@@ -1,4 +1,4 @@
-//! Bytes that are held back from a writer, in a buffer of a fixed size.
+//! A buffer of a fixed size for bytes that wait to be written.
 ghost use Rattle.std.specs.Prelude.{◌≡◌, ◌<◌, ◌≤◌, ◌-◌, ◌++◌, [], length, take, drop, min, IfOk, OnOk, vec_len, vec_capacity};
 ghost use Rattle.std.specs.Io.{WritesAtMost};
 ghost use Rattle.std.specs.Io.KnownBytes.{Keeps, WriteAppends, append_known};
@@ -12,7 +12,6 @@ use std::alloc::{AllocError, Global};
 use std::io::Write;
 use std::marker::Model;
 
-/// The most bytes that are held back.
 const MAX_HELD: usize = 65_536;
 
 #[derive(Drop)]
@@ -32,7 +31,7 @@ impl Model for HeldBytes {
 }
 
 impl HeldBytes {
-    /// Reserves memory for the most bytes that it holds. No later call takes more.
+    /// Reserves all memory that it will ever need, so that no later call can be out of memory.
     pub(crate) fn new(alloc: Global) -> Result<HeldBytes, AllocError>
         ensures { IfOk result (λ held. held ≡ []) }
     {
@@ -41,8 +40,8 @@ impl HeldBytes {
         })
     }
 
-    /// Holds the first of the bytes, at least one where there are any. Where they do not all fit,
-    /// those held before are handed on first.
+    /// Holds as many of the first bytes as fit. If they do not all fit, the bytes held before are
+    /// flushed first.
     pub(crate) fn take<O: Write>(
         &mut self,
         bytes: &[u8],
@@ -60,7 +59,7 @@ impl HeldBytes {
         Ok(self.hold(bytes))
     }
 
-    /// Hands on all bytes, in their order. After a fault those are held that were not handed on.
+    /// Flushes all bytes in their order. After a fault, those that were not written are still held.
     pub(crate) fn hand_on<O: Write>(
         &mut self,
         output: &mut O,
@@ -78,7 +77,7 @@ impl HeldBytes {
         Ok(())
     }
 
-    /// Hands on all bytes where so many more do not fit.
+    /// Flushes all bytes if `count` more do not fit.
     fn make_room<O: Write>(
         &mut self,
         count: usize,
@@ -97,7 +96,6 @@ impl HeldBytes {
         self.hand_on(output, faults)
     }
 
-    /// Holds the first of the bytes, as many as there is room for.
     fn hold(&mut self, bytes: &[u8]) -> usize
         ensures count { result ≡ min (length bytes.now) (max_held - length self.old) }
         ensures bytes { self.new ≡ self.old ++ take result bytes.now }

@@ -1,4 +1,4 @@
-//! What holds of the lines of each byte list.
+//! What holds of the lines of every byte list.
 ghost use Rattle.std.specs.Prelude.{◌≡◌, ℕ, Bool, List};
 ghost use Rattle.io_edge.specs.Lines.{Shown, AreLines, lines};
 

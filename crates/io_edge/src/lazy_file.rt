@@ -11,8 +11,8 @@ use std::alloc::{AllocError, Global};
 use std::marker::Model;
 use std::rt::Files;
 
-/// Opened at its first read into some room, and closed at its end. Where it can not be opened, the
-/// next read tries again.
+/// It is opened at its first read into a buffer that has room, and closed at its end. If it cannot
+/// be opened, the next read tries again.
 #[derive(Drop)]
 pub struct LazyFile<R: Files + Input + Drop> {
     rt: R,
@@ -77,7 +77,7 @@ impl<R: Files + Input + Drop> Source for LazyFile<R> {
     }
 }
 
-// Opens a path, and reads from what was opened.
+// Opens a path, and reads for the first time.
 fn read_first<R: Files + Input + Drop>(
     rt: &R,
     path: &str,

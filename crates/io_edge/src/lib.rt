@@ -1,4 +1,5 @@
-//! The outside as the program sees it: sources and sinks of bytes, and the lines of a source.
+//! Input and output as the program sees them: sources and sinks of bytes, and the lines of a
+//! source.
 #![tactic(auto)]
 
 mod chunk;

@@ -1,4 +1,9 @@
-//! The lines of a source, in a buffer of one line and one read.
+//! The lines of a source. Bytes pass through two buffers:
+//!
+//!     source --> chunk: one read, up to 4,096 bytes --> line under way: up to 65,536 bytes
+//!
+//! A line that lies whole in the chunk is answered from there. A line that lies in several reads is
+//! gathered in the second buffer, and answered from there.
 ghost use Rattle.std.specs.Prelude.{◌≡◌, ℕ, ◌+◌, ◌^◌, ◌<◌, ◌≤◌, ◌↔◌, List, [], ◌∷◌, ◌++◌, length, take, drop, true, false, Ok, Err, None, IfOk, OnErr, IsErrOf, IsTrue, MatchOption, MatchResult};
 ghost use Rattle.std.specs.Io.KnownBytes.{Consumes};
 ghost use Rattle.io_edge.specs.Counts.{FailsBy};
@@ -13,10 +18,10 @@ use crate::{Failed, Source};
 use std::alloc::{AllocError, Global};
 use std::marker::Model;
 
-/// The most bytes that are taken.
+/// The most bytes that are taken in all.
 const MAX_COUNT: u64 = (1 << 63) - 1;
 
-/// A line, or that there is none any more.
+/// A line, or the end of the input.
 #[derive(Clone, Copy, Debug)]
 pub enum Line<'a> {
     /// The line without its line end. It may be empty.
@@ -30,7 +35,7 @@ pub enum Line<'a> {
 /// Why there is no line for now.
 #[derive(Clone, Copy, Debug, PartialEq, Eq)]
 pub enum LineStop {
-    /// The source failed. What was taken is kept, and a later call goes on from there.
+    /// The source failed. The bytes taken so far are kept, and a later call continues from there.
     Failed,
     /// 2^63-1 bytes were taken without an end, and no whole line is left among them.
     Limit,
@@ -46,7 +51,8 @@ pub struct Lines {
     met: bool,
 }
 
-/// Where the bytes of the line answered last stand. A line that lies whole in a read is not copied.
+/// Which buffer holds the line answered last, if any does. A line that lies whole in a read is not
+/// copied.
 #[derive(Clone, Copy)]
 enum Place {
     Nowhere,
@@ -82,7 +88,8 @@ impl Lines {
     ghost use Rattle.io_edge.specs.Limits.{max_count};
     ghost use Rattle.io_edge.specs.Steps.{ComesAgain, Cuts, Joins, Reaches, Refills};
 
-    /// Reserves memory for the longest line and for one read. No later call takes more.
+    /// Reserves memory for the longest line and for one read, so that no later call can be out of
+    /// memory.
     pub fn new(alloc: Global) -> Result<Lines, AllocError>
         ensures { IfOk result (λ lines.
             lines ≡ record { start = []; unread = []; answered = 0; met = false; shown = [] }) }
@@ -96,7 +103,7 @@ impl Lines {
         })
     }
 
-    /// The next line. A read comes only while the bytes taken hold no whole line.
+    /// The next line. The source is read only while the bytes taken hold no whole line.
     pub fn next<S: Source>(&mut self, source: &mut S) -> Result<Line<'_>, LineStop>
         ensures* told { sem 𝓛 (Rests the_row self.entry (λ new.
             Told (S.left source.old) (S.left source.new) (S.ends source.old) (S.ends source.new)
@@ -120,7 +127,7 @@ impl Lines {
         self.met || self.chunk.has_lf() || self.is_full()
     }
 
-    /// Whether so many bytes were taken as are ever taken.
+    /// Whether no more bytes are taken, since the limit is reached.
     fn is_full(&self) -> bool
         ensures { IsTrue result ↔ (count_of self.now ≡ max_count) }
     {
@@ -137,7 +144,7 @@ impl Lines {
         }
     }
 
-    /// Goes on to the end of the next line, or to that of the input.
+    /// Reads up to the end of the next line, or of the input.
     fn advance<S: Source>(&mut self, source: &mut S) -> Result<Option<Answer>, LineStop>
         ensures line { (got : List ℕ) × Consumes (S.left source.old) (S.left source.new) got
             × Reaches self.old got result self.new }
@@ -163,7 +170,8 @@ impl Lines {
         }
     }
 
-    /// Answers the line that ends among the bytes taken, or adds these to the line under way.
+    /// Answers the first line that ends in the chunk. If none does, its bytes are added to the line
+    /// under way.
     fn take_line(&mut self) -> Option<Answer>
         requires { self.old.met ≡ false }
         ensures { MatchOption result (Joins self.old self.new)
@@ -193,8 +201,8 @@ impl Lines {
         }
     }
 
-    /// Takes the next bytes, where all before them are answered or in the line under way. These take
-    /// the room of the line answered last.
+    /// Reads the next bytes into the chunk, whose bytes are all answered or in the line under way.
+    /// The line answered last is lost.
     fn refill<S: Source>(&mut self, source: &mut S) -> Result<usize, LineStop>
         requires none_waits { self.old.unread ≡ [] }
         requires not_met { self.old.met ≡ false }
@@ -219,7 +227,7 @@ impl Lines {
         }
     }
 
-    /// Answers the rest behind the last LF, where there is any.
+    /// Answers the bytes after the last LF, if there are any.
     fn end(&mut self) -> Option<Answer>
         requires none_waits { self.old.unread ≡ [] }
         requires not_met { self.old.met ≡ false }
@@ -238,7 +246,6 @@ impl Lines {
     }
 }
 
-/// The place of the first LF.
 fn first_lf(bytes: &[u8]) -> Option<usize>
     ensures { MatchOption result (NoLf bytes.now)
         (λ at. NoLf (take at bytes.now)

@@ -11,7 +11,7 @@ use crate::{Failed, Sink};
 use std::alloc::{AllocError, Global};
 use std::marker::Model;
 
-/// Its memory is reserved when it is made, and no write takes more.
+/// All memory is reserved when it is made, so that no write can be out of memory.
 #[derive(Drop)]
 pub struct MemorySink {
     bytes: Vec<u8>,
@@ -41,7 +41,7 @@ impl Model for MemorySink {
 }
 
 impl MemorySink {
-    /// Its writes are not cut.
+    /// A sink whose writes are not cut short.
     pub fn new(alloc: Global, room: usize, fail_at: &[u64]) -> Result<Self, AllocError>
         ensures { IfOk result (λ s. s ≡ record {
           taken = [];
@@ -55,7 +55,7 @@ impl MemorySink {
         MemorySink::with_cuts(alloc, room, &[], fail_at)
     }
 
-    /// The k-th write takes at most `cuts[k - 1]` bytes, or one where that is zero.
+    /// The k-th write takes at most `cuts[k - 1]` bytes, or one byte if that is zero.
     pub fn with_cuts(
         alloc: Global,
         room: usize,

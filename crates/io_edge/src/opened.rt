@@ -17,7 +17,7 @@ pub(crate) enum Opened<I: Read + Drop, F: Read + Drop> {
     File(ReaderSource<F>),
 }
 
-/// Opens a path, and counts a fault where it can not be opened. The path `-` is standard input.
+/// Opens a path, and counts a fault if it cannot be opened. The path `-` is standard input.
 pub(crate) fn open<R: Files + Input>(
     rt: &R,
     path: &str,

@@ -1,15 +1,15 @@
-//! The writers that a sink stands over.
+//! The writers to which a sink writes.
 ghost use Rattle.std.specs.Prelude.{◌≡◌, None, refl};
 
 use std::io::{Printer, Write};
 
-/// A writer that tells its bytes at all times or at none.
+/// A writer whose contents are either known at all times or never.
 pub trait Output: Write {
     ghost tells_alike: { (one other : Self) → Self.contents one ≡ None
         → Self.contents other ≡ None };
 }
 
-/// Standard output tells none.
+/// The contents of standard output are never known.
 impl<P: Print> Output for Printer<'_, P> {
     ghost tells_alike = { λ one other none. refl };
 }

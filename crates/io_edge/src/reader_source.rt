@@ -33,7 +33,8 @@ impl<I: Read + Drop> Model for ReaderSource<I> {
 }
 
 impl<I: Read + Drop> ReaderSource<I> {
-    /// A reader that was just opened, after so many faults.
+    /// A source over a reader that was just opened. Opening it may have taken several tries, and
+    /// `faults` counts those that failed.
     pub fn new(input: I, faults: u64) -> Self
         ensures { result ≡ record { input = Some input; faults = faults; ends = 0 } }
     {

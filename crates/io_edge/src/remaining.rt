@@ -1,4 +1,4 @@
-//! Bytes in memory that are still to be given.
+//! Bytes in memory that are still to be read.
 ghost use Rattle.std.specs.Prelude.{◌≡◌, ◌++◌, ◌≤◌, List, ℕ, length, drop, take, min, IfOk};
 
 use std::alloc::{AllocError, Global};
@@ -28,7 +28,7 @@ impl Remaining {
         })
     }
 
-    /// Gives at most so many bytes, into the front of `buf`.
+    /// Moves the next bytes, at most `most`, into the front of `buf`.
     pub(crate) fn give(&mut self, most: usize, buf: &mut [u8]) -> usize
         ensures count { result ≡ min (min most (length buf.new)) (length self.old) }
         ensures bytes { self.old ≡ take result buf.new ++ self.new }

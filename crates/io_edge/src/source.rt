@@ -1,25 +1,25 @@
-//! A source of bytes, whatever stands behind it.
+//! What every source of bytes has in common.
 ghost use Rattle.std.specs.Prelude.{◌≡◌, ℕ, List, Option, Ok, length};
 ghost use Rattle.std.specs.Io.{ReadsAtMost};
 ghost use Rattle.std.specs.Io.KnownBytes.{ReadConsumes};
 ghost use Rattle.io_edge.specs.Counts.{FailsByFault, EndsByEnd};
 
-/// A read or a write failed, and the object's count of faults tells so.
+/// A read or a write failed. The object has counted it as a fault.
 #[derive(Clone, Copy, Debug, PartialEq, Eq)]
 pub struct Failed;
 
 pub trait Source {
-    /// The bytes that it still holds, where it tells them.
+    /// The bytes that are still to be read, if they are known.
     ghost left: { Self → Option (List ℕ) };
 
-    /// How often it has failed, kept at 2^64-1.
+    /// How often it has failed, at most 2^64-1.
     ghost faults: { Self → ℕ };
 
-    /// How often it has met the end of its input, kept at 2^64-1.
+    /// How often it has met the end of its input, at most 2^64-1.
     ghost ends: { Self → ℕ };
 
-    /// Gives the next bytes, into the front of `buf`. Nothing, where there is room, says that the
-    /// input has ended.
+    /// Reads the next bytes into the front of `buf`. If it has room and 0 bytes are read, the input
+    /// has ended.
     fn read(&mut self, buf: &mut [u8]) -> Result<usize, Failed>
         ensures bound { ReadsAtMost result buf.new }
         ensures bytes { ReadConsumes (left self.old) (left self.new) result buf.new }

@@ -9,7 +9,7 @@ ghost use Rattle.io_edge.specs.Written.{HoldsNoMore};
 use crate::{Failed, Sink};
 use std::marker::Model;
 
-/// Keeps no byte, only their number, seen as that number.
+/// Keeps only the number of its bytes, and is seen as that number.
 #[derive(Drop)]
 pub struct SteadySink {
     count: u64,
@@ -30,7 +30,7 @@ impl SteadySink {
         SteadySink { count: 0 }
     }
 
-    /// How many bytes it took, kept at `u64::MAX` once that is reached.
+    /// How many bytes it took, at most `u64::MAX`.
     pub fn count(&self) -> u64
         ensures { result ≡ self.now }
     {

@@ -1,4 +1,5 @@
-//! A source over bytes in memory that gives as many as there is room for, and never fails.
+//! A source over bytes in memory that never fails, and whose reads fill the buffer while bytes are
+//! left.
 ghost use Rattle.std.specs.Prelude.{◌≡◌, ◌<◌, ℕ, List, Option, Ok, Some, length, IfOk};
 ghost use Rattle.std.specs.Io.{ReadsAtMost};
 ghost use Rattle.std.specs.Io.KnownBytes.{ReadConsumes};

@@ -1,4 +1,4 @@
-//! One read or one write of the system, counted and handed on as the system told it.
+//! One read or one write of the system, whose fault or end is counted.
 ghost use Rattle.std.specs.Prelude.{◌≡◌, ◌<◌, ◌≤◌, length, IfOk};
 ghost use Rattle.std.specs.Io.{ReadsAtMost, WritesAtMost};
 ghost use Rattle.std.specs.Io.KnownBytes.{ReadConsumes, WriteAppends};
@@ -7,7 +7,7 @@ ghost use Rattle.io_edge.specs.Counts.{CountsFault, CountsRead, FailsByFault, ne
 use crate::Failed;
 use std::io::{Read, Write};
 
-/// Reads once into some room.
+/// Reads once into a buffer that has room.
 pub(crate) fn read_once<I: Read>(
     input: &mut I,
     buf: &mut [u8],
@@ -27,7 +27,7 @@ pub(crate) fn read_once<I: Read>(
     Ok(count)
 }
 
-/// Writes some bytes once. To take none of them is to fail.
+/// Writes some bytes once. If the system takes none of them, the write has failed.
 pub(crate) fn write_once<O: Write>(
     output: &mut O,
     bytes: &[u8],
@@ -45,7 +45,6 @@ pub(crate) fn write_once<O: Write>(
     }
 }
 
-/// Counts a fault.
 pub(crate) fn fault(faults: &mut u64) -> Failed
     ensures later { faults.old ≤ faults.new }
     ensures one_more { faults.new ≡ next_count faults.old }

@@ -11,11 +11,11 @@ use std::alloc::{AllocError, Global};
 pub enum TakeStop {
     /// The source failed.
     Failed,
-    /// There is no memory for so many bytes as the limit.
+    /// Out of memory: room for `limit` bytes is reserved before the first read.
     Memory,
 }
 
-/// Reads to the first end of the source, or until `limit` bytes were taken.
+/// Reads up to the first end of the source, or until `limit` bytes were taken.
 pub fn read_to_limit<S: Source>(
     alloc: Global,
     source: &mut S,
@@ -42,7 +42,7 @@ pub fn read_to_limit<S: Source>(
     }
 }
 
-/// Fills the room, or as much of it as there are bytes before the first end.
+/// Fills the buffer, or as much of it as there are bytes before the first end.
 fn fill<S: Source>(source: &mut S, room: &mut [u8]) -> Result<usize, Failed>
     ensures taken { IfOk result (λ count. (count ≤ length room.new)
         × TakesFirst (length room.new) (S.left source.old) (S.left source.new)

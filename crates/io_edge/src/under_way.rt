@@ -1,4 +1,5 @@
-//! The line under way, in a buffer of the longest line that is shown.
+//! The line under way: a partial line that earlier reads have begun, in a buffer for the longest
+//! line that is shown.
 ghost use Rattle.std.specs.Prelude.{◌≡◌, ℕ, ◌+◌, ◌≤◌, [], ◌++◌, length, IfOk, vec_capacity};
 ghost use Rattle.std.specs.Io.BufRead.{strip_last};
 ghost use Rattle.io_edge.specs.Lines.{ended_by_lf, ended_by_end};
@@ -9,7 +10,7 @@ ghost use Rattle.io_edge.specs.Answered.{shown_by};
 use std::alloc::{AllocError, Global};
 use std::marker::Model;
 
-/// The most bytes that a line has before its line end, where it is shown.
+/// The most bytes before its line end that a line may have to be shown.
 pub(crate) const MAX_LINE: usize = 65_536;
 
 /// How a line is answered.
@@ -19,8 +20,8 @@ pub(crate) enum Answer {
     Long,
 }
 
-/// A line answered stays in the buffer until the next bytes come. Of a line that is too long
-/// already only the number of its bytes is kept.
+/// A line that was answered stays in the buffer until the next bytes come. Bytes that would make a
+/// line too long are only counted.
 #[derive(Drop)]
 pub(crate) struct UnderWay {
     bytes: Vec<u8>,
@@ -50,7 +51,6 @@ impl UnderWay {
         })
     }
 
-    /// How many bytes the line has so far.
     pub(crate) fn len(&self) -> u64
         ensures { result ≡ length self.now.start }
     {
@@ -61,14 +61,13 @@ impl UnderWay {
         }
     }
 
-    /// The line answered last.
     pub(crate) fn shown(&self) -> &[u8]
         ensures { result.now ≡ self.now.shown }
     {
         &self.bytes
     }
 
-    // Most lines lie whole in a read, and are not added.
+    // Not inlined: most lines lie whole in a read, and do not come here.
     #[inline(never)]
     pub(crate) fn add(&mut self, piece: &[u8])
         requires { length self.old.start + length piece.now ≤ max_count }

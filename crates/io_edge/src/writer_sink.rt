@@ -6,7 +6,7 @@ use crate::held_bytes::HeldBytes;
 use crate::{Failed, Output, Sink};
 use std::alloc::{AllocError, Global};
 
-/// Holds back up to 65,536 bytes, and hands them on when the next do not fit, or at `flush`.
+/// Buffers up to 65,536 bytes. They are flushed when the next bytes do not fit, or by `flush`.
 #[derive(Drop)]
 pub struct WriterSink<O: Output + Drop> {
     output: O,
@@ -15,7 +15,7 @@ pub struct WriterSink<O: Output + Drop> {
 }
 
 impl<O: Output + Drop> WriterSink<O> {
-    /// Reserves memory for the bytes that it holds back. No later call takes more.
+    /// Reserves memory for the whole buffer, so that no later call can be out of memory.
     pub fn new(output: O, alloc: Global) -> Result<Self, AllocError>
         ensures taken { IfOk result (λ s.
             Keeps (O.contents output) (⟦<WriterSink<O> as Sink>⟧.taken s)) }

@@ -1,15 +1,15 @@
 -- Statement. The numbers that a drill draws: the upper halves of states of 64 bits.
 use Rattle.std.specs.Prelude.{ℕ, zero, suc, ◌+◌, ◌*◌, ◌/◌, ◌%◌, ◌^◌}
 
--- the state behind one draw
+-- the state after one draw
 abbrev pub state_behind : ℕ → ℕ
 state_behind state = (state * 6364136223846793005 + 1442695040888963407) % 2 ^ 64
 
--- the state behind so many draws
+-- the state after a number of draws
 abbrev pub state_after : ℕ → ℕ → ℕ
 state_after zero state = state
 state_after (suc draws) state = state_behind (state_after draws state)
 
--- what is drawn, where this is the state behind the draw: 32 of its 64 bits
+-- the number that is drawn, where this is the state after the draw
 abbrev pub drawn : ℕ → ℕ
 drawn state = state / 2 ^ 32

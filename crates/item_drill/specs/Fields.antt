@@ -1,4 +1,4 @@
--- Statement. The field of a column for what was drawn.
+-- Statement. The field of a column that belongs to a draw.
 use Rattle.std.specs.Prelude.{ℕ, ◌+◌, ◌-◌, ◌/◌, ◌%◌, ◌^◌, ℤ, pos, ◌-ℤ◌, List, [], ◌∷◌, ◌++◌, length, codes, replicate, unsigned_abs}
 use Rattle.std.specs.Fmt.{decimal, sign_text, signed_decimal}
 use Rattle.std.specs.Int.{is_negative}
@@ -7,20 +7,19 @@ use Rattle.value_ops.specs.declared.field.Field.TheVariants as field
 use Rattle.item_schema.specs.declared.column.Kind.{Kind}
 use Rattle.item_schema.specs.declared.column.Kind.TheVariants.{Int, Fixed, Text, Number, Table}
 
--- the number for what was drawn, from -1000 to 1000
+-- the number that belongs to the draw, from -1000 to 1000
 abbrev pub number_of : ℕ → ℤ
 number_of draw = pos (draw % 2001) -ℤ pos 1000
 
--- the text for what was drawn: `k` and a digit from 0 to 7
+-- the text that belongs to the draw: `k` and a digit from 0 to 7
 abbrev pub word_of : ℕ → List ℕ
 word_of draw = codes "k" ++ (48 + draw % 8) ∷ []
 
--- the number in at least so many digits, with zeros in front where it has fewer
+-- the number, with zeros in front if it has fewer than `least` digits
 abbrev pub in_digits : ℕ → ℕ → List ℕ
 in_digits least number = replicate (least - length (decimal number)) 48 ++ decimal number
 
--- a number of so many places behind the point, counted in the smallest unit: its sign, the whole
--- ones, a point, and the rest in all places
+-- a number of smallest units, with `places` digits after the point
 abbrev pub fixed_text : ℕ → ℤ → List ℕ
 fixed_text places number =
     sign_text (is_negative number) ++ decimal (unsigned_abs number / 10 ^ places) ++ codes "."

@@ -1,4 +1,4 @@
--- Statement. The lines of a drill, and the items that they are.
+-- Statement. The lines of a drill, and the items to which they are read.
 use Rattle.std.specs.Prelude.{ℕ, zero, suc, Bool, ◌&&◌, if◌then◌else◌, List, [], ◌∷◌, ◌++◌, length, codes, map}
 use Rattle.std.specs.List.{flat_map, join_with_byte, list_all}
 use Rattle.value_ops.specs.declared.field.Field.{Field}
@@ -11,7 +11,7 @@ use Rattle.item_drill.specs.Fields.{field_of, field_text}
 abbrev pub are_read : List Column → Bool
 are_read columns = list_all (λ column. has_digits column.kind && is_read column.kind) columns
 
--- where a drill stands: the columns of its lines, and the state before the next one
+-- how far a drill has come: the columns of its lines, and the state before the next line
 pub record Drilling : Type 0 where
   pub layout : Layout
   pub state : ℕ
@@ -28,7 +28,7 @@ item_from [] state = []
 item_from (column ∷ columns) state =
     field_of column.kind (drawn (state_behind state)) ∷ item_from columns (state_behind state)
 
--- texts with a comma between each two
+-- texts with commas between them
 abbrev pub row_of : List (List ℕ) → List ℕ
 row_of texts = join_with_byte 44 texts
 
@@ -36,7 +36,7 @@ row_of texts = join_with_byte 44 texts
 abbrev pub line_from : List Column → ℕ → List ℕ
 line_from columns state = row_of (texts_from columns state)
 
--- so many lines from this state on
+-- a number of lines from this state on
 abbrev pub lines_from : List Column → ℕ → ℕ → List (List ℕ)
 lines_from columns zero state = []
 lines_from columns (suc count) state =
@@ -54,6 +54,6 @@ header_of layout = if layout.has_header then row_of (names_of layout.columns) �
 abbrev pub bytes_of : List (List ℕ) → List ℕ
 bytes_of lines = flat_map (λ line. line ++ codes "\n") lines
 
--- the bytes of a drill of so many lines from a seed
+-- the bytes of a drill of `count` lines from a seed
 abbrev pub drill_bytes : Layout → ℕ → ℕ → List ℕ
 drill_bytes layout count seed = bytes_of (header_of layout ++ lines_from layout.columns count seed)

@@ -14,10 +14,10 @@ use language_base::Bytes;
 use std::alloc::{AllocError, Global};
 use std::marker::Model;
 
-/// The bytes that are taken for a field and its comma: few fields have more.
+/// The bytes that are reserved for a field and its comma. Few fields need more.
 const FIELD_BYTES: usize = 8;
 
-/// Lines of a stream, one after the other, from a number. Each of them is an item.
+/// Lines of a stream that are drawn from a seed, one after the other. Each of them is an item.
 #[derive(Drop)]
 pub struct Drill<'s> {
     schema: &'s Schema,
@@ -38,7 +38,7 @@ impl<'s> Model for Drill<'s> {
 }
 
 impl<'s> Drill<'s> {
-    /// The drill of a number, before its first line. It takes no memory.
+    /// The drill before its first line. It takes no memory.
     pub fn new(schema: &'s Schema, seed: u64) -> Drill<'s>
         requires { IsTrue (list_all (λ c. is_read c.kind) schema.now.columns) }
         ensures { result ≡ record { layout = schema.now; state = seed } }
@@ -49,7 +49,8 @@ impl<'s> Drill<'s> {
         }
     }
 
-    /// The line that comes before all others where the schema has a header, and else no bytes.
+    /// The line that comes before all others, with its LF. It has no bytes if the schema has no
+    /// header.
     pub fn header(&self, alloc: Global) -> Result<Bytes, AllocError>
         ensures { IfOk result (λ line. line ≡ bytes_of (header_of self.now.layout)) }
     {
@@ -61,7 +62,7 @@ impl<'s> Drill<'s> {
         Ok(Bytes::from_vec(text))
     }
 
-    /// The next line, with its LF. Where memory is wanting, it is the next one still.
+    /// The next line, with its LF. If the drill is out of memory, a later call gives the same line.
     pub fn line(&mut self, alloc: Global) -> Result<Bytes, AllocError>
         ensures line { IfOk result (λ line.
             line ≡ bytes_of (line_from self.old.layout.columns self.old.state ∷ [])) }
@@ -79,7 +80,7 @@ impl<'s> Drill<'s> {
     }
 }
 
-// Appends the fields of the columns, with a comma between each two, and gives the draws behind.
+// Appends the fields of the columns, with commas between them, and gives the draws after them.
 fn push_fields(columns: &[Column], draws: Draws, text: &mut Vec<u8>) -> Result<Draws, AllocError>
     requires { IsTrue (are_read columns.now) }
     ensures text { OnOk result (
@@ -95,7 +96,7 @@ fn push_fields(columns: &[Column], draws: Draws, text: &mut Vec<u8>) -> Result<D
     Ok(draws)
 }
 
-// Appends the names of the columns, with a comma between each two.
+// Appends the names of the columns, with commas between them.
 fn push_names(columns: &[Column], text: &mut Vec<u8>) -> Result<(), AllocError>
     ensures { OnOk result (text.new.items ≡ text.old.items ++ row_of (names_of columns.now)) }
 {
@@ -106,7 +107,7 @@ fn push_names(columns: &[Column], text: &mut Vec<u8>) -> Result<(), AllocError>
     Ok(())
 }
 
-// A comma stands before each text but the first.
+// Appends a comma before each text but the first.
 fn push_comma(place: usize, text: &mut Vec<u8>) -> Result<(), AllocError>
     ensures { OnOk result (text.new.items ≡ text.old.items ++ comma_at place) }
 {

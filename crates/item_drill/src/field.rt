@@ -9,14 +9,14 @@ use item_schema::Kind;
 use itoa::Buffer;
 use std::alloc::AllocError;
 
-/// How many numbers a field may have.
+/// From how many numbers the number of a field is drawn.
 const NUMBERS: u32 = 2001;
-/// The greatest of them.
+/// The greatest of these numbers. The least is its negative.
 const GREATEST: i64 = 1000;
-/// How many texts a field may have.
+/// From how many texts the text of a field is drawn.
 const TEXTS: u32 = 8;
 
-/// Appends the field of a column of this kind for what was drawn.
+/// Appends the field of a column of this kind that belongs to the draw.
 pub(crate) fn push_field(kind: Kind, draw: u32, text: &mut Vec<u8>) -> Result<(), AllocError>
     requires { IsTrue (has_digits kind && is_read kind) }
     ensures { OnOk result (text.new.items ≡ text.old.items ++ field_text kind draw) }
@@ -70,7 +70,7 @@ fn push_decimal(number: u64, text: &mut Vec<u8>) -> Result<(), AllocError>
     text.extend_from_slice(buffer.format(number).as_bytes())
 }
 
-// The number in at least so many digits, with zeros in front where it has fewer.
+// Appends the number, with zeros in front if it has fewer than `least` digits.
 fn push_digits(least: u8, number: u64, text: &mut Vec<u8>) -> Result<(), AllocError>
     ensures { OnOk result (text.new.items ≡ text.old.items ++ in_digits least number) }
 {

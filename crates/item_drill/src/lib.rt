@@ -1,4 +1,4 @@
-//! The lines of items that a number makes: the same number makes the same lines.
+//! Lines of items that are drawn from a seed. The same seed gives the same lines.
 #![tactic(auto)]
 
 mod draws;

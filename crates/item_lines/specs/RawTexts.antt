@@ -6,13 +6,13 @@ use Rattle.item_schema.specs.declared.column.Column.{Column}
 use Rattle.item_schema.specs.declared.column.Kind.{Kind}
 use Rattle.item_lines.specs.Lines.{number_text}
 
--- that of a field, without quotes
+-- the text of a field, without quotes
 abbrev pub raw_text : Kind → Field → List ℕ
 raw_text kind (field.Int number) = number_text kind number
 raw_text kind (field.Text text) = text
 raw_text kind (field.Val value) = []
 
--- those of an item
+-- the texts of an item
 abbrev pub raw_texts : List Column → List Field → List (List ℕ)
 raw_texts (column ∷ columns) (one ∷ fields) = raw_text column.kind one ∷ raw_texts columns fields
 raw_texts _ _ = []

@@ -37,7 +37,7 @@ fn push_value(value: &Value, line: &mut Vec<u8>) -> Result<(), AllocError>
     ensures { OnOk result (line.new.items ≡ line.old.items ++ value_text value.now) }
 {
     push_answer(Some(value), line)?;
-    // An answer ends with an LF.
+    // `push_answer` wrote an LF at the end.
     line.pop();
     Ok(())
 }

@@ -7,7 +7,7 @@ ghost use Rattle.item_schema.specs.Reading.{item_of};
 ghost use Rattle.item_schema.specs.declared.column.Column.{Column};
 ghost use Rattle.item_lines.specs.Lines.{is_shown, line_of};
 
-/// The line that is shown of an item of a stream is read to that very item.
+/// The line that is shown for an item of a stream is read to that very item.
 pub fn shown_lines_are_read_to_their_items()
     ensures { (columns : List Column) (item : List Field) → IsTrue (are_columns columns)
         → IsItemOf columns item → IsTrue (is_shown (line_of columns item))

@@ -1,4 +1,4 @@
-//! The line of an item, as a person reads it and types it.
+//! The line of an item, as a person would type it.
 #![tactic(auto)]
 
 mod field_text;

@@ -11,7 +11,7 @@ use language_base::Bytes;
 use std::alloc::{AllocError, Global};
 use value_ops::Field;
 
-/// The line of an item, where it is one that is shown.
+/// The line of the item, if such a line is shown.
 pub fn shown_line(alloc: Global, schema: &Schema, item: &Item) -> Result<Option<Bytes>, AllocError>
     ensures { IfOk result (λ found. found ≡ shown_line schema.now.columns item.now) }
 {
@@ -31,7 +31,7 @@ fn line_of(alloc: Global, columns: &[Column], fields: &[Field]) -> Result<Bytes,
     Ok(Bytes::from_vec(line))
 }
 
-// Appends the texts of the fields with a comma between each two.
+// Appends the texts of the fields, with commas between them.
 fn push_fields(columns: &[Column], fields: &[Field], line: &mut Vec<u8>) -> Result<(), AllocError>
     requires { IsTrue (list_all (λ c. has_digits c.kind) columns.now) }
     ensures { OnOk result (line.new.items ≡ line.old.items ++ line_of columns.now fields.now) }

@@ -17,7 +17,7 @@ pub(crate) fn push_whole(number: i64, line: &mut Vec<u8>) -> Result<(), AllocErr
     line.extend_from_slice(buffer.format(number).as_bytes())
 }
 
-/// Appends a number of smallest units, with so many digits after its point.
+/// Appends a number of smallest units, with `places` digits after its point.
 pub(crate) fn push_fixed(places: u8, number: i64, line: &mut Vec<u8>) -> Result<(), AllocError>
     requires { IsTrue (has_digits (Kind.Fixed places)) }
     ensures { OnOk result (line.new.items ≡ line.old.items ++ fixed_text places number) }
@@ -46,7 +46,7 @@ fn push_decimal(number: u64, line: &mut Vec<u8>) -> Result<(), AllocError>
     line.extend_from_slice(buffer.format(number).as_bytes())
 }
 
-// The number in at least so many digits, with zeros in front where it has fewer.
+// Appends the number, with zeros in front if it has fewer than `least` digits.
 fn push_digits(least: u8, number: u64, line: &mut Vec<u8>) -> Result<(), AllocError>
     ensures { OnOk result (line.new.items ≡ line.old.items ++ in_digits least number) }
 {

@@ -8,7 +8,7 @@ ghost use Rattle.item_lines.specs.Lines.{is_plain, is_shown};
 /// The most bytes of a line that is shown.
 const LONGEST: usize = 96;
 
-/// Whether the line is short, and a text that is shown as it is.
+/// Whether the line is short, and can be shown as it is.
 pub fn is_shown(line: &[u8]) -> bool
     ensures { result ≡ is_shown line.now }
 {

@@ -5,7 +5,7 @@ ghost use Rattle.item_lines.specs.Lines.{byte_text, is_bare, is_delimiter, typed
 
 use std::alloc::AllocError;
 
-/// Appends a text, between quotes where it would not be read without them.
+/// Appends a text, in quotes if it would not be read without them.
 pub(crate) fn push_text(text: &[u8], line: &mut Vec<u8>) -> Result<(), AllocError>
     ensures { OnOk result (line.new.items ≡ line.old.items ++ typed_text text.now) }
 {
@@ -33,7 +33,7 @@ fn has_delimiter(text: &[u8]) -> bool
     text.iter().any(|byte| *byte == b',' || *byte == b'"')
 }
 
-// Each quote of the text twice.
+// Appends the text with each of its quotes doubled.
 fn push_doubled(text: &[u8], line: &mut Vec<u8>) -> Result<(), AllocError>
     ensures { OnOk result (line.new.items ≡ line.old.items ++ flat_map byte_text text.now) }
 {

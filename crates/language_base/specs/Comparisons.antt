@@ -4,7 +4,7 @@ use Rattle.std.specs.Ordering.{int_eq}
 use Rattle.language_base.specs.declared.compare.Compare.{Compare}
 use Rattle.language_base.specs.declared.compare.Compare.TheVariants.{Lt, Le, Gt, Ge, Eq, Ne}
 
--- whether two numbers compare so
+-- whether the comparison holds of two numbers
 abbrev pub compares : Compare → ℤ → ℤ → Bool
 compares Lt first second = int_lt first second
 compares Le first second = int_le first second

@@ -1,4 +1,4 @@
--- Statement. The limits of the language, each said once. The last value of each is accepted.
+-- Statement. The limits of the language. A value that is equal to its limit is accepted.
 use Rattle.std.specs.Prelude.{ℕ}
 
 -- the bytes of a query text
@@ -21,6 +21,6 @@ max_cells = 4096
 abbrev pub max_positions : ℕ
 max_positions = 128
 
--- the nodes of a main query, with each name replaced by the query of its let
+-- the nodes of a main query, in which each name is replaced by the query of its let
 abbrev pub max_nodes : ℕ
 max_nodes = 256

@@ -8,7 +8,7 @@ pub enum BinaryOp {
     Mul,
     /// The quotient, cut towards zero.
     Div,
-    /// What a division leaves, with the sign of the dividend.
+    /// The remainder, with the sign of the dividend.
     Rem,
     /// The lesser.
     Min,

@@ -1,4 +1,4 @@
-//! A list of bytes of its own, as the name of a column or a text.
+//! An owned list of bytes, such as the name of a column or a text.
 ghost use Rattle.std.specs.Prelude.{◌≡◌, IfOk, nat_eq};
 ghost use Rattle.std.specs.Hash as fed;
 ghost use Rattle.std.specs.Cmp.{partial_equiv_from_equiv};
@@ -12,7 +12,7 @@ use std::alloc::{AllocError, Global};
 use std::hash::{Hash, Hasher};
 use std::marker::Model;
 
-/// Bytes that it owns, seen as their list. Up to sixteen stand in the value itself.
+/// Owned bytes, seen as their list. Up to sixteen are kept in the value itself.
 #[derive(Drop)]
 pub struct Bytes {
     bytes: SmallVec<u8, 16>,
@@ -27,7 +27,6 @@ impl Model for Bytes {
 }
 
 impl Bytes {
-    /// Copies the bytes.
     pub fn from_slice(alloc: Global, bytes: &[u8]) -> Result<Bytes, AllocError>
         ensures { IfOk result (λ copy. copy ≡ bytes.now) }
     {
@@ -80,7 +79,7 @@ impl Hash for Bytes {
     }
 }
 
-/// So a set of bytes is searched for a slice.
+/// A set of `Bytes` can be searched for a slice, which need not be copied first.
 impl Equivalent<Bytes> for &[u8] {
     ghost equivalent = { λ sought bytes. pointwise nat_eq sought.now bytes };
 

@@ -14,7 +14,6 @@ pub enum Compare {
 }
 
 impl Compare {
-    /// Whether two numbers compare so.
     pub fn holds(self, first: i64, second: i64) -> bool
         ensures { result ≡ compares self first second }
     {

@@ -1,4 +1,5 @@
-//! What all parts of the language share: bytes, places in a query text, operators, and the rules that a query can break.
+//! What all parts of the language share: bytes, places in a query text, operators, and the rules
+//! that a query can break.
 #![tactic(auto)]
 
 mod binary;

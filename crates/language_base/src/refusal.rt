@@ -2,7 +2,7 @@
 
 use crate::{Rule, Span};
 
-/// The first rule that a query breaks, and where.
+/// The first rule that a query breaks, and the place where it does.
 #[derive(Clone, Copy, Debug, PartialEq, Eq)]
 pub struct Refusal {
     pub rule: Rule,

@@ -2,16 +2,16 @@
 ghost use Rattle.std.specs.Prelude.{◌≡◌};
 ghost use Rattle.language_base.specs.Rules.{number_of};
 
-/// A rule that a query can break. Its number is the rule's number in the language.
+/// A rule that a query can break. Its number is the one that the language reference gives it.
 #[derive(Clone, Copy, Debug, PartialEq, Eq)]
 pub enum Rule {
     /// The text is too long.
     Long = 1,
     /// Bytes form no token.
     Token,
-    /// The tokens are no list of terms.
+    /// The tokens do not form a list of terms.
     Term,
-    /// A term is too deep inside others.
+    /// A term is nested too deeply.
     Depth,
     /// A term has none of the forms of its place.
     Form,
@@ -21,11 +21,11 @@ pub enum Rule {
     Nested,
     /// The query is too large.
     Size,
-    /// A number is not from -2^63 to 2^63-1.
+    /// A number is not between -2^63 and 2^63-1.
     Literal,
     /// A test or an expression does not fit the types of its columns and values.
     Type_,
-    /// The predicates tell too many kinds of items apart.
+    /// The predicates distinguish too many kinds of items.
     Cells,
     /// No item meets a predicate.
     Empty,
@@ -39,7 +39,7 @@ pub enum Rule {
     Reach,
     /// Two rates are different.
     Rates,
-    /// A composition is fed words that it has no rate for.
+    /// The right operand of a compose that is not at the top has no value on some list of values.
     Compose,
 }
 

@@ -1,6 +1,6 @@
-//! A part of a text, by its places.
+//! A part of a text, given by two places.
 
-/// The bytes of a text from the place `from` up to the place `to`, which is left out.
+/// The bytes of a text from the place `from` up to, but not including, the place `to`.
 #[derive(Clone, Copy, Debug, PartialEq, Eq)]
 pub struct Span {
     pub from: u32,

@@ -5,6 +5,6 @@
 pub enum UnaryOp {
     /// The number with the other sign.
     Neg,
-    /// The size of the number.
+    /// The absolute value.
     Abs,
 }

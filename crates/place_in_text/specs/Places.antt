@@ -1,5 +1,5 @@
--- Statement. Where a place of a text stands: in which line, and behind how many bytes of it. A place behind the text
--- stands at its end.
+-- Statement. The line and the column of a place in a text. A place past the end counts as the end
+-- of the text.
 use Rattle.std.specs.Prelude.{ℕ, ◌+◌, Bool, ◌==◌, List, length, take, drop}
 use Rattle.std.specs.Io.BufRead.{strip_last}
 use Rattle.std.specs.List.{after_last, before_first, count_by}
@@ -8,11 +8,12 @@ use Rattle.std.specs.List.{after_last, before_first, count_by}
 abbrev pub is_lf : ℕ → Bool
 is_lf byte = byte == 10
 
--- what stands of the place's line before the place
+-- the part of the line before the place
 abbrev pub before_place : List ℕ → ℕ → List ℕ
 before_place text place = after_last is_lf (take place text)
 
--- what stands of it from the place on, without a CR at its end; at the LF itself, that CR stands before the place
+-- the part of the line from the place on, without a CR at its end; if the place is that of the LF,
+-- such a CR is in the part before it
 abbrev pub from_place : List ℕ → ℕ → List ℕ
 from_place text place = strip_last 13 (before_first is_lf (drop place text))
 

@@ -1,4 +1,5 @@
-//! A place of a text as a person finds it: its line and column, and the line with the place marked under it.
+//! A place in a text, shown to a person: its line and column, and the line with marks under the
+//! place.
 #![tactic(auto)]
 
 mod laws;

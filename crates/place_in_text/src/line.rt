@@ -6,7 +6,7 @@ ghost use Rattle.place_in_text.specs.Places.{before_place, from_place, is_lf};
 
 use crate::part::{head, tail};
 
-/// What stands of the line before the place.
+/// The part of the line before the place.
 pub(crate) fn before_place(text: &[u8], place: usize) -> &[u8]
     ensures { result.now ≡ before_place text.now place }
 {
@@ -26,7 +26,7 @@ fn last_line_start(text: &[u8]) -> usize
     start
 }
 
-/// What stands of the line from the place on.
+/// The part of the line from the place on.
 pub(crate) fn from_place(text: &[u8], place: usize) -> &[u8]
     ensures { result.now ≡ from_place text.now place }
 {

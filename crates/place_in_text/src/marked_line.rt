@@ -6,8 +6,8 @@ use crate::shown::{push_shown, push_times};
 use crate::window::window_at;
 use std::alloc::{AllocError, Global};
 
-/// Appends two lines: what is shown of the line of the place `from`, and the marks under the bytes
-/// from there up to the place `to`, of which at least one is marked.
+/// Appends two lines: the line of the place `from`, or the part of it that is shown, and marks
+/// under the bytes from there up to the place `to`. There is at least one mark.
 #[tactic(auto, unfolding(crate::specs::Windows::marked_line))]
 pub fn push_marked_line(
     alloc: Global,

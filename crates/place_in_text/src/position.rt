@@ -13,7 +13,7 @@ pub struct Position {
     pub column: usize,
 }
 
-/// Where the place stands; a place behind the text stands at its end.
+/// The line and the column of a place. A place past the end counts as the end of the text.
 pub fn locate(text: &[u8], place: usize) -> Position
     ensures line { result.line ≡ line_of text.now place }
     ensures column { result.column ≡ column_of text.now place }

@@ -14,7 +14,6 @@ fn shown_byte(byte: u8) -> u8
     }
 }
 
-/// Appends the bytes as they are shown.
 pub(crate) fn push_shown(bytes: &[u8], text: &mut Vec<u8>) -> Result<(), AllocError>
     ensures { OnOk result (text.new.items ≡ text.old.items ++ map shown_byte bytes.now) }
 {
@@ -24,7 +23,6 @@ pub(crate) fn push_shown(bytes: &[u8], text: &mut Vec<u8>) -> Result<(), AllocEr
     Ok(())
 }
 
-/// Appends the byte so many times.
 pub(crate) fn push_times(
     alloc: Global,
     byte: u8,

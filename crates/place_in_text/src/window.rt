@@ -7,7 +7,7 @@ use crate::line::{before_place, from_place};
 /// The most bytes of a line that are shown.
 const MAX_SHOWN: usize = 100;
 
-/// What is shown of the line before a place, and from it on.
+/// What is shown of a line: the bytes before the place, and those from it on.
 #[derive(Clone, Copy)]
 pub(crate) struct Window<'a> {
     pub(crate) before: &'a [u8],

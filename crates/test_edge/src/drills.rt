@@ -1,5 +1,5 @@
-// What no clause says: that lines are made at all, and what they are, written out. The first two
-// draws of the seed 0 are 335903614 and 436792849.
+// What no clause says: that lines are made at all, and how they look when they are written out. The
+// first two draws of the seed 0 are 335903614 and 436792849.
 ghost use Rattle.std.specs.Prelude.{◌≡◌, [], ◌∷◌, IfOk, IsTrue};
 ghost use Rattle.std.specs.List.{list_all};
 ghost use Rattle.item_schema.specs.Layout.{are_columns, has_digits, is_read};
@@ -112,8 +112,8 @@ fn a_header_has_the_names(rt: HostRuntime) -> Result<(), Fail> {
     Ok(())
 }
 
-// So many places, a number whose first draw is so many above a multiple of 2001, and their number
-// 1000 below that.
+// The digits after the point, a seed, and the line that it draws. The number of smallest units is
+// the first draw modulo 2001, less 1000.
 const NUMBERS: &[(u8, u64, &[u8])] = &[
     (1, 11_066_951_453_180_645_397, b"-100.0\n"),
     (2, 2_361_664_772_733_358_101, b"-0.01\n"),

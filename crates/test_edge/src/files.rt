@@ -1,4 +1,4 @@
-// A file of the system, which comes, is read and changes.
+// A file of the system that is created, read and changed.
 use crate::assertions::same;
 use io_edge::{Failed, LazyFile, Source};
 use std::alloc::AllocError;
@@ -9,7 +9,7 @@ use std::test::Fail;
 
 const PATH: &str = "later";
 
-// A read into a room of four bytes, what it gives, and what stands there then.
+// A read into a buffer of four bytes: what it gives, and what is then in the buffer.
 fn reads<S: Source>(
     rt: &impl Abort,
     source: &mut S,
@@ -43,7 +43,7 @@ fn file(rt: HostRuntime) -> Result<Box<LazyFile<HostRuntime>>, AllocError> {
     Ok(Box::new(rt.alloc(), file)?)
 }
 
-// Whether there was one.
+// Whether there was a file.
 fn remove<R: Files>(rt: &R) -> bool {
     fs::remove_file(rt, PATH).is_ok()
 }

@@ -1,4 +1,5 @@
-// What no clause says of an output that tells no bytes: that all come to it, once and in their order.
+// What no clause says of an output whose contents are not known: that all bytes come to it, once
+// and in their order.
 use crate::assertions::{same, same_at};
 use io_edge::{Sink, WriterSink};
 use std::alloc::{AllocError, Global};
@@ -8,7 +9,7 @@ use std::io::{self, ErrorKind};
 use std::process::Abort;
 use std::test::Fail;
 
-// The most bytes that are held back.
+// The most bytes that wait to be flushed.
 const MAX_HELD: usize = 65_536;
 
 /// Takes a few bytes at a time, and is interrupted at its second write.
@@ -54,7 +55,7 @@ impl Print for ShortOutput {
     }
 }
 
-// What is held back comes to the output at a flush, or at the next where it is interrupted.
+// The bytes that wait come to the output at a flush, or at the next one if it is interrupted.
 fn is_flushed<S: Sink>(rt: &impl Abort, sink: &mut S, most: usize) {
     let is_whole = sink.flush().is_ok();
     same_at(rt, most, is_whole, most >= 5);
@@ -69,7 +70,7 @@ fn has_taken(rt: &impl Abort, output: &ShortOutput, wanted: &[u8]) -> Result<(),
     Ok(())
 }
 
-// Five bytes are held back, and two more come after a flush.
+// Five bytes wait for a flush, and two more come after it.
 fn are_handed_on(rt: &impl Abort, alloc: Global, output: &ShortOutput) -> Result<(), AllocError> {
     let mut sink = WriterSink::new(io::writer(output), alloc)?;
     same(rt, sink.write(b"12\n34"), Ok(5));
@@ -88,7 +89,7 @@ fn bytes_are_handed_on_once_and_in_order(rt: HostRuntime) -> Result<(), Fail> {
     Ok(())
 }
 
-// A text that fills the buffer but for one byte before it waits for that one.
+// A text that fills the buffer except for the one byte before it waits together with that byte.
 fn is_filled<S: Sink>(rt: &impl Abort, alloc: Global, sink: &mut S) -> Result<(), AllocError> {
     let text = vec![in alloc; b'x'; MAX_HELD - 1]?;
     same(rt, sink.write(b"a"), Ok(1));
@@ -104,7 +105,7 @@ fn waits_for_room(rt: &impl Abort, alloc: Global, output: &ShortOutput) -> Resul
     Ok(())
 }
 
-// How much the output took, and the first byte of that.
+// How much the output took, and the first byte of it.
 fn has_taken_from(
     rt: &impl Abort,
     output: &ShortOutput,
@@ -125,7 +126,8 @@ fn what_does_not_fit_waits_for_what_was_held_before(rt: HostRuntime) -> Result<(
     has_taken_from(&rt, &output, MAX_HELD, b'a')
 }
 
-// A text that is larger than the buffer by three bytes, and three of which the last finds no room.
+// A text that is larger than the buffer by three bytes, and then three bytes of which the last one
+// does not fit.
 fn is_taken_in_parts<S: Sink>(
     rt: &impl Abort,
     alloc: Global,

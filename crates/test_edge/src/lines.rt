@@ -1,4 +1,4 @@
-// What no clause says: that lines come at all, and when a read comes for them.
+// What no clause says: that lines come at all, and when the source is read for them.
 use crate::assertions::{same, same_at};
 use crate::resumed_source::ResumedSource;
 use io_edge::{Line, LineStop, Lines, MemorySource, Source};
@@ -6,7 +6,7 @@ use std::alloc::{AllocError, Global};
 use std::process::Abort;
 use std::test::Fail;
 
-/// Adds what a call answers, with a `|` behind a line, and says whether more may come.
+/// Adds what a call answers, with a `|` after a line, and says whether more may come.
 fn push_next<S: Source>(
     lines: &mut Lines,
     source: &mut S,
@@ -41,7 +41,7 @@ fn answers<S: Source>(
     Ok(text)
 }
 
-/// The same of these bytes from their front.
+/// The same for a source of these bytes.
 fn answers_of(
     alloc: Global,
     bytes: &[u8],
@@ -96,7 +96,8 @@ fn a_read_comes_only_for_a_line_and_a_failed_one_loses_no_byte(
     Ok(())
 }
 
-// So many bytes, what comes after them, and how many bytes the line has, if it is none that is too long.
+// How many bytes there are, what comes after them, and how many bytes the line has if it is not too
+// long.
 const LENGTHS: &[(usize, &[u8], Option<usize>)] = &[
     (65_535, b"\n", Some(65_535)),
     (65_536, b"\n", Some(65_536)),
@@ -124,7 +125,7 @@ fn has_length(
     Ok(())
 }
 
-// A line has at most 65,536 bytes before its LF, and a CR there is one of them.
+// A line has at most 65,536 bytes before its LF, where a CR counts as one of them.
 #[test]
 fn a_line_is_long_from_65_537_bytes(rt: HostRuntime) -> Result<(), Fail> {
     for &(count, end, shown) in LENGTHS {
@@ -138,7 +139,7 @@ fn boxed_lines(alloc: Global) -> Result<Box<Lines>, AllocError> {
     Ok(Box::new(alloc, Lines::new(alloc)?)?)
 }
 
-// What the calls answer of a source that has met its end once.
+// What the calls answer for a source that has met its end once.
 fn answer_to_the_end(
     rt: &impl Abort,
     alloc: Global,
@@ -165,8 +166,8 @@ fn the_first_end_is_the_end(rt: HostRuntime) -> Result<(), Fail> {
     Ok(())
 }
 
-// Bytes, how many a read gives, and whether calls find an answer ready: at the start, behind a line that was cut off,
-// and behind the last one.
+// Bytes, how many a read gives, and whether an answer is ready before the first, the second and the
+// third call.
 const READY: &[(&[u8], usize, [bool; 3])] = &[
     (b"a\nb\n", 1, [false, false, false]),
     (b"a\nb\n", 2, [false, false, false]),

@@ -1,4 +1,4 @@
-// What no clause says: how a line and its marks look, written out.
+// What no clause says: how a line and its marks look when they are written out.
 use crate::assertions::same_at;
 use place_in_text::{Position, bytes_between, locate, push_marked_line};
 use std::alloc::{AllocError, Global};
@@ -59,7 +59,7 @@ fn count_of(text: &[u8], letter: u8) -> usize {
     text.iter().filter(|byte| **byte == letter).count()
 }
 
-// How much of each letter is shown of the line around the place.
+// How many of each letter are shown around the place.
 fn shows(
     rt: &impl Abort,
     alloc: Global,

@@ -1,4 +1,4 @@
-// What no clause says: that texts are made at all, and how they look, written out.
+// What no clause says: that texts are made at all, and how they look when they are written out.
 use crate::assertions::same;
 use item_schema::{Cause, Skip};
 use language_base::{Refusal, Rule, Span};
@@ -49,7 +49,7 @@ fn no_answer_is_undefined(rt: HostRuntime) -> Result<(), Fail> {
     Ok(())
 }
 
-// The table of these entries, but for keys that come again.
+// The table of these entries. If a key comes again, its later entries are left out.
 fn table_of(alloc: Global, entries: &[(&[u8], Scalar)]) -> Result<Box<Value>, AllocError> {
     let mut table = Table::new(alloc);
     for (key, scalar) in entries {
@@ -132,7 +132,7 @@ fn has_bound(rt: &impl Abort, alloc: Global, wanted: &[u8]) -> Result<(), AllocE
     Ok(())
 }
 
-// The line of a drill of so many items, half of which have a value.
+// The line for a drill of `items` items, half of which have a value.
 fn has_drilled(
     rt: &impl Abort,
     alloc: Global,

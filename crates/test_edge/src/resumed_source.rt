@@ -1,4 +1,4 @@
-//! A source whose bytes go on behind an end, as those of a terminal may.
+//! A source that gives more bytes after an end, as a terminal may.
 ghost use Rattle.std.specs.Prelude.{None};
 
 use io_edge::{Failed, Source, SteadySource};

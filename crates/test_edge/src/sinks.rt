@@ -27,7 +27,7 @@ fn writes_are_cut_by_their_numbers(rt: HostRuntime) -> Result<(), Fail> {
     Ok(())
 }
 
-// The room, which writes fail, what comes of writing all, and what is taken then.
+// The room, which writes fail, the result of writing all bytes, and what was then taken.
 const WRITES: &[(usize, &[u64], Result<(), Failed>, &[u8])] = &[
     (5, &[], Ok(()), b"12\n34"),
     (9, &[2], Ok(()), b"12\n34"),

@@ -4,7 +4,7 @@ use io_edge::{Failed, MemorySource, Source, SteadySource};
 use std::process::Abort;
 use std::test::Fail;
 
-// How many bytes reads give, which fail, and what comes of four reads.
+// How many bytes reads give at most, which reads fail, and the results of four reads.
 const READS: &[(&[usize], &[u64], [Result<usize, Failed>; 4])] = &[
     (&[], &[], [Ok(4), Ok(3), Ok(0), Ok(0)]),
     (&[3, 0], &[], [Ok(3), Ok(1), Ok(3), Ok(0)]),

@@ -5,7 +5,7 @@ use io_edge::{MemorySource, TakeStop, read_to_limit};
 use std::alloc::Global;
 use std::test::Fail;
 
-// The first bytes of a source that gives so many at a read.
+// The first bytes of a source that gives `cut` bytes at a read.
 fn first_bytes(alloc: Global, cut: usize, limit: usize) -> Result<Vec<u8>, Fail> {
     let mut source = MemorySource::new(alloc, b"12345", &[cut; 9], &[])?;
     let bytes = read_to_limit(alloc, &mut source, limit).ok();
