@@ -19,11 +19,11 @@ abbrev pub with_sign : ℤ → ℕ → ℤ
 with_sign (pos number) magnitude = pos magnitude
 with_sign (negsuc number) magnitude = neg_ℤ (pos magnitude)
 
--- the item stays in its cell with this field in the column
+-- with this field in the column, the item stays in its cell
 abbrev pub StaysWith : Partition → List Field → ℕ → Field → Type 0
 StaysWith cells item column field = IsIn cells (cell_of cells item) (slice_set item column field)
 
--- the field is put if the item stays in its cell with it
+-- the field is put into the column exactly if the item stays in its cell with it
 abbrev pub IsPut : Partition → List Field → ℕ → Field → List Field → Bool → Type 0
 IsPut cells old column field new true =
     (new ≡ slice_set old column field) × StaysWith cells old column field
@@ -35,8 +35,8 @@ pub record BecomesPlain (cells : Partition) (column : ℕ) (old new : List Field
   pub plain : IsPlainAt cells (cell_of cells old) new column
   pub others : (other : ℕ) → other ≢ column → slice_get new other ≡ slice_get old other
 
--- halving so far: the column has the number of the magnitude inside, and may not have that of the
--- magnitude outside
+-- the interval that is being halved: the column has the number of the magnitude `inside`, and the
+-- cell does not allow that of the magnitude `outside`
 pub record AreHalves (cells : Partition) (old : List Field) (column : ℕ) (form : Form) (number : ℤ)
     (outside inside : ℕ) (new : List Field) : Type 0 where
   pub apart : outside < inside

@@ -12,11 +12,11 @@ use predicate_cells::Cells;
 use std::alloc::{AllocError, Global};
 use value_ops::{Field, Scalar, Value};
 
-/// What is shown for a text that no predicate names.
+/// The text that is shown if no predicate names one.
 const PLAIN_TEXT: &[u8] = b"other";
 
-/// An item of the cell for a person to read: its numbers are near zero, and its texts are `other`
-/// where no predicate names them.
+/// An item of the cell for a person to read: its numbers are as near to zero as they can be, and a
+/// text is `other` if the cell allows it.
 pub fn plain_item(alloc: Global, cells: &Cells, cell: u32) -> Result<Item, AllocError>
     requires { cell < cell_count cells.now }
     ensures cell { IfOk result (IsIn cells.now cell) }
@@ -29,7 +29,7 @@ pub fn plain_item(alloc: Global, cells: &Cells, cell: u32) -> Result<Item, Alloc
     Ok(item)
 }
 
-// Puts the plainest field into the column.
+// Puts the plainest field that the cell allows into the column.
 fn make_plain(
     alloc: Global,
     cells: &Cells,

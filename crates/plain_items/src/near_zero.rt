@@ -1,4 +1,4 @@
-//! Numbers of a cell that are as near to zero as any other.
+//! The number of a cell that is nearest to zero.
 ghost use Rattle.std.specs.Prelude.{◌≡◌, ◌<◌, ◌^◌, Some, pos, slice_get, OnOk};
 ghost use Rattle.item_schema.specs.Items.{IsItemOf};
 ghost use Rattle.plain_items.specs.Becoming.{BecomesPlain, StaysWith, number_field, with_sign};
@@ -8,7 +8,7 @@ use item_schema::Item;
 use predicate_cells::Cells;
 use std::alloc::{AllocError, Global};
 
-/// Puts the number that is nearest to zero in place of this one.
+/// Replaces the number in the column by the one nearest to zero.
 pub(crate) fn bring_near_zero(
     alloc: Global,
     cells: &Cells,
@@ -27,7 +27,7 @@ pub(crate) fn bring_near_zero(
     bisect(alloc, cells, item, column, form, number)
 }
 
-// The same where zero may not stand there.
+// The same if the cell does not allow zero.
 fn bisect(
     alloc: Global,
     cells: &Cells,

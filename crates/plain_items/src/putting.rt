@@ -1,4 +1,4 @@
-//! Fields put into an item that stays in its cell.
+//! Putting fields into an item that has to stay in its cell.
 ghost use Rattle.std.specs.Prelude.{◌≡◌, IfOk, slice_set};
 ghost use Rattle.item_schema.specs.Items.{IsItemOf};
 ghost use Rattle.plain_items.specs.Becoming.{IsPut, number_field};
@@ -10,15 +10,15 @@ use predicate_cells::Cells;
 use std::alloc::{AllocError, Global};
 use value_ops::{Field, Scalar, Value};
 
-/// How a column has its numbers.
+/// How the numbers of a column are stored.
 #[derive(Clone, Copy)]
 pub(crate) enum Form {
     Whole,
-    /// As values of a query.
+    /// As the values of a query.
     Value,
 }
 
-/// Puts the number into the column, if the item stays in its cell; and whether it does.
+/// Puts the number into the column if the item stays in its cell, and says whether it does.
 pub(crate) fn put_number(
     alloc: Global,
     cells: &Cells,
@@ -77,7 +77,6 @@ fn put(
     Ok(true)
 }
 
-// The item with this field in the column.
 fn with_field(alloc: Global, item: &Item, column: usize, field: &Field) -> Result<Item, AllocError>
     ensures { IfOk result (λ other. other ≡ slice_set item.now column field.now) }
 {

@@ -1,4 +1,4 @@
--- Statement. The cells of a stream: a class for each column.
+-- Statement. The cells of a stream. A cell is a class for each column.
 use Rattle.std.specs.Prelude.{◌≡◌, ◌<◌, ℕ, ◌+◌, ◌*◌, List, [], ◌∷◌, IsTrue}
 use Rattle.std.specs.List.{list_all, Contains}
 use Rattle.value_ops.specs.declared.field.Field.{Field}
@@ -10,7 +10,7 @@ use Rattle.predicate_cells.specs.Fits.{fits}
 use Rattle.predicate_cells.specs.Predicates.{Predicate}
 use Rattle.predicate_cells.specs.Truth.{holds}
 
--- how many cells the columns from this one on have: the product of their numbers of classes
+-- how many cells the columns from this one on make: the product of their numbers of classes
 abbrev pub count_from : ℕ → List Column → List Predicate → ℕ
 count_from at [] preds = 1
 count_from at (column ∷ columns) preds =
@@ -23,7 +23,7 @@ cell_from at (column ∷ columns) preds (field ∷ fields) =
     + cell_from (at + 1) columns preds fields
 cell_from at _ preds _ = 0
 
--- the columns and the predicates by which items are told apart
+-- the columns of items, and the predicates that distinguish them
 pub record Partition : Type 0 where
   pub layout : Layout
   pub preds : List Predicate
@@ -36,11 +36,11 @@ cell_count cells = count_from 0 cells.layout.columns cells.preds
 abbrev pub cell_of : Partition → List Field → ℕ
 cell_of cells item = cell_from 0 cells.layout.columns cells.preds item
 
--- each predicate is one on items of these columns
+-- each predicate can be asked about items of these columns
 abbrev pub AllFit : List Column → List Predicate → Type 0
 AllFit columns preds = IsTrue (list_all (fits columns) preds)
 
--- an item of the columns, in this cell
+-- the fields are an item of the columns, in this cell
 abbrev pub IsIn : Partition → ℕ → List Field → Type 0
 IsIn cells cell item = IsItemOf cells.layout.columns item × (cell_of cells item ≡ cell)
 

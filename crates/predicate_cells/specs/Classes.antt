@@ -1,4 +1,4 @@
--- Statement. The classes of a column: which of its fields no test tells apart.
+-- Statement. The classes of a column. No test distinguishes the fields of one class.
 use Rattle.std.specs.Prelude.{ℕ, ◌+◌, ◌==◌, ◌^◌, ℤ, pos, neg_ℤ, ◌+ℤ◌, Bool, ◌&&◌, List, [], ◌∷◌, ◌++◌, length, filter, count_by, if◌then◌else◌, int_lt, int_le}
 use Rattle.std.specs.List.{list_any, flat_map}
 use Rattle.std.specs.Ordering.{int_eq, nat_cmp, is_lt}
@@ -13,7 +13,7 @@ use Rattle.item_schema.specs.declared.column.Kind.{Kind}
 use Rattle.item_schema.specs.declared.column.Kind.TheVariants.{Int, Fixed, Text, Number, Table}
 use Rattle.predicate_cells.specs.Predicates.{Predicate, any, eq, ne, lt, le, gt, ge, between, eq_text, ne_text, is_num, conjunction, disjunction, negation}
 
--- a list for a test, where it is one of the column
+-- the list, if the test is one of the column, and else nothing
 abbrev pub at_column : {A : Type 0} → ℕ → ℕ → List A → List A
 at_column column tested found = if tested == column then found else []
 
@@ -52,11 +52,12 @@ abbrev pub members : {A : Type 0} → (A → A → Bool) → List A → List A
 members same [] = []
 members same (x ∷ xs) = if list_any (same x) xs then members same xs else x ∷ members same xs
 
--- a class can begin here: not at the least number, where the first one does, nor past the greatest
+-- another class than the first can begin at this number: not at the least number, nor past the
+-- greatest
 abbrev pub begins_class : ℤ → Bool
 begins_class number = int_lt (neg_ℤ (pos (2 ^ 63))) number && int_lt number (pos (2 ^ 63))
 
--- where the classes of a number column begin, but for the first
+-- where the classes of a number column begin, except for the first
 abbrev pub starts : ℕ → List Predicate → List ℤ
 starts column preds = members int_eq (filter begins_class (flat_map (beginnings column) preds))
 
@@ -64,8 +65,9 @@ starts column preds = members int_eq (filter begins_class (flat_map (beginnings 
 abbrev pub texts : ℕ → List Predicate → List (List ℕ)
 texts column preds = members bytes_eq (filter are_bytes (flat_map (named_texts column) preds))
 
--- how many classes a column has: a number column one more than the starts, one of values also those
--- of `overflow` and `divzero`, and a text column one for all other texts
+-- how many classes a column has. Numbers have one class more than there are starts; a column of
+-- values also has the classes of `overflow` and `divzero`; and a text column has a class for all
+-- other texts
 abbrev pub class_count : Kind → ℕ → List Predicate → ℕ
 class_count Int column preds = length (starts column preds) + 1
 class_count (Fixed digits) column preds = length (starts column preds) + 1
@@ -73,12 +75,12 @@ class_count Text column preds = length (texts column preds) + 1
 class_count Number column preds = length (starts column preds) + 3
 class_count Table column preds = 1
 
--- the class of a number: how many classes begin at it or below
+-- the class of a number: how many starts are at most the number
 abbrev pub number_class : ℕ → List Predicate → ℤ → ℕ
 number_class column preds number = count_by (λ start. int_le start number) (starts column preds)
 
--- the class of a text: how many of the texts come before it in the order of bytes, or the last class
--- where it is none of them
+-- the class of a text: how many of the texts come before it in the order of bytes, or the last
+-- class if it is none of them
 abbrev pub text_class : ℕ → List Predicate → List ℕ → ℕ
 text_class column preds text =
     if list_any (bytes_eq text) (texts column preds)

@@ -1,15 +1,15 @@
--- For the prover. Predicates as lists of numbers, by which proofs tell them apart.
+-- For the prover. Predicates as lists of numbers, by which proofs distinguish them.
 use Rattle.std.specs.Prelude.{◌≡◌, ◌==◌, ℕ, ℤ, pos, List, [], ◌∷◌, if◌then◌else◌, refl}
 use Rattle.std.specs.Coded.{Coded, code_by, coded×, coded_ℕ, coded_ℤ, coded_list}
 use Rattle.std.proofs.Common.{◌∙◌, ap}
 use Rattle.predicate_cells.specs.Predicates.{Predicate, any, eq, ne, lt, le, gt, ge, between, eq_text, ne_text, is_num, conjunction, disjunction, negation}
 
--- a step that builds a predicate of those that were built last: its kind, and a test's column,
--- numbers and text
+-- a step that builds a predicate from those that were built last: its kind, and the column, the
+-- numbers and the text of a test
 abbrev pub Step : Type 0
 Step = ℕ × (ℕ × (ℤ × (ℤ × List ℕ)))
 
--- a test by its step
+-- the test that a step builds
 abbrev pub test_of : ℕ → ℕ → ℤ → ℤ → List ℕ → Predicate
 test_of kind column low high text =
     if kind == 1 then eq column low else if kind == 2 then ne column low
@@ -18,23 +18,23 @@ test_of kind column low high text =
     else if kind == 7 then between column low high else if kind == 8 then eq_text column text
     else if kind == 9 then ne_text column text else if kind == 10 then is_num column else any
 
--- the predicates that were built, the last one first, after two of them are joined
+-- the predicates that were built, the last one first, after the last two are joined
 abbrev pub joined : (Predicate → Predicate → Predicate) → List Predicate → List Predicate
 joined join (second ∷ first ∷ built) = join first second ∷ built
 joined join built = built
 
--- after the last one is negated
+-- the same after the last one is negated
 abbrev pub negated : List Predicate → List Predicate
 negated (inner ∷ built) = negation inner ∷ built
 negated [] = []
 
--- after one step
+-- the same after one step
 abbrev pub step : Step → List Predicate → List Predicate
 step (kind, (column, (low, (high, text)))) built =
     if kind == 11 then joined conjunction built else if kind == 12 then joined disjunction built
     else if kind == 13 then negated built else test_of kind column low high text ∷ built
 
--- after all steps
+-- the same after all steps
 abbrev pub build : List Step → List Predicate → List Predicate
 build [] built = built
 build (first ∷ steps) built = build steps (step first built)
@@ -68,7 +68,7 @@ steps_onto (conjunction first second) more = steps_onto first (steps_onto second
 steps_onto (disjunction first second) more = steps_onto first (steps_onto second (bare 12 ∷ more))
 steps_onto (negation inner) more = steps_onto inner (bare 13 ∷ more)
 
--- the one that was built last
+-- the predicate that was built last
 abbrev pub last_built : List Predicate → Predicate
 last_built [] = any
 last_built (last ∷ built) = last
@@ -95,7 +95,7 @@ build-steps (disjunction first second) more built =
     ∙ build-steps second (bare 12 ∷ more) (first ∷ built)
 build-steps (negation inner) more built = build-steps inner (bare 13 ∷ more) built
 
--- the steps come back as the predicate
+-- the steps of a predicate build it again
 pub built-again : (p : Predicate) → last_built (build (steps_onto p []) []) ≡ p
 built-again p = ap last_built (build-steps p [] [])
 

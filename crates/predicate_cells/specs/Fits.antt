@@ -1,4 +1,4 @@
--- Statement. Which predicates are ones on the items of a stream.
+-- Statement. Which predicates can be asked about the items of a stream.
 use Rattle.std.specs.Prelude.{ℕ, Bool, true, false, ◌&&◌, List, slice_get}
 use Rattle.item_schema.specs.declared.column.Column.{Column}
 use Rattle.item_schema.specs.declared.column.Kind.{Kind}
@@ -6,7 +6,7 @@ use Rattle.item_schema.specs.declared.column.Kind.TheVariants.{Int, Fixed, Text,
 use Rattle.predicate_cells.specs.Predicates.{Predicate, any, eq, ne, lt, le, gt, ge, between, eq_text, ne_text, is_num, conjunction, disjunction, negation}
 use Rattle.predicate_cells.specs.Truth.{passes}
 
--- a number can stand in a column of this kind
+-- a column of this kind can have a number
 abbrev pub is_number : Kind → Bool
 is_number Int = true
 is_number (Fixed digits) = true
@@ -14,7 +14,7 @@ is_number Text = false
 is_number Number = true
 is_number Table = false
 
--- a text can
+-- a column of this kind can have a text
 abbrev pub is_text : Kind → Bool
 is_text Int = false
 is_text (Fixed digits) = false
@@ -22,15 +22,15 @@ is_text Text = true
 is_text Number = false
 is_text Table = false
 
--- the column is there and has numbers
+-- the column exists and can have numbers
 abbrev pub has_numbers : List Column → ℕ → Bool
 has_numbers columns column = passes (λ c. is_number c.kind) (slice_get columns column)
 
--- the column is there and has texts
+-- the column exists and can have texts
 abbrev pub has_texts : List Column → ℕ → Bool
 has_texts columns column = passes (λ c. is_text c.kind) (slice_get columns column)
 
--- each test's column exists and has the test's kind
+-- the column of each test exists and has the kind that the test needs
 abbrev pub fits : List Column → Predicate → Bool
 fits columns any = true
 fits columns (eq column number) = has_numbers columns column

@@ -7,7 +7,7 @@ use Rattle.predicate_cells.specs.Cells.{Partition, cell_of}
 use Rattle.predicate_cells.specs.Predicates.{Predicate}
 use Rattle.predicate_cells.specs.Truth.{holds}
 
--- the set has the cell of an item exactly where the item meets the predicate
+-- the set has the cell of an item exactly if the item meets the predicate
 abbrev pub Marks : Partition → Predicate → List ℕ → Type 0
 Marks cells pred set = (item : List Field) → IsItemOf cells.layout.columns item
     → Contains set (cell_of cells item) ↔ (holds pred item ≡ true)

@@ -10,6 +10,6 @@ use Rattle.predicate_cells.specs.Truth.{holds}
 abbrev pub IsMet : List Column → Predicate → Type 0
 IsMet columns pred = (item : List Field) × IsItemOf columns item × (holds pred item ≡ true)
 
--- none does
+-- no item of the columns meets the predicate
 abbrev pub IsUnmet : List Column → Predicate → Type 0
 IsUnmet columns pred = (item : List Field) → IsItemOf columns item → holds pred item ≡ false

@@ -1,9 +1,8 @@
--- Statement. A predicate in memory as a plain one.
+-- Statement. A `Pred` in memory as a predicate.
 use Rattle.predicate_cells.specs.Predicates as plain
 use Rattle.predicate_cells.specs.declared.pred.Pred.{Pred}
 use Rattle.predicate_cells.specs.declared.pred.Pred.TheVariants.{Any, Eq, Ne, Lt, Le, Gt, Ge, Between, EqText, NeText, IsNum, And', Or', Not'}
 
--- the predicate
 abbrev pub plain_of : Pred → plain.Predicate
 plain_of Any = plain.any
 plain_of (Eq column number) = plain.eq column number

@@ -1,9 +1,9 @@
--- Statement. Predicates, without where they lie in memory.
+-- Statement. Predicates, regardless of how they lie in memory.
 use Rattle.std.specs.Prelude.{ℕ, ℤ, List}
 use Rattle.language_base.specs.declared.compare.Compare.{Compare}
 use Rattle.language_base.specs.declared.compare.Compare.TheVariants.{Lt, Le, Gt, Ge, Eq, Ne}
 
--- a test of the field in a column, counted from 0, or tests joined
+-- a test of the field in a column, counted from 0, or tests that are joined
 pub data Predicate : Type 0 where
   any : Predicate
   eq : ℕ → ℤ → Predicate

@@ -1,4 +1,4 @@
--- For the prover. What the classes of a column are looked up in.
+-- For the prover. The sorted lists in which the class of a field is looked up.
 use Rattle.std.specs.Prelude.{ℕ, ◌+◌, ◌-◌, ◌*◌, ◌==◌, ◌^◌, ℤ, pos, neg_ℤ, List, [], ◌∷◌, ◌++◌, length, filter, count_by, if◌then◌else◌, nat_le, int_le, slice_index_or}
 use Rattle.std.specs.List.{list_any, flat_map}
 use Rattle.std.specs.Ordering.{int_cmp, nat_cmp, is_lt}
@@ -18,19 +18,19 @@ use Rattle.predicate_cells.specs.Fits.{is_number, is_text}
 use Rattle.predicate_cells.specs.Predicates.{Predicate}
 use Rattle.predicate_cells.specs.Rising.{rising}
 
--- what the fields of a column are; where its classes of numbers begin, but for the first, and the
--- texts that have classes of their own, both from the least to the greatest
+-- the kind of a column; where its classes of numbers begin, except for the first, and the texts
+-- that have classes of their own, both from the least to the greatest
 pub record Ranks : Type 0 where
   pub kind : Kind
   pub starts : List ℤ
   pub texts : List (List ℕ)
 
--- the beginnings, where the column has numbers
+-- the starts, if the column has numbers
 abbrev pub rising_starts : Kind → ℕ → List Predicate → List ℤ
 rising_starts kind column preds =
     if is_number kind then rising int_cmp (filter begins_class (flat_map (beginnings column) preds)) else []
 
--- the texts, where it has texts
+-- the texts, if the column has texts
 abbrev pub rising_texts : Kind → ℕ → List Predicate → List (List ℕ)
 rising_texts kind column preds =
     if is_text kind
@@ -63,7 +63,7 @@ text_rank texts text =
     then count_by (λ named. is_lt (slice_cmp nat_cmp named text)) texts
     else length texts
 
--- the class of a field in it
+-- the class of a field in a column of this kind
 abbrev pub class_by_kind : Kind → List ℤ → List (List ℕ) → Field → ℕ
 class_by_kind Int starts texts (field.Int number) = number_rank starts number
 class_by_kind (Fixed digits) starts texts (field.Int number) = number_rank starts number
@@ -73,22 +73,22 @@ class_by_kind Number starts texts (field.Val (value.Scalar scalar.Overflow)) = l
 class_by_kind Number starts texts (field.Val (value.Scalar scalar.DivZero)) = length starts + 2
 class_by_kind kind starts texts field = 0
 
--- a number of a class: where it begins
+-- a number of the class: the one at which it begins
 abbrev pub number_of_class : List ℤ → ℕ → ℤ
 number_of_class starts class =
     slice_index_or (neg_ℤ (pos (2 ^ 63)) ∷ starts) class (neg_ℤ (pos (2 ^ 63)))
 
--- a text behind all of these: the last one with a `_` behind it
+-- a text that is greater than all of these: the last one with a `_` appended
 abbrev pub other_text : List (List ℕ) → List ℕ
 other_text texts = slice_index_or texts (length texts - 1) [] ++ 95 ∷ []
 
--- a scalar of a class
+-- a scalar of the class
 abbrev pub scalar_of_class : List ℤ → ℕ → Scalar
 scalar_of_class starts class =
     if nat_le class (length starts) then scalar.Number (number_of_class starts class)
     else if class == length starts + 1 then scalar.Overflow else scalar.DivZero
 
--- a field of a class of it
+-- a field of the class, in a column of this kind
 abbrev pub field_by_kind : Kind → List ℤ → List (List ℕ) → ℕ → Field
 field_by_kind Int starts texts class = field.Int (number_of_class starts class)
 field_by_kind (Fixed digits) starts texts class = field.Int (number_of_class starts class)
@@ -108,12 +108,12 @@ class_in ranks field = class_by_kind ranks.kind ranks.starts ranks.texts field
 abbrev pub field_in : Ranks → ℕ → Field
 field_in ranks class = field_by_kind ranks.kind ranks.starts ranks.texts class
 
--- the ranks of columns, the first of which has this number
+-- the ranks of columns, of which the first has the number `at`
 abbrev pub ranks_from : ℕ → List Column → List Predicate → List Ranks
 ranks_from at [] preds = []
 ranks_from at (column ∷ columns) preds = ranks_of column.kind at preds ∷ ranks_from (at + 1) columns preds
 
--- how many cells they make
+-- how many cells the columns make
 abbrev pub cells_in : List Ranks → ℕ
 cells_in [] = 1
 cells_in (ranks ∷ others) = count_in ranks * cells_in others

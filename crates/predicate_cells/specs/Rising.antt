@@ -1,4 +1,4 @@
--- Statement. Lists without what comes twice, in rising order.
+-- Statement. Lists without repetitions, in rising order.
 use Rattle.std.specs.Prelude.{List, [], ◌∷◌}
 use Rattle.std.specs.BTreeSet.{insert_key}
 use Rattle.std.specs.declared.cmp.Ordering.{Ordering}

@@ -9,7 +9,7 @@ use Rattle.predicate_cells.specs.Predicates.{Predicate}
 use Rattle.predicate_cells.specs.Ranks.{Ranks, count_in, field_in, cells_in}
 use Rattle.predicate_cells.specs.Truth.{holds}
 
--- the fields with one of a class in front
+-- each list of fields, with a field of the class in front
 abbrev pub with_class : Ranks → List (List Field) → ℕ → List (List Field)
 with_class ranks items class = map (λ fields. field_in ranks class ∷ fields) items
 
@@ -19,16 +19,16 @@ samples [] = [] ∷ []
 samples (ranks ∷ others) =
     flat_map (with_class ranks (samples others)) (range_with_len 0 (count_in ranks))
 
--- neither a number nor a text
+-- a field that is neither a number nor a text
 abbrev pub blank : Field
 blank = field.Val (value.Table [])
 
--- a row of which this column alone has a number or a text
+-- a row in which only this column may have a number or a text
 abbrev pub row_of : ℕ → Option Field → List Field
 row_of column None = []
 row_of column (Some field) = replicate column blank ++ field ∷ []
 
--- the sample of a cell, as the number whose digits are the classes of its fields
+-- the sample of a cell, whose number has the classes of the fields as digits
 abbrev pub sample_of : List Ranks → ℕ → List Field
 sample_of [] cell = []
 sample_of (ranks ∷ others) cell =

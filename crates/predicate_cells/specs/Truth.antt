@@ -1,4 +1,4 @@
--- Statement. What a predicate says of an item.
+-- Statement. Whether an item meets a predicate.
 use Rattle.std.specs.Prelude.{ℕ, ℤ, Bool, true, false, ◌&&◌, ◌||◌, not, List, Option, None, Some, is_some, slice_get, int_lt, int_le}
 use Rattle.std.specs.Ordering.{int_eq}
 use Rattle.std.specs.Option.{option_map_or}
@@ -9,17 +9,17 @@ use Rattle.value_ops.specs.declared.scalar.Scalar.TheVariants.{Number}
 use Rattle.value_ops.specs.Fields as fields
 use Rattle.predicate_cells.specs.Predicates.{Predicate, any, eq, ne, lt, le, gt, ge, between, eq_text, ne_text, is_num, conjunction, disjunction, negation}
 
--- the number that a scalar is
+-- the number that the scalar is, if it is one
 abbrev pub number_in_scalar : Option Scalar → Option ℤ
 number_in_scalar (Some (Number number)) = Some number
 number_in_scalar _ = None
 
--- the number that a field is
+-- the number that the field is, if it is one
 abbrev pub number_of : Option Field → Option ℤ
 number_of None = None
 number_of (Some field) = number_in_scalar (fields.scalar_of field)
 
--- the text that a field is
+-- the text that the field is, if it is one
 abbrev pub text_of : Option Field → Option (List ℕ)
 text_of None = None
 text_of (Some field) = fields.text_of field
@@ -32,7 +32,7 @@ number_in fields column = number_of (slice_get fields column)
 abbrev pub text_in : List Field → ℕ → Option (List ℕ)
 text_in fields column = text_of (slice_get fields column)
 
--- there is one, and it passes the test
+-- something was found, and it passes the test
 abbrev pub passes : {T : Type 0} → (T → Bool) → Option T → Bool
 passes test found = option_map_or test found false
 

@@ -6,7 +6,7 @@ ghost use Rattle.predicate_cells.specs.CellSets.{flagged_from};
 use std::alloc::{AllocError, Global};
 use std::marker::Model;
 
-/// Some of the cells of a stream, seen as their numbers in rising order.
+/// A set of cells of one stream, seen as their numbers in rising order.
 #[derive(Drop)]
 pub struct CellSet {
     flags: Vec<bool>,
@@ -22,14 +22,12 @@ impl Model for CellSet {
 }
 
 impl CellSet {
-    /// The cells whose flags are set.
     pub(crate) fn from_flags(flags: Vec<bool>) -> CellSet
         ensures { result ≡ flagged_from 0 flags.items }
     {
         CellSet { flags }
     }
 
-    /// An equal set.
     pub fn try_copy(&self, alloc: Global) -> Result<CellSet, AllocError>
         ensures { IfOk result (λ copy. copy ≡ self.now) }
     {

@@ -1,4 +1,4 @@
-//! The cells of a stream: classes of items that no predicate tells apart.
+//! The cells of a stream: no predicate distinguishes the items of one cell.
 ghost use Rattle.std.specs.Prelude.{◌≡◌, ◌≤◌, ◌<◌, ◌↔◌, IsTrue, IfOk, OnOk};
 ghost use Rattle.std.specs.List.{All, Contains};
 ghost use Rattle.std.specs.List.Sorted.{IsStrictlyIncreasing};
@@ -15,9 +15,9 @@ use item_schema::{Item, Schema};
 use std::alloc::{AllocError, Global};
 use std::marker::Model;
 
-/// The cells of a schema's items under some predicates, seen as the schema and these predicates. The
-/// cells of each predicate are found once, when they are made; that of equal ones as often as they
-/// are listed.
+/// The cells of a schema's items under some predicates, seen as the schema and these predicates.
+/// For each predicate in the list the cells whose items meet it are found once, when `Cells` is
+/// made.
 #[derive(Drop)]
 pub struct Cells {
     schema: Schema,
@@ -52,7 +52,7 @@ impl Model for Cells {
 impl Cells {
     ghost use Rattle.predicate_cells.specs.declared.stop.CellStop.TheVariants.{TooMany};
 
-    /// The cells of the schema's items under the predicates.
+    /// Finds the cells, and for each predicate those whose items meet it.
     pub fn new(alloc: Global, schema: &Schema, preds: &Preds) -> Result<Cells, CellStop>
         requires { AllFit schema.now.columns preds.now }
         ensures ok { IfOk result (λ cells. cells ≡ record { layout = schema.now; preds = preds.now }) }
@@ -85,14 +85,13 @@ impl Cells {
         })
     }
 
-    /// The schema of the items.
     pub fn schema(&self) -> &Schema
         ensures { result.now ≡ self.now.layout }
     {
         &self.schema
     }
 
-    /// The cell of an item, and some cell where the item is none of the schema.
+    /// The cell of an item. If it is not an item of the schema, some cell is given.
     pub fn of(&self, item: &Item) -> u32
         ensures cell { result ≡ cell_of self.now item.now }
         ensures below { result < cell_count self.now }
@@ -100,7 +99,7 @@ impl Cells {
         cell_among(&self.columns, item.fields())
     }
 
-    /// An item of a cell.
+    /// Some item of the cell.
     pub fn sample(&self, alloc: Global, cell: u32) -> Result<Item, AllocError>
         requires { cell < cell_count self.now }
         ensures { IfOk result (IsIn self.now cell) }
@@ -108,14 +107,14 @@ impl Cells {
         Ok(Item::from_fields(fields_of(alloc, &self.columns, cell)?))
     }
 
-    /// Whether the cells were made with the predicate.
+    /// Whether the predicate is one of those with which the cells were made.
     pub fn decides(&self, pred: &Pred) -> bool
         ensures { IsTrue result ↔ Contains self.now.preds (plain_of pred.now) }
     {
         self.preds.place_of(pred).is_some()
     }
 
-    /// The cells of the items that meet the predicate.
+    /// The cells whose items meet the predicate, as found when the cells were made.
     pub fn mask(&self, pred: &Pred) -> &CellSet
         requires { Contains self.now.preds (plain_of pred.now) }
         ensures met { Marks self.now (plain_of pred.now) result.now }
@@ -128,7 +127,7 @@ impl Cells {
         }
     }
 
-    /// How many cells there are.
+    /// How many cells there are, at most 4,096.
     pub fn count(&self) -> u32
         ensures count { result ≡ cell_count self.now }
         ensures few { result ≤ max_cells }

@@ -5,7 +5,7 @@ ghost use Rattle.predicate_cells.specs.Ranks.{count_in};
 use crate::classes::Classes;
 use crate::row::Row;
 
-/// A row with a field of a class in one column, and neither a number nor a text in any other.
+/// A row with a field of a class in one column, and without a number or a text in any other.
 #[derive(Clone, Copy)]
 pub(crate) struct ClassRow<'c> {
     pub(crate) column: u32,

@@ -1,4 +1,8 @@
-//! The classes of a column.
+//! The classes of a column: no predicate distinguishes the fields of one class. The numbers are
+//! parted into intervals, and each text that a test names is a class of its own:
+//!
+//!     numbers    from -2^63 on | from starts[0] on | from starts[1] on | ...
+//!     class      0             | 1                 | 2                 | ...
 ghost use Rattle.std.specs.Prelude.{◌≡◌, ◌<◌, ◌≤◌, length, map, option_map, slice_index_or, true, Some, IfOk};
 ghost use Rattle.predicate_cells.specs.Fits.{is_text};
 ghost use Rattle.predicate_cells.specs.Plain.{plain_of};
@@ -13,14 +17,14 @@ use std::alloc::{AllocError, Global};
 use std::marker::Model;
 use value_ops::{Bytes, Field, Scalar, Table, Value};
 
-/// What the fields of a column are, where its classes of numbers begin but for the first, and which
-/// texts have classes of their own; seen as these.
+/// The kind of a column, the numbers at which its classes begin except for the first class, and the
+/// texts that have classes of their own; seen as these.
 #[derive(Drop)]
 pub(crate) struct Classes {
     kind: Kind,
     starts: Vec<i64>,
     texts: Vec<Bytes>,
-    // A text of the class of all others.
+    // A text of the class of all other texts.
     other: Bytes,
 }
 
@@ -42,7 +46,7 @@ impl Model for Classes {
 }
 
 impl Classes {
-    /// Those of a column that the predicates test.
+    /// The classes of a column under the predicates that test it.
     pub(crate) fn new(
         alloc: Global,
         preds: &[Pred],
@@ -90,20 +94,19 @@ impl Classes {
         })
     }
 
-    /// How many there are.
     pub(crate) fn count(&self) -> usize
         ensures { result ≡ count_in self.now }
     {
         match self.kind {
             Kind::Int | Kind::Fixed(_) => self.starts.len() + 1,
             Kind::Text => self.texts.len() + 1,
-            // `overflow` and `divzero` are in classes of their own.
+            // Besides the numbers, `overflow` and `divzero` have a class each.
             Kind::Number => self.starts.len() + 3,
             Kind::Table => 1,
         }
     }
 
-    /// The class of a field, and the first one where the field is none of the column.
+    /// The class of a field. If it is not a field of the column, the first class is given.
     pub(crate) fn class_of(&self, field: &Field) -> usize
         ensures { result ≡ class_in self.now field.now }
     {
@@ -119,7 +122,7 @@ impl Classes {
         }
     }
 
-    /// A field of a class.
+    /// Some field of the class.
     pub(crate) fn field(&self, alloc: Global, class: usize) -> Result<Field, AllocError>
         requires { class < count_in self.now }
         ensures { IfOk result (λ field. field ≡ field_in self.now class) }
@@ -132,7 +135,7 @@ impl Classes {
         }
     }
 
-    /// The number that this field is.
+    /// The number that this field is, if it is one.
     pub(crate) fn number(&self, class: usize) -> Option<i64>
         requires { class < count_in self.now }
         ensures { result ≡ number_of (Some (field_in self.now class)) }
@@ -147,7 +150,7 @@ impl Classes {
         }
     }
 
-    /// The text that it is.
+    /// The text that this field is, if it is one.
     pub(crate) fn text(&self, class: usize) -> Option<&[u8]>
         requires { class < count_in self.now }
         ensures { option_map (λ text. text.now) result ≡ text_of (Some (field_in self.now class)) }
@@ -207,7 +210,7 @@ impl Classes {
     }
 }
 
-// The last text and a byte behind it come after all texts.
+// The greatest text with one more byte is greater than all texts, and so equal to none of them.
 fn other_text(alloc: Global, texts: &[Bytes]) -> Result<Bytes, AllocError>
     ensures { IfOk result (λ text. text ≡ other_text texts.now) }
 {

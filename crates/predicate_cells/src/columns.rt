@@ -1,4 +1,5 @@
-//! The classes of all columns, and the cells that they make.
+//! The classes of all columns, and the cells that they make. A cell is a class for each column,
+//! read as a number whose digits are the classes.
 ghost use Rattle.std.specs.Prelude.{◌≡◌, ◌<◌, ◌≤◌, ◌*◌, ◌^◌, length, map, slice_get, IfOk, IfSome, IfNone};
 ghost use Rattle.std.specs.Option.{option_map_or};
 ghost use Rattle.language_base.specs.Limits.{max_cells};
@@ -12,7 +13,7 @@ use item_schema::Column;
 use std::alloc::{AllocError, Global};
 use value_ops::Field;
 
-/// More cells are not made.
+/// A stream with more cells is refused.
 const MAX_CELLS: usize = 4096;
 
 /// The classes of each column.
@@ -41,7 +42,7 @@ pub(crate) fn copies_of(alloc: Global, columns: &[Classes]) -> Result<Vec<Classe
     Ok(copies)
 }
 
-/// How many cells there are, unless they are too many.
+/// How many cells the columns make, unless they are too many.
 pub(crate) fn count_of(columns: &[Classes]) -> Option<u32>
     ensures few { IfSome result (λ count. (count ≡ cells_in columns.now) × (count ≤ max_cells)) }
     ensures many { IfNone result (max_cells < cells_in columns.now) }
@@ -53,7 +54,7 @@ pub(crate) fn count_of(columns: &[Classes]) -> Option<u32>
     Some(count as u32)
 }
 
-/// How many cells a part of the columns makes.
+/// The same for some of the columns, which are known to make few enough.
 pub(crate) fn product_of(columns: &[Classes]) -> usize
     requires { cells_in columns.now ≤ max_cells }
     ensures { result ≡ cells_in columns.now }
@@ -74,7 +75,6 @@ fn times(count: usize, classes: usize) -> Option<usize>
         .filter(|product| *product <= MAX_CELLS)
 }
 
-/// The cell of these fields.
 pub(crate) fn cell_among(columns: &[Classes], fields: &[Field]) -> u32
     requires { cells_in columns.now ≤ max_cells }
     ensures { result ≡ cell_in columns.now fields.now }
@@ -86,14 +86,14 @@ pub(crate) fn cell_among(columns: &[Classes], fields: &[Field]) -> u32
     cell as u32
 }
 
-// An item with too few fields is in the first class of each further column.
+// A field that is missing counts as one of the first class.
 fn class_at(classes: &Classes, fields: &[Field], at: usize) -> usize
     ensures { result ≡ option_map_or (class_in classes.now) (slice_get fields.now at) 0 }
 {
     fields.get(at).map_or(0, |field| classes.class_of(field))
 }
 
-/// The fields of the sample of a cell.
+/// The fields of the sample of a cell: an item of it that is made from its classes.
 pub(crate) fn fields_of(
     alloc: Global,
     columns: &[Classes],

@@ -8,7 +8,6 @@ use std::alloc::{AllocError, Global};
 use value_ops::Bytes;
 
 impl Pred {
-    /// An equal predicate.
     #[cycle(copy)]
     pub fn try_copy(&self, alloc: Global) -> Result<Pred, AllocError>
         ensures { IfOk result (λ copy. plain_of copy ≡ plain_of self.now) }

@@ -1,4 +1,4 @@
-//! Which predicates are ones on the items of a schema.
+//! Which predicates can be asked about the items of a schema.
 ghost use Rattle.std.specs.Prelude.{◌≡◌};
 ghost use Rattle.predicate_cells.specs.Fits.{fits, has_numbers, has_texts};
 ghost use Rattle.predicate_cells.specs.Plain.{plain_of};
@@ -7,7 +7,7 @@ use crate::Pred;
 use item_schema::{Column, Kind, Schema};
 
 impl Pred {
-    /// Whether each test's column exists and has the test's kind.
+    /// Whether the column of each test exists and has the kind that the test needs.
     pub fn fits(&self, schema: &Schema) -> bool
         ensures { result ≡ fits schema.now.columns (plain_of self.now) }
     {

@@ -1,4 +1,4 @@
-//! Predicates on items, and the finitely many cells of items that they can tell apart.
+//! Predicates on items, and the finitely many cells into which they part all items.
 #![tactic(auto)]
 
 mod cell_set;

@@ -1,4 +1,4 @@
-//! Which cells' items meet a predicate.
+//! The cells whose items meet a predicate.
 ghost use Rattle.std.specs.Prelude.{◌≡◌, ◌≤◌, Some, map, slice_get, IfOk};
 ghost use Rattle.std.specs.List.{range_with_len};
 ghost use Rattle.language_base.specs.Limits.{max_cells};
@@ -81,7 +81,7 @@ fn truths_of_either(
     Ok(either(truths, &others))
 }
 
-/// The same for a predicate that sees one column of the samples.
+/// The same for a predicate that tests one column only.
 fn column_truths(
     alloc: Global,
     columns: &[Classes],
@@ -104,7 +104,8 @@ fn column_truths(
     }
 }
 
-/// For each class of a column, whether a row that shows a field of it alone meets the predicate.
+/// For each class of a column, whether a row with nothing but a field of this class meets the
+/// predicate.
 fn class_truths(
     alloc: Global,
     classes: &Classes,

@@ -1,4 +1,4 @@
-//! The cells of all predicates, each found once.
+//! For each predicate, the cells whose items meet it.
 ghost use Rattle.std.specs.Prelude.{◌≡◌, ◌≤◌, map, IfOk};
 ghost use Rattle.language_base.specs.Limits.{max_cells};
 ghost use Rattle.predicate_cells.specs.Plain.{plain_of};
@@ -28,7 +28,6 @@ pub(crate) fn masks_of(
     Ok(masks)
 }
 
-/// Equal masks.
 pub(crate) fn masks_like(alloc: Global, masks: &[CellSet]) -> Result<Vec<CellSet>, AllocError>
     ensures { IfOk result (λ copies. copies.items ≡ masks.now) }
 {

@@ -1,7 +1,7 @@
 //! Predicates on items.
 use value_ops::Bytes;
 
-/// A test of the field in a column, counted from 0, or tests joined.
+/// A test of the field in a column, or tests that are joined. Columns are counted from 0.
 #[derive(Drop)]
 pub enum Pred {
     Any,

@@ -39,7 +39,7 @@ impl Preds {
         }
     }
 
-    /// Appends an equal predicate.
+    /// Appends a copy of the predicate.
     pub fn add(&mut self, pred: &Pred) -> Result<(), AllocError>
         ensures ok { OnOk result (self.new ≡ self.old ++ plain_of pred.now ∷ []) }
         ensures err { OnErr result (self.new ≡ self.old) }
@@ -49,7 +49,7 @@ impl Preds {
         Ok(())
     }
 
-    /// Whether each is a predicate on items of the schema.
+    /// Whether each predicate can be asked about items of the schema.
     pub fn fit(&self, schema: &Schema) -> bool
         ensures { result ≡ list_all (fits schema.now.columns) self.now }
     {
@@ -66,14 +66,12 @@ impl Preds {
         Ok(Preds { preds })
     }
 
-    /// How many predicates there are.
     pub fn len(&self) -> usize
         ensures { result ≡ length self.now }
     {
         self.preds.len()
     }
 
-    /// The predicate at the index.
     pub fn get(&self, index: usize) -> &Pred
         requires { index < length self.now }
         ensures { slice_get self.now index ≡ Some (plain_of result.now) }
@@ -81,7 +79,7 @@ impl Preds {
         &self.preds[index]
     }
 
-    /// The index of an equal predicate.
+    /// The index of an equal predicate, if there is one.
     pub fn place_of(&self, pred: &Pred) -> Option<usize>
         ensures found { IfSome result (λ index. slice_get self.now index ≡ Some (plain_of pred.now)) }
         ensures missing { IfNone result (Contains self.now (plain_of pred.now) → ⊥) }

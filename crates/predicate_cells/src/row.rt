@@ -1,4 +1,4 @@
-//! Rows of fields that predicates are asked about.
+//! Rows of fields about which predicates are asked.
 ghost use Rattle.std.specs.Prelude.{◌≡◌, List, option_map};
 ghost use Rattle.value_ops.specs.declared.field.Field.{Field};
 ghost use Rattle.predicate_cells.specs.Truth.{number_in, text_in};
@@ -34,7 +34,7 @@ impl Row for Fields<'_> {
     }
 }
 
-/// The number in a column, counted from 0, if one stands there.
+/// The number in a column, counted from 0, if there is one.
 pub fn number_in(fields: &[Field], column: u32) -> Option<i64>
     ensures { result ≡ number_in fields.now column }
 {

@@ -1,4 +1,4 @@
-//! Which predicates are the same.
+//! Whether predicates are equal.
 ghost use Rattle.std.specs.Prelude.{◌≡◌, ◌↔◌, IsTrue};
 ghost use Rattle.predicate_cells.specs.Plain.{plain_of};
 ghost use Rattle.predicate_cells.specs.Predicates.{between, comparison, conjunction, disjunction};
@@ -8,7 +8,8 @@ use crate::Pred;
 use value_ops::{Bytes, Compare};
 
 impl Pred {
-    /// Whether it is made of the same tests in the same way.
+    /// Whether both are made of the same tests in the same way. Predicates that only have the same
+    /// truth may differ.
     #[cycle(same)]
     pub(crate) fn is_same(&self, other: &Pred) -> bool
         ensures { IsTrue result ↔ (plain_of self.now ≡ plain_of other.now) }

@@ -9,7 +9,7 @@ ghost use Rattle.predicate_cells.specs.Rising.{rising};
 use crate::Pred;
 use std::alloc::{AllocError, Global};
 
-/// The beginnings but for that of the first class, from the least to the greatest.
+/// Where all classes but the first begin, from the least number to the greatest.
 pub(crate) fn starts_of(alloc: Global, preds: &[Pred], column: u32) -> Result<Vec<i64>, AllocError>
     ensures { IfOk result (λ starts. starts.items
         ≡ rising int_cmp (filter begins_class (flat_map (beginnings column) (map plain_of preds.now)))) }
@@ -59,7 +59,7 @@ fn push_starts_of_both(
     push_starts(second, column, starts)
 }
 
-// A class begins at the first number, and one after the last.
+// A class begins at the first number of the interval, and another after its last number.
 fn push_interval(first: i64, last: i64, starts: &mut Vec<i64>) -> Result<(), AllocError>
     ensures { OnOk result (starts.new.items
         ≡ starts.old.items ++ filter begins_class (first ∷ next last ∷ [])) }
@@ -68,7 +68,7 @@ fn push_interval(first: i64, last: i64, starts: &mut Vec<i64>) -> Result<(), All
     push_next(last, starts)
 }
 
-// A class begins at each number but the least.
+// The least number of all begins no class, since the first class begins there anyway.
 fn push_start(number: i64, starts: &mut Vec<i64>) -> Result<(), AllocError>
     ensures { OnOk result (starts.new.items ≡ starts.old.items ++ filter begins_class (number ∷ [])) }
 {
@@ -78,7 +78,7 @@ fn push_start(number: i64, starts: &mut Vec<i64>) -> Result<(), AllocError>
     Ok(())
 }
 
-// Nothing is behind the greatest number.
+// After the greatest number there is none at which a class could begin.
 fn push_next(number: i64, starts: &mut Vec<i64>) -> Result<(), AllocError>
     ensures { OnOk result (starts.new.items ≡ starts.old.items ++ filter begins_class (next number ∷ [])) }
 {

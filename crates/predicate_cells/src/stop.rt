@@ -1,4 +1,4 @@
-//! Why a stream is not parted into cells.
+//! Why a stream cannot be parted into cells.
 
 use std::alloc::AllocError;
 

@@ -44,7 +44,7 @@ fn push_named<'p>(pred: &'p Pred, column: u32, named: &mut Vec<&'p [u8]>) -> Res
     }
 }
 
-// All bytes are texts.
+// Every list of bytes is a text.
 fn push_text<'p>(text: &'p [u8], named: &mut Vec<&'p [u8]>) -> Result<(), AllocError>
     ensures { OnOk result (map (λ t. t.now) named.new.items
         ≡ map (λ t. t.now) named.old.items ++ filter are_bytes (text.now ∷ [])) }
@@ -63,7 +63,6 @@ fn copies_of(alloc: Global, texts: &[&[u8]]) -> Result<Vec<Bytes>, AllocError>
     Ok(copies)
 }
 
-/// Equal texts.
 pub(crate) fn copied(alloc: Global, texts: &[Bytes]) -> Result<Vec<Bytes>, AllocError>
     ensures { IfOk result (λ copies. copies.items ≡ texts.now) }
 {

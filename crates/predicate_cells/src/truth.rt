@@ -1,4 +1,4 @@
-//! What a predicate says of an item.
+//! Whether an item meets a predicate.
 ghost use Rattle.std.specs.Prelude.{◌≡◌, ◌&&◌, int_le, int_lt, is_some};
 ghost use Rattle.std.specs.Ordering.{int_eq};
 ghost use Rattle.std.specs.Str.{bytes_eq};
@@ -11,14 +11,13 @@ use crate::row::{Fields, Row};
 use item_schema::Item;
 use value_ops::Bytes;
 
-/// Whether the item meets the predicate.
 pub fn holds(pred: &Pred, item: &Item) -> bool
     ensures { result ≡ holds (plain_of pred.now) item.now }
 {
     holds_in(pred, &Fields(item.fields()))
 }
 
-/// Whether the fields of the row do.
+/// Whether a row meets the predicate.
 #[cycle(holds)]
 pub(crate) fn holds_in<R: Row>(pred: &Pred, row: &R) -> bool
     ensures { result ≡ holds (plain_of pred.now) (R.fields row.now) }

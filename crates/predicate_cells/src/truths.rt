@@ -1,18 +1,16 @@
-//! Lists of truths.
+//! Lists of truth values.
 ghost use Rattle.std.specs.Prelude.{◌≡◌, ◌≤◌, ◌*◌, ◌&&◌, ◌||◌, not, length, map, replicate, IfOk};
 ghost use Rattle.std.specs.List.{flat_map, repeat, zip};
 ghost use Rattle.language_base.specs.Limits.{max_cells};
 
 use std::alloc::{AllocError, Global};
 
-/// One truth so many times.
 pub(crate) fn constant(alloc: Global, truth: bool, count: usize) -> Result<Vec<bool>, AllocError>
     ensures { IfOk result (λ truths. truths.items ≡ replicate count truth) }
 {
     vec![in alloc; truth; count]
 }
 
-/// The truths so many times.
 pub(crate) fn repeated(
     alloc: Global,
     truths: &[bool],
@@ -23,7 +21,7 @@ pub(crate) fn repeated(
     truths.repeat(alloc, count)
 }
 
-/// Where both lists are true.
+/// The conjunction, place by place.
 pub(crate) fn both(mut truths: Vec<bool>, others: &[bool]) -> Vec<bool>
     requires { length others.now ≡ length truths.items }
     ensures { result.items ≡ map (λ p. p.0 && p.1) (zip truths.items others.now) }
@@ -34,7 +32,7 @@ pub(crate) fn both(mut truths: Vec<bool>, others: &[bool]) -> Vec<bool>
     truths
 }
 
-/// Where either is.
+/// The disjunction, place by place.
 pub(crate) fn either(mut truths: Vec<bool>, others: &[bool]) -> Vec<bool>
     requires { length others.now ≡ length truths.items }
     ensures { result.items ≡ map (λ p. p.0 || p.1) (zip truths.items others.now) }
@@ -45,7 +43,7 @@ pub(crate) fn either(mut truths: Vec<bool>, others: &[bool]) -> Vec<bool>
     truths
 }
 
-/// Where the list is not.
+/// The negation, place by place.
 pub(crate) fn negated(mut truths: Vec<bool>) -> Vec<bool>
     ensures { result.items ≡ map not truths.items }
 {
@@ -55,7 +53,7 @@ pub(crate) fn negated(mut truths: Vec<bool>) -> Vec<bool>
     truths
 }
 
-/// Each of the truths so many times.
+/// Each of the truth values `width` times.
 pub(crate) fn block_of(
     alloc: Global,
     truths: &[bool],

@@ -1,4 +1,4 @@
--- Statement. The states of an automaton, each behind words.
+-- Statement. The states of an automaton, and which of them comes after a word.
 use Rattle.std.specs.Prelude.{◌<◌, ◌^◌, ℕ, [], ◌∷◌, length}
 use Rattle.rate_expr.specs.Paths.{Leads}
 use Rattle.rate_expr.specs.Sets.{Sets, Has}
@@ -6,13 +6,13 @@ use Rattle.rate_expr.specs.Words.{Word}
 use Rattle.rate_expr.specs.declared.state.State.{State}
 use Rattle.rate_expr.specs.declared.state.State.TheVariants.{Initial, At}
 
--- the state's positions exist
+-- the positions of the state exist
 abbrev pub IsStateOf : Sets → State → Type 0
 IsStateOf sets Initial = Unit {0}
 IsStateOf sets (At mask) = mask < 2 ^ length sets.preds
 
--- the state behind a word: the initial state behind the empty one, and behind any other the set of
--- positions in which a path that it spells ends
+-- the state after a word: after the empty word the initial state, and after any other the set of
+-- the positions at which some path that the word spells ends
 abbrev pub IsBehind : Sets → Word → State → Type 0
 IsBehind sets [] Initial = Unit {0}
 IsBehind sets [] (At mask) = ⊥

@@ -1,6 +1,6 @@
--- Statement. The first, last and follow sets of a rate, as a textbook has them. The positions are the one-item
--- parts, numbered from left to right, so that in a sequence and in a choice those of the second part
--- come behind those of the first.
+-- Statement. The first, last and follow sets of a rate, as a textbook has them. The positions are
+-- the predicates, numbered from left to right, so that in a sequence and in a choice those of the
+-- second part come after those of the first.
 use Rattle.std.specs.Prelude.{◌≡◌, ◌+◌, ◌⊎◌, ◌↔◌, ℕ, true}
 use Rattle.rate_expr.specs.Paths.{Follows}
 use Rattle.rate_expr.specs.Rates.{Expression, empty, one, sequence, choice, star, size_of, preds_of}
@@ -14,7 +14,7 @@ IsNullable (sequence first second) = IsNullable first × IsNullable second
 IsNullable (choice first second) = IsNullable first ⊎ IsNullable second
 IsNullable (star inner) = Unit {0}
 
--- words of the rate, whose positions are numbered from a number on, begin at the position
+-- words of the rate begin at the position, where its positions are numbered from `base` on
 abbrev pub IsFirst : Expression → ℕ → ℕ → Type 0
 IsFirst empty base position = ⊥
 IsFirst (one pred) base position = base ≡ position
@@ -34,7 +34,7 @@ IsLast (choice first second) base position = IsLast first base position
     ⊎ IsLast second (base + size_of first) position
 IsLast (star inner) base position = IsLast inner base position
 
--- words of the rate go on from the one position to the next
+-- in words of the rate, the position `next` may follow the position `before`
 abbrev pub IsFollowedBy : Expression → ℕ → ℕ → ℕ → Type 0
 IsFollowedBy empty base before next = ⊥
 IsFollowedBy (one pred) base before next = ⊥
@@ -46,7 +46,7 @@ IsFollowedBy (choice first second) base before next =
 IsFollowedBy (star inner) base before next = IsFollowedBy inner base before next
     ⊎ (IsLast inner base before × IsFirst inner base next)
 
--- the sets are those of the rate, whose positions are numbered from 0 on
+-- the sets are those of the rate, where its positions are numbered from 0 on
 pub record AreSetsOf (sets : Sets) (rate : Expression) : Type 0 where
   pub nullable : (sets.nullable ≡ true) ↔ IsNullable rate
   pub first : (position : ℕ) → Has sets.first position ↔ IsFirst rate 0 position

@@ -5,11 +5,11 @@ use Rattle.rate_expr.specs.declared.part.Part.{Part}
 use Rattle.rate_expr.specs.Parts.{all_linked, of_choice, of_sequence, of_star}
 use Rattle.rate_expr.specs.Sets.{Sets}
 
--- the mask, with each position so many higher; those past 127 are left out
+-- the mask with each position raised by `count`; those past 127 are dropped
 abbrev pub moved : ℕ → ℕ → ℕ
 moved count mask = mask * 2 ^ count % 2 ^ 128
 
--- where words of a part begin and end, with each position so many higher
+-- where words of the part begin and end, with each position raised by `count`
 abbrev pub part_moved : ℕ → Part → Part
 part_moved count part = record {
   nullable = part.nullable;
@@ -21,7 +21,7 @@ part_moved count part = record {
 abbrev pub ends_of : Sets → Part
 ends_of sets = record { nullable = sets.nullable; first = sets.first; last = sets.last }
 
--- the same positions, where words begin and end as those of a part
+-- the same positions, but words begin and end where those of the part do
 abbrev pub with_ends : Sets → Part → Sets
 with_ends sets part = record {
   nullable = part.nullable;
@@ -31,7 +31,7 @@ with_ends sets part = record {
   preds = sets.preds;
 }
 
--- words go on at the positions of the one mask behind those of another too
+-- the same positions, but each of `to` may also follow each of `from`
 abbrev pub with_links : Sets → ℕ → ℕ → Sets
 with_links sets from to = record {
   nullable = sets.nullable;
@@ -41,8 +41,8 @@ with_links sets from to = record {
   preds = sets.preds;
 }
 
--- the positions of the second behind those of the first, of which words neither begin, end nor go
--- on but as they do in each
+-- the positions of `b` appended to those of `a`; no word leads from the one to the other, and words
+-- begin and end where those of `a` do
 abbrev pub beside : Sets → Sets → Sets
 beside a b = record {
   nullable = a.nullable;
@@ -52,29 +52,29 @@ beside a b = record {
   preds = a.preds ++ b.preds;
 }
 
--- no position, and the empty word
+-- the sets of the empty word: there is no position
 abbrev pub sets_of_empty : Sets
 sets_of_empty = record { nullable = true; first = 0; last = 0; follow = []; preds = [] }
 
--- one position
+-- the sets of one predicate: there is one position
 abbrev pub sets_of_one : Predicate → Sets
 sets_of_one pred =
     record { nullable = false; first = 1; last = 1; follow = 0 ∷ []; preds = pred ∷ [] }
 
--- where words of the second begin and end, when its positions come behind those of the first
+-- where words of `b` begin and end once its positions are appended to those of `a`
 abbrev pub ends_behind : Sets → Sets → Part
 ends_behind a b = part_moved (length a.preds) (ends_of b)
 
--- a word of either
+-- the sets for the words of either
 abbrev pub sets_of_choice : Sets → Sets → Sets
 sets_of_choice a b = with_ends (beside a b) (of_choice (ends_of a) (ends_behind a b))
 
--- a word of the first and then one of the second
+-- the sets for a word of the first and then one of the second
 abbrev pub sets_of_sequence : Sets → Sets → Sets
 sets_of_sequence a b =
     with_ends (with_links (beside a b) a.last (ends_behind a b).first)
     (of_sequence (ends_of a) (ends_behind a b))
 
--- words one after the other
+-- the sets for any number of words, one after the other
 abbrev pub sets_of_star : Sets → Sets
 sets_of_star a = with_ends (with_links a a.last a.first) (of_star (ends_of a))

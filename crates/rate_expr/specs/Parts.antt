@@ -4,7 +4,7 @@ use Rattle.std.specs.Int.{bit_at}
 use Rattle.rate_expr.specs.declared.part.Part.{Part}
 use Rattle.rate_expr.specs.Rates.{Expression, empty, one, sequence, choice, star, size_of}
 
--- the mask, with the positions of another where a test holds
+-- the mask, with the positions of another if the test holds
 abbrev pub with_if : ℕ → Bool → ℕ → ℕ
 with_if mask test other = if test then bit_or mask other else mask
 
@@ -36,7 +36,7 @@ of_choice a b = record {
 abbrev pub of_star : Part → Part
 of_star a = record { nullable = true; first = a.first; last = a.last }
 
--- where words of the rate begin and end, with the positions from a number on
+-- where words of the rate begin and end, with its positions numbered from `base` on
 abbrev pub part_of : Expression → ℕ → Part
 part_of empty base = of_empty
 part_of (one pred) base = of_one base
@@ -46,17 +46,17 @@ part_of (choice first second) base =
     of_choice (part_of first base) (part_of second (base + size_of first))
 part_of (star inner) base = of_star (part_of inner base)
 
--- the mask of a position, with those that are led to where the position is among those before
+-- the follow mask of a position, with the positions of `to` added if the position is in `from`
 abbrev pub linked : ℕ → ℕ → ℕ → ℕ → ℕ
 linked from to position mask = with_if mask (bit_at from position == 1) to
 
--- the masks of the positions from a number on, each so
+-- the same for the masks of all positions from `position` on
 abbrev pub all_linked : ℕ → ℕ → ℕ → List ℕ → List ℕ
 all_linked from to position [] = []
 all_linked from to position (mask ∷ masks) =
     linked from to position mask ∷ all_linked from to (position + 1) masks
 
--- masks of positions, and behind them those of the positions of the rate
+-- the follow masks of other positions, and after them those of the positions of the rate
 abbrev pub follow_of : Expression → List ℕ → List ℕ
 follow_of empty before = before
 follow_of (one pred) before = before ++ 0 ∷ []

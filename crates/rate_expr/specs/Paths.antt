@@ -13,18 +13,18 @@ abbrev pub Meets : Sets → ℕ → List Field → Type 0
 Meets sets position item =
     (pred : Predicate) × (slice_get sets.preds position ≡ Some pred) × (holds pred item ≡ true)
 
--- the position comes behind another
+-- the position may follow another
 abbrev pub Follows : Sets → ℕ → ℕ → Type 0
 Follows sets before position =
     (mask : ℕ) × (slice_get sets.follow before ≡ Some mask) × Has mask position
 
--- a path behind a position is spelled by the word and ends in a position
+-- the word spells a path that leads on from one position to another
 abbrev pub LeadsOn : Sets → ℕ → Word → ℕ → Type 0
 LeadsOn sets from [] to = from ≡ to
 LeadsOn sets from (item ∷ word) to =
     (next : ℕ) × Follows sets from next × Meets sets next item × LeadsOn sets next word to
 
--- a path from the beginning is spelled by the word and ends in a position
+-- the word spells a path from the beginning to the position
 abbrev pub Leads : Sets → Word → ℕ → Type 0
 Leads sets [] to = ⊥
 Leads sets (item ∷ word) to =

@@ -1,10 +1,9 @@
--- Statement. A rate in memory as a plain one.
+-- Statement. A rate in memory as an expression.
 use Rattle.predicate_cells.specs.Plain as predicate
 use Rattle.rate_expr.specs.Rates as plain
 use Rattle.rate_expr.specs.declared.rate.Rate.{Rate}
 use Rattle.rate_expr.specs.declared.rate.Rate.TheVariants.{Empty, One, Seq', Alt', Star'}
 
--- the expression
 abbrev pub plain_of : Rate → plain.Expression
 plain_of Empty = plain.empty
 plain_of (One pred) = plain.one (predicate.plain_of pred)

@@ -1,4 +1,4 @@
--- Statement. Rates, without where they lie in memory.
+-- Statement. Rates as expressions, regardless of how they lie in memory.
 use Rattle.std.specs.Prelude.{ℕ, ◌+◌, List, [], ◌∷◌, ◌++◌}
 use Rattle.predicate_cells.specs.Predicates.{Predicate}
 
@@ -10,7 +10,7 @@ pub data Expression : Type 0 where
   choice : Expression → Expression → Expression
   star : Expression → Expression
 
--- the predicates of the one-item parts, from left to right
+-- the predicates of the positions, from left to right
 abbrev pub preds_of : Expression → List Predicate
 preds_of empty = []
 preds_of (one pred) = pred ∷ []
@@ -18,7 +18,7 @@ preds_of (sequence first second) = preds_of first ++ preds_of second
 preds_of (choice first second) = preds_of first ++ preds_of second
 preds_of (star inner) = preds_of inner
 
--- how many one-item parts there are
+-- how many positions there are
 abbrev pub size_of : Expression → ℕ
 size_of empty = 0
 size_of (one pred) = 1

@@ -1,4 +1,5 @@
--- Statement. Which words rates have, and in how many readings, over all words of items of these columns.
+-- Statement. Which words rates have, and in how many readings. All words are of items of the
+-- columns.
 use Rattle.std.specs.Prelude.{◌≡◌, ◌≢◌, ◌↔◌, List, ◌∷◌, ◌++◌}
 use Rattle.std.specs.List.{AllByRecursion}
 use Rattle.value_ops.specs.declared.field.Field.{Field}
@@ -7,7 +8,7 @@ use Rattle.rate_expr.specs.Language.{In}
 use Rattle.rate_expr.specs.Rates.{Expression}
 use Rattle.rate_expr.specs.Words.{Word, IsWordOf, join}
 
--- some word of the rate goes on behind this one by at least one item
+-- the word can be extended, by at least one item, to a word of the rate
 abbrev pub HasExtension : List Column → Expression → Word → Type 0
 HasExtension columns rate word = (item : List Field) × (more : Word)
     × IsWordOf columns (item ∷ more) × In rate (word ++ item ∷ more)

@@ -5,8 +5,8 @@ use Rattle.std.specs.List.{AllByRecursion}
 use Rattle.language_base.specs.Limits.{max_positions}
 use Rattle.predicate_cells.specs.Predicates.{Predicate}
 
--- whether the empty word is a word, where words begin and end, where they go on behind each
--- position, and what an item meets at each; a set of positions is a mask
+-- whether the empty word is in the rate, at which positions words begin and end, which positions
+-- may follow each position, and which predicate each has; a set of positions is a mask
 pub record Sets : Type 0 where
   pub nullable : Bool
   pub first : ℕ
@@ -23,7 +23,7 @@ pub record IsLowest (mask position : ℕ) : Type 0 where
   pub has : Has mask position
   pub least : (other : ℕ) → Has mask other → position ≤ other
 
--- at most so many positions as the language allows, and no others in any set
+-- there are at most as many positions as the language allows, and no set has any other
 pub record AreSets (sets : Sets) : Type 0 where
   pub few : length sets.preds ≤ max_positions
   pub each : length sets.follow ≡ length sets.preds

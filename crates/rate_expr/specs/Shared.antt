@@ -1,17 +1,17 @@
--- Statement. Lists of predicates of which equal ones are kept once.
+-- Statement. Lists of predicates in which equal ones are kept once.
 use Rattle.std.specs.Prelude.{◌≡◌, ◌<◌, ℕ, List, Some, length, map, get_or, slice_get}
 use Rattle.predicate_cells.specs.Predicates.{Predicate, any}
 
--- the predicates that are kept, and for each of the list its place among them
+-- the distinct predicates, and for each predicate of the list its place among them
 pub record Shared : Type 0 where
   pub distinct : List Predicate
   pub places : List ℕ
 
--- the list
+-- the list that is meant
 abbrev pub listed : Shared → List Predicate
 listed shared = map (λ place. get_or shared.distinct place any) shared.places
 
--- each place is one, no predicate is kept twice, and none that is not in the list
+-- each place exists, no predicate is kept twice, and each one that is kept is in the list
 pub record AreShared (shared : Shared) : Type 0 where
   pub within : (position place : ℕ) → slice_get shared.places position ≡ Some place
       → place < length shared.distinct

@@ -14,7 +14,7 @@ use crate::shared_preds::SharedPreds;
 use predicate_cells::Pred;
 use std::alloc::AllocError;
 
-/// Puts the positions of a rate behind others, and says where its words begin and end.
+/// Appends the positions of a rate to those of others, and says where its words begin and end.
 #[cycle(add)]
 pub(crate) fn add(
     rate: &Rate,
@@ -50,7 +50,7 @@ pub(crate) fn add(
     }
 }
 
-// Puts one more position after the others.
+// Appends one position.
 fn add_item(
     pred: &Pred,
     follow: &mut Vec<u128>,
@@ -70,8 +70,8 @@ fn add_item(
     Ok(Part::one(position as u32))
 }
 
-// Puts the positions of two rates after the others, and links the ends of the first with the
-// beginnings of the second.
+// Appends the positions of two rates, and links the ends of the first to the beginnings of the
+// second.
 #[cycle(add)]
 fn add_sequence(
     first: &Rate,

@@ -8,7 +8,8 @@ use crate::positions::Positions;
 use std::alloc::AllocError;
 
 impl Positions {
-    /// A word of either. The positions of these stay where they are, and the others' come behind.
+    /// The words of either rate. The positions of the second rate are appended to those of the
+    /// first.
     pub fn or(self, other: Positions) -> Result<Positions, AllocError>
         requires { length self.preds + length other.preds ≤ max_positions }
         ensures { (r s : Expression) → AreSetsOf self r → AreSetsOf other s
@@ -19,7 +20,7 @@ impl Positions {
         Ok(self.beside(other)?.with_ends(one.or(another)))
     }
 
-    /// A word of these, and then one of the others, whose positions come behind.
+    /// A word of the first rate and then one of the second, whose positions are appended.
     pub fn then(self, other: Positions) -> Result<Positions, AllocError>
         requires { length self.preds + length other.preds ≤ max_positions }
         ensures { (r s : Expression) → AreSetsOf self r → AreSetsOf other s
@@ -31,7 +32,7 @@ impl Positions {
         Ok(linked.with_ends(before.then(behind)))
     }
 
-    /// Words one after the other, none included.
+    /// Any number of words of the rate, one after the other.
     pub fn star(self) -> Positions
         ensures { (r : Expression) → AreSetsOf self r → AreSetsOf result (star r) }
     {

@@ -1,4 +1,4 @@
-//! What holds of every rate, of its sets, and of the states behind words.
+//! What holds of every rate, of its sets, and of the states after words.
 ghost use Rattle.std.specs.Prelude.{◌≡◌, ◌⊎◌};
 ghost use Rattle.rate_expr.specs.Behind.{IsBehind, IsStateOf};
 ghost use Rattle.rate_expr.specs.FirstLastFollow.{AreSetsOf};
@@ -9,7 +9,7 @@ ghost use Rattle.rate_expr.specs.Sets.{Sets, AreSets};
 ghost use Rattle.rate_expr.specs.Words.{Word};
 ghost use Rattle.rate_expr.specs.declared.state.State.{State};
 
-/// Whether a word is in a rate is decided.
+/// It is decidable whether a word is in a rate.
 pub fn each_word_is_in_or_not()
     ensures { (rate : Expression) (word : Word) → In rate word ⊎ (In rate word → ⊥) }
 {}
@@ -19,14 +19,14 @@ pub fn sets_spell_their_rate()
     ensures { (sets : Sets) (rate : Expression) → AreSetsOf sets rate → AreOf sets rate }
 {}
 
-/// A rate has its sets, and no others.
+/// A rate has exactly one position automaton.
 pub fn one_automaton_of_a_rate()
     ensures some { (rate : Expression) → (sets : Sets) × AreSetsOf sets rate }
     ensures only { (rate : Expression) (sets other : Sets) → AreSets sets → AreSets other
         → AreSetsOf sets rate → AreSetsOf other rate → other ≡ sets }
 {}
 
-/// Behind each word there is one state.
+/// After each word there is exactly one state.
 pub fn one_state_behind_a_word()
     ensures some { (sets : Sets) (word : Word) → (state : State) × IsBehind sets word state }
     ensures only { (sets : Sets) (word : Word) (state other : State)

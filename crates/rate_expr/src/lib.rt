@@ -1,4 +1,5 @@
-//! Rates: regular expressions over predicates on items, and the positions that words of theirs go through.
+//! Rates, which are regular expressions over predicates on items, and the positions at which their
+//! words are read.
 #![tactic(auto)]
 
 mod build;

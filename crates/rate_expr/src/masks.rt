@@ -10,7 +10,7 @@ pub fn has(mask: u128, position: u32) -> bool
     position < 128 && (mask >> position) & 1 == 1
 }
 
-/// The position alone.
+/// The mask with this position alone.
 pub fn only(position: u32) -> u128
     requires { position < 128 }
     ensures { result ≡ 2 ^ position }
@@ -18,7 +18,7 @@ pub fn only(position: u32) -> u128
     1 << position
 }
 
-/// The least number above each position in the mask.
+/// One more than the highest position in the mask, or 0 if it has none.
 pub fn end_of(mask: u128) -> u32
     ensures few { result ≤ 128 }
     ensures above { (position : ℕ) → Has mask position → position < result }
@@ -43,7 +43,7 @@ pub fn lowest(mask: u128) -> u32
     mask.trailing_zeros()
 }
 
-/// The positions in the mask but for the lowest.
+/// The mask without its lowest position.
 pub fn without_lowest(mask: u128) -> u128
     requires { 0 < mask }
     ensures exact { (position : ℕ)
@@ -53,7 +53,7 @@ pub fn without_lowest(mask: u128) -> u128
     mask & (mask - 1)
 }
 
-/// The positions so many higher; those past 127 are left out.
+/// The positions raised by `count`; those past 127 are dropped.
 pub(crate) fn moved(mask: u128, count: u32) -> u128
     ensures { result ≡ moved count mask }
 {

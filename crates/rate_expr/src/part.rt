@@ -5,7 +5,8 @@ ghost use Rattle.rate_expr.specs.Parts.{of_empty, of_one, of_sequence, of_choice
 
 use crate::masks::{moved, only};
 
-/// Whether the empty word is one, and the masks of the positions.
+/// Whether the part has the empty word, and the masks of the positions where its words begin and
+/// end.
 #[derive(Clone, Copy)]
 pub(crate) struct Part {
     pub nullable: bool,
@@ -14,7 +15,6 @@ pub(crate) struct Part {
 }
 
 impl Part {
-    /// The empty word alone.
     pub(crate) fn empty() -> Part
         ensures { result ≡ of_empty }
     {
@@ -25,7 +25,6 @@ impl Part {
         }
     }
 
-    /// One item at a position.
     pub(crate) fn one(position: u32) -> Part
         requires { position < 128 }
         ensures { result ≡ of_one position }
@@ -38,7 +37,6 @@ impl Part {
         }
     }
 
-    /// A word of this part, and then one of the next.
     pub(crate) fn then(self, next: Part) -> Part
         ensures { result ≡ of_sequence self next }
     {
@@ -57,7 +55,6 @@ impl Part {
         }
     }
 
-    /// A word of either part.
     pub(crate) fn or(self, other: Part) -> Part
         ensures { result ≡ of_choice self other }
     {
@@ -68,7 +65,6 @@ impl Part {
         }
     }
 
-    /// Words one after the other.
     pub(crate) fn star(self) -> Part
         ensures { result ≡ of_star self }
     {
@@ -79,7 +75,7 @@ impl Part {
         }
     }
 
-    /// The same, with each position so many higher.
+    /// The same part, each position raised by `count`.
     pub(crate) fn moved(self, count: u32) -> Part
         ensures { result ≡ part_moved count self }
     {

@@ -1,4 +1,5 @@
-//! The positions of a rate: its one-item parts, from left to right, and how words go through them.
+//! The positions of a rate. They are the predicates in it, numbered from left to right, and a word
+//! of the rate is read along a path of positions, one for each item.
 ghost use Rattle.std.specs.Prelude.{◌≡◌, ◌+◌, ◌<◌, ◌≤◌, ◌^◌, Some, IfOk, length, slice_get};
 ghost use Rattle.language_base.specs.Limits.{max_positions};
 ghost use Rattle.predicate_cells.specs.Plain.{plain_of};
@@ -19,8 +20,8 @@ use predicate_cells::Pred;
 use std::alloc::{AllocError, Global};
 use std::marker::Model;
 
-/// The position automaton of a rate. A set of positions is a mask, in which position p has the bit
-/// 2^p.
+/// The position automaton of a rate, also known as Glushkov's. A set of positions is a mask, in
+/// which position p has the bit 2^p.
 #[derive(Drop)]
 pub struct Positions {
     nullable: bool,
@@ -58,7 +59,7 @@ impl Model for Positions {
 }
 
 impl Positions {
-    /// The position automaton of a rate.
+    /// Built by Glushkov's construction, in one pass over the rate.
     pub fn of(alloc: Global, rate: &Rate) -> Result<Positions, AllocError>
         requires { size_of (rates.plain_of rate.now) ≤ max_positions }
         ensures sets { IfOk result (λ sets. AreSetsOf sets (rates.plain_of rate.now)) }
@@ -76,7 +77,7 @@ impl Positions {
         })
     }
 
-    /// The empty word. It takes no memory.
+    /// The automaton of the empty word. It takes no memory.
     pub fn empty(alloc: Global) -> Positions
         ensures { AreSetsOf result empty }
     {
@@ -89,7 +90,7 @@ impl Positions {
         }
     }
 
-    /// One item that meets the predicate.
+    /// The automaton of the words of one item that meets the predicate.
     pub fn one(alloc: Global, pred: &Pred) -> Result<Positions, AllocError>
         ensures { IfOk result (λ sets. AreSetsOf sets (one (plain_of pred.now))) }
     {
@@ -106,7 +107,6 @@ impl Positions {
         })
     }
 
-    /// Where words begin and end.
     pub(crate) fn ends(&self) -> Part
         ensures ends { result ≡ ends_of self.now }
         ensures sets { AreSets self.now }
@@ -118,7 +118,7 @@ impl Positions {
         }
     }
 
-    /// The same positions, where words begin and end as those of a part.
+    /// The same positions, but words begin and end where those of the part do.
     pub(crate) fn with_ends(self, part: Part) -> Positions
         requires first { part.first < 2 ^ length self.preds }
         requires last { part.last < 2 ^ length self.preds }
@@ -133,7 +133,7 @@ impl Positions {
         }
     }
 
-    /// The same positions, where words go on at those of `to` behind each of `from` too.
+    /// The same positions, but each of `to` may also follow each of `from`.
     pub(crate) fn with_links(self, from: u128, to: u128) -> Positions
         requires { to < 2 ^ length self.preds }
         ensures { result ≡ with_links self from to }
@@ -149,7 +149,7 @@ impl Positions {
         }
     }
 
-    /// Puts the positions of another rate behind these, where no words go over to them yet.
+    /// Appends the positions of another rate. No word leads to them yet.
     pub(crate) fn beside(self, other: Positions) -> Result<Positions, AllocError>
         requires { length self.preds + length other.preds ≤ max_positions }
         ensures { IfOk result (λ sets. sets ≡ beside self other) }
@@ -168,7 +168,6 @@ impl Positions {
         })
     }
 
-    /// An equal automaton.
     pub fn try_copy(&self, alloc: Global) -> Result<Positions, AllocError>
         ensures { IfOk result (λ copy. copy ≡ self.now) }
     {
@@ -181,7 +180,7 @@ impl Positions {
         })
     }
 
-    /// How many positions there are.
+    /// How many positions there are. The initial state is not one of them.
     pub fn count(&self) -> u32
         ensures count { result ≡ length self.now.preds }
         ensures sets { AreSets self.now }
@@ -196,21 +195,21 @@ impl Positions {
         self.nullable
     }
 
-    /// Where a word may begin.
+    /// The positions at which a word may begin.
     pub fn first(&self) -> u128
         ensures { result ≡ self.now.first }
     {
         self.first
     }
 
-    /// Where a word may end.
+    /// The positions at which a word may end.
     pub fn last(&self) -> u128
         ensures { result ≡ self.now.last }
     {
         self.last
     }
 
-    /// Where a word may go on behind a position.
+    /// The positions that may come next after a position.
     pub fn follow(&self, position: u32) -> u128
         requires { position < length self.now.preds }
         ensures { slice_get self.now.follow position ≡ Some result }
@@ -218,7 +217,7 @@ impl Positions {
         self.follow[position as usize]
     }
 
-    /// What an item meets at a position.
+    /// The predicate that an item has to meet at a position.
     pub fn pred(&self, position: u32) -> &Pred
         requires { position < length self.now.preds }
         ensures { slice_get self.now.preds position ≡ Some (plain_of result.now) }
@@ -226,7 +225,7 @@ impl Positions {
         self.preds.get(position as usize)
     }
 
-    /// What items meet at all positions, equal predicates once.
+    /// The predicates of all positions, in which equal ones are kept once.
     pub fn preds(&self) -> &SharedPreds
         ensures shared { AreShared result.now }
         ensures listed { listed result.now ≡ self.now.preds }

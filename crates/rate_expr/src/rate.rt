@@ -7,7 +7,7 @@ use std::alloc::{AllocError, Global};
 /// The most positions that a rate may have.
 pub const MAX_POSITIONS: u32 = 128;
 
-/// A set of words of items.
+/// A rate: a set of words of items.
 #[derive(Drop)]
 pub enum Rate {
     /// The empty word alone.
@@ -18,7 +18,7 @@ pub enum Rate {
     Seq(Box<Rate>, Box<Rate>),
     /// The words of either.
     Alt(Box<Rate>, Box<Rate>),
-    /// The words of the inner rate one after the other, none included.
+    /// Any number of words of the inner rate, one after the other.
     Star(Box<Rate>),
 }
 
@@ -27,14 +27,14 @@ impl Rate {
     ghost use Rattle.rate_expr.specs.Plain.{plain_of};
     ghost use Rattle.rate_expr.specs.Rates.{one, size_of};
 
-    /// The words of one item, which meets an equal predicate.
+    /// The words of one item that meets the predicate, of which a copy is kept.
     pub fn of_item(pred: &Pred, alloc: Global) -> Result<Rate, AllocError>
         ensures { IfOk result (λ rate. plain_of rate ≡ one (predicates.plain_of pred.now)) }
     {
         Ok(Rate::One(pred.try_copy(alloc)?))
     }
 
-    /// How many one-item parts there are, and 2^32 - 1 where there are more.
+    /// How many predicates stand in the rate, at most 2^32 - 1.
     pub fn positions(&self) -> u32
         ensures { result ≡ min (size_of (plain_of self.now)) (2 ^ 32 - 1) }
     {
@@ -47,7 +47,6 @@ impl Rate {
         }
     }
 
-    /// An equal rate.
     #[cycle(copy)]
     pub fn try_copy(&self, alloc: Global) -> Result<Rate, AllocError>
         ensures { IfOk result (λ copy. plain_of copy ≡ plain_of self.now) }

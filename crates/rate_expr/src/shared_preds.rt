@@ -1,4 +1,4 @@
-//! Predicates of which equal ones are kept once.
+//! Lists of predicates in which equal ones are kept once.
 ghost use Rattle.std.specs.Prelude.{◌≡◌, ◌↔◌, ◌<◌, ◌≤◌, ◌++◌, ◌∷◌, [], ℕ, Some, IfOk, OnOk, length, slice_get};
 ghost use Rattle.language_base.specs.Limits.{max_positions};
 ghost use Rattle.predicate_cells.specs.Plain.{plain_of};
@@ -10,7 +10,8 @@ use predicate_cells::{Pred, Preds};
 use std::alloc::{AllocError, Global};
 use std::marker::Model;
 
-/// The predicates of positions, seen as those that are kept and each position's place among them.
+/// The predicates of positions, seen as the distinct ones and, for each position, its place among
+/// them.
 #[derive(Drop)]
 pub struct SharedPreds {
     distinct: Preds,
@@ -30,7 +31,6 @@ impl Model for SharedPreds {
 }
 
 impl SharedPreds {
-    /// None.
     pub(crate) fn new(alloc: Global) -> SharedPreds
         ensures { result ≡ record { distinct = []; places = [] } }
     {
@@ -40,7 +40,7 @@ impl SharedPreds {
         }
     }
 
-    /// The predicate of one more position.
+    /// Appends the predicate of one more position.
     pub(crate) fn add(&mut self, pred: &Pred) -> Result<(), AllocError>
         requires { AreShared self.old }
         ensures shared { OnOk result (AreShared self.new) }
@@ -60,7 +60,7 @@ impl SharedPreds {
         }
     }
 
-    /// Those of other positions behind these.
+    /// Appends the predicates of other positions.
     pub(crate) fn append(&mut self, others: &SharedPreds) -> Result<(), AllocError>
         requires shared { AreShared self.old }
         requires others { AreShared others.now }
@@ -73,7 +73,6 @@ impl SharedPreds {
         Ok(())
     }
 
-    /// An equal list.
     pub(crate) fn try_copy(&self, alloc: Global) -> Result<SharedPreds, AllocError>
         ensures { IfOk result (λ copy. copy ≡ self.now) }
     {
@@ -83,14 +82,12 @@ impl SharedPreds {
         })
     }
 
-    /// How many positions there are.
     pub(crate) fn count(&self) -> usize
         ensures { result ≡ length (listed self.now) }
     {
         self.places.len()
     }
 
-    /// The predicate of a position.
     pub(crate) fn get(&self, position: usize) -> &Pred
         requires shared { AreShared self.now }
         requires position { position < length (listed self.now) }
@@ -99,14 +96,14 @@ impl SharedPreds {
         self.distinct.get(self.places[position])
     }
 
-    /// The predicates that are kept.
+    /// The predicates without repetitions.
     pub fn distinct(&self) -> &Preds
         ensures { result.now ≡ self.now.distinct }
     {
         &self.distinct
     }
 
-    /// The positions of the predicate at a place.
+    /// The positions whose predicate is kept at the place.
     pub fn positions_of(&self, place: usize) -> u128
         requires { length (listed self.now) ≤ max_positions }
         ensures { (position : ℕ)

@@ -1,10 +1,10 @@
-//! Where an automaton is.
+//! The states of an automaton.
 
-/// The state behind a word.
+/// The state after a word.
 #[derive(Clone, Copy, Debug, PartialEq, Eq)]
 pub enum State {
-    /// Behind the empty word.
+    /// After the empty word.
     Initial,
-    /// Behind any other word: the positions in which a path that it spells ends, as a mask.
+    /// After any other word: the positions at which some path that the word spells ends, as a mask.
     At(u128),
 }

@@ -23,7 +23,7 @@ pub record IsMet (sets : Sets) (cells : Partition) (cell mask : ℕ) : Type 0 wh
   pub whole : (position : ℕ) (item : List Field) → IsIn cells cell item
       → Meets sets position item → Has mask position
 
--- a mask for each cell
+-- there is such a mask for each cell
 abbrev pub AreMet : Sets → Partition → List ℕ → Type 0
 AreMet sets cells masks = (length masks ≡ cell_count cells)
     × ((cell mask : ℕ) → slice_get masks cell ≡ Some mask → IsMet sets cells cell mask)

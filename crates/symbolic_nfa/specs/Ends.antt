@@ -1,13 +1,14 @@
--- For the prover. Which positions lead to an end, told by masks alone.
+-- For the prover. From which positions a path leads to an end, said by masks alone.
 use Rattle.std.specs.Prelude.{ℕ, zero, suc}
 use Rattle.rate_expr.specs.Paths.{Follows}
 use Rattle.rate_expr.specs.Sets.{Sets, Has}
 
--- one of the targets comes behind the position
+-- some target may follow the position
 abbrev pub ComesBefore : Sets → ℕ → ℕ → Type 0
 ComesBefore sets targets position = (next : ℕ) × Follows sets position next × Has targets next
 
--- a path of so many steps leads through positions of the mask from this one to where words may end
+-- a path of `steps` steps leads from this position, through positions of the mask, to one where
+-- words may end
 abbrev pub LeadsThrough : Sets → ℕ → ℕ → ℕ → Type 0
 LeadsThrough sets mask position zero = Has mask position × Has sets.last position
 LeadsThrough sets mask position (suc steps) = Has mask position

@@ -1,12 +1,12 @@
--- For the prover. What an automaton keeps ready.
+-- For the prover. The tables of an automaton.
 use Rattle.std.specs.Prelude.{ℕ, Bool, ◌≡◌, ◌<◌, ◌^◌, ◌⊎◌, ◌↔◌, List, IsTrue, length, slice_index}
 use Rattle.std.specs.List.{Contains}
 use Rattle.rate_expr.specs.Sets.{AreSets, Has}
 use Rattle.symbolic_nfa.specs.Automata.{Automaton, AreDecided, AreMet}
 use Rattle.symbolic_nfa.specs.Growth.{Grows, BeginsWords}
 
--- a mask for each cell, the mask of the positions behind which a useful one comes, and whether a
--- word may begin in a useful one
+-- a mask for each cell, the mask of the positions that a useful one may follow, and whether a word
+-- may begin at a useful one
 pub record AreTables (nfa : Automaton) (met : List ℕ) (growing : ℕ) (begins : Bool) : Type 0 where
   pub sets : AreSets nfa.sets
   pub decided : AreDecided nfa.sets nfa.cells
@@ -15,7 +15,7 @@ pub record AreTables (nfa : Automaton) (met : List ℕ) (growing : ℕ) (begins 
   pub growing_is : (position : ℕ) → Has growing position ↔ Grows nfa position
   pub begins_is : IsTrue begins ↔ BeginsWords nfa
 
--- the masks of these cells get the positions, and all keep what they had
+-- the positions are added to the masks of these cells, and nothing else changes
 pub record AddsPositions (old new : List ℕ) (positions : ℕ) (cells : List ℕ) : Type 0 where
   pub same : length new ≡ length old
   pub has : (cell position : ℕ) → cell < length old → Has (slice_index new cell) position

@@ -1,4 +1,4 @@
-//! Which positions lead to an end.
+//! From which positions a word can come to an end.
 ghost use Rattle.std.specs.Prelude.{ℕ, ◌<◌, ◌^◌, ◌↔◌, length};
 ghost use Rattle.rate_expr.specs.Sets.{Has};
 ghost use Rattle.symbolic_nfa.specs.Ends.{ComesBefore, EndsThrough};
@@ -6,7 +6,7 @@ ghost use Rattle.symbolic_nfa.specs.Ends.{ComesBefore, EndsThrough};
 use rate_expr::Positions;
 use rate_expr::masks::{only, overlap};
 
-// The positions from which a path through positions of the mask leads to where words may end.
+// The positions from which a path within the mask leads to a position where words may end.
 pub(crate) fn ending_through(positions: &Positions, mask: u128) -> u128
     ensures { (position : ℕ) → Has result position ↔ EndsThrough positions.now mask position }
 {
@@ -19,7 +19,7 @@ pub(crate) fn ending_through(positions: &Positions, mask: u128) -> u128
     ending
 }
 
-// The positions behind which one of the targets comes.
+// The positions that some target may follow.
 pub(crate) fn before(positions: &Positions, targets: u128) -> u128
     ensures exact { (position : ℕ) → Has result position
         ↔ ComesBefore positions.now targets position }

@@ -1,4 +1,4 @@
-//! What states say of words.
+//! What the state after a word says of the word.
 ghost use Rattle.std.specs.Prelude.{◌≡◌, ◌↔◌, List, [], ◌∷◌, ◌++◌};
 ghost use Rattle.value_ops.specs.declared.field.Field.{Field};
 ghost use Rattle.rate_expr.specs.Behind.{IsBehind};
@@ -12,7 +12,7 @@ ghost use Rattle.symbolic_nfa.specs.Automata.{Automaton};
 ghost use Rattle.rate_expr.specs.declared.state.State.{State};
 ghost use Rattle.symbolic_nfa.specs.States.{Extends, IsAccepted, Steps};
 
-/// A step leads from the state behind a word to the one behind the word and the item.
+/// A step leads from the state after a word to the state after the word and one more item.
 pub fn steps_lead_on()
     ensures begins { (sets : Sets) → IsBehind sets [] State.Initial }
     ensures goes_on { (sets : Sets) (word : Word) (state next : State) (item : List Field)
@@ -20,13 +20,13 @@ pub fn steps_lead_on()
         → IsBehind sets (word ++ item ∷ []) next }
 {}
 
-/// A word is in the rate exactly where the state behind it is accepted.
+/// A word is in the rate exactly if the state after it is accepted.
 pub fn acceptance_is_membership()
     ensures { (sets : Sets) (rate : Expression) (word : Word) (state : State) → AreOf sets rate
         → IsBehind sets word state → IsAccepted sets state ↔ In rate word }
 {}
 
-/// A word has an extension in the rate exactly where the state behind it extends.
+/// A word has an extension in the rate exactly if the state after it extends.
 pub fn extending_is_having_an_extension()
     ensures { (nfa : Automaton) (rate : Expression) (word : Word) (state : State)
         → AreOf nfa.sets rate → IsBehind nfa.sets word state

@@ -1,4 +1,5 @@
-//! Automata of rates over cells: whether a word is in the rate, and whether it may go on to one that is.
+//! Automata of rates over cells. They decide whether a word is in the rate, and whether it can be
+//! extended to one that is.
 #![tactic(auto)]
 
 mod ends;

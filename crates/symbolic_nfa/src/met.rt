@@ -9,7 +9,6 @@ use predicate_cells::{CellSet, Cells};
 use rate_expr::Positions;
 use std::alloc::{AllocError, Global};
 
-// For each cell, the positions that its items meet.
 pub(crate) fn met_by_cells(
     alloc: Global,
     positions: &Positions,
@@ -28,7 +27,7 @@ pub(crate) fn met_by_cells(
     Ok(met)
 }
 
-// Gives the positions to the masks of the cells that are in the set.
+// Adds the positions to the masks of the cells in the set.
 fn add(masks: &mut [u128], positions: u128, set: &CellSet)
     requires { length masks.old ≤ max_cells }
     ensures { AddsPositions masks.old masks.new positions set.now }
@@ -40,7 +39,6 @@ fn add(masks: &mut [u128], positions: u128, set: &CellSet)
     }
 }
 
-// The positions of all masks.
 pub(crate) fn union_of(masks: &[u128]) -> u128
     ensures { result ≡ fold bit_or 0 masks.now }
 {

@@ -1,4 +1,12 @@
 //! The automaton of a rate over the cells of a stream.
+//!
+//! The positions of the rate are the bits of a mask. A word leads from the initial state to the
+//! mask of the positions at which some reading of the word ends. One more item takes two steps:
+//!
+//!     state --(follow sets)--> positions that may be next --(cell of the item)--> next state
+//!
+//! The first step depends on the state alone: its result is the **ways on** from the state. The
+//! second step is one `and` with the positions that the items of the cell meet.
 ghost use Rattle.std.specs.Prelude.{◌≡◌, ◌<◌, ◌↔◌, List, IsTrue, IfOk, length};
 ghost use Rattle.value_ops.specs.declared.field.Field.{Field};
 ghost use Rattle.predicate_cells.specs.Cells.{cell_count, IsIn};
@@ -18,8 +26,8 @@ use std::alloc::{AllocError, Global};
 use std::marker::Model;
 use std::rc::Rc;
 
-/// A position automaton whose letters are cells, seen as the positions' sets and the cells. It is
-/// one word, so that what may hold one is no larger for it.
+/// A position automaton whose letters are cells, seen as the sets of its positions and the cells.
+/// It is one pointer, so that a type which may hold an automaton stays small.
 #[derive(Drop)]
 pub struct Nfa {
     parts: Box<Parts>,
@@ -29,11 +37,11 @@ pub struct Nfa {
 struct Parts {
     positions: Positions,
     cells: Rc<Cells>,
-    // For each cell, the positions that its items meet.
+    // For each cell, the positions whose predicates its items meet.
     met: Vec<u128>,
-    // The positions behind which a word may go on to an end.
+    // The positions from which a word can be extended to a word of the rate.
     growing: u128,
-    // Whether a word of at least one item leads to an end.
+    // Whether some word of at least one item of the stream is in the rate.
     begins: bool,
 }
 
@@ -58,7 +66,7 @@ impl Model for Nfa {
 }
 
 impl Nfa {
-    /// The automaton of these positions over these cells, which it shares.
+    /// Takes over the positions, and shares the cells with their other owners.
     pub fn new(alloc: Global, positions: Positions, cells: &Rc<Cells>) -> Result<Nfa, AllocError>
         requires { AreDecided positions cells.now.value }
         ensures { IfOk result (λ nfa. nfa ≡ record { sets = positions; cells = cells.now.value }) }
@@ -79,7 +87,7 @@ impl Nfa {
         })
     }
 
-    /// Whether the cells were made with the predicate of each position, as `new` wants it.
+    /// Whether `new` may be called: the cells were made with the predicate of each position.
     pub fn can_read(positions: &Positions, cells: &Cells) -> bool
         ensures { IsTrue result ↔ AreDecided positions.now cells.now }
     {
@@ -92,7 +100,7 @@ impl Nfa {
         true
     }
 
-    /// An equal automaton.
+    /// A copy that shares the cells.
     pub fn try_copy(&self, alloc: Global) -> Result<Nfa, AllocError>
         ensures { IfOk result (λ copy. copy ≡ self.now) }
     {
@@ -108,7 +116,7 @@ impl Nfa {
         })
     }
 
-    /// How many positions there are.
+    /// How many positions there are. The initial state is not one of them.
     pub fn count(&self) -> u32
         ensures count { result ≡ length self.now.sets.preds }
         ensures sets { AreSets self.now.sets }
@@ -117,28 +125,26 @@ impl Nfa {
         self.parts.positions.count()
     }
 
-    /// The positions of the rate.
     pub fn positions(&self) -> &Positions
         ensures { result.now ≡ self.now.sets }
     {
         &self.parts.positions
     }
 
-    /// The positions of the rate, given back.
+    /// Gives back the positions that `new` took over.
     pub fn into_positions(self) -> Positions
         ensures { result ≡ self.sets }
     {
         Box::into_inner(self.parts).positions
     }
 
-    /// The cells that it reads.
     pub fn cells(&self) -> &Cells
         ensures { result.now ≡ self.now.cells }
     {
         self.parts.cells.as_ref()
     }
 
-    /// The positions whose predicates the items of a cell meet.
+    /// Looked up in a table that `new` made.
     pub fn met_by(&self, cell: u32) -> u128
         requires { cell < cell_count self.now.cells }
         ensures { IsMetBy self.now cell result }
@@ -156,7 +162,7 @@ impl Nfa {
         }
     }
 
-    /// The positions in which a word may go on from the state, whatever its next item.
+    /// The positions that may be next after the state, whatever the next item is.
     pub fn ways_on(&self, state: State) -> u128
         requires { IsStateOf self.now.sets state }
         ensures { AreWaysOn self.now.sets state result }
@@ -164,7 +170,8 @@ impl Nfa {
         ways_on(&self.parts.positions, state)
     }
 
-    /// The state after one more item of the cell, from one whose ways on are these.
+    /// The state after one more item of the cell, from a state whose ways on are known. This is for
+    /// trying several cells from one state.
     pub fn step_along(&self, ways: u128, cell: u32) -> State
         requires { cell < cell_count self.now.cells }
         ensures steps { (state : State) → AreWaysOn self.now.sets state ways
@@ -186,7 +193,7 @@ impl Nfa {
         self.step_along(self.ways_on(state), cell)
     }
 
-    /// Whether a word may end in the state.
+    /// Whether the words that lead to the state are in the rate.
     pub fn accepts(&self, state: State) -> bool
         ensures { IsTrue result ↔ IsAccepted self.now.sets state }
     {
@@ -196,7 +203,8 @@ impl Nfa {
         }
     }
 
-    /// Whether a word may go on from the state, by at least one item of the stream, to an end.
+    /// Whether the words that lead to the state can be extended, by at least one item of the
+    /// stream, to words of the rate.
     pub fn extends(&self, state: State) -> bool
         ensures { IsTrue result ↔ Extends self.now state }
     {

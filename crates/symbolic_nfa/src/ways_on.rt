@@ -1,4 +1,4 @@
-//! Where words go on from a state.
+//! The positions that may be next after a state.
 ghost use Rattle.std.specs.Prelude.{◌<◌, ◌^◌, length};
 ghost use Rattle.rate_expr.specs.Behind.{IsStateOf};
 ghost use Rattle.rate_expr.specs.Sets.{AreSets};
@@ -7,7 +7,6 @@ ghost use Rattle.symbolic_nfa.specs.States.{AreWaysOn};
 use rate_expr::masks::{lowest, without_lowest};
 use rate_expr::{Positions, State};
 
-// The positions in which a word may go on from the state.
 pub(crate) fn ways_on(positions: &Positions, state: State) -> u128
     requires sets { AreSets positions.now }
     requires state { IsStateOf positions.now state }
@@ -19,7 +18,7 @@ pub(crate) fn ways_on(positions: &Positions, state: State) -> u128
     }
 }
 
-// The positions that come behind one of the mask's.
+// The positions that may follow some position of the mask.
 fn behind(positions: &Positions, mask: u128) -> u128
     requires sets { AreSets positions.now }
     requires state { mask < 2 ^ length positions.now.preds }
