@@ -1,4 +1,5 @@
--- Statement. Two factorings of one word whose first factors differ, the left one's being the shorter.
+-- Statement. Two factorings of one word whose first factors differ. The left reading has the
+-- shorter one.
 use Rattle.std.specs.Prelude.{◌≡◌, ◌⊎◌, ℕ}
 use Rattle.rate_expr.specs.Paths.{Follows}
 use Rattle.rate_expr.specs.Sets.{Sets, Has}
@@ -6,18 +7,17 @@ use Rattle.ambiguity_check.specs.declared.graph.Node.{Node}
 use Rattle.ambiguity_check.specs.declared.graph.Phase.{Phase}
 use Rattle.ambiguity_check.specs.declared.graph.Phase.TheVariants.{Together, Parted}
 
--- a position comes behind another in words that follow one another: in one of them, or at the
--- beginning of the next
+-- the one position may follow the other, in its word or at the beginning of a next word
 abbrev pub GoesOnward : Sets → ℕ → ℕ → Type 0
 GoesOnward sets before next = Follows sets before next ⊎ (Has sets.last before × Has sets.first next)
 
--- both may begin there
+-- both readings may begin at the node
 abbrev pub BeginsFactors : Sets → Node → Type 0
 BeginsFactors sets node =
     (node.phase ≡ Together) × Has sets.first node.left × Has sets.first node.right
 
--- one more item may lead from places of a phase to the node: at first both are in their first
--- factors, then the left one ends its own, and from there on each goes its way
+-- one more item may lead from these positions of a phase to the node: at first both readings are in
+-- their first factors, then the left one ends its own, and from there on each continues by itself
 abbrev pub FactorsOn : Sets → Phase → ℕ → ℕ → Node → Type 0
 FactorsOn sets Together left right node =
     ((node.phase ≡ Together) × Follows sets left node.left × Follows sets right node.right)
@@ -30,6 +30,6 @@ FactorsOn sets _ left right node =
 abbrev pub Factors : Sets → Node → Node → Type 0
 Factors sets before node = FactorsOn sets before.phase before.left before.right node
 
--- both end there
+-- both readings may end at the node
 abbrev pub EndsFactors : Sets → Node → Type 0
 EndsFactors sets node = (node.phase ≡ Parted) × Has sets.last node.left × Has sets.last node.right

@@ -7,19 +7,19 @@ use Rattle.rate_expr.specs.Words.{join}
 use Rattle.ambiguity_check.specs.declared.graph.Node.{Node}
 use Rattle.ambiguity_check.specs.Walks.{IsWalk}
 
--- a word of so many items is in both rates
+-- a word of `items` items is in both rates
 abbrev pub OverlapOf : List Column → Expression → Expression → ℕ → Type 0
 OverlapOf columns r s items = (two : Overlap columns r s) × (length two.0 ≡ items)
 
--- a word of so many items splits in two ways
+-- a word of `items` items splits in two ways
 abbrev pub TwoSplitsOf : List Column → Expression → Expression → ℕ → Type 0
 TwoSplitsOf columns r s items = (two : HaveTwoSplits columns r s) × (length (two.u ++ two.v) ≡ items)
 
--- a word of so many items factors in two ways
+-- a word of `items` items factors in two ways
 abbrev pub TwoFactoringsOf : List Column → Expression → ℕ → Type 0
 TwoFactoringsOf columns r items = (two : HasTwoFactorings columns r) × (length (join two.us) ≡ items)
 
--- a walk of so many items leads to an end
+-- a walk of `items` items leads to an end
 abbrev pub EndsBehind : (Node → Type 0) → (Node → Node → Type 0) → (Node → Type 0)
     → (Node → Type 0) → ℕ → Type 0
 EndsBehind begins goes_on meet ends items =

@@ -1,22 +1,23 @@
--- Statement. The levels of a search: the nodes that walks of so many items lead to.
+-- Statement. The levels of a search: the nodes to which a walk of a number of items leads, and no
+-- shorter one.
 use Rattle.std.specs.Prelude.{◌↔◌, ◌<◌, ◌≤◌, ℕ, List}
 use Rattle.ambiguity_check.specs.declared.graph.Node.{Node}
 use Rattle.ambiguity_check.specs.Marked.{IsMarked}
 use Rattle.ambiguity_check.specs.Walks.{IsWalk}
 
--- the nodes so far, and those of the last level
+-- the nodes of all levels so far, and those of the last one
 pub record Searched : Type 0 where
   pub seen : List ℕ
   pub latest : List ℕ
 
--- a walk of so many items leads to the node, and no shorter one does
+-- a walk of `items` items leads to the node, and no shorter one does
 pub record IsShortest (begins : Node → Type 0) (goes_on : Node → Node → Type 0)
     (meet : Node → Type 0) (items : ℕ) (node : Node) : Type 0 where
   pub walk : IsWalk begins goes_on meet items node
   pub none : (fewer : ℕ) → fewer < items → IsWalk begins goes_on meet fewer node → ⊥
 
--- behind so many items, exactly the nodes are seen that walks of at most as many lead to, and the
--- latest are those of them that no shorter walk leads to
+-- after `items` items, exactly the nodes are seen to which walks of at most that many lead, and the
+-- latest are those of them to which no shorter walk leads
 pub record IsLevel (begins : Node → Type 0) (goes_on : Node → Node → Type 0)
     (meet : Node → Type 0) (items : ℕ) (search : Searched) : Type 0 where
   pub begun : 0 < items

@@ -5,21 +5,21 @@ use Rattle.rate_expr.specs.Sets.{Sets, Has}
 use Rattle.ambiguity_check.specs.declared.graph.Node.{Node}
 use Rattle.ambiguity_check.specs.declared.graph.Phase.TheVariants.{Together}
 
--- both may begin there
+-- both readings may begin at the node
 abbrev pub BeginsBoth : Sets → Sets → Node → Type 0
 BeginsBoth first second node =
     (node.phase ≡ Together) × Has first.first node.left × Has second.first node.right
 
--- both may go on from the first node to the second
+-- one more item may lead from the first node to the second
 abbrev pub FollowsBoth : Sets → Sets → Node → Node → Type 0
 FollowsBoth first second before node = (node.phase ≡ Together)
     × Follows first before.left node.left × Follows second before.right node.right
 
--- the row of the place on the left has the place on the right
+-- the row of the left position has the right one
 abbrev pub IsInRows : List ℕ → Node → Type 0
 IsInRows rows node = Has (slice_index rows node.left) node.right
 
--- both end there
+-- both readings may end at the node
 abbrev pub EndsBoth : Sets → Sets → Node → Type 0
 EndsBoth first second node =
     (node.phase ≡ Together) × Has first.last node.left × Has second.last node.right

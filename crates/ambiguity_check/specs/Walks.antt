@@ -17,16 +17,16 @@ rank Together = 0
 rank Parted = 1
 rank Rejoined = 2
 
--- the node is one that the move leads to
+-- the move leads to the node
 abbrev pub IsOf : Move → Node → Type 0
 IsOf move node = (node.phase ≡ move.phase) × Has move.left node.left × Has move.right node.right
 
--- the node is one that some of the moves leads to
+-- one of the moves leads to the node
 abbrev pub IsIn : Moves → Node → Type 0
 IsIn moves node = IsOf moves.stay node ⊎ IsSomeAnd moves.turn (λ move. IsOf move node)
 
--- a walk of so many items leads to the node: it begins with one of the first nodes, goes on along
--- edges, and some item meets both places of each node
+-- a walk of the given number of items leads to the node: it begins at a first node and follows
+-- edges, and some item meets both positions of each of its nodes
 pub data IsWalk (begins : Node → Type 0) (goes_on : Node → Node → Type 0) (meet : Node → Type 0)
     : ℕ → Node → Type 0 where
   at_once : (node : Node) → begins node → meet node → IsWalk begins goes_on meet 1 node

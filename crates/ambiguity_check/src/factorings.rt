@@ -1,4 +1,4 @@
-//! Whether words factor in one way into words of a rate.
+//! Whether each word factors in at most one way into words of a rate.
 ghost use Rattle.std.specs.Prelude.{◌≡◌, IfOk, MatchBool};
 ghost use Rattle.rate_expr.specs.Paths.{AreOf};
 ghost use Rattle.rate_expr.specs.Rates.{Expression};
@@ -14,7 +14,8 @@ use rate_expr::masks::has;
 use std::alloc::{AllocError, Global};
 use symbolic_nfa::Nfa;
 
-/// Whether no word factors in two ways into words of the rate, which then has not the empty word.
+/// Whether no word factors in two ways into words of the rate. If so, the empty word is not in the
+/// rate.
 pub fn one_factoring(alloc: Global, nfa: &Nfa) -> Result<bool, AllocError>
     ensures { IfOk result (λ answer. (r : Expression) → AreOf nfa.now.sets r → MatchBool answer
         (HasOneFactoring nfa.now.cells.layout.columns r)
@@ -34,16 +35,16 @@ pub fn one_factoring(alloc: Global, nfa: &Nfa) -> Result<bool, AllocError>
     Ok(!marks.has_some(ends))
 }
 
-/// Two factorings of one word, the first factors of which differ, the left one's being the shorter.
+/// Two factorings of one word whose first factors differ. The left reading has the shorter one.
 #[derive(Drop)]
 pub struct Factorings<'a> {
     pub positions: &'a Positions,
-    /// For each position those that some item meets with it.
+    /// For each position, the positions that some item meets together with it.
     pub rows: Vec<u128>,
 }
 
 impl<'a> Factorings<'a> {
-    /// The factorings of words of the automaton's items.
+    /// The graph for the rate of the automaton.
     pub fn new(alloc: Global, nfa: &'a Nfa) -> Result<Factorings<'a>, AllocError>
         ensures sets { IfOk result (λ factorings. factorings.positions.now ≡ nfa.now.sets) }
         ensures rows { IfOk result (λ factorings. AreMeetings nfa.now.cells.layout.columns

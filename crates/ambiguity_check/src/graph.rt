@@ -1,18 +1,27 @@
-//! The graph of two readings of one word: where both are, and where one more item may take them.
+//! The graph of two readings of one word, the left one and the right one. Both go through the same
+//! items side by side, and a node says at which position each of them is:
+//!
+//!     left reading     p1 --> p2 --> p4 --> p7
+//!     items            i1     i2     i3     i4      an item meets both positions of its node
+//!     right reading    q1 --> q2 --> q2 --> q5
+//!
+//! So a walk of nodes to an end is a word with two readings. Whether there is a word with two
+//! readings is decided by a search for all nodes to which walks lead. If a reading parts the word
+//! into pieces, a node also has a phase, which says how far the two readings have parted.
 ghost use Rattle.std.specs.Prelude.{◌≡◌, ◌↔◌, ◌<◌, ℕ};
 ghost use Rattle.ambiguity_check.specs.declared.graph.Node.{Node};
 ghost use Rattle.ambiguity_check.specs.declared.graph.Phase.{Phase};
 ghost use Rattle.ambiguity_check.specs.Walks.{IsIn, rank};
 ghost use Rattle.rate_expr.specs.Sets.{Has};
 
-/// How far two readings have gone apart.
+/// How far two readings have parted.
 #[derive(Clone, Copy, PartialEq, Eq)]
 pub enum Phase {
-    /// Both have ended the same parts of the word.
+    /// Both have ended the same pieces of the word.
     Together,
-    /// The left one has ended a part in which the right one went on.
+    /// The left reading has ended a piece that the right one continued.
     Parted,
-    /// The right one has ended its part too.
+    /// The right reading has ended its piece too.
     Rejoined,
 }
 
@@ -29,7 +38,7 @@ impl Phase {
     }
 }
 
-/// Where two readings are behind an item.
+/// Where two readings are after an item.
 #[derive(Clone, Copy)]
 pub struct Node {
     pub phase: Phase,
@@ -37,7 +46,7 @@ pub struct Node {
     pub right: u32,
 }
 
-/// The nodes of a phase whose places are in two masks.
+/// The nodes of a phase whose positions are in two masks.
 #[derive(Clone, Copy)]
 pub struct Move {
     pub phase: Phase,
@@ -45,24 +54,26 @@ pub struct Move {
     pub right: u128,
 }
 
-/// Where one more item may lead: without a part that ends, and with one that does.
+/// Where one more item may lead: `stay` if both readings continue their pieces, and `turn` if one
+/// of them begins its next piece.
 #[derive(Clone, Copy)]
 pub struct Moves {
     pub stay: Move,
     pub turn: Option<Move>,
 }
 
-/// Two readings of one word. What items there are is known by `meets` alone.
+/// Two readings of one word. The edges are those of the automata, whatever items there are; which
+/// nodes some item meets, only `meets` knows.
 pub trait Graph {
     ghost use Rattle.ambiguity_check.specs.declared.graph.Node.{Node};
 
-    // The first item may lead there.
+    // The first item may lead to the node.
     ghost begins: { Self → Node → Type 0 };
 
     // One more item may lead from the first node to the second.
     ghost goes_on: { Self → Node → Node → Type 0 };
 
-    // Some item meets what both places ask for.
+    // Some item meets both positions of the node.
     ghost meet: { Self → Node → Type 0 };
 
     /// Where the first item may lead.
@@ -74,7 +85,7 @@ pub trait Graph {
         ensures { (node : Node) → IsIn result node ↔ ((right : ℕ) × Has rights right
             × goes_on self.now (record { phase = phase; left = left; right = right }) node) };
 
-    /// The places on the right that share an item with the place on the left.
+    /// The right positions that some item meets together with the left one.
     fn meets(&self, phase: Phase, left: u32) -> u128
         ensures { (right : ℕ) → Has result right
             ↔ meet self.now (record { phase = phase; left = left; right = right }) };

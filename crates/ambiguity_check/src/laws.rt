@@ -1,4 +1,4 @@
-//! What a search that is over has seen, and which words the walks to an end are.
+//! What a search has seen when it is over, and to which words the walks to an end belong.
 ghost use Rattle.std.specs.Prelude.{◌≡◌, ◌≤◌, ◌<◌, ℕ, List, true};
 ghost use Rattle.item_schema.specs.declared.column.Column.{Column};
 ghost use Rattle.rate_expr.specs.Paths.{AreOf};
@@ -15,7 +15,7 @@ ghost use Rattle.ambiguity_check.specs.Splits.{AreRows, BeginsSplits, GoesOn, Me
 
 use crate::graph::Graph;
 
-/// Where a level is empty, all nodes are seen that walks lead to.
+/// Once a level is empty, all nodes to which walks lead are seen.
 pub fn all_are_seen_behind_an_empty_level<G: Graph>(graph: &G)
     ensures { (items : ℕ) (search : Searched)
         → IsLevel (G.begins graph.now) (G.goes_on graph.now) (G.meet graph.now) items search
@@ -56,8 +56,8 @@ pub fn two_splits_are_walks()
         (MeetIn together parted rejoined) (EndsSplits first second) items }
 {}
 
-/// A walk of factorings to an end is a word with two factorings. Where factors that are the same are
-/// in front of those that differ, the walk is of the items behind them.
+/// A walk of factorings to an end is a word with two factorings. Factors at the front that are the
+/// same in both are no part of the walk.
 pub fn two_factorings_are_walks()
     ensures sound { (columns : List Column) (sets : Sets) (rows : List ℕ)
         → AreMeetings columns sets sets rows → (r : Expression) → AreOf sets r → (items : ℕ)

@@ -1,4 +1,4 @@
-//! What a search finds behind a level.
+//! The step of a search from one level to the next.
 ghost use Rattle.ambiguity_check.specs.Walks.{IsOf, IsIn};
 ghost use Rattle.ambiguity_check.specs.Found.{AreFound, IsBehind, IsBehindPhase};
 
@@ -6,7 +6,7 @@ use crate::graph::{Graph, Move, Moves, Phase};
 use crate::marks::Marks;
 use rate_expr::masks::{lowest, without_lowest};
 
-/// Marks what is behind the nodes of a level.
+/// Marks the nodes to which one more item leads from the level.
 pub(crate) fn mark_level<G: Graph>(graph: &G, level: &Marks, seen: &mut Marks, next: &mut Marks)
     ensures { AreFound (IsBehind (G.goes_on graph.now) (G.meet graph.now) level.now)
         seen.old next.old seen.new next.new }
@@ -16,9 +16,9 @@ pub(crate) fn mark_level<G: Graph>(graph: &G, level: &Marks, seen: &mut Marks, n
     mark_phase(graph, Phase::Rejoined, level, seen, next);
 }
 
-// Each row of the level is followed to each row of its moves, so for n places a level costs n^2 steps
-// at most. A row is in at most n levels, those in which one of its nodes is the latest: the worst,
-// where each has one new node in each of n levels, is n^3 steps.
+// Each row of the level is followed to each row of its moves, so that for n positions a level costs
+// at most n^2 steps. Each node is new in one level only, so that a row of n nodes is in at most n
+// levels. In the worst case each row has one new node in each of n levels, which costs n^3 steps.
 fn mark_phase<G: Graph>(graph: &G, phase: Phase, level: &Marks, seen: &mut Marks, next: &mut Marks)
     ensures { AreFound (IsBehindPhase (G.goes_on graph.now) (G.meet graph.now) level.now phase)
         seen.old next.old seen.new next.new }
@@ -31,7 +31,7 @@ fn mark_phase<G: Graph>(graph: &G, phase: Phase, level: &Marks, seen: &mut Marks
     }
 }
 
-/// Marks what the moves lead to. What was not seen is in the next level.
+/// Marks the nodes to which the moves lead. Those that were not seen before are the next level.
 pub(crate) fn mark_moves<G: Graph>(graph: &G, moves: Moves, seen: &mut Marks, next: &mut Marks)
     ensures { AreFound (λ node. IsIn moves node × G.meet graph.now node)
         seen.old next.old seen.new next.new }

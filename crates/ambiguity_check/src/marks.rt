@@ -1,4 +1,4 @@
-//! The nodes that a search has come to.
+//! Sets of nodes.
 ghost use Rattle.std.specs.Prelude.{◌≡◌, ◌<◌, ◌+◌, ◌*◌, IfOk, List, ℕ, slice_index, length, sum, MatchBool};
 ghost use Rattle.language_base.specs.Limits.{max_positions};
 ghost use Rattle.ambiguity_check.specs.declared.graph.Node.{Node};
@@ -14,10 +14,10 @@ use std::marker::Model;
 /// How many phases there are.
 const PHASES: usize = 3;
 
-/// A row for each place on the left and phase.
+/// How many rows there are: one for each left position and phase.
 const ROWS: usize = PHASES * MAX_POSITIONS as usize;
 
-/// Some nodes, seen as a mask of the places on the right for each place on the left and phase.
+/// A set of nodes, seen as a mask of the right positions for each left position and phase.
 #[derive(Drop)]
 pub struct Marks {
     rows: Vec<u128>,
@@ -35,7 +35,7 @@ impl Model for Marks {
 }
 
 impl Marks {
-    /// No nodes.
+    /// The empty set.
     pub(crate) fn new(alloc: Global) -> Result<Marks, AllocError>
         ensures { IfOk result (λ marks. (node : Node) → IsMarked marks node → ⊥) }
     {
@@ -43,7 +43,7 @@ impl Marks {
         Ok(Marks { rows })
     }
 
-    /// The places on the right of the nodes with this place on the left.
+    /// The right positions of the nodes with this phase and left position.
     pub fn row(&self, phase: Phase, left: u32) -> u128
         ensures { result ≡ slice_index self.now (phases * left + rank phase) }
     {
@@ -53,7 +53,7 @@ impl Marks {
             .unwrap_or(0)
     }
 
-    /// Whether some of these nodes is in the set.
+    /// Whether one of these nodes is in the set.
     pub fn has_some(&self, nodes: Move) -> bool
         ensures { MatchBool result ((node : Node) × IsMarked self.now node × IsOf nodes node)
             ((node : Node) → IsMarked self.now node → IsOf nodes node → ⊥) }
@@ -66,7 +66,7 @@ impl Marks {
         false
     }
 
-    /// A number above the places on the left of all these nodes.
+    /// A bound of the left positions of all nodes.
     pub fn end(&self) -> u32
         ensures end { result ≡ max_positions }
         ensures below { (node : Node) → IsMarked self.now node → node.left < result }
@@ -74,7 +74,7 @@ impl Marks {
         (self.rows.len() / PHASES) as u32
     }
 
-    /// Whether there are no nodes.
+    /// Whether the set is empty.
     pub fn is_empty(&self) -> bool
         ensures { MatchBool result ((node : Node) → IsMarked self.now node → ⊥)
             ((node : Node) × IsMarked self.now node) }
@@ -88,14 +88,14 @@ impl Marks {
         true
     }
 
-    /// No nodes any more.
+    /// Makes the set empty.
     pub(crate) fn clear(&mut self)
         ensures { sum self.new ≡ 0 }
     {
         self.rows.fill(0);
     }
 
-    /// More nodes of one row.
+    /// Adds nodes of one row.
     pub(crate) fn add(&mut self, phase: Phase, left: u32, rights: u128)
         requires { left < max_positions }
         ensures { AreMarkedToo self.old phase left rights self.new }

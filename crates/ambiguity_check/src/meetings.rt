@@ -1,4 +1,4 @@
-//! Which places of two automata some item of the stream meets together.
+//! Which positions of two automata some item of the stream meets together.
 ghost use Rattle.std.specs.Prelude.{◌≡◌, ◌<◌, ℕ, IfOk, length};
 ghost use Rattle.rate_expr.specs.Sets.{Has};
 ghost use Rattle.ambiguity_check.specs.Meetings.{AreMeetings, IsJoined};
@@ -7,7 +7,8 @@ use rate_expr::masks::{lowest, without_lowest};
 use std::alloc::{AllocError, Global};
 use symbolic_nfa::Nfa;
 
-/// For each place of the first automaton, the places of the second that an item meets with it.
+/// For each position of the first automaton, the positions of the second that some item meets
+/// together with it.
 pub(crate) fn meetings(alloc: Global, first: &Nfa, second: &Nfa) -> Result<Vec<u128>, AllocError>
     requires { first.now.cells ≡ second.now.cells }
     ensures { IfOk result (λ rows.
@@ -25,7 +26,7 @@ pub(crate) fn meetings(alloc: Global, first: &Nfa, second: &Nfa) -> Result<Vec<u
     Ok(rows)
 }
 
-// The rows of the places in the first mask get the places in the second.
+// Adds the positions in the second mask to the rows of the positions in the first.
 fn join(rows: &mut [u128], first: u128, second: u128)
     requires { (place : ℕ) → Has first place → place < length rows.old }
     ensures { IsJoined rows.old first second rows.new }

@@ -35,17 +35,18 @@ pub fn disjoint(alloc: Global, first: &Nfa, second: &Nfa) -> Result<bool, AllocE
     Ok(!marks.has_some(ends))
 }
 
-/// A reading by each of two rates.
+/// Two readings of one word, each by a rate of its own.
 #[derive(Drop)]
 pub struct Pairs<'a> {
     pub first: &'a Positions,
     pub second: &'a Positions,
-    /// For each position of the first those of the second that some item meets with it.
+    /// For each position of the first, the positions of the second that some item meets together
+    /// with it.
     pub rows: Vec<u128>,
 }
 
 impl<'a> Pairs<'a> {
-    /// The readings of words of the automata's items.
+    /// The graph for the rates of the automata.
     pub fn new(alloc: Global, first: &'a Nfa, second: &'a Nfa) -> Result<Pairs<'a>, AllocError>
         requires { first.now.cells ≡ second.now.cells }
         ensures first { IfOk result (λ pairs. pairs.first.now ≡ first.now.sets) }

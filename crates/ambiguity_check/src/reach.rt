@@ -7,7 +7,6 @@ use crate::marks::Marks;
 use crate::search::Search;
 use std::alloc::{AllocError, Global};
 
-/// The nodes that walks of the graph lead to.
 pub(crate) fn reach<G: Graph>(alloc: Global, graph: &G) -> Result<Marks, AllocError>
     ensures { IfOk result
         (AreReached (G.begins graph.now) (G.goes_on graph.now) (G.meet graph.now)) }

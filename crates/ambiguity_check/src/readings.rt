@@ -1,4 +1,4 @@
-//! Where a reading of a word goes on.
+//! The positions that may be next in a reading.
 ghost use Rattle.std.specs.Prelude.{◌≡◌, ◌↔◌, ℕ, slice_index};
 ghost use Rattle.rate_expr.specs.Paths.{Follows};
 ghost use Rattle.rate_expr.specs.Sets.{Has};
@@ -7,7 +7,7 @@ ghost use Rattle.ambiguity_check.specs.Factorings.{GoesOnward};
 use rate_expr::Positions;
 use rate_expr::masks::{has, lowest, overlap, without_lowest};
 
-/// The positions behind a position.
+/// The positions that may follow a position.
 pub(crate) fn behind(positions: &Positions, position: u32) -> u128
     ensures { (next : ℕ) → Has result next ↔ Follows positions.now position next }
 {
@@ -18,7 +18,7 @@ pub(crate) fn behind(positions: &Positions, position: u32) -> u128
     }
 }
 
-/// The positions behind some of a mask.
+/// The positions that may follow some position of the mask.
 pub(crate) fn all_behind(positions: &Positions, mask: u128) -> u128
     ensures { (next : ℕ) → Has result next
         ↔ ((from : ℕ) × Has mask from × Follows positions.now from next) }
@@ -32,14 +32,14 @@ pub(crate) fn all_behind(positions: &Positions, mask: u128) -> u128
     found
 }
 
-/// The row of a place, which is empty past the last.
+/// The row of a position. It is empty if there is none.
 pub(crate) fn row(rows: &[u128], place: u32) -> u128
     ensures { result ≡ slice_index rows.now place }
 {
     rows.get(place as usize).copied().unwrap_or(0)
 }
 
-/// The positions behind a position in words that follow one another.
+/// The positions that may follow a position, in its word or at the beginning of a next word.
 pub(crate) fn onward(positions: &Positions, position: u32) -> u128
     ensures { (next : ℕ) → Has result next ↔ GoesOnward positions.now position next }
 {
@@ -51,7 +51,7 @@ pub(crate) fn onward(positions: &Positions, position: u32) -> u128
     }
 }
 
-/// The positions behind some of a mask in words that follow one another.
+/// The same for some position of the mask.
 pub(crate) fn all_onward(positions: &Positions, mask: u128) -> u128
     ensures { (next : ℕ) → Has result next
         ↔ ((from : ℕ) × Has mask from × GoesOnward positions.now from next) }

@@ -11,13 +11,13 @@ use std::alloc::{AllocError, Global};
 use std::marker::Model;
 use std::mem;
 
-/// The nodes that walks of up to so many items lead to, and those of them that no shorter walk leads
-/// to.
+/// A breadth-first search: the nodes that were seen so far, and those of the latest level, to which
+/// no shorter walk leads.
 #[derive(Drop)]
 pub struct Search {
     seen: Marks,
     latest: Marks,
-    // Where the next level is gathered.
+    // Room in which the next level is gathered.
     next: Marks,
 }
 
@@ -30,7 +30,7 @@ impl Model for Search {
 }
 
 impl Search {
-    /// The nodes behind the first item.
+    /// The search after one item.
     pub fn begin<G: Graph>(alloc: Global, graph: &G) -> Result<Search, AllocError>
         ensures { IfOk result
             (IsLevel (G.begins graph.now) (G.goes_on graph.now) (G.meet graph.now) 1) }
@@ -45,7 +45,7 @@ impl Search {
         })
     }
 
-    /// The nodes behind one more item.
+    /// Searches one item further.
     pub fn advance<G: Graph>(&mut self, graph: &G)
         ensures level { (items : ℕ)
             → IsLevel (G.begins graph.now) (G.goes_on graph.now) (G.meet graph.now) items self.old
@@ -58,7 +58,7 @@ impl Search {
         mem::swap(&mut self.latest, &mut self.next);
     }
 
-    /// Whether no node was new behind the last item: then none is behind more.
+    /// Whether the last item led to no new node. Then more items lead to none either.
     pub fn is_over(&self) -> bool
         ensures { MatchBool result ((node : Node) → IsMarked self.now.latest node → ⊥)
             ((node : Node) × IsMarked self.now.latest node) }
@@ -66,21 +66,20 @@ impl Search {
         self.latest.is_empty()
     }
 
-    /// All nodes so far.
     pub(crate) fn into_seen(self) -> Marks
         ensures { result ≡ self.seen }
     {
         self.seen
     }
 
-    /// The nodes so far.
+    /// The nodes to which walks lead of at most the items so far.
     pub fn seen(&self) -> &Marks
         ensures { result.now ≡ self.now.seen }
     {
         &self.seen
     }
 
-    /// Those that were not seen before the last item.
+    /// The nodes that are new since the last item.
     pub fn latest(&self) -> &Marks
         ensures { result.now ≡ self.now.latest }
     {

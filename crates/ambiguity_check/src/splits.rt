@@ -1,4 +1,4 @@
-//! Whether words split in one way into a word of one rate and then one of another.
+//! Whether each word splits in at most one way into a word of one rate and then one of another.
 ghost use Rattle.std.specs.Prelude.{◌≡◌, ◌↔◌, ℕ, IfOk, MatchBool, IsSomeAnd};
 ghost use Rattle.rate_expr.specs.Paths.{AreOf};
 ghost use Rattle.rate_expr.specs.Rates.{Expression};
@@ -32,9 +32,8 @@ pub fn one_split(alloc: Global, first: &Nfa, second: &Nfa) -> Result<bool, Alloc
     Ok(!splits.end_in(&marks))
 }
 
-/// Two splits of one word, where the left one ends the first part before the right one. The rows of
-/// a phase have for each position of the left one those of the right one that some item meets with
-/// it.
+/// Two splits of one word, of which the left one has the shorter first part. For each phase there
+/// are rows: for each left position, the right positions that some item meets together with it.
 #[derive(Drop)]
 pub struct Splits<'a> {
     pub first: &'a Positions,
@@ -45,7 +44,7 @@ pub struct Splits<'a> {
 }
 
 impl<'a> Splits<'a> {
-    /// The splits of words of the automata's items.
+    /// The graph for the rates of the automata.
     pub fn new(alloc: Global, first: &'a Nfa, second: &'a Nfa) -> Result<Splits<'a>, AllocError>
         requires { first.now.cells ≡ second.now.cells }
         ensures first { IfOk result (λ splits. splits.first.now ≡ first.now.sets) }
@@ -65,7 +64,7 @@ impl<'a> Splits<'a> {
 }
 
 impl Splits<'_> {
-    // What the left one reads in a phase.
+    // The automaton of the part that the left reading is in.
     fn left(&self, phase: Phase) -> &Positions
         ensures { result.now ≡ left_of self.now.first.now self.now.second.now phase }
     {
@@ -75,7 +74,7 @@ impl Splits<'_> {
         }
     }
 
-    // What the right one reads in a phase.
+    // The automaton of the part that the right reading is in.
     fn right(&self, phase: Phase) -> &Positions
         ensures { result.now ≡ right_of self.now.first.now self.now.second.now phase }
     {
@@ -85,7 +84,7 @@ impl Splits<'_> {
         }
     }
 
-    // Where an item leads in front of which one of the first parts ends.
+    // Where an item leads if one reading ends its first part before it.
     fn turn(&self, phase: Phase, left: u32, rights: u128) -> Option<Move>
         ensures { (node : Node) → IsSomeAnd result (λ step. IsOf step node)
             ↔ ((right : ℕ) × Has rights right
@@ -106,7 +105,7 @@ impl Splits<'_> {
         }
     }
 
-    /// Whether both end in some of the nodes.
+    /// Whether both readings may end in one of the nodes.
     pub fn end_in(&self, marks: &Marks) -> bool
         ensures { MatchBool result
             ((node : Node) × IsMarked marks.now node

@@ -1,4 +1,4 @@
--- Statement. What a rule with automata asks of the rates that these are of.
+-- Statement. What a rule that is given with automata asks of their rates.
 use Rattle.std.specs.Prelude.{◌≡◌, List}
 use Rattle.item_schema.specs.declared.column.Column.{Column}
 use Rattle.rate_expr.specs.Paths.{AreOf}

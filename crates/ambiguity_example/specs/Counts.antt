@@ -4,7 +4,7 @@ use Rattle.ambiguity_check.specs.declared.graph.Node.{Node}
 use Rattle.ambiguity_check.specs.declared.graph.Phase.{Phase}
 use Rattle.ambiguity_check.specs.declared.graph.Phase.TheVariants.{Together, Parted, Rejoined}
 
--- 1 where the phases are the same, and else 0
+-- 1 if the phases are the same, and else 0
 abbrev pub is_same : Phase → Phase → ℕ
 is_same Together Together = 1
 is_same Parted Parted = 1

@@ -5,7 +5,7 @@ use Rattle.rate_expr.specs.Language.{In}
 use Rattle.rate_expr.specs.Rates.{Expression}
 use Rattle.rate_expr.specs.Words.{Word, join}
 
--- where pieces that follow one another from a place on begin and end, counted in items
+-- where pieces that follow one another from the place `at` on begin and end, counted in items
 abbrev pub cuts_from : ℕ → List Word → List ℕ
 cuts_from at [] = at ∷ []
 cuts_from at (piece ∷ pieces) = at ∷ cuts_from (at + length piece) pieces

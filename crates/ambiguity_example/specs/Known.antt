@@ -1,4 +1,4 @@
--- For the prover. The nodes that a search has come to, in the order of the levels.
+-- For the prover. The nodes that a search has seen, level by level.
 use Rattle.std.specs.Prelude.{◌≡◌, ◌<◌, ◌≤◌, ◌++◌, ℕ, List, [], ◌∷◌}
 use Rattle.std.specs.List.{Contains}
 use Rattle.ambiguity_check.specs.declared.graph.Node.{Node}
@@ -6,7 +6,7 @@ use Rattle.ambiguity_check.specs.Lengths.{EndsBehind}
 use Rattle.ambiguity_check.specs.Levels.{IsShortest}
 use Rattle.ambiguity_example.specs.declared.reached.Reached.{Reached}
 
--- the nodes of a set come after the others, each with so many items
+-- the `nodes` are appended to the others, each with this number of items
 pub record Adds (nodes : Node → Type 0) (items : ℕ) (old new : List Reached) : Type 0 where
   pub more : List Reached
   pub whole : new ≡ old ++ more
@@ -14,13 +14,13 @@ pub record Adds (nodes : Node → Type 0) (items : ℕ) (old new : List Reached)
       → nodes one.node × (one.items ≡ items) × (one.node.right < 128)
   pub each : (node : Node) → nodes node → Contains more (record { node = node; items = items })
 
--- none has more items than a later one
+-- the numbers of items never fall along the list
 abbrev pub Rises : List Reached → Type 0
 Rises [] = Unit {0}
 Rises (one ∷ others) =
     ((other : Reached) → Contains others other → one.items ≤ other.items) × Rises others
 
--- these are the nodes of the levels below one, level by level
+-- these are the nodes of all levels before this one, level by level
 pub record AreKnown (begins : Node → Type 0) (goes_on : Node → Node → Type 0) (meet : Node → Type 0)
     (level : ℕ) (reached : List Reached) : Type 0 where
   pub only : (one : Reached) → Contains reached one → IsShortest begins goes_on meet one.items one.node
@@ -29,7 +29,8 @@ pub record AreKnown (begins : Node → Type 0) (goes_on : Node → Node → Type
       → Contains reached (record { node = node; items = fewer })
   pub rises : Rises reached
 
--- the node is an end that no walk of fewer items leads to, and the nodes of the levels below are known
+-- the node is an end, no walk of fewer items leads to any end, and the nodes of all levels before
+-- its own are known
 pub record IsFirstEnd (begins : Node → Type 0) (goes_on : Node → Node → Type 0) (meet : Node → Type 0)
     (ends : Node → Type 0) (reached : List Reached) (end : Reached) : Type 0 where
   pub ended : ends end.node

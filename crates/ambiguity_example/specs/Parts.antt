@@ -4,7 +4,8 @@ use Rattle.rate_expr.specs.Language.{In}
 use Rattle.rate_expr.specs.Rates.{Expression}
 use Rattle.rate_expr.specs.Words.{Word}
 
--- from the place on, the word has a piece up to each cut, all in the rate, and no more
+-- the word, which begins at the place `at`, has a piece up to each cut; all pieces are in the rate,
+-- and no item is left
 abbrev pub PartsFrom : Expression → ℕ → Word → List ℕ → Type 0
 PartsFrom rate at word [] = word ≡ []
 PartsFrom rate at word (cut ∷ cuts) = (at ≤ cut) × (cut - at ≤ length word)

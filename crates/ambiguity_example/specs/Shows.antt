@@ -13,33 +13,33 @@ pub record Shown : Type 0 where
   pub first : List ℕ
   pub second : List ℕ
 
--- a rule and the rates that it asks about: that no word is in both, that no word splits in two ways,
--- or that no word factors in two ways
+-- a rule and the rates that it is about: no word is in both, no word splits in two ways, or no word
+-- factors in two ways
 pub data Question : Type 0 where
   choice : Expression → Expression → Question
   split : Expression → Expression → Question
   iter : Expression → Question
 
--- some word has two readings
+-- some word has two readings, so that the rule is broken
 abbrev pub IsBroken : List Column → Question → Type 0
 IsBroken columns (choice r s) = Overlap columns r s
 IsBroken columns (split r s) = HaveTwoSplits columns r s
 IsBroken columns (iter r) = HasTwoFactorings columns r
 
--- no word has two
+-- no word has two readings
 abbrev pub IsKept : List Column → Question → Type 0
 IsKept columns (choice r s) = AreDisjoint columns r s
 IsKept columns (split r s) = HaveOneSplit columns r s
 IsKept columns (iter r) = HasOneFactoring columns r
 
--- the word is in both rates, each time in one piece
+-- the word is in both rates, and both readings have it in one piece
 pub record ShowsOverlap (r s : Expression) (shown : Shown) : Type 0 where
   pub first : ArePieces shown.items shown.first (shown.items ∷ [])
   pub second : ArePieces shown.items shown.second (shown.items ∷ [])
   pub in_first : In r shown.items
   pub in_second : In s shown.items
 
--- a word in one piece, twice
+-- the word with two readings that both have it in one piece
 abbrev pub twice_whole : Word → Shown
 twice_whole word = record {
   items = word;
@@ -47,7 +47,7 @@ twice_whole word = record {
   second = 0 ∷ length word ∷ [];
 }
 
--- the word splits in two ways, the first part of the first one being the shorter
+-- the word splits in two ways, and the first split has the shorter first part
 pub record ShowsSplits (r s : Expression) (shown : Shown) : Type 0 where
   pub u : Word
   pub v : Word
@@ -65,17 +65,17 @@ pub record ShowsFactorings (r : Expression) (shown : Shown) : Type 0 where
   pub second : PartsInto r shown.items shown.second
   pub differ : shown.first ≢ shown.second
 
--- the example has two readings such as the rule forbids
+-- the example has two readings that the rule forbids
 abbrev pub HasReadings : Question → Shown → Type 0
 HasReadings (choice r s) shown = ShowsOverlap r s shown
 HasReadings (split r s) shown = ShowsSplits r s shown
 HasReadings (iter r) shown = ShowsFactorings r shown
 
--- and its word is one of items of these columns
+-- the same, and its word is of items of these columns
 abbrev pub Shows : List Column → Question → Shown → Type 0
 Shows columns question shown = IsWordOf columns shown.items × HasReadings question shown
 
--- it has them, and none of fewer items does
+-- the same, and no example has fewer items
 pub record IsShortestShown (columns : List Column) (question : Question) (shown : Shown) : Type 0 where
   pub shows : Shows columns question shown
   pub none : (other : Shown) → length other.items < length shown.items

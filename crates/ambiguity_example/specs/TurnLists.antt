@@ -7,18 +7,18 @@ use Rattle.ambiguity_check.specs.declared.graph.Phase.TheVariants.{Together}
 use Rattle.ambiguity_example.specs.declared.turns.Side.{Side}
 use Rattle.ambiguity_example.specs.declared.turns.Side.TheVariants.{Left, Right}
 
--- the place of a reading
+-- the position of a reading
 abbrev pub place_of : Side → Node → ℕ
 place_of Left node = node.left
 place_of Right node = node.right
 
--- a reading stays in its piece; the left one does not where the readings part
+-- the reading stays in its piece; the left one does not where the readings part
 abbrev pub Stays : Sets → Side → Node → Node → Type 0
 Stays sets Left before node = Follows sets before.left node.left
     × (before.phase ≡ Together → node.phase ≡ Together)
 Stays sets Right before node = Follows sets before.right node.right
 
--- where the pieces end from a node on, after so many items
+-- where the pieces end from a node on, before which there are `at` items
 abbrev pub EndsFrom : Sets → Side → ℕ → Node → List Node → List ℕ → Type 0
 EndsFrom sets side at node [] cuts = cuts ≡ at ∷ []
 EndsFrom sets side at node (next ∷ nodes) cuts =

@@ -12,7 +12,7 @@ use crate::reading::{parts_into, reads, reads_both};
 use crate::shown::Example;
 use symbolic_nfa::Nfa;
 
-/// Whether the example has two readings such as the rule forbids.
+/// Asks the automata whether the example has two readings that the rule forbids.
 pub fn confirm(ask: Ask<'_>, example: &Example) -> bool
     requires cells { ShareCells ask }
     requires items { IsWordOf (columns_of ask) example.now.items }

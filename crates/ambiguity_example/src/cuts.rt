@@ -4,8 +4,8 @@ ghost use Rattle.std.specs.Prelude.{◌≡◌, IfOk};
 use std::alloc::{AllocError, Global};
 use std::marker::Model;
 
-/// The places in a word between its pieces, counted in items: where the first one begins, and where
-/// each one ends.
+/// Where the first piece begins, and where each piece ends. A place is the number of items before
+/// it.
 #[derive(Drop)]
 pub struct Cuts {
     at: Vec<u32>,

@@ -1,7 +1,7 @@
 //! Cuts of a word into one piece or two.
 ghost use Rattle.std.specs.Prelude.{◌≡◌, ◌↔◌, ◌≤◌, [], ◌∷◌, ℕ, IsTrue, IfSome, IfNone};
 
-/// Whether the cuts are those of the whole word of so many items.
+/// Whether the cuts are those of a word of `items` items in one piece.
 pub(crate) fn is_whole(cuts: &[u32], items: usize) -> bool
     ensures { IsTrue result ↔ (cuts.now ≡ 0 ∷ items ∷ []) }
 {
@@ -11,7 +11,7 @@ pub(crate) fn is_whole(cuts: &[u32], items: usize) -> bool
     }
 }
 
-/// Where the first piece ends, where the cuts are those of two pieces of a word of so many items.
+/// Where the first piece ends, if the cuts are those of a word of `items` items in two pieces.
 pub(crate) fn middle_of(cuts: &[u32], items: usize) -> Option<usize>
     ensures some { IfSome result (λ middle.
         (cuts.now ≡ 0 ∷ middle ∷ items ∷ []) × (middle ≤ items)) }

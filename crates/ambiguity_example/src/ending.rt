@@ -8,7 +8,6 @@ ghost use Rattle.rate_expr.specs.Sets.{Has};
 use ambiguity_check::{Marks, Move, Moves, Node};
 use rate_expr::masks::{end_of, has, lowest};
 
-/// One of the ends that is in the level.
 pub(crate) fn end_in(level: &Marks, ends: Moves) -> Option<Node>
     ensures { MatchOption result ((node : Node) → IsMarked level.now node → IsIn ends node → ⊥)
         (λ node. IsMarked level.now node × IsIn ends node) }

@@ -21,7 +21,7 @@ use rate_expr::Positions;
 use std::alloc::{AllocError, Global};
 use symbolic_nfa::Nfa;
 
-/// A shortest word that factors in two ways into words of the rate, if some does.
+/// A shortest word that factors in two ways into words of the rate, if there is one.
 pub(crate) fn word_of_two_factorings(
     alloc: Global,
     nfa: &Nfa,
@@ -41,7 +41,7 @@ pub(crate) fn word_of_two_factorings(
     Ok(Some(example_of(alloc, nfa, &walk)?))
 }
 
-// The word of a walk, and its two factorings.
+// The word of a walk, with its two factorings.
 fn example_of(alloc: Global, nfa: &Nfa, walk: &[Node]) -> Result<Example, AllocError>
     requires meet { HaveItems nfa.now.cells.layout.columns (λ _. nfa.now.sets)
         (λ _. nfa.now.sets) walk.now }
@@ -60,7 +60,7 @@ fn example_of(alloc: Global, nfa: &Nfa, walk: &[Node]) -> Result<Example, AllocE
     Ok(Example::new(word, first, second))
 }
 
-// Where both factorings end.
+// Where both readings may end.
 fn ends_of(positions: &Positions) -> Moves
     ensures { (node : Node) → IsIn result node ↔ EndsFactors positions.now node }
 {
@@ -74,7 +74,7 @@ fn ends_of(positions: &Positions) -> Moves
     }
 }
 
-// The empty word, in no pieces and in an empty one.
+// The empty word, which factors into no piece and into one empty piece.
 fn of_no_items(alloc: Global) -> Result<Example, AllocError>
     ensures { IfOk result (λ example. example ≡ record {
       items = [];

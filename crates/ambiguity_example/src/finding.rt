@@ -10,7 +10,7 @@ use crate::shown::Example;
 use crate::splitting::word_of_two_splits;
 use std::alloc::{AllocError, Global};
 
-/// A shortest word that has two readings such as the rule forbids, if some word has them.
+/// A shortest word with two readings that the rule forbids, if there is one.
 pub fn example(alloc: Global, ask: Ask<'_>) -> Result<Option<Example>, AllocError>
     requires { ShareCells ask }
     ensures { IfOk result (λ found. (question : Question) → Asks ask.entry question

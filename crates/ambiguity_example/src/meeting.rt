@@ -1,4 +1,4 @@
-//! Items that meet both places of nodes.
+//! Items that meet both positions of nodes.
 ghost use Rattle.std.specs.Prelude.{◌≡◌, IfOk};
 ghost use Rattle.ambiguity_check.specs.Meetings.{MeetOne};
 ghost use Rattle.ambiguity_check.specs.Splits.{left_of, right_of};
@@ -11,7 +11,8 @@ use rate_expr::masks::has;
 use std::alloc::{AllocError, Global};
 use symbolic_nfa::Nfa;
 
-/// An item for each node, which meets its place of the first automaton and that of the second.
+/// For each node, an item that meets its left position in the first automaton and its right one in
+/// the second.
 pub(crate) fn shared_items(
     alloc: Global,
     first: &Nfa,
@@ -31,7 +32,8 @@ pub(crate) fn shared_items(
     Ok(items)
 }
 
-/// An item for each node of two splits, which meets its places of what is read in its phase.
+/// For each node of two splits, an item that meets its positions in the automata that are read in
+/// its phase.
 pub(crate) fn split_items(
     alloc: Global,
     first: &Nfa,
@@ -68,7 +70,8 @@ fn split_item(alloc: Global, first: &Nfa, second: &Nfa, node: Node) -> Result<It
     }
 }
 
-// An item that meets a place of each automaton, the plainest of the first cell that has one.
+// An item that meets a position of each automaton. It is the plainest one of the first cell whose
+// items do.
 fn shared_item(
     alloc: Global,
     first: &Nfa,

@@ -1,4 +1,4 @@
-//! The nodes that a search has come to, in the order of the levels.
+//! The nodes that a search has seen, level by level.
 ghost use Rattle.std.specs.Prelude.{◌≡◌, ◌+◌, IfOk, OnOk};
 ghost use Rattle.ambiguity_check.specs.Marked.{IsMarked, IsInRow};
 ghost use Rattle.ambiguity_example.specs.Known.{Adds};
@@ -14,8 +14,7 @@ pub(crate) struct Reached {
     pub(crate) items: u32,
 }
 
-/// Adds the nodes of a level after those of the levels before. Walks to the next level have so many
-/// items as the result says.
+/// Appends the nodes of a level. The result is the number of items of the walks to the next level.
 pub(crate) fn add_level(
     reached: &mut Vec<Reached>,
     level: &Marks,

@@ -52,7 +52,7 @@ pub(crate) fn parts_into(nfa: &Nfa, items: &[Item], cuts: &[u32]) -> bool
     reads_parts(nfa, items, ends)
 }
 
-// Whether the items have a piece up to each cut, all words of the rate, and no more.
+// Whether the items are parted by the cuts into words of the rate, and no item is left.
 fn reads_parts(nfa: &Nfa, items: &[Item], cuts: &[u32]) -> bool
     requires { IsWordOf nfa.now.cells.layout.columns items.now }
     ensures { (rate : Expression) → AreOf nfa.now.sets rate

@@ -39,7 +39,7 @@ pub(crate) fn shared_word(
     shared_nonempty_word(alloc, first, second)
 }
 
-// The same where the empty word is not in both.
+// The same if the empty word is not in both.
 fn shared_nonempty_word(
     alloc: Global,
     first: &Nfa,
@@ -60,7 +60,7 @@ fn shared_nonempty_word(
     Ok(Some(example_of(alloc, first, second, &walk)?))
 }
 
-// The word of a walk, twice in one piece.
+// The word of a walk. In both readings it is one piece.
 fn example_of(
     alloc: Global,
     first: &Nfa,
@@ -79,7 +79,7 @@ fn example_of(
     in_one_piece(alloc, items)
 }
 
-// Where both end.
+// Where both readings may end.
 fn ends_of(first: &Positions, second: &Positions) -> Moves
     ensures { (node : Node) → IsIn result node ↔ EndsBoth first.now second.now node }
 {

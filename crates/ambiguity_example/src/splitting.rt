@@ -21,7 +21,7 @@ use std::alloc::{AllocError, Global};
 use symbolic_nfa::Nfa;
 
 /// A shortest word that splits in two ways into a word of the first rate and one of the second, if
-/// some does.
+/// there is one.
 pub(crate) fn word_of_two_splits(
     alloc: Global,
     first: &Nfa,
@@ -41,7 +41,7 @@ pub(crate) fn word_of_two_splits(
     Ok(Some(example_of(alloc, first, second, &walk)?))
 }
 
-// The word of a walk, and its two splits.
+// The word of a walk, with its two splits.
 fn example_of(
     alloc: Global,
     first: &Nfa,
@@ -70,7 +70,7 @@ fn example_of(
     Ok(Example::new(word, first_cuts, second_cuts))
 }
 
-// Where both splits end.
+// Where both readings may end.
 fn ends_of(first: &Positions, second: &Positions) -> Moves
     ensures { (node : Node) → IsIn result node ↔ EndsSplits first.now second.now node }
 {

@@ -38,7 +38,7 @@ pub(crate) fn cuts_of(
     Ok(Cuts::from_vec(cuts))
 }
 
-// Whether the reading has a node and the next in one piece.
+// Whether the reading has both nodes in the same piece.
 fn stays(positions: &Positions, side: Side, before: Node, node: Node) -> bool
     ensures { IsTrue result ↔ Stays positions.now side before node }
 {

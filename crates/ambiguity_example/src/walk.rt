@@ -12,7 +12,7 @@ use ambiguity_check::{Graph, Move, Moves, Node, Search};
 use rate_expr::masks::{has, only};
 use std::alloc::{AllocError, Global};
 
-/// The nodes of a shortest walk to one of the ends, where some walk leads there.
+/// The nodes of a shortest walk to one of the ends, if there is one.
 pub(crate) fn shortest_walk<G: Graph>(
     alloc: Global,
     graph: &G,
@@ -31,7 +31,7 @@ pub(crate) fn shortest_walk<G: Graph>(
     }
 }
 
-// The end that the search comes to first, when it has come to all nodes of the levels below.
+// The first end that the search comes to. All nodes of the levels before it are added to `reached`.
 fn first_end<G: Graph>(
     alloc: Global,
     graph: &G,
@@ -57,7 +57,6 @@ fn first_end<G: Graph>(
     Ok(None)
 }
 
-// The search after the first item.
 fn begun<G: Graph>(alloc: Global, graph: &G) -> Result<Box<Search>, AllocError>
     ensures { IfOk result (λ search. IsLevel (G.begins graph.now) (G.goes_on graph.now)
         (G.meet graph.now) 1 search.value) }
@@ -66,7 +65,8 @@ fn begun<G: Graph>(alloc: Global, graph: &G) -> Result<Box<Search>, AllocError>
     Ok(Box::new(alloc, search)?)
 }
 
-// The nodes of a shortest walk to a node, found backwards among those of the levels below its own.
+// The nodes of a shortest walk to a node. They are found backwards, among the nodes of the levels
+// before its own.
 fn walk_to<G: Graph>(
     alloc: Global,
     graph: &G,
@@ -97,7 +97,6 @@ fn walk_to<G: Graph>(
     Ok(walk)
 }
 
-// Whether one more item may lead from a node to another.
 fn leads<G: Graph>(graph: &G, before: Node, node: Node) -> bool
     requires { before.right < 128 }
     ensures { IsTrue result ↔ G.goes_on graph.now before node }

@@ -1,4 +1,4 @@
--- For the prover. Pairs that are put behind others, and the places of some of them.
+-- For the prover. Pairs that are appended to others, and the places of some of them.
 use Rattle.std.specs.Prelude.{◌≡◌, ◌≤◌, ◌⊎◌, ◌+◌, ℕ, Bool, false, List, Some, length, slice_get}
 use Rattle.std.specs.List.{Contains, IsDistinct}
 use Rattle.rate_equal.specs.Pairs.{IsGrown}
@@ -12,7 +12,8 @@ pub record HasPair (pairs : List Pair) (places : List ℕ) (pair : Pair) : Type 
   pub found : slice_get pairs place ≡ Some pair
   pub has : HasPlace places place
 
--- wanted pairs were put behind the old ones, and places into the set, all of pairs of a kind
+-- only `wanted` pairs were appended to the old ones, and only places of `placed` pairs were added
+-- to the set
 pub record AreAdded (wanted placed : Pair → Type 0) (old : List Pair) (held : List ℕ)
     (new : List Pair) (places : List ℕ) : Type 0 where
   pub grown : IsGrown old new
@@ -22,7 +23,7 @@ pub record AreAdded (wanted placed : Pair → Type 0) (old : List Pair) (held : 
   pub more : (place : ℕ) → HasPlace places place
       → HasPlace held place ⊎ ((pair : Pair) × (slice_get new place ≡ Some pair) × placed pair)
 
--- with wanted pairs, the old ones would be one more than may be
+-- together with `wanted` pairs, the old ones are more than the limit
 pub record AreTooMany (old : List Pair) (wanted : Pair → Type 0) : Type 0 where
   pub eq : Pair → Pair → Bool
   pub unlike : (x y : Pair) → eq x y ≡ false → x ≡ y → ⊥

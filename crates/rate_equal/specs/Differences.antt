@@ -1,4 +1,4 @@
--- Statement. Words that tell rates apart.
+-- Statement. Words that distinguish rates.
 use Rattle.std.specs.Prelude.{◌⊎◌, List, ◌∷◌}
 use Rattle.value_ops.specs.declared.field.Field.{Field}
 use Rattle.item_schema.specs.declared.column.Column.{Column}

@@ -1,4 +1,4 @@
--- For the prover. Which pairs have a position in their states, and which letters.
+-- For the prover. Which pairs, and which letters, have a position.
 use Rattle.std.specs.Prelude.{◌≡◌, ◌<◌, ◌↔◌, ◌+◌, ◌*◌, ◌/◌, ◌%◌, ℕ, List, Some, slice_get, slice_index}
 use Rattle.rate_expr.specs.Sets.{Has}
 use Rattle.rate_equal.specs.Pairs.{mask_of}
@@ -7,7 +7,7 @@ use Rattle.rate_equal.specs.Reach.{max_reach}
 use Rattle.rate_equal.specs.declared.letters.Letter.{Letter}
 use Rattle.rate_equal.specs.declared.pair.Pair.{Pair}
 
--- a row of blocks for each position; the place is in the row of the position
+-- the place is in the row of the position, where each position has a row of blocks
 pub record HasRow (rows : List ℕ) (position place : ℕ) : Type 0 where
   pub bit : Has (slice_index rows (position * block_count + place / 128)) (place % 128)
 
@@ -15,28 +15,29 @@ pub record HasRow (rows : List ℕ) (position place : ℕ) : Type 0 where
 abbrev pub IsInRows : List ℕ → ℕ → ℕ → Type 0
 IsInRows rows mask place = (position : ℕ) → Has mask position → HasRow rows position place
 
--- the rows have at least the places that they had
+-- no place is taken out of a row
 abbrev pub KeepsRows : List ℕ → List ℕ → Type 0
 KeepsRows old new = (position place : ℕ) → HasRow old position place → HasRow new position place
 
--- the place of each pair below a number is in the rows of its positions
+-- the place of each pair before `end` is in the rows of its positions
 pub record AreHeld (first second : List ℕ) (pairs : List Pair) (end : ℕ) : Type 0 where
   pub one : (place position : ℕ) (pair : Pair) → place < end → slice_get pairs place ≡ Some pair
       → Has (mask_of pair.first) position → HasRow first position place
   pub two : (place position : ℕ) (pair : Pair) → place < end → slice_get pairs place ≡ Some pair
       → Has (mask_of pair.second) position → HasRow second position place
 
--- the same places are in the row of a position of the first rows and in that of one of the second
+-- the row of a position of the first rows equals that of a position of the second
 abbrev pub HaveSameRow : List ℕ → List ℕ → ℕ → ℕ → Type 0
 HaveSameRow first second one other = (place : ℕ) → place < max_reach
     → HasRow first one place ↔ HasRow second other place
 
--- the mask of each position of the second rows has those alone of the first that have the same row
+-- the mask of each position of the second rows has only positions of the first that have the same
+-- row
 abbrev pub AreTwins : List ℕ → List ℕ → List ℕ → Type 0
 AreTwins first second twins = (position twin : ℕ) → Has (slice_index twins position) twin
     → HaveSameRow first second twin position
 
--- the place of each letter below a number is in the rows of the positions in its mask, and in no
+-- the place of each letter before `end` is in the rows of the positions in its mask, and in no
 -- other row
 pub record AreRows (mask : Letter → ℕ) (rows : List ℕ) (letters : List Letter)
     (end : ℕ) : Type 0 where

@@ -1,4 +1,4 @@
--- For the prover. What the items of cells meet.
+-- For the prover. The letters: what the items of cells meet.
 use Rattle.std.specs.Prelude.{◌≡◌, ◌<◌, ℕ, List, All}
 use Rattle.std.specs.List.{Contains}
 use Rattle.predicate_cells.specs.Cells.{cell_count}
@@ -16,7 +16,7 @@ abbrev pub IsLetter : Automaton → Automaton → Letter → Type 0
 IsLetter first second letter = (cell : ℕ) × (cell < cell_count first.cells)
     × IsLetterOf first second cell letter
 
--- these are letters of cells of both automata, and each cell has one
+-- all are letters of cells, and each cell has one of them
 pub record AreLetters (first second : Automaton) (letters : List Letter) : Type 0 where
   pub same : first.cells ≡ second.cells
   pub sound : All (IsLetter first second) letters
@@ -31,7 +31,7 @@ AreMetBy first second cell met = IsMetBy first cell met.0 × IsMetBy second cell
 abbrev pub HasThese : Letter → ℕ × ℕ → Type 0
 HasThese letter met = (letter.first ≡ met.0) × (letter.second ≡ met.1)
 
--- the cells below one have letters, for which their positions are known
+-- each cell before this one has a letter, and its positions are known
 pub record IsGathered (first second : Automaton) (cell : ℕ) (known : List (ℕ × ℕ))
     (letters : List Letter) : Type 0 where
   pub sound : All (IsLetter first second) letters

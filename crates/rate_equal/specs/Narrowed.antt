@@ -1,4 +1,4 @@
--- For the prover. What pairs have in common with ways on.
+-- For the prover. Pairs without the positions that are not on some ways.
 use Rattle.std.specs.Prelude.{ℕ, bit_and}
 use Rattle.rate_expr.specs.Sets.{Has}
 use Rattle.rate_expr.specs.declared.state.State.{State}
@@ -10,17 +10,17 @@ use Rattle.rate_equal.specs.declared.pair.Pair.{Pair}
 abbrev pub IsWithin : ℕ → ℕ → Type 0
 IsWithin mask wider = (position : ℕ) → Has mask position → Has wider position
 
--- the states of a pair have no positions but these
+-- all positions of the states of the pair are on the ways
 abbrev pub AreStatesWithin : ℕ × ℕ → Pair → Type 0
 AreStatesWithin ways pair =
     IsWithin (mask_of pair.first) ways.0 × IsWithin (mask_of pair.second) ways.1
 
--- what the state has in common with the ways
+-- the state without the positions that are not on the ways
 abbrev pub narrowed_state : ℕ → State → State
 narrowed_state ways Initial = Initial
 narrowed_state ways (At mask) = At (bit_and mask ways)
 
--- and the states of a pair with those of both automata
+-- the same for the states of a pair
 abbrev pub narrowed : ℕ × ℕ → Pair → Pair
 narrowed ways pair = record {
   first = narrowed_state ways.0 pair.first;

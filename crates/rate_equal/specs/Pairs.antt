@@ -1,4 +1,4 @@
--- For the prover. The pairs of states that words lead to.
+-- For the prover. The pairs of states to which words lead.
 use Rattle.std.specs.Prelude.{◌≡◌, ◌≤◌, ℕ, List, ◌++◌, length}
 use Rattle.std.specs.List.{Contains}
 use Rattle.value_ops.specs.declared.field.Field.{Field}
@@ -12,17 +12,17 @@ use Rattle.symbolic_nfa.specs.States.{AreWaysOn, Steps}
 use Rattle.rate_equal.specs.Reach.{max_reach}
 use Rattle.rate_equal.specs.declared.pair.Pair.{Pair}
 
--- the mask of a state's positions, of which the initial one has none
+-- the mask of the positions of a state; the initial one has none
 abbrev pub mask_of : State → ℕ
 mask_of Initial = 0
 mask_of (At mask) = mask
 
--- the states of the pair are those behind the word
+-- the states of the pair are those after the word
 abbrev pub AreBehind : Automaton → Automaton → Word → Pair → Type 0
 AreBehind first second word pair =
     IsBehind first.sets word pair.first × IsBehind second.sets word pair.second
 
--- the masks have the positions in which words may go on from the states of the pair
+-- the masks have exactly the positions that may be next after the states of the pair
 abbrev pub AreWaysOnFrom : Automaton → Automaton → Pair → ℕ × ℕ → Type 0
 AreWaysOnFrom first second pair ways =
     AreWaysOn first.sets pair.first ways.0 × AreWaysOn second.sets pair.second ways.1
@@ -32,28 +32,28 @@ abbrev pub IsReached : Automaton → Automaton → Pair → Type 0
 IsReached first second pair = (word : Word) × IsWordOf first.cells.layout.columns word
     × AreBehind first second word pair
 
--- words lead to all of these, which are no more than may be
+-- words lead to each of these pairs, and they are not more than the limit
 pub record AreReached (first second : Automaton) (pairs : List Pair) : Type 0 where
   pub each : (pair : Pair) → Contains pairs pair → IsReached first second pair
   pub few : length pairs ≤ max_reach
 
--- and each word leads to one of these
+-- the same, and each word leads to one of these pairs
 pub record AreAll (first second : Automaton) (pairs : List Pair) : Type 0 where
   pub reached : AreReached first second pairs
   pub whole : (word : Word) → IsWordOf first.cells.layout.columns word
       → (pair : Pair) × Contains pairs pair × AreBehind first second word pair
 
--- each item of the stream leads from the pair to one of these
+-- each item of the stream leads from the pair to one of these pairs
 abbrev pub LeadsInto : Automaton → Automaton → List Pair → Pair → Type 0
 LeadsInto first second pairs from = (item : List Field) → IsItemOf first.cells.layout.columns item
     → (next : Pair) × Contains pairs next × Steps first.sets from.first item next.first
     × Steps second.sets from.second item next.second
 
--- the pairs are those before and some behind them
+-- some pairs were appended to the old ones
 abbrev pub IsGrown : List Pair → List Pair → Type 0
 IsGrown old new = (more : List Pair) × (new ≡ old ++ more)
 
--- some pairs were put behind the others, and now each item leads from a pair to one of all
+-- some pairs were appended, and now each item leads from the pair `from` to one of all pairs
 pub record IsExplored (first second : Automaton) (from : Pair) (old new : List Pair) : Type 0 where
   pub reached : AreReached first second new
   pub grown : IsGrown old new

@@ -10,24 +10,24 @@ block_count = 32
 pub record HasPlace (places : List ℕ) (place : ℕ) : Type 0 where
   pub bit : Has (slice_index places (place / 128)) (place % 128)
 
--- the set has one more place
+-- the place was added to the set
 abbrev pub AddsPlace : List ℕ → List ℕ → ℕ → Type 0
 AddsPlace old new place = (other : ℕ) → HasPlace new other ↔ (HasPlace old other ⊎ (place ≡ other))
 
--- it has those of a block that are in a mask
+-- the places of a block whose bits are in a mask were added
 abbrev pub AddsBlock : List ℕ → List ℕ → ℕ → ℕ → Type 0
 AddsBlock old new block mask = (other : ℕ)
     → HasPlace new other ↔ (HasPlace old other ⊎ ((other / 128 ≡ block) × Has mask (other % 128)))
 
--- it has at least the places that it had
+-- no place was taken out
 abbrev pub KeepsPlaces : List ℕ → List ℕ → Type 0
 KeepsPlaces old new = (place : ℕ) → HasPlace old place → HasPlace new place
 
--- it has at least those that it had in other blocks, and in a block those in a mask
+-- no place was taken out of other blocks, nor one of the block whose bit is in the mask
 abbrev pub KeepsBlock : List ℕ → List ℕ → ℕ → ℕ → Type 0
 KeepsBlock old new block mask = (place : ℕ) → HasPlace old place
     → (place / 128 ≡ block → Has mask (place % 128)) → HasPlace new place
 
--- the bit of the place is in the mask of the block
+-- the place is in the block, and its bit is in the mask
 abbrev pub IsIn : ℕ → ℕ → ℕ → Type 0
 IsIn block mask place = (place / 128 ≡ block) × Has mask (place % 128)

@@ -1,4 +1,4 @@
--- For the prover. The pairs to which letters lead along ways on.
+-- For the prover. The targets of letters along ways on.
 use Rattle.std.specs.Prelude.{◌≡◌, ◌≤◌, ◌⊎◌, ℕ, List, Some, bit_and, length, slice_get}
 use Rattle.std.specs.List.{Contains}
 use Rattle.rate_expr.specs.declared.state.State.TheVariants.{At}
@@ -11,31 +11,30 @@ use Rattle.rate_equal.specs.declared.known.Known.{Known}
 use Rattle.rate_equal.specs.declared.letters.Letter.{Letter}
 use Rattle.rate_equal.specs.declared.pair.Pair.{Pair}
 
--- the positions on the ways that the letter has
+-- the target of a letter along ways on: the positions on the ways that it has
 abbrev pub target : ℕ × ℕ → Letter → Pair
 target ways letter = record {
   first = At (bit_and ways.0 letter.first);
   second = At (bit_and ways.1 letter.second);
 }
 
--- some letter leads to the pair
+-- the pair is the target of some letter
 abbrev pub IsTarget : List Letter → ℕ × ℕ → Pair → Type 0
 IsTarget letters ways pair =
     (letter : Letter) × Contains letters letter × (target ways letter ≡ pair)
 
--- pairs to which letters lead were put behind the old ones, and into the set places of pairs
--- within the ways
+-- only targets of letters were appended to the old pairs, and only places of pairs within the ways
+-- were added to the set
 abbrev pub AreAlong : List Letter → ℕ × ℕ → List Pair → List ℕ → List Pair → List ℕ → Type 0
 AreAlong letters ways old held new places =
     AreAdded (IsTarget letters ways) (AreStatesWithin ways) old held new places
 
--- the set has the place of the pair to which each letter leads that stands at some of the places
+-- the set has the place of the target of each letter for whose place `at` holds
 abbrev pub HasThose : List Letter → (ℕ → Type 0) → ℕ × ℕ → List Pair → List ℕ → Type 0
 HasThose letters at ways pairs places = (place : ℕ) (letter : Letter) → at place
     → slice_get letters place ≡ Some letter → HasPair pairs places (target ways letter)
 
--- the set has the places of all pairs to which letters lead, and of no pairs but those within the
--- ways
+-- the set has the places of the targets of all letters, and only places of pairs within the ways
 pub record HasTargets (letters : List Letter) (ways : ℕ × ℕ) (pairs : List Pair)
     (places : List ℕ) : Type 0 where
   pub within : (place : ℕ) → HasPlace places place
@@ -43,7 +42,7 @@ pub record HasTargets (letters : List Letter) (ways : ℕ × ℕ) (pairs : List 
   pub whole : (letter : Letter) → Contains letters letter
       → HasPair pairs places (target ways letter)
 
--- pairs to which letters lead were put behind the old ones, and now the set has the places of all
+-- only targets of letters were appended to the old pairs, and the set has the places of all targets
 pub record AreFound (letters : List Letter) (ways : ℕ × ℕ) (old new : List Pair)
     (places : List ℕ) : Type 0 where
   pub grown : IsGrown old new
@@ -51,7 +50,7 @@ pub record AreFound (letters : List Letter) (ways : ℕ × ℕ) (old new : List 
   pub few : length new ≤ max_reach
   pub targets : HasTargets letters ways new places
 
--- so do the sets of known ways
+-- for each of the known ways, the set has the places of all targets
 abbrev pub AreKnown : List Letter → List Pair → List Known → Type 0
 AreKnown letters pairs gone = (known : Known) → Contains gone known
     → HasTargets letters known.ways pairs known.targets

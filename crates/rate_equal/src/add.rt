@@ -1,4 +1,4 @@
-//! One more pair of states.
+//! Adding a pair of states to those that were reached.
 ghost use Rattle.std.specs.Prelude.{◌≡◌, ◌≤◌, Err, OnOk, length};
 ghost use Rattle.rate_equal.specs.declared.stop.EqualStop.TheVariants.{Reach};
 ghost use Rattle.rate_equal.specs.Added.{AreAdded, AreTooMany, HasPair};
@@ -12,7 +12,7 @@ use indexmap::IndexSet;
 /// The most states, or pairs of states, that words may lead to.
 const MAX_REACH: usize = 4096;
 
-/// Puts the pair behind the others, where it is none of them, and its place into the set.
+/// Appends the pair if it is new, and adds its place to the set.
 pub(crate) fn add(
     pair: Pair,
     pairs: &mut IndexSet<Pair>,

@@ -1,4 +1,4 @@
-//! A pair of states that may be one to which a letter leads.
+//! A pair of states that may be a target.
 ghost use Rattle.std.specs.Prelude.{◌≡◌, ◌≤◌, Err, MatchBool, OnOk, length};
 ghost use Rattle.rate_equal.specs.declared.stop.EqualStop.TheVariants.{Reach};
 ghost use Rattle.rate_equal.specs.Added.{AreTooMany, HasPair};
@@ -13,8 +13,8 @@ use crate::places::Places;
 use crate::stop::EqualStop;
 use indexmap::IndexSet;
 
-/// Puts the place of the pair into the set, if it is among the pairs, or is appended to them
-/// because a letter leads to it. Any other pair changes nothing.
+/// Adds the place of the pair to the set if it is known. If it is not, it is appended if it is the
+/// target of some letter, and else ignored.
 pub(crate) fn admit(
     letters: &[Letter],
     ways: (u128, u128),
@@ -41,7 +41,7 @@ pub(crate) fn admit(
     Ok(())
 }
 
-// Whether some letter leads to the pair.
+// Whether the pair is the target of some letter.
 fn leads(letters: &[Letter], ways: (u128, u128), pair: Pair) -> bool
     ensures { MatchBool result (IsTarget letters.now ways pair)
         (IsTarget letters.now ways pair → ⊥) }

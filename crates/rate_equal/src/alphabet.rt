@@ -1,4 +1,4 @@
-//! The letters of two automata, and which have a position.
+//! The letters of two automata, and which of them have a position.
 ghost use Rattle.std.specs.Prelude.{◌≡◌, ◌≤◌, ◌<◌, ◌/◌, ◌%◌, ◌⊎◌, ◌↔◌, ℕ, IfOk, IfSome, None, OnOk, Some, length, slice_get};
 ghost use Rattle.std.specs.List.{Contains};
 ghost use Rattle.rate_expr.specs.Sets.{Has};
@@ -17,13 +17,13 @@ use crate::twins::{twins, without_twins};
 use rate_expr::masks::lowest;
 use std::alloc::{AllocError, Global};
 
-/// The letters, and for each position of either automaton the places of those that have it.
+/// The letters, and for each position of either automaton the places of the letters that have it.
 #[derive(Drop)]
 pub(crate) struct Alphabet {
     pub(crate) letters: Vec<Letter>,
     first: Vec<u128>,
     second: Vec<u128>,
-    // For each position of the second automaton, those of the first that the same letters have.
+    // For each position of the second automaton, its twins in the first.
     twins: Vec<u128>,
     ghost few: { length letters.items ≤ max_reach },
     ghost rows_of_first: { length first.items ≡ max_reach },
@@ -35,7 +35,6 @@ pub(crate) struct Alphabet {
 }
 
 impl Alphabet {
-    /// That of the letters.
     pub(crate) fn new(alloc: Global, letters: Vec<Letter>) -> Result<Alphabet, AllocError>
         requires { length letters.items ≤ max_reach }
         ensures { IfOk result (λ alphabet. alphabet.letters.items ≡ letters.items) }
@@ -46,7 +45,7 @@ impl Alphabet {
         Alphabet::over(alloc, letters, first, second)
     }
 
-    // That of the letters, which were entered into the rows.
+    // The alphabet of letters that were entered into the rows.
     fn over(
         alloc: Global,
         letters: Vec<Letter>,
@@ -71,7 +70,6 @@ impl Alphabet {
         })
     }
 
-    /// The places of all letters.
     pub(crate) fn all(&self, alloc: Global) -> Result<Places, AllocError>
         ensures { IfOk result (λ places. (place : ℕ) (letter : LetterOf)
             → slice_get self.now.letters.items place ≡ Some letter → HasPlace places place) }
@@ -83,7 +81,7 @@ impl Alphabet {
         Ok(places)
     }
 
-    /// The places of the letters that have one of the positions.
+    /// The places of the letters that have at least one of the positions.
     pub(crate) fn having(
         &self,
         alloc: Global,
@@ -103,7 +101,7 @@ impl Alphabet {
         Ok(places)
     }
 
-    /// How many letters have one of the positions.
+    /// How many letters have at least one of the positions.
     pub(crate) fn count_having(&self, positions: (u128, u128)) -> u32 {
         let mut count: u32 = 0;
         'parts: for block in 0..BLOCKS {
@@ -114,21 +112,22 @@ impl Alphabet {
         count
     }
 
-    /// A letter whose place is in the set.
+    /// The letter at the first place of the set, if there is one.
     pub(crate) fn first_of(&self, places: &Places) -> Option<Letter>
         ensures { IfSome result (λ letter. Contains self.now.letters.items letter) }
     {
         self.letters.get(places.first()?).copied()
     }
 
-    /// The positions on the ways, without those of the second automaton that have a twin there.
+    /// The ways without the positions of the second automaton that have a twin on the ways. They
+    /// decide the target of a letter.
     pub(crate) fn without_twins(&self, ways: (u128, u128)) -> (u128, u128)
         ensures { DecideAll self.now.letters.items ways result }
     {
         (ways.0, without_twins(&self.twins, ways.0, ways.1))
     }
 
-    /// A letter of the pattern.
+    /// The first letter of the pattern, if there is one.
     pub(crate) fn first_like(&self, pattern: Pattern) -> Option<Letter>
         ensures some { IfSome result (λ letter. Contains self.now.letters.items letter
             × IsLike pattern letter) }
@@ -144,7 +143,7 @@ impl Alphabet {
         None
     }
 
-    // The same of those whose places are in a block.
+    // The same among the letters whose places are in a block.
     fn like_in(&self, pattern: Pattern, block: usize) -> Option<Letter>
         requires { block < block_count }
         ensures some { IfSome result (λ letter. Contains self.now.letters.items letter
@@ -163,7 +162,8 @@ impl Alphabet {
         Some(self.letters[place])
     }
 
-    // The places of those, and maybe some at which no letter stands.
+    // The bits of the places of letters of the pattern in a block. There may be bits past the last
+    // letter.
     fn block_like(&self, pattern: Pattern, block: usize) -> u128
         requires { block < block_count }
         ensures { (place : ℕ) (letter : LetterOf) → place / 128 ≡ block
@@ -180,7 +180,7 @@ impl Alphabet {
         without(without(has, lacked), also)
     }
 
-    /// Takes the places of the letters out of the set that lead where this one does.
+    /// Takes out of the set the places of all letters with the same target.
     pub(crate) fn pass(
         &self,
         alloc: Global,
@@ -200,7 +200,7 @@ impl Alphabet {
         Ok(())
     }
 
-    // The places of the letters that lead elsewhere.
+    // The places of the letters with another target.
     fn unlike(
         &self,
         alloc: Global,
@@ -220,7 +220,7 @@ impl Alphabet {
     }
 }
 
-// Enters the letters into empty rows.
+// Enters the letters into rows that are empty.
 fn enter(first: &mut [u128], second: &mut [u128], letters: &[Letter])
     requires few { length letters.now ≤ max_reach }
     requires rows_of_first { length first.old ≡ max_reach }

@@ -45,7 +45,7 @@ pub fn all_but_empty(alloc: Global, nfa: &Nfa) -> Result<bool, EqualStop>
     Ok(is_full(nfa, pairs.as_slice()))
 }
 
-// Whether a word may end in both states of each pair or in neither.
+// Whether in each pair both states are accepted or neither is.
 fn agree(first: &Nfa, second: &Nfa, pairs: &[Pair]) -> bool
     ensures { MatchBool result (All (Agree first.now.sets second.now.sets) pairs.now)
         (Any (Disagree first.now.sets second.now.sets) pairs.now) }
@@ -58,7 +58,7 @@ fn agree(first: &Nfa, second: &Nfa, pairs: &[Pair]) -> bool
     true
 }
 
-// Whether a word may end in each state but the initial one.
+// Whether each state but the initial one is accepted.
 fn is_full(nfa: &Nfa, pairs: &[Pair]) -> bool
     ensures { MatchBool result (All (IsFull nfa.now.sets) pairs.now)
         (Any (IsLacking nfa.now.sets) pairs.now) }

@@ -1,4 +1,4 @@
-//! The pairs to which letters lead along ways on, had from the letters themselves.
+//! The targets of given letters along ways on.
 ghost use Rattle.std.specs.Prelude.{◌≡◌, ◌≤◌, ◌<◌, Err, OnOk, length};
 ghost use Rattle.rate_equal.specs.declared.stop.EqualStop.TheVariants.{Reach};
 ghost use Rattle.rate_equal.specs.Added.{AreTooMany};
@@ -16,12 +16,11 @@ use indexmap::IndexSet;
 use rate_expr::masks::{lowest, without_lowest};
 use std::alloc::Global;
 
-// All letters that lead where one does are looked for at once while more than this are left for
-// each way on.
+// A look for all letters with one target costs a pass over the rows of the ways. It pays while more
+// than this number of letters are left for each of the ways.
 const PAYS: usize = 4;
 
-/// Adds the pairs to which the letters lead whose places are left. Some of these places may be
-/// taken out.
+/// Adds the targets of the letters whose places are left. Some of these places may be taken out.
 pub(crate) fn go_on(
     alloc: Global,
     alphabet: &Alphabet,

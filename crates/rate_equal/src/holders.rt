@@ -1,4 +1,4 @@
-//! Which pairs have a position in their states.
+//! Which pairs have a position in one of their states.
 ghost use Rattle.std.specs.Prelude.{◌≡◌, ◌≤◌, ◌<◌, ◌/◌, ◌%◌, ℕ, IfOk, length};
 ghost use Rattle.rate_expr.specs.Sets.{Has};
 ghost use Rattle.rate_equal.specs.Holding.{AreHeld, HasRow};
@@ -21,7 +21,6 @@ pub(crate) struct Holders {
 }
 
 impl Holders {
-    /// Those of no pairs.
     pub(crate) fn new(alloc: Global) -> Result<Holders, AllocError>
         ensures { IfOk result (λ holders. holders.count ≡ 0) }
     {
@@ -32,7 +31,7 @@ impl Holders {
         })
     }
 
-    /// Enters the pairs that are new.
+    /// Enters the pairs that were appended since the last call.
     pub(crate) fn enter(&mut self, pairs: &[Pair])
         requires few { length pairs.now ≤ max_reach }
         requires held { AreHeld self.old.first.items self.old.second.items
@@ -44,8 +43,8 @@ impl Holders {
         self.count = pairs.len();
     }
 
-    /// The bits in a block of the places of pairs that have one of the positions, at least of those
-    /// in the mask.
+    /// The bits, in a block, of the places of pairs that have at least one of the positions. Bits
+    /// outside the mask need not be right.
     pub(crate) fn block(&self, positions: (u128, u128), block: usize, mask: u128) -> u128
         requires { block < block_count }
         ensures first { (position place : ℕ) → Has positions.0 position → place / 128 ≡ block
@@ -55,7 +54,7 @@ impl Holders {
             → Has mask (place % 128) → HasRow self.now.second.items position place
             → Has result (place % 128) }
     {
-        // Most blocks have none.
+        // Most blocks have no place in the mask.
         if mask == 0 {
             return 0;
         }
@@ -65,7 +64,7 @@ impl Holders {
     }
 }
 
-// Enters the pairs from one on.
+// Enters the pairs from `start` on.
 fn enter(first: &mut [u128], second: &mut [u128], pairs: &[Pair], start: usize)
     requires first { length first.old ≡ max_reach }
     requires second { length second.old ≡ max_reach }

@@ -1,33 +1,31 @@
-//! Sets of ways on that the search has met, each with the pairs to which items lead along it.
+//! The ways on that the search has met so far, each with the targets along it.
 //!
-//! The **ways on** from a pair of states are the positions that may be next in each automaton.
-//! Items lead from pairs with the same ways on to the same pairs, so the search asks once for each
-//! set of ways; and where two sets are alike, the pairs of the one, cut down to what both have, are
-//! most of the pairs of the other. So for new ways the search looks for a known set that is like
-//! them, and asks the letters only about the positions that this set has not. How like two sets are
-//! is counted by their positions without twins.
+//! If two sets of ways on are much alike, most targets along the one are targets along the other,
+//! cut down to the positions that both sets have. So for new ways on the search looks for a known
+//! set that is near: then only the letters are asked that have a position which the known set
+//! lacks. How near two sets are is counted by their positions without twins.
 ghost use Rattle.std.specs.Prelude.{◌≡◌, ◌≤◌, ◌<◌, IfSome, length};
 
 use crate::alphabet::Alphabet;
 use crate::places::Places;
 use crate::rows::without;
 
-// How many of the last known sets are compared, even where they lack some of the ways.
+// How many of the latest known sets are compared even if they lack some of the ways.
 const RECENT: usize = 32;
-// A known set that differs by at most this is near enough: the comparison ends with it.
+// A known set whose cost is at most this is near enough, and no further one is compared.
 const CLOSE: u32 = 2;
-// What a position costs that a known set lacks, where one that it has beyond the ways costs 1.
+// The cost of a position that a known set lacks. One that it has beyond the ways costs 1.
 const GAINED: u32 = 4;
-// The letters that have a position that the known set lacks are few if they are at most this part
-// of all.
+// The letters that have a position which the known set lacks are few if they are at most one in
+// this number.
 const FEW: usize = 16;
 
-/// The ways on from some pair, and the places of all pairs to which items lead along them. Places
-/// of other pairs may be among these, whose positions are all on the ways.
+/// The ways on from some pair, and the places of all targets along them. There may be places of
+/// other pairs too, but only of pairs whose positions are all on the ways.
 #[derive(Drop)]
 pub(crate) struct Known {
     pub(crate) ways: (u128, u128),
-    // The ways without twins, and how many these are.
+    // The ways without twins, and how many positions these are.
     asked: (u128, u128),
     size: u32,
     pub(crate) targets: Places,
@@ -46,12 +44,11 @@ impl Known {
         }
     }
 
-    // Whether it has all of these positions.
     fn has_all(&self, asked: (u128, u128)) -> bool {
         without(asked.0, self.asked.0) == 0 && without(asked.1, self.asked.1) == 0
     }
 
-    // What these positions, whose number is given, cost from it on.
+    // How far the known set is from these positions, of which there are `size`.
     fn cost(&self, asked: (u128, u128), size: u32) -> u32 {
         let common = count((self.asked.0 & asked.0, self.asked.1 & asked.1));
         let gained = size.saturating_sub(common);
@@ -60,18 +57,18 @@ impl Known {
     }
 }
 
-/// How many positions of either automaton these are.
+/// How many positions there are in both masks.
 pub(crate) fn count(positions: (u128, u128)) -> u32
     ensures { result ≤ 256 }
 {
-    // Mostly each position of the second automaton has a twin.
+    // This is frequent: often each position of the second automaton has a twin.
     if positions.1 == 0 {
         return positions.0.count_ones();
     }
     positions.0.count_ones() + positions.1.count_ones()
 }
 
-/// The place of a known set that is like the ways of which these are asked, if any is known.
+/// The place of a known set that is near these positions, if any set is known.
 pub(crate) fn nearest(known: &[Known], alphabet: &Alphabet, asked: (u128, u128)) -> Option<usize>
     ensures { IfSome result (λ place. place < length known.now) }
 {
@@ -88,7 +85,7 @@ pub(crate) fn nearest(known: &[Known], alphabet: &Alphabet, asked: (u128, u128))
     narrowest(known, start, asked).or(Some(recent))
 }
 
-// The place of the set that costs least, of those from a place on.
+// The place of the nearest set, among those from `start` on.
 fn closest(known: &[Known], start: usize, asked: (u128, u128)) -> Option<usize>
     ensures { IfSome result (λ place. place < length known.now) }
 {
@@ -108,7 +105,7 @@ fn closest(known: &[Known], start: usize, asked: (u128, u128)) -> Option<usize>
     best
 }
 
-// The place of the smallest set that has all of these positions, of those below a place.
+// The place of the smallest set that has all of these positions, among those before `end`.
 fn narrowest(known: &[Known], end: usize, asked: (u128, u128)) -> Option<usize>
     requires { end ≤ length known.now }
     ensures { IfSome result (λ place. place < length known.now) }

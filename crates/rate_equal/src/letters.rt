@@ -1,4 +1,4 @@
-//! What items meet.
+//! What the items of a cell meet.
 ghost use Rattle.std.specs.Prelude.{◌≡◌, ◌+◌, ◌<◌, ◌≤◌, ℕ, IfOk, OnOk, length};
 ghost use Rattle.predicate_cells.specs.Cells.{cell_count};
 ghost use Rattle.symbolic_nfa.specs.Automata.{Automaton};
@@ -11,17 +11,17 @@ use indexmap::IndexSet;
 use std::alloc::{AllocError, Global};
 use symbolic_nfa::{Nfa, State};
 
-/// The positions of two automata that the items of a cell meet, and those of all cells like it.
+/// The positions of two automata that the items of a cell meet. Cells that meet the same share a
+/// letter.
 #[derive(Clone, Copy, Debug, PartialEq, Eq, PartialOrd, Ord)]
 pub(crate) struct Letter {
-    // How many positions they miss.
+    // How many positions it lacks. Letters are sorted by this number first.
     pub(crate) missed: u32,
     pub(crate) first: u128,
     pub(crate) second: u128,
 }
 
 impl Letter {
-    // That of the positions that some items meet.
     fn of(met: (u128, u128)) -> Letter
         ensures first { result.first ≡ met.0 }
         ensures second { result.second ≡ met.1 }
@@ -33,7 +33,6 @@ impl Letter {
         }
     }
 
-    /// The pair to which it leads along the ways.
     pub(crate) fn target(&self, ways: (u128, u128)) -> Pair
         ensures { result ≡ target ways self.now }
     {
@@ -51,12 +50,13 @@ pub(crate) fn letters(alloc: Global, first: &Nfa, second: &Nfa) -> Result<Vec<Le
     ensures few { IfOk result (λ letters. length letters.items ≤ max_reach) }
 {
     let mut letters = letters_of_cells(alloc, first, second)?;
-    // Pairs with more ways on are to come before those with fewer.
+    // Pairs with more ways on should be found before those with fewer, since the targets along more
+    // ways can be narrowed to fewer.
     letters.sort_unstable();
     Ok(letters)
 }
 
-// The same in the order of the cells.
+// The same, in the order of the cells.
 fn letters_of_cells(alloc: Global, first: &Nfa, second: &Nfa) -> Result<Vec<Letter>, AllocError>
     requires { first.now.cells ≡ second.now.cells }
     ensures letters { IfOk result (λ letters. AreLetters first.now second.now letters.items) }
@@ -71,7 +71,7 @@ fn letters_of_cells(alloc: Global, first: &Nfa, second: &Nfa) -> Result<Vec<Lett
     Ok(letters)
 }
 
-// Adds the letter of the positions that a cell's items meet, if they are new.
+// Adds the letter of a cell, if no cell before it has the same.
 fn add_letter(
     met: (u128, u128),
     known: &mut IndexSet<(u128, u128)>,

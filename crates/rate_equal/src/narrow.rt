@@ -1,9 +1,8 @@
-//! The pairs to which letters lead along some ways, had from those to which they lead along known
-//! ways.
+//! The targets along ways on, derived from the targets along known ways on.
 //!
-//! A letter leads along ways to the pair of those positions on the ways that it has. So each pair
-//! to which it leads along the known ways, without the positions that are not on the new ways, is
-//! where it leads along those that both have.
+//! The target of a letter along some ways has the positions of the letter that are on these ways.
+//! So the target along the known ways, without the positions that the new ways lack, is the target
+//! along the positions that both have.
 ghost use Rattle.std.specs.Prelude.{◌≡◌, ◌≤◌, ◌<◌, ◌+◌, ◌*◌, ℕ, Err, OnOk, Some, length, slice_get};
 ghost use Rattle.rate_expr.specs.Sets.{Has};
 ghost use Rattle.rate_equal.specs.declared.pair.Pair.{Pair as PairOf};
@@ -26,7 +25,7 @@ use crate::stop::EqualStop;
 use indexmap::IndexSet;
 use rate_expr::masks::{lowest, without_lowest};
 
-/// Cuts each known target down to the ways, and adds the pair to which a letter leads.
+/// Cuts each known target down to the ways, and admits what is left.
 pub(crate) fn narrow(
     letters: &[Letter],
     near: &Known,
@@ -55,7 +54,7 @@ pub(crate) fn narrow(
             continue 'parts;
         }
         let losing = holders.block((first, second), block, known);
-        // A target that loses no position stays as it is.
+        // A target that loses no position is a target as it is.
         targets.insert_all(block, known & !losing);
         narrow_block(letters, block, known & losing, ways, pairs, targets)?;
     }

@@ -1,4 +1,4 @@
-//! The states of two automata behind one word.
+//! The states of two automata after one word.
 ghost use Rattle.std.specs.Prelude.{◌≡◌, ◌++◌};
 ghost use Rattle.std.specs.Hash as fed;
 ghost use Rattle.std.specs.Cmp.Rules.{hashing};
@@ -16,7 +16,7 @@ pub(crate) struct Pair {
 }
 
 impl Pair {
-    /// What the states have in common with the ways.
+    /// The pair without the positions that are not on the ways.
     pub(crate) fn narrowed(self, ways: (u128, u128)) -> Pair
         ensures { result ≡ narrowed ways self }
     {

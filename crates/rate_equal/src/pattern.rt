@@ -21,7 +21,7 @@ pub(crate) struct Pattern {
 }
 
 impl Pattern {
-    /// That of all letters.
+    /// The pattern of all letters.
     pub(crate) fn of_all() -> Pattern
         ensures { (letter : LetterOf) → IsLike result letter }
     {
@@ -31,7 +31,8 @@ impl Pattern {
         }
     }
 
-    /// Those of its letters that have the position exactly where this one does, and the others.
+    /// Parts the letters of the pattern into those that agree with `letter` about the position, and
+    /// the others.
     pub(crate) fn parted(self, position: Position, letter: Letter) -> (Pattern, Pattern)
         requires { IsBelow position }
         ensures like { (other : LetterOf) → IsLike result.0 other
@@ -46,7 +47,6 @@ impl Pattern {
         }
     }
 
-    // Those of its letters that have the position.
     fn having(self, position: Position) -> Pattern
         requires { IsBelow position }
         ensures { (letter : LetterOf)
@@ -58,7 +58,6 @@ impl Pattern {
         }
     }
 
-    // Those of its letters that lack the position.
     fn lacking(self, position: Position) -> Pattern
         requires { IsBelow position }
         ensures { (letter : LetterOf) → IsLike result letter
@@ -72,7 +71,7 @@ impl Pattern {
 }
 
 impl Letter {
-    // Whether it has the position.
+    // Whether the letter has the position.
     fn has(&self, position: Position) -> bool
         ensures { IsTrue result ↔ HasAt (positions_of self.now) position }
     {
@@ -99,7 +98,6 @@ pub(crate) fn first_and_rest(positions: (u128, u128)) -> Option<(Position, (u128
     None
 }
 
-// The positions and one more.
 fn with(positions: (u128, u128), position: Position) -> (u128, u128)
     requires { IsBelow position }
     ensures { (other : Position)

@@ -1,4 +1,4 @@
-//! A set of places in a list.
+//! Sets of places in a list.
 ghost use Rattle.std.specs.Prelude.{◌≡◌, ◌<◌, ℕ, IfOk, slice_index};
 ghost use Rattle.rate_equal.specs.PlaceSets.{block_count, AddsBlock, AddsPlace, HasPlace, KeepsBlock};
 ghost use Rattle.rate_equal.specs.Reach.{max_reach};
@@ -10,7 +10,7 @@ use std::marker::Model;
 /// How many blocks a set has: as many as 4,096 places need.
 pub(crate) const BLOCKS: usize = 32;
 
-/// Some of the first places of a list, seen as blocks of 128 bits.
+/// A set of places below 4,096, seen as blocks of 128 bits.
 #[derive(Drop)]
 pub(crate) struct Places {
     blocks: Vec<u128>,
@@ -28,7 +28,6 @@ impl Model for Places {
 }
 
 impl Places {
-    /// No places.
     pub(crate) fn none(alloc: Global) -> Result<Places, AllocError>
         ensures { IfOk result (λ places. (place : ℕ) → HasPlace places place → ⊥) }
     {
@@ -37,7 +36,6 @@ impl Places {
         })
     }
 
-    /// Puts the place into the set.
     pub(crate) fn insert(&mut self, place: usize)
         requires { place < max_reach }
         ensures { AddsPlace self.old self.new place }
@@ -45,7 +43,7 @@ impl Places {
         self.insert_all(place / 128, only((place % 128) as u32));
     }
 
-    /// Puts the places of a block into the set whose bits are in the mask.
+    /// Adds the places of a block whose bits are in the mask.
     pub(crate) fn insert_all(&mut self, block: usize, mask: u128)
         requires { block < block_count }
         ensures { AddsBlock self.old self.new block mask }
@@ -53,7 +51,7 @@ impl Places {
         self.blocks[block] |= mask;
     }
 
-    /// Takes the places of a block out of the set whose bits are not in the mask.
+    /// Takes out the places of a block whose bits are not in the mask.
     pub(crate) fn keep(&mut self, block: usize, mask: u128)
         requires { block < block_count }
         ensures { KeepsBlock self.old self.new block mask }
@@ -61,7 +59,7 @@ impl Places {
         self.blocks[block] &= mask;
     }
 
-    /// How many there are.
+    /// How many places are in the set.
     pub(crate) fn len(&self) -> usize {
         let mut count = 0;
         'parts: for block in 0..BLOCKS {
@@ -70,7 +68,7 @@ impl Places {
         count
     }
 
-    /// The least of them.
+    /// The least place in the set.
     pub(crate) fn first(&self) -> Option<usize> {
         'parts: for block in 0..BLOCKS {
             if self.blocks[block] != 0 {
@@ -80,7 +78,6 @@ impl Places {
         None
     }
 
-    /// The bits of the places in a block.
     pub(crate) fn block(&self, block: usize) -> u128
         requires { block < block_count }
         ensures { result ≡ slice_index self.now block }

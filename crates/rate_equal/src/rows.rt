@@ -1,4 +1,9 @@
-//! For each position, the places of what has it, in blocks of 128 bits.
+//! For each position, the set of the places of the letters or pairs that have it, as a row of 32
+//! blocks of 128 bits:
+//!
+//!     position 0      block 0: places 0 to 127 | block 1: places 128 to 255 | ... | block 31
+//!     position 1      block 0                  | block 1                    | ... | block 31
+//!     ...
 ghost use Rattle.std.specs.Prelude.{◌≡◌, ◌<◌, ◌/◌, ◌%◌, ◌⊎◌, ◌↔◌, ℕ, length};
 ghost use Rattle.rate_expr.specs.Sets.{Has};
 ghost use Rattle.rate_equal.specs.Holding.{IsInRows, HasRow, KeepsRows};
@@ -8,10 +13,10 @@ ghost use Rattle.rate_equal.specs.Reach.{max_reach};
 use crate::places::{BLOCKS, Places};
 use rate_expr::masks::{lowest, only, without_lowest};
 
-/// A row of blocks for each of 128 positions.
+/// A row of 32 blocks for each of 128 positions.
 pub(crate) const ROWS: usize = 4096;
 
-/// Puts the place into the rows of the positions.
+/// Adds the place to the rows of the positions in the mask.
 pub(crate) fn hold(rows: &mut [u128], mask: u128, place: usize)
     requires rows { length rows.old ≡ max_reach }
     requires place { place < max_reach }
@@ -27,7 +32,7 @@ pub(crate) fn hold(rows: &mut [u128], mask: u128, place: usize)
     }
 }
 
-/// The bits that are in a block of some of the rows of the positions.
+/// The block of the places that have at least one of the positions in the mask.
 pub(crate) fn gather(rows: &[u128], mask: u128, block: usize) -> u128
     requires rows { length rows.now ≡ max_reach }
     requires block { block < block_count }
@@ -45,7 +50,7 @@ pub(crate) fn gather(rows: &[u128], mask: u128, block: usize) -> u128
     found
 }
 
-/// The bits of some that are in a block of all of the rows of the positions.
+/// The block of the places in `some` that have all of the positions in the mask.
 pub(crate) fn in_all(rows: &[u128], mask: u128, block: usize, some: u128) -> u128
     requires rows { length rows.now ≡ max_reach }
     requires block { block < block_count }
@@ -61,7 +66,7 @@ pub(crate) fn in_all(rows: &[u128], mask: u128, block: usize, some: u128) -> u12
     found
 }
 
-/// Puts the places into the set that have other positions on the ways than the mask has.
+/// Adds the places that differ from the mask at some position on the ways.
 pub(crate) fn insert_unlike(rows: &[u128], ways: u128, mask: u128, places: &mut Places)
     requires { length rows.now ≡ max_reach }
     ensures kept { KeepsPlaces places.old places.new }
@@ -72,7 +77,7 @@ pub(crate) fn insert_unlike(rows: &[u128], ways: u128, mask: u128, places: &mut 
     insert_lacking(rows, ways & mask, places);
 }
 
-/// Puts the places into the set that are in some of the rows of the positions.
+/// Adds the places that have at least one of the positions in the mask.
 pub(crate) fn insert_rows(rows: &[u128], mask: u128, places: &mut Places)
     requires { length rows.now ≡ max_reach }
     ensures kept { KeepsPlaces places.old places.new }
@@ -99,7 +104,7 @@ fn insert_row(rows: &[u128], position: usize, places: &mut Places)
     }
 }
 
-// Puts the places into the set that are not in all of the rows of the positions.
+// Adds the places that lack at least one of the positions in the mask.
 fn insert_lacking(rows: &[u128], mask: u128, places: &mut Places)
     requires { length rows.now ≡ max_reach }
     ensures kept { KeepsPlaces places.old places.new }
@@ -126,7 +131,6 @@ fn insert_row_lacking(rows: &[u128], position: usize, places: &mut Places)
     }
 }
 
-/// The positions of the mask that are not in the other.
 pub(crate) fn without(mask: u128, other: u128) -> u128
     ensures { (position : ℕ)
         → Has result position ↔ (Has mask position × (Has other position → ⊥)) }

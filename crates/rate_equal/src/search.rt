@@ -1,4 +1,4 @@
-//! The search for all pairs of states that words lead to.
+//! The search for all pairs of states to which words lead.
 ghost use Rattle.std.specs.Prelude.{◌≡◌, ◌+◌, [], ◌∷◌, Err, IfOk, OnOk};
 ghost use Rattle.rate_expr.specs.declared.state.State.TheVariants.{Initial};
 ghost use Rattle.rate_equal.specs.declared.stop.EqualStop.TheVariants.{Reach};
@@ -15,7 +15,7 @@ use indexmap::IndexSet;
 use std::alloc::{AllocError, Global};
 use symbolic_nfa::{Nfa, State};
 
-/// The pairs of states that words lead to.
+/// The pairs of states to which words lead, the initial one first.
 pub(crate) fn reach(alloc: Global, first: &Nfa, second: &Nfa) -> Result<IndexSet<Pair>, EqualStop>
     requires { first.now.cells ≡ second.now.cells }
     ensures all { IfOk result (λ pairs. AreAll first.now second.now pairs.keys) }
@@ -28,7 +28,7 @@ pub(crate) fn reach(alloc: Global, first: &Nfa, second: &Nfa) -> Result<IndexSet
     Ok(pairs)
 }
 
-// The pair behind the empty word.
+// The pair after the empty word.
 fn initial_pairs(alloc: Global) -> Result<IndexSet<Pair>, AllocError>
     ensures { IfOk result (λ pairs.
         pairs.keys ≡ record { first = Initial; second = Initial } ∷ []) }
@@ -41,7 +41,7 @@ fn initial_pairs(alloc: Global) -> Result<IndexSet<Pair>, AllocError>
     Ok(pairs)
 }
 
-// Puts the pairs to which words lead behind the initial one.
+// Appends all pairs to which words lead to the initial one.
 fn explore(
     alloc: Global,
     first: &Nfa,
@@ -58,7 +58,7 @@ fn explore(
     let mut trail = Trail::new(alloc)?;
     let mut next = 0;
     'pairs: while let Some(from) = pairs.get_index(next).copied() {
-        // Items lead from a pair with the same ways on to the same pairs.
+        // Only the ways on matter: items lead from pairs with the same ways on to the same pairs.
         let ways = (first.ways_on(from.first), second.ways_on(from.second));
         trail.go_along(alloc, alphabet, ways, pairs)?;
         next += 1;

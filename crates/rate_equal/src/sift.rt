@@ -1,9 +1,9 @@
-//! The pairs to which letters lead along few positions, had by asking for each position which
-//! letters have it.
+//! The targets along ways on, found by parting the letters at a few positions.
 //!
-//! Where a letter leads along ways is settled by what it has of few positions. So the letters are
-//! parted by the first of these into those that have it and those that lack it, each part by the
-//! next one, and so on; of a part that has letters, one of them says where all of them lead.
+//! The target of a letter is settled by which of the positions on the ways it has. So the letters
+//! are parted by the first position into those that have it and those that lack it, each part by
+//! the next position, and so on. All letters of a last part have the same target, and one of them
+//! gives it. A part without letters is left out.
 ghost use Rattle.std.specs.Prelude.{◌≡◌, ◌≤◌, ◌+◌, Err, OnOk, length};
 ghost use Rattle.std.specs.List.{Contains};
 ghost use Rattle.rate_equal.specs.declared.letters.Letter.{Letter as LetterOf};
@@ -22,8 +22,8 @@ use crate::places::Places;
 use crate::stop::EqualStop;
 use indexmap::IndexSet;
 
-/// Adds the pairs to which the letters of a pattern lead, of which one is known, by what they have
-/// of the asked positions.
+/// Adds the targets of the letters of a pattern. One of these letters is known, and the asked
+/// positions decide the target of each.
 pub(crate) fn sift(
     alphabet: &Alphabet,
     ways: (u128, u128),

@@ -1,4 +1,4 @@
-//! The pairs to which letters lead along ways on.
+//! The targets along ways on.
 ghost use Rattle.std.specs.Prelude.{◌≡◌, ◌≤◌, Err, IfOk, length};
 ghost use Rattle.rate_equal.specs.declared.stop.EqualStop.TheVariants.{Reach};
 ghost use Rattle.rate_equal.specs.Added.{AreTooMany};
@@ -21,12 +21,12 @@ use crate::stop::EqualStop;
 use indexmap::IndexSet;
 use std::alloc::Global;
 
-// Where at most this many positions are asked, the letters are sifted: each one more may double the
-// number of parts.
+// If at most this many positions are asked, the letters are sifted. Each further position may
+// double the number of parts.
 const FEW: u32 = 4;
 
-/// Adds the pairs to which letters lead, and gives their places, and maybe those of some others that
-/// have no positions but those on the ways.
+/// Adds all targets along the ways, and gives their places. There may be places of other pairs too,
+/// but only of pairs whose positions are all on the ways.
 pub(crate) fn targets(
     alloc: Global,
     alphabet: &Alphabet,
@@ -55,7 +55,7 @@ pub(crate) fn targets(
     }
 }
 
-// The same by what the letters have of few positions.
+// The same if few positions are asked.
 fn from_few(
     alloc: Global,
     alphabet: &Alphabet,
@@ -79,7 +79,8 @@ fn from_few(
     Ok(targets)
 }
 
-// The same by the targets of known ways, and by the letters that have a position that those lack.
+// The same by the targets along known ways, and by the letters that have a position which these
+// ways lack.
 fn from_known(
     alloc: Global,
     alphabet: &Alphabet,
@@ -107,7 +108,7 @@ fn from_known(
     Ok(targets)
 }
 
-// The same by all letters.
+// The same by going through all letters.
 fn from_all(
     alloc: Global,
     alphabet: &Alphabet,

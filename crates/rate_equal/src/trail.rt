@@ -1,4 +1,4 @@
-//! The ways on along which a search has gone.
+//! What a search remembers: the ways on that it has met, and the targets along them.
 ghost use Rattle.std.specs.Prelude.{◌≡◌, ◌≤◌, ◌⊎◌, ℕ, [], List, Err, IfOk, OnOk, length};
 ghost use Rattle.std.specs.List.{Contains};
 ghost use Rattle.rate_equal.specs.declared.letters.Letter.{Letter};
@@ -18,7 +18,7 @@ use crate::targets::targets;
 use indexmap::IndexSet;
 use std::alloc::{AllocError, Global};
 
-/// The ways, the targets along them, and which of the pairs have a position.
+/// The ways on that were met, the targets along them, and which of the pairs have a position.
 #[derive(Drop)]
 pub(crate) struct Trail {
     pub(crate) gone: IndexSet<(u128, u128)>,
@@ -27,7 +27,7 @@ pub(crate) struct Trail {
 }
 
 impl Trail {
-    /// That of a search that has gone nowhere.
+    /// The trail of a search that has met nothing yet.
     pub(crate) fn new(alloc: Global) -> Result<Trail, AllocError>
         ensures gone { IfOk result (λ trail. trail.gone.keys ≡ []) }
         ensures trail { IfOk result (λ trail. (letters : List Letter) (pairs : List PairOf)
@@ -40,7 +40,7 @@ impl Trail {
         })
     }
 
-    /// Adds the pairs to which letters lead along the ways, if it was not gone along them before.
+    /// Adds all targets along the ways. If the ways were met before, all of them are known already.
     pub(crate) fn go_along(
         &mut self,
         alloc: Global,

@@ -1,8 +1,7 @@
-//! Positions of two automata that the same letters have.
+//! Twins: positions of two automata that exactly the same letters have.
 //!
-//! Where two rates ask the same predicate, exactly the letters have a position of the one that have
-//! a position of the other: these are **twins**. What a letter has of a position it has of its
-//! twins, so along ways on it is enough to ask of one of them.
+//! Two rates mostly ask the same predicates, and positions with the same predicate are twins. A
+//! letter has a position exactly if it has its twins, so that only one of them has to be asked.
 ghost use Rattle.std.specs.Prelude.{◌≡◌, ◌<◌, ◌⊎◌, ℕ, IsTrue, IfOk, length, slice_index};
 ghost use Rattle.rate_expr.specs.Sets.{Has};
 ghost use Rattle.rate_equal.specs.Holding.{AreTwins, HaveSameRow};
@@ -12,10 +11,10 @@ use crate::places::BLOCKS;
 use rate_expr::masks::{lowest, only, overlap, without_lowest};
 use std::alloc::{AllocError, Global};
 
-/// How many positions an automaton has at the most.
+/// The most positions that an automaton has.
 const POSITIONS: usize = 128;
 
-/// For each position of the second rows, its twins among those of the first.
+/// For each position of the second rows, its twins in the first rows.
 pub(crate) fn twins(alloc: Global, first: &[u128], second: &[u128]) -> Result<Vec<u128>, AllocError>
     requires rows_of_first { length first.now ≡ max_reach }
     requires rows_of_second { length second.now ≡ max_reach }
@@ -41,7 +40,7 @@ fn enter(twins: &mut [u128], first: &[u128], second: &[u128])
     }
 }
 
-// The positions of the first rows that have the row of a position of the second ones.
+// The positions of the first rows whose row equals that of a position of the second rows.
 fn twins_of(first: &[u128], second: &[u128], position: usize) -> u128
     requires rows_of_first { length first.now ≡ max_reach }
     requires rows_of_second { length second.now ≡ max_reach }
@@ -57,7 +56,7 @@ fn twins_of(first: &[u128], second: &[u128], position: usize) -> u128
     found
 }
 
-// Whether the row of a position of the first rows is that of one of the second.
+// Whether a row of the first rows equals one of the second.
 fn is_same_row(first: &[u128], second: &[u128], one: usize, other: usize) -> bool
     requires rows_of_first { length first.now ≡ max_reach }
     requires rows_of_second { length second.now ≡ max_reach }
@@ -73,7 +72,7 @@ fn is_same_row(first: &[u128], second: &[u128], one: usize, other: usize) -> boo
     true
 }
 
-/// The positions of the second mask that have no twin in the first.
+/// The positions of the second mask without a twin in the first.
 pub(crate) fn without_twins(twins: &[u128], first: u128, second: u128) -> u128
     requires { length twins.now ≡ 128 }
     ensures { (position : ℕ) → Has second position → Has result position
