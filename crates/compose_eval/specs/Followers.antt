@@ -1,11 +1,12 @@
--- Statement. Followers of a right operand, each fed from a start of the left one, and idle ones.
+-- Statement. The followers of a right operand: those that a start of the left one feeds, and idle
+-- ones.
 use Rattle.std.specs.Prelude.{◌≡◌, ◌==◌, ◌+◌, ◌≤◌, ℕ, zero, suc, Bool, not, List, [], ◌∷◌, ◌++◌, length, filter, map, find, slice_get, Option, Some, refl}
 use Rattle.std.specs.List.{IsDistinct}
 use Rattle.std.specs.Coded.{Coded, code_by, coded×, coded_list, coded_ℕ}
 use Rattle.compose_eval.specs.declared.instance.Instance.{Instance}
 
--- instances in the order in which they began, idle followers in the order in which they came to
--- rest, and how many followers there is room for in all
+-- the instances in the order in which they began, the idle followers in the order in which they
+-- became idle, and for how many followers there is room in all
 pub record Contents (R : Type 0) : Type 0 where
   pub live : List (Instance R)
   pub idle : List R
@@ -20,11 +21,11 @@ module _ {R : Type 0} where
   abbrev pub instance_at : List (Instance R) → ℕ → Option (Instance R)
   instance_at live outer = find (is_at outer) live
 
-  -- where the instances are fed from
+  -- the starts that feed the instances
   abbrev pub outers_of : List (Instance R) → List ℕ
   outers_of live = map (λ instance. instance.outer) live
 
-  -- the followers, in the same order
+  -- their followers, in the same order
   abbrev pub followers_of : List (Instance R) → List R
   followers_of live = map (λ instance. instance.follower) live
 
@@ -46,20 +47,20 @@ module _ {R : Type 0} where
   retired is_live live =
       followers_of (filter (λ instance. not (is_live instance.outer)) live)
 
-  -- the instance at this index has this follower, and the others stay
+  -- the list in which the instance at this index has another follower
   abbrev pub with_follower : List (Instance R) → ℕ → R → List (Instance R)
   with_follower [] i follower = []
   with_follower (instance ∷ live) zero follower =
       record { outer = instance.outer; follower = follower } ∷ live
   with_follower (instance ∷ live) (suc i) follower = instance ∷ with_follower live i follower
 
-  -- the last idle follower is fed from this start now
+  -- the last idle follower is now fed from this start
   pub record Wakes (outer : ℕ) (old new : Contents R) : Type 0 where
     pub follower : R
     pub last : old.idle ≡ new.idle ++ follower ∷ []
     pub woken : new.live ≡ old.live ++ record { outer = outer; follower = follower } ∷ []
 
-  -- both lists have just the room reserved, and no more than so many followers are in them together
+  -- memory for exactly `room` followers is reserved for each list, and together they have no more
   pub record IsKept (live : List (Instance R)) (idle : List R)
       (room live_capacity idle_capacity : ℕ) : Type 0 where
     pub live_reserved : live_capacity ≡ room

@@ -1,6 +1,7 @@
-//! A follower, and where what feeds it begins.
+//! A follower of the right operand, and the start of the left operand that feeds it.
 
-/// The values of the left operand from the outer start on are the items of the follower.
+/// The values of the left operand, on the word from the outer start on, are the items of the
+/// follower.
 #[derive(Drop)]
 pub struct Instance<R> {
     pub outer: u64,

@@ -1,4 +1,4 @@
-//! Instances by their outer start, and idle followers, in a room that is reserved once.
+//! Instances by their outer start, and idle followers. Memory for all of them is reserved once.
 ghost use Rattle.std.specs.Prelude.{◌≡◌, ◌<◌, ◌≤◌, ◌+◌, ◌++◌, ℕ, Bool, [], ◌∷◌, length, None, Some, IfNone, IfSome, IfOk, slice_get};
 ghost use Rattle.std.specs.Borrow.{sem};
 ghost use Rattle.std.specs.List.{position_from};
@@ -38,7 +38,7 @@ fn place_of<R>(live: &[Instance<R>], outer: u64) -> Option<usize>
 }
 
 impl<R: Drop> Instances<R> {
-    /// No later call takes memory.
+    /// Reserves memory for `room` followers, so that no later call can be out of memory.
     pub fn new(alloc: Global, room: u32) -> Result<Instances<R>, AllocError>
         ensures { IfOk result (λ made. made ≡ record { live = []; idle = []; room = room }) }
     {
@@ -122,7 +122,7 @@ impl<R: Drop> Instances<R> {
         &mut self.idle[i]
     }
 
-    /// Followers whose start is not live come to rest, in their order.
+    /// Followers whose start is dead become idle, in their order.
     pub fn keep<F: Fn(u64) -> bool>(&mut self, live: F)
         requires { F.IsAlwaysCallable live }
         ensures live { (is_live : ℕ → Bool) → AnswersAs F.post live is_live

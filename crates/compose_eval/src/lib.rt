@@ -1,4 +1,4 @@
-//! Followers of the right operand of a composition: those that starts feed, and idle ones.
+//! The followers of the right operand of a compose: those that starts feed, and idle ones.
 #![tactic(auto)]
 
 mod instance;

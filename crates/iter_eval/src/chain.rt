@@ -1,4 +1,4 @@
-//! Values so far by their inner start, in a room that is reserved once.
+//! Values so far by their inner start. Memory for all of them is reserved once.
 ghost use Rattle.std.specs.Prelude.{◌≡◌, ◌<◌, ◌≤◌, ◌++◌, ℕ, Bool, [], ◌∷◌, length, None, Some, IfNone, IfOk, slice_get};
 ghost use Rattle.std.specs.Option.{option_copied};
 ghost use Rattle.split_eval.specs.Entries.{entry_at, live_entries, without, AnswersAs, AreDistinct};
@@ -7,9 +7,9 @@ use split_eval::{Entry, Pending};
 use std::alloc::{AllocError, Global};
 use std::marker::Model;
 
-/// A list of entries, no two with the same inner start. The value of an entry is that of the pieces
-/// from its outer start up to its inner one, to which the next piece is what the right piece of a
-/// split is to the left value.
+/// A list of entries, no two with the same inner start. The value of an entry is that of all pieces
+/// from its outer start up to its inner one, where the next piece begins. So a value so far is like
+/// the left value of a split, and the next piece like its right piece.
 #[derive(Drop)]
 pub struct Chain<V> {
     so_far: Pending<V>,
@@ -24,21 +24,21 @@ impl<V> Model for Chain<V> {
 }
 
 impl<V: Drop> Chain<V> {
-    /// The same entries in the same room.
+    /// Takes over a list of entries as it is.
     pub fn from_pending(so_far: Pending<V>) -> Chain<V>
         ensures { result ≡ so_far }
     {
         Chain { so_far }
     }
 
-    /// The same entries, to be read.
+    /// Lends the entries for reading.
     pub fn as_pending(&self) -> &Pending<V>
         ensures { result.now ≡ self.now }
     {
         &self.so_far
     }
 
-    /// No later call takes memory.
+    /// Reserves memory for `room` entries, so that no later call can be out of memory.
     pub fn new(alloc: Global, room: u32) -> Result<Chain<V>, AllocError>
         ensures { IfOk result (λ chain. chain ≡ record { entries = []; room = room }) }
     {

@@ -1,4 +1,4 @@
-//! Values of an iteration so far, which wait until a further piece ends a word behind them.
+//! The values so far of an iteration, which wait until a further piece ends after them.
 #![tactic(auto)]
 
 mod chain;

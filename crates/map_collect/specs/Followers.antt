@@ -4,7 +4,7 @@ use Rattle.std.specs.List.{IsDistinct}
 use Rattle.std.specs.Str.{bytes_eq}
 use Rattle.std.specs.Coded.{Coded, code_by, coded×, coded_list, coded_ℕ}
 
--- keys in the order in which they came first, and their followers in the same order
+-- the keys in the order in which they first came, and their followers in the same order
 pub record Followers (R : Type 0) : Type 0 where
   pub names : List (List ℕ)
   pub followers : List R
@@ -14,7 +14,7 @@ abbrev pub AreDistinct : List (List ℕ) → Type 0
 AreDistinct names = IsDistinct bytes_eq names
 
 module _ {R : Type 0} where
-  -- one more key with its follower, which go last
+  -- the list with one more key and its follower, which are appended
   abbrev pub with_key : List ℕ → R → Followers R → Followers R
   with_key key follower old = record {
     names = old.names ++ key ∷ [];

@@ -1,10 +1,10 @@
--- Statement. Followers by keys, and the default one.
+-- Statement. The followers by keys, and the default one.
 use Rattle.std.specs.Prelude.{ℕ, List}
 use Rattle.map_collect.specs.Followers.{Followers}
 use Rattle.map_collect.specs.declared.keys.Keys.{Keys}
 
 module _ {R : Type 0} where
-  -- the one that the follower of a later key begins as
+  -- the default follower, as which the follower of a later key begins
   abbrev pub fallback_of : Keys R → R
   fallback_of keys = keys.fallback
 

@@ -1,4 +1,4 @@
--- Statement. A follower that is handed out for writing goes back to its place, and all else stays.
+-- Statement. A follower that is lent for writing returns to its place, and all else stays.
 use Rattle.std.specs.Prelude.{ℕ, slice_set}
 use Rattle.std.specs.Borrow.{Fml, Lends, MutBor, RattleType}
 use Rattle.map_collect.specs.Followers.{Followers}
@@ -6,11 +6,11 @@ use Rattle.map_collect.specs.declared.keys.Keys.{Keys}
 use Rattle.map_collect.specs.contracts.keyed.Keyed as keyed
 use Rattle.map_collect.specs.contracts.keys.Keys as keys
 
--- the follower at this index is another one
+-- the followers, of which the one at this index is replaced
 abbrev pub with_follower : {R : Type 0} → Followers R → ℕ → R → Followers R
 with_follower old i follower = record old { followers = slice_set old.followers i follower }
 
--- it is the last value behind r
+-- when the loan `r` ends, the follower at index `i` is its last value
 abbrev pub LendsKeyed : (R : RattleType) → MutBor (Followers R.Denot) → ℕ → MutBor R.Denot → Fml
 LendsKeyed R s i r = Lends (keyed.the_row R) R s r (with_follower s.now i)
 
@@ -18,6 +18,6 @@ abbrev pub LendsFollower : (R : RattleType) → MutBor (Keys R.Denot) → ℕ �
 LendsFollower R s i r =
     Lends (keys.the_row R) R s r (λ w. record s.now { keyed = with_follower s.now.keyed i w })
 
--- the default one is the last value behind r
+-- when the loan `r` ends, the default follower is its last value
 abbrev pub LendsFallback : (R : RattleType) → MutBor (Keys R.Denot) → MutBor R.Denot → Fml
 LendsFallback R s r = Lends (keys.the_row R) R s r (λ w. record s.now { fallback = w })

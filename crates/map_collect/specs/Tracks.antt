@@ -1,5 +1,5 @@
--- Statement. The starts of a collect, each with the state of one automaton behind the word from it
--- on, and with what the items of that word have led to for each key.
+-- Statement. The starts of a collect, each with the state of the automaton after the word from it
+-- on, and with a follower for each key of that word.
 use Rattle.std.specs.Prelude.{◌≡◌, ◌==◌, ◌<◌, ◌⊎◌, ℕ, zero, suc, Bool, List, [], ◌∷◌, map, slice_get, Some}
 use Rattle.std.specs.List.{AllByRecursion, AllZip, Contains, IsDistinct}
 use Rattle.value_ops.specs.declared.field.Field.{Field}
@@ -21,7 +21,7 @@ module _ {R : Type 0} where
   abbrev pub begins_at : ℕ → Track R → Bool
   begins_at start track = track.start == start
 
-  -- where the words of the tracks begin
+  -- the starts of the tracks
   abbrev pub starts_of : List (Track R) → List ℕ
   starts_of tracks = map (λ track. track.start) tracks
 
@@ -46,13 +46,13 @@ module _ {R : Type 0} where
     pub distinct : AreDistinct tracks
     pub states : AreStates sets tracks
 
-  -- the item leads from the old state to the new one, and start and keys stay
+  -- the item leads from the old state to the new one, and the start and the keys stay
   pub record Advances (sets : Sets) (item : List Field) (old new : Track R) : Type 0 where
     pub state : Steps sets old.state item new.state
     pub start : new.start ≡ old.start
     pub keys : new.keys ≡ old.keys
 
-  -- it does so for each, in its place
+  -- the item does so for each track, in its place
   abbrev pub AllAdvance : Sets → List Field → List (Track R) → List (Track R) → Type 0
   AllAdvance sets item old new = AllZip (Advances sets item) old new
 
@@ -68,7 +68,7 @@ module _ {R : Type 0} where
     pub first : (j : ℕ) (other : State) → j < i → slice_get (states_of tracks) j ≡ Some other
         → IsAccepted sets other → ⊥
 
-  -- what is kept is exactly the tracks whose state extends, in their order
+  -- exactly the tracks whose state extends are kept, in their order
   abbrev pub KeepsExtending : Automaton → List (Track R) → List (Track R) → Type 0
   KeepsExtending nfa [] kept = kept ≡ []
   KeepsExtending nfa (track ∷ tracks) kept =
@@ -86,7 +86,7 @@ module _ {R : Type 0} where
     pub there : Contains tracks track
     pub live : IsLiveAt nfa start track
 
-  -- the track at this index has these keys, and the others stay
+  -- the tracks, of which the one at this index has other keys
   abbrev pub with_keys : List (Track R) → ℕ → Keys R → List (Track R)
   with_keys [] i keys = []
   with_keys (track ∷ tracks) zero keys =

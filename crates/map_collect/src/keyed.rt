@@ -10,7 +10,7 @@ use language_base::Bytes;
 use std::alloc::{AllocError, Global};
 use std::marker::Model;
 
-/// A list of keys in the order in which they came first, and a follower for each.
+/// The keys in the order in which they first came, and a follower for each.
 #[derive(Drop)]
 pub struct Keyed<R> {
     names: IndexSet<Bytes>,
@@ -30,7 +30,7 @@ impl<R> Model for Keyed<R> {
 }
 
 impl<R: Drop> Keyed<R> {
-    /// It takes no memory.
+    /// Takes no memory before the first key.
     pub fn new(alloc: Global) -> Keyed<R>
         ensures { result ≡ record { names = []; followers = [] } }
     {
@@ -47,7 +47,7 @@ impl<R: Drop> Keyed<R> {
         self.names.get_index_of(key)
     }
 
-    /// The key goes last, with its follower.
+    /// Appends a new key with its follower.
     pub fn add(&mut self, key: &[u8], follower: R) -> Result<(), AllocError>
         requires fresh { Contains self.old.names key.now → ⊥ }
         ensures ok { OnOk result (self.new ≡ with_key key.now follower self.old) }

@@ -1,4 +1,4 @@
-//! A follower for each key that came, and one for the keys that have not come yet.
+//! A follower for each key that came, and a default one for the keys that have not come yet.
 ghost use Rattle.std.specs.Prelude.{◌≡◌, ◌<◌, [], length, Some, IfNone, IfSome, OnErr, OnOk, slice_get};
 ghost use Rattle.std.specs.Borrow.{sem};
 ghost use Rattle.std.specs.List.{Contains};
@@ -9,8 +9,8 @@ ghost use Rattle.map_collect.specs.Lending.{LendsFallback, LendsFollower};
 use crate::Keyed;
 use std::alloc::{AllocError, Global};
 
-/// What the items of each key have led to. The follower of a key that comes later begins as the
-/// default one.
+/// The followers of one track. The follower of a key that comes later begins as a copy of the
+/// default one, which has read the items that belong to all keys.
 #[derive(Drop)]
 pub struct Keys<R> {
     fallback: R,
@@ -18,7 +18,7 @@ pub struct Keys<R> {
 }
 
 impl<R: Drop> Keys<R> {
-    /// It takes no memory.
+    /// Takes no memory before the first key.
     pub fn new(alloc: Global, fresh: R) -> Keys<R>
         ensures fallback { fallback_of result ≡ fresh }
         ensures keyed { keyed_of result ≡ record { names = []; followers = [] } }

@@ -1,5 +1,5 @@
-//! The live starts of a collect, each with followers by their keys and the one that the follower of
-//! each later key begins as.
+//! The live starts of a collect, each with a follower for each key, and a default follower for
+//! later keys.
 #![tactic(auto)]
 
 mod keyed;

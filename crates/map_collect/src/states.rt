@@ -1,4 +1,4 @@
-//! The states of tracks, all of one automaton.
+//! The states of tracks. All are states of one automaton.
 ghost use Rattle.std.specs.Prelude.{◌↔◌, IfNone, IfSome, IsTrue};
 ghost use Rattle.item_schema.specs.Items.{IsItemOf};
 ghost use Rattle.map_collect.specs.Tracks.{AllAdvance, AreStates, IsFirstAccepted, IsLiveAmong, IsLiveAt, KeepsExtending, NoneAccepted};

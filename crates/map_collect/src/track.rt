@@ -1,9 +1,10 @@
-//! A start of a collect.
+//! A live start of a collect.
 
 use crate::Keys;
 use symbolic_nfa::State;
 
-/// The state behind the word from the start on, and what its items have led to for each key.
+/// The word from the start on has led the rate's automaton to the state, and the followers to the
+/// values for each key.
 #[derive(Drop)]
 pub struct Track<R> {
     pub start: u64,

@@ -1,4 +1,4 @@
-//! The live starts of a collect, each with a state of one automaton and with its keys.
+//! The live starts of a collect, each with a state of the automaton and with its followers by key.
 ghost use Rattle.std.specs.Prelude.{◌≡◌, ◌<◌, ◌↔◌, ◌++◌, [], ◌∷◌, length, Some, IfNone, IfSome, IsTrue, OnErr, OnOk, slice_get};
 ghost use Rattle.std.specs.Borrow.{sem};
 ghost use Rattle.std.specs.List.{position_from, Contains};
@@ -15,7 +15,7 @@ use std::alloc::{AllocError, Global};
 use std::marker::Model;
 use symbolic_nfa::{Nfa, State};
 
-/// An automaton, and a list of starts, no two of which are the same.
+/// The automaton of the rate, and a list of tracks, no two with the same start.
 #[derive(Drop)]
 pub struct Tracks<R> {
     nfa: Nfa,
@@ -42,7 +42,7 @@ fn place_of<R>(tracks: &[Track<R>], start: u64) -> Option<usize>
 }
 
 impl<R: Drop> Tracks<R> {
-    /// It takes no memory.
+    /// Takes no memory before the first start.
     pub fn new(alloc: Global, nfa: Nfa) -> Tracks<R>
         ensures { result ≡ record { nfa = nfa; tracks = [] } }
     {
@@ -72,7 +72,7 @@ impl<R: Drop> Tracks<R> {
         place_of(&self.tracks, start)
     }
 
-    /// The start goes last.
+    /// Appends a new start.
     pub fn put(&mut self, start: u64, state: State, keys: Keys<R>) -> Result<(), AllocError>
         requires fresh { Contains (starts_of self.old.tracks) start → ⊥ }
         requires state { IsStateOf self.old.nfa.sets state }
@@ -85,7 +85,7 @@ impl<R: Drop> Tracks<R> {
         Ok(())
     }
 
-    /// Each state becomes the one after one more item. It takes no memory.
+    /// Advances each state by one item. It takes no memory.
     pub fn advance(&mut self, item: &Item)
         requires { IsItemOf self.old.nfa.cells.layout.columns item.now }
         ensures advanced { AllAdvance self.old.nfa.sets item.now
@@ -95,7 +95,7 @@ impl<R: Drop> Tracks<R> {
         advance_all(&self.nfa, &mut self.tracks, item);
     }
 
-    /// The first start from which the word is in the rate.
+    /// The index of the first start from which the word is in the rate.
     pub fn accepted(&self) -> Option<usize>
         ensures there { IfSome result (IsFirstAccepted self.now.nfa.sets self.now.tracks) }
         ensures none { IfNone result (NoneAccepted self.now.nfa.sets self.now.tracks) }
@@ -103,7 +103,8 @@ impl<R: Drop> Tracks<R> {
         first_accepted(&self.nfa, &self.tracks)
     }
 
-    /// The starts from which the word can go on stay, in their order.
+    /// Drops the dead starts: the word from them cannot be extended to a word of the rate. The
+    /// others stay in their order.
     pub fn keep(&mut self)
         ensures kept { KeepsExtending self.old.nfa self.old.tracks self.new.tracks }
         ensures nfa { self.new.nfa ≡ self.old.nfa }
@@ -140,7 +141,7 @@ impl<R: Drop> Tracks<R> {
         &mut self.tracks[i].keys
     }
 
-    /// Whether the start is there and the word from it can go on.
+    /// Whether there is such a start, and it is live.
     pub fn is_live(&self, start: u64) -> bool
         ensures { IsTrue result ↔ IsLiveAmong self.now.nfa self.now.tracks start }
     {

@@ -1,4 +1,4 @@
-//! The bounds of a query, found by one pass over it.
+//! The bounds on memory that hold for a query, found in one pass over it.
 ghost use Rattle.std.specs.Prelude.{◌≡◌, ◌-◌, ◌^◌, min};
 ghost use Rattle.query_model.specs.Bounds.{inner_of, places_of, slots_of};
 ghost use Rattle.query_model.specs.Queries.{plain_of};
@@ -6,14 +6,14 @@ ghost use Rattle.query_model.specs.Queries.{plain_of};
 use crate::demand::Demand;
 use query_model::{Query, Shape};
 
-/// The starts of the query that may live at one time, and 2^32 - 1 where there are more.
+/// How many starts of the query may be live at one time, at most 2^32 - 1.
 pub fn places(query: &Query) -> u32
     ensures { result ≡ min (places_of (plain_of query.now.shape)) (2 ^ 32 - 1) }
 {
     demand_of(query).places
 }
 
-/// What an evaluator that follows a word of the query keeps, and 2^32 - 1 where that is more.
+/// How many slots the runner of the query keeps, at most 2^32 - 1.
 pub fn slots(query: &Query) -> u32
     ensures { result ≡ min (slots_of (plain_of query.now.shape)) (2 ^ 32 - 1) }
 {

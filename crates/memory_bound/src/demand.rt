@@ -1,7 +1,8 @@
-//! What a query demands of an evaluator, from what its operands demand.
+//! How much an engine keeps for a query, computed from how much it keeps for the operands.
 ghost use Rattle.std.specs.Prelude.{◌≡◌, ◌+◌, ◌-◌, ◌*◌, ◌^◌, min};
 
-/// The starts that may live at one time, and what a node keeps. Each is 2^32 - 1 where it is more.
+/// How many starts may be live at one time, and how many slots a node keeps. Each number stays at
+/// 2^32 - 1 if it is greater.
 #[derive(Clone, Copy)]
 pub(crate) struct Demand {
     pub places: u32,
@@ -9,19 +10,19 @@ pub(crate) struct Demand {
 }
 
 impl Demand {
-    /// One item, which waits at its start.
+    /// One item: its start waits for it.
     pub(crate) const ITEM: Demand = Demand {
         places: 1,
         inner: 1,
     };
 
-    /// The empty word, which is over at once.
+    /// The empty word: it is over at once, so that no start waits.
     pub(crate) const NOTHING: Demand = Demand {
         places: 0,
         inner: 0,
     };
 
-    /// Two at once.
+    /// Two queries that read the same word.
     pub(crate) fn beside(self, other: Demand) -> Demand
         ensures places { result.places ≡ min (self.places + other.places) (2 ^ 32 - 1) }
         ensures inner { result.inner ≡ min (self.inner + other.inner) (2 ^ 32 - 1) }
@@ -32,7 +33,7 @@ impl Demand {
         }
     }
 
-    /// One and then the next: for each start of the next an entry of two starts and a value.
+    /// A split: for each start of the right operand there is an entry of two starts and a value.
     pub(crate) fn then(self, next: Demand) -> Demand
         ensures places { result.places ≡ min (self.places + next.places) (2 ^ 32 - 1) }
         ensures inner { result.inner
@@ -46,7 +47,7 @@ impl Demand {
         }
     }
 
-    /// Pieces one after the other: for each start of a piece an entry of two starts and a value.
+    /// An iteration: for each start of a piece there is an entry of two starts and a value.
     pub(crate) fn repeated(self) -> Demand
         ensures places { result.places ≡ self.places }
         ensures inner { result.inner ≡ min (self.inner + 3 * self.places) (2 ^ 32 - 1) }
@@ -58,8 +59,8 @@ impl Demand {
         }
     }
 
-    /// One whose values another reads: a runner of the other and its start are kept for each start,
-    /// and for an idle runner.
+    /// A compose: for each start, and for one idle runner, there are a start and a runner of the
+    /// right operand.
     pub(crate) fn read_by(self, other: Demand) -> Demand
         ensures places { result.places ≡ self.places }
         ensures inner { result.inner
@@ -73,8 +74,8 @@ impl Demand {
         }
     }
 
-    /// One on the words of a rate of so many positions: a start, the positions of a state and a
-    /// runner are kept for each start.
+    /// A collect over a rate with this number of positions: for each start there are the start
+    /// itself, the positions of a state, and a runner.
     pub(crate) fn along(self, positions: u32) -> Demand
         ensures places { result.places ≡ min (positions + 1) (2 ^ 32 - 1) }
         ensures inner { result.inner
@@ -88,7 +89,7 @@ impl Demand {
         }
     }
 
-    /// What a runner keeps, which has a position and an answer beside its node.
+    /// What a runner keeps: its node, the number of items so far, and an answer.
     pub(crate) fn slots(self) -> u32
         ensures { result ≡ min (self.inner + 2) (2 ^ 32 - 1) }
     {

@@ -1,4 +1,4 @@
-//! How much an evaluator of a query keeps, known before the first item.
+//! How much an engine keeps for a query, known before the first item.
 #![tactic(auto)]
 
 mod bounds;

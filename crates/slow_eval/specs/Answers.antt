@@ -9,7 +9,8 @@ use Rattle.query_model.specs.Rules.{Standing, IsClear}
 use Rattle.query_model.specs.Sizes.{HasFewPositions}
 use Rattle.slow_eval.specs.Rows.{answer_at}
 
--- the query keeps the rules on columns of which the word is one, and its rates have few positions
+-- the query keeps the rules on some columns, the word is of items of these columns, and the rates
+-- of the query have few enough positions
 pub record CanBeRead (query : Qre) (word : Word) : Type 0 where
   pub standing : Standing
   pub columns : List Column

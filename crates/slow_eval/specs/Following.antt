@@ -10,37 +10,37 @@ use Rattle.query_model.specs.Queries.{Qre, plain_of}
 use Rattle.query_model.specs.QueryTypes.{type_of}
 use Rattle.slow_eval.specs.declared.slow.Slow.{Slow}
 
--- its query, and the columns of its stream
+-- the query of the engine, and the columns of its stream
 abbrev pub query_of : Slow → Qre
 query_of slow = plain_of slow.checked.now.main.shape
 
 abbrev pub columns_of : Slow → List Column
 columns_of slow = slow.checked.now.layout.columns
 
--- how many items it keeps
+-- how many items it has followed
 abbrev pub position_of : Slow → ℕ
 position_of slow = length slow.items.items
 
--- memory was wanting
+-- it was out of memory
 abbrev pub is_lost : Slow → Bool
 is_lost slow = slow.failed
 
--- what an answer takes: one, and one for each entry of a table
+-- how much is kept for an answer: one for the value, and one for each entry of a table
 abbrev pub size_of_answer : Option Value → ℕ
 size_of_answer None = 0
 size_of_answer (Some (value.Scalar scalar)) = 1
 size_of_answer (Some (value.Table entries)) = length entries + 1
 
--- what it keeps, counted
+-- how much the engine keeps: one for each item, and the answer
 abbrev pub kept_of : Slow → ℕ
 kept_of slow = length slow.items.items + size_of_answer slow.answer
 
--- the items are of the stream, and an answer has the type of the query
+-- the items are of the stream, and the answer, if there is one, has the type of the query
 pub record IsSound (slow : Slow) : Type 0 where
   pub is_word : IsWordOf (columns_of slow) slow.items.items
   pub typed : MatchOption slow.answer (Unit {0}) (IsValueOf (type_of (columns_of slow) (query_of slow)))
 
--- the word is that of the items, and the answer the query's on it
+-- the engine keeps exactly this word, and the answer is that of the query on it
 pub record Follows (slow : Slow) (word : Word) : Type 0 where
   pub sound : IsSound slow
   pub found : slow.failed ≡ false

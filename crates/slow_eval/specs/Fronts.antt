@@ -1,4 +1,4 @@
--- For the prover. Which fronts of a word are in a rate, and where a word goes on in its positions.
+-- For the prover. Which fronts of a word are in a rate, and which positions may be next.
 use Rattle.std.specs.Prelude.{◌≡◌, ◌≤◌, ◌↔◌, ℕ, ◌+◌, Bool, false, List, IsTrue, length, take, slice_index_or}
 use Rattle.value_ops.specs.declared.field.Field.{Field}
 use Rattle.rate_expr.specs.Language.{In}
@@ -13,18 +13,18 @@ pub record AreInRate (rate : Expression) (word : Word) (fronts : List Bool) : Ty
   pub each : (place : ℕ) → place ≤ length word
       → IsTrue (slice_index_or fronts place false) ↔ In rate (take place word)
 
--- and whether the sets spell it
+-- the same, by whether the sets spell it
 pub record AreSpelled (sets : Sets) (word : Word) (fronts : List Bool) : Type 0 where
   pub count : length fronts ≡ length word + 1
   pub each : (place : ℕ) → place ≤ length word
       → IsTrue (slice_index_or fronts place false) ↔ Spells sets (take place word)
 
--- the one mask has exactly the positions of the other that the item meets
+-- `met` has exactly the positions of the mask that the item meets
 abbrev pub AreMet : Sets → ℕ → List Field → ℕ → Type 0
 AreMet sets mask item met =
     (position : ℕ) → Has met position ↔ (Has mask position × Meets sets position item)
 
--- the mask has exactly the positions that come behind one of the other's
+-- `behind` has exactly the positions that may follow some position of the mask
 abbrev pub AreBehind : Sets → ℕ → ℕ → Type 0
 AreBehind sets mask behind =
     (next : ℕ) → Has behind next ↔ ((from : ℕ) × Has mask from × Follows sets from next)

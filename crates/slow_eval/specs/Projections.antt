@@ -1,4 +1,5 @@
--- For the prover. The keys of a word on its fronts, and answers on what the word has for a key.
+-- For the prover. The keys that have appeared in the fronts of a word, and the answers on the items
+-- of a key.
 use Rattle.std.specs.Prelude.{◌≡◌, ◌≤◌, ℕ, ◌+◌, List, [], Option, length, slice_index, take}
 use Rattle.value_ops.specs.declared.value.Value.{Value}
 use Rattle.predicate_cells.specs.Predicates.{Predicate}
@@ -6,7 +7,7 @@ use Rattle.rate_expr.specs.Words.{Word}
 use Rattle.query_model.specs.Denotation.{keys_after, projection}
 use Rattle.slow_eval.specs.Rows.{answer_at}
 
--- the keys of the word, and how many of them have appeared on each front
+-- the keys of the word, and how many of them have appeared in each front
 pub record AreKeysOf (column : ℕ) (sync : Predicate) (word : Word) (keys : List (List ℕ))
     (counts : List ℕ) : Type 0 where
   pub whole : keys ≡ keys_after column sync [] word
@@ -15,7 +16,7 @@ pub record AreKeysOf (column : ℕ) (sync : Predicate) (word : Word) (keys : Lis
   pub each : (place : ℕ) → place ≤ length word
       → keys_after column sync [] (take place word) ≡ take (slice_index counts place) keys
 
--- on each front the answer on as many items as it has for the key
+-- on each front, the answer on as many items as it has for the key
 pub record IsOnItems (column : ℕ) (sync : Predicate) (key : List ℕ) (word : Word)
     (answers row : List (Option Value)) : Type 0 where
   pub count : length row ≡ length word + 1

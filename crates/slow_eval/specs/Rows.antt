@@ -16,12 +16,12 @@ abbrev pub IsTypedOnOne : Expression → Value → Type 0
 IsTypedOnOne expression left =
     (type : ValueType) × HasType (types_of (given [] (Some left) None)) expression type
 
--- and on these two
+-- the expression is well typed on these two values
 abbrev pub IsTypedOnBoth : Expression → Value → Value → Type 0
 IsTypedOnBoth expression left right =
     (type : ValueType) × HasType (types_of (given [] (Some left) (Some right))) expression type
 
--- what the expression gives where there is a value, and nothing elsewhere
+-- what the expression gives on the value, if there is one
 abbrev pub IsOnOne : Expression → Option Value → Option Value → Type 0
 IsOnOne expression None answer = answer ≡ None
 IsOnOne expression (Some left) answer =
@@ -32,18 +32,19 @@ abbrev pub IsGiven : Expression → Value → Value → Option Value → Type 0
 IsGiven expression left right answer =
     (value : Value) × (answer ≡ Some value) × (on_both expression left right ≡ Some value)
 
--- what the expression gives where there are two values, and nothing elsewhere
+-- what the expression gives on two values, if there are both
 abbrev pub IsOnBoth : Expression → Option Value → Option Value → Option Value → Type 0
 IsOnBoth expression None right answer = answer ≡ None
 IsOnBoth expression (Some left) None answer = answer ≡ None
 IsOnBoth expression (Some left) (Some right) answer = IsGiven expression left right answer
 
--- what the expression gives on a left value and the right one, and where there is no right one what stood there
+-- what the expression gives on the left value and the right one; without a right one, what was
+-- there before
 abbrev pub IsPut : Expression → Value → Option Value → Option Value → Option Value → Type 0
 IsPut expression left None old new = new ≡ old
 IsPut expression left (Some right) old new = IsGiven expression left right new
 
--- a row in which at each place from one on is put what a left value and those of another row give
+-- from the place `from` on, the row has what the left value and the values of the right row give
 pub record IsJoined (expression : Expression) (left : Value) (right : List (Option Value)) (from : ℕ)
     (old new : List (Option Value)) : Type 0 where
   pub count : length new ≡ length old

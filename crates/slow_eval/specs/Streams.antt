@@ -12,11 +12,12 @@ use Rattle.slow_eval.specs.Rows.{answer_at}
 abbrev pub item_of : Value → List Field
 item_of value = field.Val value ∷ []
 
--- the stream of the answers that are there
+-- the stream of the answers, where there are any
 abbrev pub stream_of : List (Option Value) → Word
 stream_of answers = filter_map (option_map item_of) answers
 
--- where there is a first answer, the second one on as many items as there are first ones so far
+-- at each place with a first answer, the second answer after as many items as there are first
+-- answers so far
 pub record IsOnStream (firsts seconds row : List (Option Value)) : Type 0 where
   pub count : length row ≡ length firsts
   pub each : (place : ℕ) → place < length firsts → answer_at row place

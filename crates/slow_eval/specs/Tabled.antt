@@ -12,25 +12,25 @@ use Rattle.query_model.specs.Queries.{Qre}
 use Rattle.slow_eval.specs.declared.keyed.Keyed.{Keyed}
 use Rattle.slow_eval.specs.Rows.{answer_at}
 
--- an answer of the query on what each front of the word has for the key
+-- an answer of the query on the items that each front of the word has for the key
 pub record IsKeyed (query : Qre) (column : ℕ) (sync : Predicate) (word : Word) (one : Keyed) : Type 0 where
   pub count : length one.answers.items ≡ length word + 1
   pub each : (place : ℕ) → place ≤ length word
       → IsAnswer query (projection column sync one.key (take place word)) (answer_at one.answers.items place)
 
--- the scalar that an answer is
+-- the scalar that the answer is, if it is one
 abbrev pub scalar_of : Option Value → Option Scalar
 scalar_of None = None
 scalar_of (Some (value.Scalar scalar)) = Some scalar
 scalar_of (Some (value.Table entries)) = None
 
--- the entry of a key with a scalar, and none without
+-- the entry of the key, if its answer is a scalar
 abbrev pub entry_with : List ℕ → Option Value → Option (List ℕ × Scalar)
 entry_with key None = None
 entry_with key (Some (value.Scalar scalar)) = Some (key, scalar)
 entry_with key (Some (value.Table entries)) = None
 
--- the entries of keys with the scalars that they have at a place
+-- the entries of the keys that have a scalar at the place
 abbrev pub entries_at : ℕ → List Keyed → List (List ℕ × Scalar)
 entries_at place all =
     filter_map (λ (one : Keyed). entry_with one.key (answer_at one.answers.items place)) all
@@ -43,7 +43,8 @@ keys_in all = map (λ (one : Keyed). one.key) all
 abbrev pub HaveAnswersAt : ℕ → List Keyed → Type 0
 HaveAnswersAt place all = AllByRecursion (λ (one : Keyed). place < length one.answers.items) all
 
--- at each place in the rate the table of so many keys, and no answer at any other
+-- at each place whose front is in the rate, the table of the keys that have appeared, and no answer
+-- at any other
 pub record AreTables (in_rate : List Bool) (counts : List ℕ) (all : List Keyed)
     (row : List (Option Value)) : Type 0 where
   pub count : length row ≡ length in_rate

@@ -1,4 +1,4 @@
-//! The search for the tables of a collection.
+//! The search for the tables of a collect.
 ghost use Rattle.std.specs.Prelude.{◌≡◌, ℕ, List, IfOk};
 ghost use Rattle.std.specs.List.{AllByRecursion};
 ghost use Rattle.predicate_cells.specs.Plain as predicates;
@@ -40,7 +40,7 @@ pub(crate) fn collect_answers(
     tables(alloc, &in_rate, &found.counts, &all)
 }
 
-/// Each key with its answers.
+/// The answers for each key.
 #[cycle(search)]
 fn answers_for_keys(
     alloc: Global,
@@ -65,7 +65,7 @@ fn answers_for_keys(
     Ok(all)
 }
 
-/// The key, with the answers on what each front of the word has for it.
+/// The key, with the answers on the items that each front of the word has for it.
 #[cycle(search)]
 fn answers_for_key(
     alloc: Global,

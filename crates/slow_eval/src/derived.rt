@@ -7,7 +7,7 @@ use item_schema::Item;
 use std::alloc::{AllocError, Global};
 use value_ops::Value;
 
-/// The answers that are there, as items of a stream.
+/// The answers, where there are any, as the items of a stream.
 pub(crate) fn stream_of(alloc: Global, answers: &[Option<Value>]) -> Result<Vec<Item>, AllocError>
     ensures { IfOk result (λ stream. stream.items ≡ stream_of answers.now) }
 {
@@ -20,8 +20,8 @@ pub(crate) fn stream_of(alloc: Global, answers: &[Option<Value>]) -> Result<Vec<
     Ok(stream)
 }
 
-/// At each place where there is a first answer, the second one on as many items as there are first
-/// ones so far.
+/// At each place with a first answer, the second answer after as many items as there are first
+/// answers so far. At any other place there is none.
 pub(crate) fn on_stream(
     alloc: Global,
     firsts: &[Option<Value>],

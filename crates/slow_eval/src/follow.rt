@@ -1,4 +1,4 @@
-//! How the engine follows a word.
+//! The engine as a follower.
 ghost use Rattle.std.specs.Prelude.{◌≡◌, ◌-◌, ◌^◌, min, IfOk};
 ghost use Rattle.slow_eval.specs.Following.{size_of_answer};
 
@@ -83,7 +83,7 @@ fn copied(alloc: Global, items: &[Item]) -> Result<Vec<Item>, AllocError>
     Ok(copy)
 }
 
-/// How much is kept for an answer, counted; 2^64 - 1 where it is more.
+/// How much is kept for an answer, at most 2^64 - 1.
 fn size_of(answer: &Option<Value>) -> u64
     ensures { result ≡ min (size_of_answer answer.now) (2 ^ 64 - 1) }
 {

@@ -14,7 +14,8 @@ pub(crate) struct Keyed {
     pub(crate) answers: Vec<Option<Value>>,
 }
 
-/// On each front that is in the rate the table of the keys that have appeared.
+/// On each front that is in the rate, the table of the keys that have appeared. On any other there
+/// is no answer.
 pub(crate) fn tables(
     alloc: Global,
     in_rate: &[bool],
@@ -39,7 +40,7 @@ pub(crate) fn tables(
     Ok(row)
 }
 
-/// The keys that have a scalar at the place, with it.
+/// The keys that have a scalar at the place, each with its scalar.
 fn table(alloc: Global, all: &[Keyed], place: usize) -> Result<Table, AllocError>
     requires distinct { IsDistinct bytes_eq (keys_in all.now) }
     requires answers { HaveAnswersAt place all.now }

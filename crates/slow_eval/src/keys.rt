@@ -1,4 +1,4 @@
-//! The keys of a word, and what the word has for each.
+//! The keys of a word, and the items that the word has for each.
 ghost use Rattle.std.specs.Prelude.{◌≡◌, ◌+◌, ◌||◌, length, IfOk, OnOk};
 ghost use Rattle.std.specs.List.{list_any};
 ghost use Rattle.std.specs.Str.{bytes_eq};
@@ -13,15 +13,15 @@ use predicate_cells::{Pred, holds};
 use std::alloc::{AllocError, Global};
 use value_ops::{Bytes, Value};
 
-/// The keys of a word in the order in which they appear, and how many of them have appeared on
-/// each front.
+/// The keys of a word in the order in which they appear, and how many of them have appeared in each
+/// front.
 #[derive(Drop)]
 pub(crate) struct Keys {
     pub(crate) keys: Vec<Bytes>,
     pub(crate) counts: Vec<usize>,
 }
 
-/// The keys of the items that do not meet the predicate.
+/// The keys of the items that do not meet `sync`; an item that meets it belongs to all keys.
 pub(crate) fn keys_of(
     alloc: Global,
     column: u32,
@@ -43,7 +43,7 @@ pub(crate) fn keys_of(
     Ok(Keys { keys, counts })
 }
 
-/// Puts the key behind the others if it is a new one.
+/// Appends the key if it is new.
 fn add(alloc: Global, keys: &mut Vec<Bytes>, key: &[u8]) -> Result<(), AllocError>
     ensures { OnOk result (keys.new.items ≡ with_key keys.old.items key.now) }
 {
@@ -59,7 +59,6 @@ fn has_key(keys: &[Bytes], key: &[u8]) -> bool
     keys.iter().any(|other| key == other.as_slice())
 }
 
-/// The text in the column.
 fn key_of(item: &Item, column: u32) -> &[u8]
     ensures { result.now ≡ key_of column item.now }
 {
@@ -69,7 +68,7 @@ fn key_of(item: &Item, column: u32) -> &[u8]
     }
 }
 
-/// Whether the item is one of the key or of all keys.
+/// Whether the item belongs to the key or to all keys.
 fn is_of(item: &Item, column: u32, sync: &Pred, key: &[u8]) -> bool
     ensures { result ≡ (holds (plain_of sync.now) item.now
         || bytes_eq (key_of column item.now) key.now) }
@@ -77,7 +76,7 @@ fn is_of(item: &Item, column: u32, sync: &Pred, key: &[u8]) -> bool
     holds(sync, item) || key_of(item, column) == key
 }
 
-/// The items of the key and those of all keys.
+/// The items that belong to the key or to all keys.
 pub(crate) fn projection(
     alloc: Global,
     column: u32,
@@ -97,7 +96,7 @@ pub(crate) fn projection(
     Ok(items)
 }
 
-/// On each front of the word the answer on as many items as it has for the key.
+/// On each front of the word, the answer on as many items as it has for the key.
 pub(crate) fn on_items(
     alloc: Global,
     column: u32,

@@ -1,4 +1,5 @@
-//! The value of a query on the whole word of items, found anew after each item by search.
+//! An engine that searches all readings: after each item it searches the value of the query on the
+//! whole word anew. It is slow, and says what a faster engine has to answer.
 #![tactic(auto)]
 
 mod collection;

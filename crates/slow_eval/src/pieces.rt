@@ -1,4 +1,4 @@
-//! The search for the values of a query that cuts a word into pieces.
+//! The search for the values of a query that parts a word into pieces.
 ghost use Rattle.std.specs.Prelude.{◌≡◌, ◌<◌, ◌≤◌, ◌+◌, drop, length, IfOk, OnOk};
 ghost use Rattle.value_ops.specs.Expressions as values;
 ghost use Rattle.query_model.specs.Queries.{iter, plain_of, split};
@@ -66,7 +66,8 @@ pub(crate) fn iter_answers(
     Ok(row)
 }
 
-/// Puts what the expression gives on the answer at the place and each one on the rest of the word.
+/// The answer at the place is a left value. Puts into the row what the expression gives on it and
+/// on each answer of the query on the rest of the word.
 #[cycle(search)]
 fn join_piece(
     alloc: Global,
@@ -96,8 +97,8 @@ fn join_piece(
     )
 }
 
-/// Puts what the expression gives on the left value, if it is there, and each answer on the rest
-/// of a word at the places from `from` on.
+/// Puts into the row, from the place `from` on, what the expression gives on the left value, if
+/// there is one, and on each answer of the query on the rest.
 #[cycle(search)]
 fn join_rest(
     alloc: Global,

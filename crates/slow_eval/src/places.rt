@@ -1,4 +1,8 @@
-//! Rows of answers, one for each place of a word, from the one before its first item to the one behind its last.
+//! Rows of answers. A row has an answer, or none, for each place of a word, from the place before
+//! its first item to the place after its last:
+//!
+//!     items            a   b   c
+//!     places         0   1   2   3     the answer at place 2 is that on the front a b
 ghost use Rattle.std.specs.Prelude.{◌≡◌, ◌<◌, ◌≤◌, ◌+◌, ◌^◌, ℕ, length, Some, None, IfOk, OnOk};
 ghost use Rattle.std.specs.Option.{option_or};
 ghost use Rattle.value_ops.specs.declared.value.Value.{Value};
@@ -8,7 +12,7 @@ ghost use Rattle.slow_eval.specs.Rows.{answer_at, IsJoined, IsOnBoth, IsOnOne, I
 use std::alloc::{AllocError, Global};
 use value_ops::{Expr, Value};
 
-/// No answer at any place of a word of so many items.
+/// A row without answers, for a word of this number of items.
 pub(crate) fn no_answers(alloc: Global, items: usize) -> Result<Vec<Option<Value>>, AllocError>
     requires { items < 2 ^ 63 }
     ensures count { IfOk result (λ row. length row.items ≡ items + 1) }
@@ -21,7 +25,6 @@ pub(crate) fn no_answers(alloc: Global, items: usize) -> Result<Vec<Option<Value
     Ok(row)
 }
 
-/// An equal answer.
 pub(crate) fn copied(alloc: Global, answer: &Option<Value>) -> Result<Option<Value>, AllocError>
     ensures { IfOk result (λ copy. copy ≡ answer.now) }
 {
@@ -31,7 +34,7 @@ pub(crate) fn copied(alloc: Global, answer: &Option<Value>) -> Result<Option<Val
     }
 }
 
-/// At each place the answer of the one row, or else that of the other.
+/// At each place the answer of the first row, or else that of the second.
 pub(crate) fn either(
     mut row: Vec<Option<Value>>,
     mut other: Vec<Option<Value>>,
@@ -49,7 +52,7 @@ pub(crate) fn either(
     row
 }
 
-/// At each place what the expression gives on the answer.
+/// At each place what the expression gives on the answer there.
 pub(crate) fn applied(
     alloc: Global,
     expression: &Expr,
@@ -72,7 +75,7 @@ pub(crate) fn applied(
     Ok(given)
 }
 
-/// What the expression gives on two answers, if both are there.
+/// What the expression gives on two answers, if there are both.
 fn on_both(
     alloc: Global,
     expression: &Expr,
@@ -91,7 +94,7 @@ fn on_both(
     }
 }
 
-/// At each place what the expression gives on both answers.
+/// At each place what the expression gives on both answers there.
 pub(crate) fn combined(
     alloc: Global,
     expression: &Expr,
@@ -114,7 +117,7 @@ pub(crate) fn combined(
     Ok(given)
 }
 
-/// Puts what the expression gives on both values, if the right one is there.
+/// If there is a right value, replaces the answer by what the expression gives on both values.
 fn put(
     alloc: Global,
     expression: &Expr,
@@ -133,8 +136,8 @@ fn put(
     Ok(())
 }
 
-/// Puts what the expression gives on the left value and each of the right ones at the places from
-/// `from` on.
+/// Puts into the row, from the place `from` on, what the expression gives on the left value and on
+/// each of the right ones.
 pub(crate) fn join(
     alloc: Global,
     expression: &Expr,

@@ -11,8 +11,8 @@ use rate_expr::masks::{has, only, overlap};
 use rate_expr::{Positions, Rate};
 use std::alloc::{AllocError, Global};
 
-/// For each front of the word, from the empty one to the whole, whether it is in the rate. The
-/// time grows with the length of the word.
+/// For each front of the word, from the empty one to the whole, whether it is in the rate. The time
+/// is linear in the length of the word.
 pub(crate) fn fronts_in(alloc: Global, rate: &Rate, word: &[Item]) -> Result<Vec<bool>, AllocError>
     requires { size_of (rates.plain_of rate.now) ≤ max_positions }
     ensures { IfOk result (λ fronts.
@@ -23,7 +23,7 @@ pub(crate) fn fronts_in(alloc: Global, rate: &Rate, word: &[Item]) -> Result<Vec
     Ok(fronts)
 }
 
-/// For each front of the word whether the positions spell it.
+/// The same by the positions of the rate.
 fn fronts_by(alloc: Global, positions: &Positions, word: &[Item]) -> Result<Vec<bool>, AllocError>
     ensures { IfOk result (λ fronts. AreSpelled positions.now word.now fronts.items) }
 {
@@ -38,7 +38,6 @@ fn fronts_by(alloc: Global, positions: &Positions, word: &[Item]) -> Result<Vec<
     Ok(fronts)
 }
 
-/// The positions of the mask that the item meets.
 fn met(positions: &Positions, mask: u128, item: &Item) -> u128
     ensures { AreMet positions.now mask item.now result }
 {
@@ -51,7 +50,7 @@ fn met(positions: &Positions, mask: u128, item: &Item) -> u128
     found
 }
 
-/// The positions that come behind one of the mask's.
+/// The positions that may follow some position of the mask.
 fn behind(positions: &Positions, mask: u128) -> u128
     ensures { AreBehind positions.now mask result }
 {

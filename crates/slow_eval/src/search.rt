@@ -15,10 +15,9 @@ use query_model::{Query, Shape};
 use std::alloc::{AllocError, Global};
 use value_ops::{Expr, Value};
 
-/// The answers of a query on all fronts of a word, from the empty one to the whole. Each split and
-/// iter searches what is behind each front anew, and each collect what there is for each key, so
-/// that the time grows with the length of the word to the power of how deep these stand in one
-/// another, and one more.
+/// The answers of a query on all fronts of a word, from the empty one to the whole. A split or an
+/// iter searches the rest after each front anew, and a collect the items of each key. So if these
+/// are nested d deep, the time grows as the length of the word to the power of d + 1.
 #[cycle(search)]
 pub fn answers_on_fronts(
     alloc: Global,
@@ -50,7 +49,6 @@ pub fn answers_on_fronts(
     }
 }
 
-/// The answer of a query on the whole word.
 pub fn answer_on(alloc: Global, query: &Query, word: &[Item]) -> Result<Option<Value>, AllocError>
     requires { CanBeRead (plain_of query.now.shape) word.now }
     ensures { IfOk result (IsAnswer (plain_of query.now.shape) word.now) }

@@ -1,4 +1,4 @@
-//! The answers of the queries of one item, and of none.
+//! The answers of the queries whose words have one item or none.
 ghost use Rattle.std.specs.Prelude.{IfOk};
 ghost use Rattle.value_ops.specs.Expressions as values;
 ghost use Rattle.predicate_cells.specs.Plain as predicates;
@@ -11,7 +11,7 @@ use predicate_cells::{Pred, holds};
 use std::alloc::{AllocError, Global};
 use value_ops::{Expr, Scalar, Value};
 
-/// An atom has a value on the front of one item alone.
+/// An atom can have a value only on the front of one item.
 pub(crate) fn atom_answers(
     alloc: Global,
     pred: &Pred,
@@ -32,7 +32,7 @@ pub(crate) fn atom_answers(
     Ok(answers)
 }
 
-/// The number has its place before the first item.
+/// An eps has its number on the empty front only.
 pub(crate) fn eps_answers(
     alloc: Global,
     number: i64,

@@ -1,4 +1,4 @@
-//! A query and all items of a word.
+//! The state of the engine: the query and all items of the word so far.
 ghost use Rattle.query_model.specs.Queries.{plain_of};
 
 use crate::search::answer_on;
@@ -7,8 +7,8 @@ use query_model::{Checked, Follower};
 use std::alloc::{AllocError, Global};
 use value_ops::Value;
 
-/// It keeps the word that it follows and the value of the query on it, which it searches anew after
-/// each item.
+/// Keeps the whole word and the value of the query on it. If the engine was out of memory, `failed`
+/// is set, and the value is not known.
 #[derive(Drop)]
 pub struct Slow<'q> {
     pub(crate) checked: &'q Checked,
@@ -21,7 +21,7 @@ impl<'q> Slow<'q> {
     ghost use Rattle.std.specs.Prelude.{◌≡◌, [], true, false, IfOk, OnOk, OnErr};
     ghost use Rattle.slow_eval.specs.Following.{columns_of, Follows, is_lost, IsSound, position_of, query_of};
 
-    /// It follows the empty word.
+    /// The engine on the empty word.
     pub fn new(alloc: Global, checked: &'q Checked) -> Result<Slow<'q>, AllocError>
         ensures word { IfOk result (λ slow. Follows slow []) }
         ensures position { IfOk result (λ slow. position_of slow ≡ 0) }
@@ -39,7 +39,7 @@ impl<'q> Slow<'q> {
         Ok(slow)
     }
 
-    /// Searches the answer on the items that are there. It is lost until that is found.
+    /// Searches the answer on all items. If it is out of memory, the answer is lost.
     pub(crate) fn search(&mut self, alloc: Global) -> Result<(), AllocError>
         requires sound { IsSound self.old }
         ensures ok { OnOk result (Follows self.new self.old.items.items) }

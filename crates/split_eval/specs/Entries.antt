@@ -1,8 +1,8 @@
--- Statement. Entries of left values, as a list and as a finite map from their inner starts.
+-- Statement. Entries of left values, as a list and as a finite map from inner starts.
 use Rattle.std.specs.Prelude.{◌≡◌, ◌==◌, ◌≤◌, ℕ, Bool, not, List, [], ◌∷◌, length, filter, find, Option, None}
 use Rattle.split_eval.specs.declared.entry.Entry.{Entry}
 
--- entries in the order in which they were put, and how many there is room for
+-- the entries in the order in which they were put, and for how many there is room
 pub record Contents (V : Type 0) : Type 0 where
   pub entries : List (Entry V)
   pub room : ℕ
@@ -29,7 +29,7 @@ module _ {V : Type 0} where
   AreDistinct [] = Unit {0}
   AreDistinct (entry ∷ entries) = (entry_at entries entry.inner ≡ None) × AreDistinct entries
 
-  -- just the room is reserved, and no more than so many entries, all distinct, are in it
+  -- memory is reserved for exactly `room` entries, and there are no more than that, all distinct
   pub record IsKept (entries : List (Entry V)) (room capacity : ℕ) : Type 0 where
     pub reserved : capacity ≡ room
     pub few : length entries ≤ room

@@ -1,7 +1,9 @@
-//! A left value, and where the pieces of its reading begin.
+//! A left value that waits, with the starts of its pieces.
 
-/// The value of a left piece. The whole begins at the outer start, and the right piece, which may
-/// still end, at the inner start.
+/// The left piece goes from the outer start to the inner start, and has the value. The right piece
+/// begins at the inner start, and has not ended yet:
+///
+///     outer --(left piece: value)--> inner --(right piece)--> ...
 #[derive(Drop)]
 pub struct Entry<V> {
     pub inner: u64,

@@ -1,9 +1,9 @@
-//! What holds of every list of entries, and is found in it.
+//! What is found in a list of entries after each change.
 ghost use Rattle.std.specs.Prelude.{◌≡◌, ◌≢◌, ◌++◌, ℕ, Bool, List, [], ◌∷◌, if◌then◌else◌};
 ghost use Rattle.split_eval.specs.Entries.{entry_at, live_entries, without, AreDistinct};
 ghost use Rattle.split_eval.specs.declared.entry.Entry.{Entry};
 
-/// What is put is found, and at every other inner start what was found before.
+/// An entry that was put is found, and at every other inner start what was found before.
 pub fn what_is_put_is_found<V>()
     ensures put { (entries : List (Entry V)) (entry : Entry V)
         → entry_at entries entry.inner ≡ None
@@ -19,7 +19,7 @@ pub fn what_is_live_is_found<V>()
         ≡ (if is_live inner then entry_at entries inner else None) }
 {}
 
-/// What is taken is not found, and at every other inner start what was found before.
+/// An entry that was taken is not found, and at every other inner start what was found before.
 pub fn what_is_taken_is_not_found<V>()
     ensures taken { (entries : List (Entry V)) (inner : ℕ)
         → entry_at (without entries inner) inner ≡ None }
@@ -27,7 +27,7 @@ pub fn what_is_taken_is_not_found<V>()
         → entry_at (without entries inner) other ≡ entry_at entries other }
 {}
 
-/// Distinct entries stay so.
+/// Entries that are distinct stay distinct.
 pub fn entries_stay_distinct<V>()
     ensures put { (entries : List (Entry V)) (entry : Entry V) → AreDistinct entries
         → entry_at entries entry.inner ≡ None → AreDistinct (entries ++ entry ∷ []) }

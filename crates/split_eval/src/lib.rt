@@ -1,4 +1,5 @@
-//! Left values of a split, which wait until the right operand ends a word behind them.
+//! The left values of a split, which wait until the right operand has a value on the words after
+//! them.
 #![tactic(auto)]
 
 mod entry;

@@ -1,4 +1,4 @@
-//! Entries by their inner start, in a room that is reserved once.
+//! Entries by their inner start. Memory for all of them is reserved once.
 ghost use Rattle.std.specs.Prelude.{◌≡◌, ◌<◌, ◌≤◌, ◌++◌, ℕ, Bool, [], ◌∷◌, length, None, Some, IfNone, IfOk, slice_get};
 ghost use Rattle.std.specs.List.{position_from};
 ghost use Rattle.std.specs.Option.{option_copied};
@@ -33,7 +33,7 @@ fn place_of<V>(entries: &[Entry<V>], inner: u64) -> Option<usize>
 }
 
 impl<V: Drop> Pending<V> {
-    /// No later call takes memory: the list is as long as the room from here on.
+    /// Reserves memory for `room` entries, so that no later call can be out of memory.
     pub fn new(alloc: Global, room: u32) -> Result<Pending<V>, AllocError>
         ensures { IfOk result (λ pending. pending ≡ record { entries = []; room = room }) }
     {

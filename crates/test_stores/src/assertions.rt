@@ -1,4 +1,4 @@
-// Assertions as calls, since a macro's text for a failure is written out at each place where it stands.
+// Assertions as calls, since a macro repeats its text for a failure at each place where it is used.
 use std::fmt::Debug;
 use std::process::Abort;
 
@@ -6,7 +6,7 @@ pub fn same<T: PartialEq + Debug + Drop>(rt: &impl Abort, found: T, wanted: T) {
     assert_eq!(rt; found, wanted);
 }
 
-// The same of one case of a table.
+// The same for one case of a table.
 pub fn same_at<C: Debug + Drop, T: PartialEq + Debug + Drop>(
     rt: &impl Abort,
     at: C,

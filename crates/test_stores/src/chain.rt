@@ -5,14 +5,14 @@ use split_eval::Pending;
 use std::process::Abort;
 use std::test::Fail;
 
-// Puts the value where there is a spare place and none has its inner start, as an evaluator does.
+// Puts the value if there is room and no other has its inner start, as an engine does.
 fn put_new(chain: &mut Chain<u64>, inner: u64, outer: u64, value: u64) {
     if chain.find(inner).is_none() && chain.len() < chain.room() as usize {
         chain.put(inner, outer, value);
     }
 }
 
-// A piece from `inner` up to `now` adds its value to what was so far.
+// A piece from `inner` up to `now` adds its value to the value so far.
 fn go_on(chain: &mut Chain<u64>, inner: u64, now: u64, value: u64) {
     let found = chain.find(inner).map(|entry| (entry.outer, entry.value));
     if let Some((outer, so_far)) = found {

@@ -1,12 +1,12 @@
-// The lists of followers after each call, at their edges, with ample memory. A follower is a number
-// here.
+// The lists of followers after each call, empty, full and between, with ample memory. A follower is
+// a number here.
 use crate::assertions::{same, same_at};
 use compose_eval::Instances;
 use std::alloc::{AllocError, Global};
 use std::process::Abort;
 use std::test::Fail;
 
-// Lets one more come to rest where there is room.
+// Adds an idle follower if there is room.
 fn rest(instances: &mut Instances<u64>, follower: u64) {
     let spare = (instances.room() as usize).saturating_sub(instances.len());
     if instances.idle() < spare {
@@ -14,14 +14,14 @@ fn rest(instances: &mut Instances<u64>, follower: u64) {
     }
 }
 
-// Wakes one where one is idle and none is fed from the start.
+// Wakes a follower if one is idle and none is fed from the start.
 fn wake(instances: &mut Instances<u64>, outer: u64) {
     if instances.idle() > 0 && instances.place(outer).is_none() {
         instances.wake(outer);
     }
 }
 
-// Three idle ones, in a room of three.
+// Three idle followers, with room for three.
 fn resting(alloc: Global) -> Result<Instances<u64>, AllocError> {
     let mut instances = Instances::new(alloc, 3)?;
     rest(&mut instances, 1);
@@ -31,7 +31,7 @@ fn resting(alloc: Global) -> Result<Instances<u64>, AllocError> {
     Ok(instances)
 }
 
-// The three of them, fed from 30, 20 and 10.
+// The same three followers, fed from 30, 20 and 10.
 fn fed(alloc: Global) -> Result<Instances<u64>, AllocError> {
     let mut instances = resting(alloc)?;
     wake(&mut instances, 30);
@@ -145,7 +145,7 @@ fn one_may_begin_without_having_been_idle(rt: HostRuntime) -> Result<(), Fail> {
     Ok(())
 }
 
-// A follower that has instances of its own kind, as a composition in a composition has.
+// A follower that has instances of its own kind, as a compose in a compose has.
 #[derive(Drop)]
 struct Nest {
     depth: u64,

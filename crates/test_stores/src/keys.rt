@@ -5,7 +5,7 @@ use std::alloc::{AllocError, Global};
 use std::process::Abort;
 use std::test::Fail;
 
-// Adds ten to the follower of the key, which begins as the default one.
+// Adds ten to the follower of the key. A new one begins as the default follower.
 fn push(keys: &mut Keys<u64>, key: &[u8]) -> Result<(), AllocError> {
     if keys.place(key).is_none() {
         let fresh = *keys.fallback();
@@ -26,14 +26,14 @@ fn push_each(keys: &mut Keys<u64>) -> Result<(), AllocError> {
     push(keys, b"a")
 }
 
-// The keys b, a and the empty one, of which a came twice.
+// The keys b, a and the empty one. The key a came twice.
 fn three(alloc: Global) -> Result<Keys<u64>, AllocError> {
     let mut keys = Keys::new(alloc, 1);
     push_each(&mut keys)?;
     Ok(keys)
 }
 
-// The same and c, which begins as 100.
+// The same keys and c, whose follower begins as 100.
 fn four(alloc: Global) -> Result<Keys<u64>, AllocError> {
     let mut keys = three(alloc)?;
     *keys.fallback_mut() = 100;
@@ -50,7 +50,7 @@ fn same_keys(rt: &impl Abort, keys: &Keys<u64>, wanted: &[(&[u8], u64)]) {
     }
 }
 
-// Where each key stands.
+// The index of each key.
 fn same_places(rt: &impl Abort, keys: &Keys<u64>, wanted: &[(&[u8], Option<usize>)]) {
     for &(key, place) in wanted {
         same_at(rt, key, keys.place(key), place);

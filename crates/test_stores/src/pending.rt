@@ -1,18 +1,18 @@
-// The list of entries after each call, at its edges, with ample memory.
+// The list of entries after each call, empty, full and between, with ample memory.
 use crate::assertions::{same, same_at};
 use split_eval::Pending;
 use std::alloc::{AllocError, Global};
 use std::process::Abort;
 use std::test::Fail;
 
-// Puts the entry where there is a spare place and none has its inner start, as an evaluator does.
+// Puts the entry if there is room and no other has its inner start, as an engine does.
 fn put_new(pending: &mut Pending<u64>, inner: u64, outer: u64, value: u64) {
     if pending.find(inner).is_none() && pending.len() < pending.room() as usize {
         pending.put(inner, outer, value);
     }
 }
 
-// Three entries, in a room of three.
+// Three entries, with room for three.
 fn full(alloc: Global) -> Result<Pending<u64>, AllocError> {
     let mut pending = Pending::new(alloc, 3)?;
     put_new(&mut pending, 10, 1, 100);

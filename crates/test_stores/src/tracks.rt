@@ -54,7 +54,7 @@ fn cells_under(
     Ok(shared(alloc, Cells::new(alloc, schema, preds)?)?)
 }
 
-// The cells by which 1 and 2 are told from all other numbers.
+// The cells that distinguish 1 and 2 from all other numbers.
 fn cells(rt: &impl Abort, alloc: Global) -> Result<Rc<Cells>, CellStop> {
     let schema = numbers(alloc)?;
     let preds = preds(alloc)?;
@@ -80,7 +80,7 @@ fn nfa(rt: &impl Abort, alloc: Global) -> Result<Nfa, CellStop> {
     Ok(Nfa::new(alloc, positions, &cells)?)
 }
 
-// Puts a start that is not there, whose default follower is the start.
+// Puts a new start, whose default follower is the start itself.
 fn put(
     alloc: Global,
     tracks: &mut Tracks<u64>,
@@ -98,7 +98,8 @@ fn none(rt: &impl Abort, alloc: Global) -> Result<Box<Tracks<u64>>, Fail> {
     Ok(Box::new(alloc, tracks)?)
 }
 
-// The starts 30, 20, 10 and 40, whose words are 1, 1 and 2, the empty one and 2.
+// Four starts. The word from 30 is 1, that from 20 is 1 and 2, that from 10 is empty, and that from
+// 40 is 2.
 fn four(rt: &impl Abort, alloc: Global) -> Result<Box<Tracks<u64>>, Fail> {
     let mut tracks = none(rt, alloc)?;
     for (start, state) in [
@@ -113,7 +114,7 @@ fn four(rt: &impl Abort, alloc: Global) -> Result<Box<Tracks<u64>>, Fail> {
     Ok(tracks)
 }
 
-// Goes on with an item of the number.
+// Advances the tracks by an item of this number.
 fn advance(alloc: Global, tracks: &mut Tracks<u64>, number: i64) -> Result<(), AllocError> {
     let mut fields = Vec::new(alloc);
     fields.push(Field::Int(number))?;
@@ -211,20 +212,20 @@ struct Nest {
     inner: Tracks<Nest>,
 }
 
-// Keys without one, whose default follower has no start.
+// No key, and a default follower without a start.
 fn deepest(rt: &impl Abort, alloc: Global) -> Result<Keys<Nest>, CellStop> {
     let inner = Tracks::new(alloc, nfa(rt, alloc)?);
     Ok(Keys::new(alloc, Nest { depth: 2, inner }))
 }
 
-// One start, with the keys.
+// One start with these keys.
 fn one(alloc: Global, nfa: Nfa, keys: Keys<Nest>) -> Result<Tracks<Nest>, AllocError> {
     let mut tracks = Tracks::new(alloc, nfa);
     tracks.put(5, State::Initial, keys)?;
     Ok(tracks)
 }
 
-// A follower with one start, from which there is another follower.
+// A follower with one start, at which there is another follower.
 fn nested(rt: &impl Abort, alloc: Global) -> Result<Box<Nest>, Fail> {
     let nfa = nfa(rt, alloc)?;
     let keys = deepest(rt, alloc)?;

@@ -26,7 +26,7 @@ use Rattle.compose_eval.specs.declared.instances.Instances.TheView.{view, invari
 use Rattle.compose_eval.specs.contracts.instances.Instances as C
 use Rattle.compose_eval.specs.contracts.instances.Instances.TheInside as I
 
--- a start beside one of g's values
+-- a start together with a value of `g`
 abbrev with_start : Former {0} → Former {0}
 with_start g = via (pair (const ℕ) g) (λ X. Instance (g.Of X)) (λ X x. (x.outer, x.follower))
     (λ X v. record { outer = v.0; follower = v.1 }) (λ X x. refl) (λ X v. refl)
@@ -53,7 +53,7 @@ fields = via (pair (vec.the_former (with_start this) Global) (pair (vec.the_form
     Inside (λ X a. (a.live, (a.idle, a.room)))
     (λ X v. record { live = v.0; idle = v.1.0; room = v.1.1 }) (λ X a. refl) (λ X v. refl)
 
--- the same instance with h of its follower
+-- the same instance, with `h` applied to its follower
 abbrev on_follower : {X Y : Type 0} → (X → Y) → Instance X → Instance Y
 on_follower h x = record { outer = x.outer; follower = h x.follower }
 

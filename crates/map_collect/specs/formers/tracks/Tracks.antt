@@ -33,7 +33,7 @@ use Rattle.map_collect.specs.declared.tracks.Tracks.TheView.{view, invariant}
 use Rattle.map_collect.specs.contracts.tracks.Tracks as C
 use Rattle.map_collect.specs.contracts.tracks.Tracks.TheInside as I
 
--- keys of g's values
+-- the followers by key are values of `g`
 abbrev keys_former : Former {0} → Former {0}
 keys_former g = via (pair g (keyed.the_former g)) (λ X. Keys (g.Of X)) (λ X k. (k.fallback, k.keyed))
     (λ X v. record { fallback = v.0; keyed = v.1 }) (λ X k. refl) (λ X v. refl)
@@ -43,7 +43,7 @@ keys_weighed {g} w = w_via (w_pair w (keyed.the_weighed w)) (λ X. Keys (g.Of X)
     (λ X k. (k.fallback, k.keyed)) (λ X v. record { fallback = v.0; keyed = v.1 })
     (λ X k. refl) (λ X v. refl)
 
--- a start and a state beside them
+-- the same with a start and a state
 abbrev track_former : Former {0} → Former {0}
 track_former g = via (pair (const ℕ) (pair (const State) (keys_former g))) (λ X. Track (g.Of X))
     (λ X t. (t.start, (t.state, t.keys)))
@@ -89,7 +89,7 @@ AreTracks-prop sets tracks p q = λ i. record {
 }
 
 module _ {X Y : Type 0} (h : X → Y) where
-  -- the same keys with h of their followers
+  -- the same keys, with `h` applied to their followers
   abbrev on_keys : Keys X → Keys Y
   on_keys k = record { fallback = h k.fallback; keyed = (keyed.the_former this).map X Y h k.keyed }
 
