@@ -1,11 +1,11 @@
--- For the prover. What a text begins with, as its length.
+-- For the prover. The length of what is at the front of a text.
 use Rattle.std.specs.Prelude.{◌≡◌, ◌≤◌, ◌⊎◌, ℕ, ◌+◌, Bool, ◌||◌, ◌==◌, nat_lt, if◌then◌else◌, List, [], ◌∷◌, ◌++◌, length, take, take_while, drop, Option, Some, None}
 use Rattle.std.specs.Char.{is_ascii_digit}
 use Rattle.query_tokens.specs.declared.token.TokenKind.{TokenKind}
 use Rattle.query_tokens.specs.declared.token.TokenKind.TheVariants.{Word, Number, Text, Open, Close, Comma}
 use Rattle.query_tokens.specs.Raw.{is_word_start, IsRaw, IsLongest, BeginsNone, BeginsNoBlank, IsBlank, IsBlankToEnd}
 
--- the bytes begin with blank of this length, and then a byte that is none
+-- the bytes begin with blank of this length, after which comes a byte that is no blank
 pub record BlankUpTo (bytes : List ℕ) (len : ℕ) : Type 0 where
   pub blank : List ℕ
   pub rest : List ℕ
@@ -24,12 +24,12 @@ pub record Begins (kind : TokenKind) (bytes : List ℕ) (len : ℕ) : Type 0 whe
   pub token : IsRaw kind (take len bytes)
   pub longest : (raw beyond : List ℕ) → bytes ≡ raw ++ beyond → IsRaw kind raw → length raw ≤ len
 
--- that length, where the bytes begin with a token of this kind
+-- the length of the token of this kind at the front, if there is one
 abbrev pub IsLength : TokenKind → List ℕ → Option ℕ → Type 0
 IsLength kind bytes None = (raw beyond : List ℕ) → bytes ≡ raw ++ beyond → IsRaw kind raw → ⊥
 IsLength kind bytes (Some len) = Begins kind bytes len
 
--- a number may begin with the byte
+-- a number can begin with the byte
 abbrev pub is_number_start : ℕ → Bool
 is_number_start byte = (byte == 43 || byte == 45) || is_ascii_digit byte
 
@@ -53,13 +53,13 @@ abbrev pub sign_len : List ℕ → ℕ
 sign_len [] = 0
 sign_len (byte ∷ rest) = if byte == 43 || byte == 45 then 1 else 0
 
--- the length of a sign or none and the digits behind it, if there are some
+-- the length of the digits at the front, and of a sign before them, if there are any digits
 abbrev pub number_len : List ℕ → Option ℕ
 number_len bytes =
     let digits = length (take_while is_ascii_digit (drop (sign_len bytes) bytes)) in
     if nat_lt 0 digits then Some (sign_len bytes + digits) else None
 
--- the bytes begin with a token of this kind and length, each as long as possible, or with none
+-- the bytes begin with a token of this kind and length, and with no longer one; or with no token
 abbrev pub IsFirst : List ℕ → Option (TokenKind × ℕ) → Type 0
 IsFirst bytes None = BeginsNone bytes
 IsFirst bytes (Some found) =

@@ -1,4 +1,4 @@
--- For the prover. The parts that a string has, read from the front.
+-- For the prover. The parts of a string, read from the front.
 use Rattle.std.specs.Prelude.{◌≡◌, ℕ, ◌+◌, ◌*◌, Bool, ◌||◌, ◌&&◌, not, ◌==◌, nat_lt, nat_le, if◌then◌else◌, List, [], ◌∷◌, ◌++◌, length, Option, Some, None}
 use Rattle.std.specs.Char.{digit_value}
 use Rattle.query_tokens.specs.Raw.{AreParts}
@@ -7,24 +7,24 @@ use Rattle.query_tokens.specs.Raw.{AreParts}
 abbrev pub hex_of : ℕ → Option ℕ
 hex_of digit = if nat_lt (digit_value digit) 16 then Some (digit_value digit) else None
 
--- the byte that two hexadecimal digits write
+-- the byte that two hexadecimal digits stand for
 abbrev pub byte_of : Option ℕ → Option ℕ → Option ℕ
 byte_of (Some high) (Some low) = Some (16 * high + low)
 byte_of (Some high) None = None
 byte_of None low = None
 
--- the byte that two hexadecimal digits at the front write
+-- the byte that the two hexadecimal digits at the front stand for
 abbrev pub code_of : List ℕ → Option ℕ
 code_of [] = None
 code_of (high ∷ []) = None
 code_of (high ∷ low ∷ rest) = byte_of (hex_of high) (hex_of low)
 
--- a byte that is written by digits, and the length of the part that does so
+-- the byte that is written in digits, and the length of such a part
 abbrev pub coded : Option ℕ → Option (ℕ × ℕ)
 coded None = None
 coded (Some byte) = Some (byte, 4)
 
--- what stands behind a backslash: the byte that the part stands for, and the length of the part
+-- the part whose backslash comes before these bytes: the byte for which it stands, and its length
 abbrev pub escape_of : List ℕ → Option (ℕ × ℕ)
 escape_of [] = None
 escape_of (second ∷ rest) =
@@ -34,7 +34,7 @@ escape_of (second ∷ rest) =
 abbrev pub is_plain : ℕ → Bool
 is_plain byte = (nat_le 32 byte && nat_le byte 126 && not (byte == 34) && not (byte == 92)) || nat_le 128 byte
 
--- the part at the front: the byte that it stands for, and its length
+-- the part at the front: the byte for which it stands, and its length
 abbrev pub part_of : List ℕ → Option (ℕ × ℕ)
 part_of [] = None
 part_of (first ∷ rest) =
@@ -49,7 +49,7 @@ pub record Closes (bytes : List ℕ) (len : ℕ) : Type 0 where
   pub stand : AreParts parts values
   pub is : len ≡ length parts + 1
 
--- that length, where the bytes close a string
+-- the length up to the closing quote, if there is one
 abbrev pub IsClosing : List ℕ → Option ℕ → Type 0
 IsClosing bytes None = (len : ℕ) → Closes bytes len → ⊥
 IsClosing bytes (Some len) = Closes bytes len

@@ -1,4 +1,4 @@
-//! What stands between tokens.
+//! What may stand between tokens: spaces and comments.
 ghost use Rattle.std.specs.Prelude.{◌≡◌};
 ghost use Rattle.query_tokens.specs.Raw.{is_space};
 ghost use Rattle.query_tokens.specs.Front.{IsBlankLength};

@@ -36,7 +36,7 @@ fn is_plain(byte: u8) -> bool
     (b' ' <= byte && byte <= b'~' && byte != b'"' && byte != b'\\') || 0x80 <= byte
 }
 
-/// The byte that the part at the front stands for, and the length of the part.
+/// The byte for which the part at the front stands, and the length of the part.
 pub(crate) fn part_at(text: &[u8]) -> Option<(u8, usize)>
     ensures { result ≡ part_of text.now }
 {
@@ -47,7 +47,7 @@ pub(crate) fn part_at(text: &[u8]) -> Option<(u8, usize)>
     is_plain(first).then_some((first, 1))
 }
 
-/// The length of parts and the quote behind them.
+/// The length of the parts at the front and of the quote after them.
 pub(crate) fn closing_len(text: &[u8]) -> Option<usize>
     ensures { IsClosing text.now result }
 {

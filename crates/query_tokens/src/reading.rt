@@ -1,4 +1,4 @@
-//! The tokens of a text, or the place where there is none.
+//! The tokens of a text, or the place where no token begins.
 ghost use Rattle.std.specs.Prelude.{◌≡◌, ◌<◌, ◌≤◌, ◌^◌, length, drop, IfOk, IfErr};
 ghost use Rattle.query_tokens.specs.Tokens.{AreTokens};
 ghost use Rattle.query_tokens.specs.Next.{IsNext};
@@ -11,7 +11,7 @@ use crate::token::Token;
 use language_base::Span;
 use std::alloc::{AllocError, Global};
 
-/// What stands behind the blank at a place.
+/// What comes after the blank at a place.
 pub(crate) enum Next {
     Token(Token),
     End,
@@ -37,7 +37,7 @@ fn next_token(text: &[u8], place: usize) -> Next
     Next::Token(Token { kind, span })
 }
 
-/// Reads the tokens of a query text.
+/// Reads the tokens of a query text, each as long as possible.
 pub fn read_tokens(alloc: Global, text: &[u8]) -> Result<Vec<Token>, TokenStop>
     requires { length text.now < 2 ^ 32 }
     ensures tokens { IfOk result (λ tokens. AreTokens 0 text.now tokens.items) }

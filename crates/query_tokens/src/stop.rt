@@ -1,10 +1,10 @@
-//! Why a text gives no tokens.
+//! Why tokens cannot be read.
 
 use std::alloc::AllocError;
 
 #[derive(Clone, Copy, Debug, PartialEq, Eq)]
 pub enum TokenStop {
-    /// The place at which no token begins.
+    /// No token begins at this place.
     Fault(u32),
     Memory,
 }

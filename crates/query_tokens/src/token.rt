@@ -5,9 +5,9 @@ use language_base::Span;
 pub enum TokenKind {
     /// A letter or `_`, then letters, digits and `_`.
     Word,
-    /// A sign or none, then digits.
+    /// Digits, perhaps after a sign.
     Number,
-    /// Bytes between quotes, where some are written by escapes.
+    /// Bytes between quotes, some of which may be written as escapes.
     Text,
     /// `(`
     Open,

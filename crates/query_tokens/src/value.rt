@@ -1,4 +1,4 @@
-//! The values that tokens write.
+//! The values for which tokens stand.
 ghost use Rattle.std.specs.Prelude.{◌≡◌, ℕ, List, IfOk, FitsSigned};
 ghost use Rattle.std.specs.Option.{SomeIff};
 ghost use Rattle.std.specs.Int.{w64};
@@ -10,7 +10,7 @@ use crate::part::part_at;
 use language_base::Bytes;
 use std::alloc::{AllocError, Global};
 
-/// The bytes that a string stands for.
+/// The bytes for which a string stands.
 pub fn text_bytes(alloc: Global, raw: &[u8]) -> Result<Bytes, AllocError>
     requires { (bytes : List ℕ) × IsString raw.now bytes }
     ensures { IfOk result (λ bytes. IsString raw.now bytes) }
@@ -24,7 +24,7 @@ pub fn text_bytes(alloc: Global, raw: &[u8]) -> Result<Bytes, AllocError>
     Ok(Bytes::from_vec(bytes))
 }
 
-/// The number that a token writes, if 64 bits hold it.
+/// The number for which a token stands, if it fits into 64 bits.
 pub fn number_value(raw: &[u8]) -> Option<i64>
     requires { IsRaw Number raw.now }
     ensures { SomeIff result (FitsSigned w64 (signed_digits_value 10 raw.now))

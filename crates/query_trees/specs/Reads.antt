@@ -1,4 +1,4 @@
--- For the prover. What is made of tokens that are known to be terms.
+-- For the prover. What is read from tokens that are known to be terms.
 use Rattle.std.specs.Prelude.{◌≡◌, ℕ, ◌+◌, nat_lt, if◌then◌else◌, List, [], ◌∷◌, ◌++◌, Option, Some, None, Vec, Result, Ok, Err}
 use Rattle.std.specs.declared.alloc.Global.{Global}
 use Rattle.language_base.specs.Limits.{max_level}
@@ -17,26 +17,26 @@ abbrev pub NextIs : TokenKind → List Token → Type 0
 NextIs kind [] = ⊥
 NextIs kind (token ∷ rest) = token.kind ≡ kind
 
--- the first of the terms stands at the front of the tokens, and the others follow
+-- the tokens begin with the first of the terms, and the other tokens follow
 abbrev pub Begins : Trees → List Token → List Token → Type 0
 Begins none tokens others = ⊥
 Begins (leaf token rest) tokens others = (tokens ≡ token ∷ others) × IsLeaf token
 Begins (call head arguments span rest) tokens others =
     Calls head span (AreArguments arguments) tokens others
 
--- the first of the terms is all that stands before the others
+-- the same, and the first term is not continued by a `(`
 pub record IsBefore (trees : Trees) (tokens others : List Token) : Type 0 where
   pub begins : Begins trees tokens others
   pub no_open : NextIs Open others → ⊥
 
--- the tokens are arguments and then these others, which begin with `)`
+-- the tokens are the arguments and then the others, which begin with `)`
 pub record AreInCall (trees : Trees) (tokens others : List Token) : Type 0 where
   pub inner : List Token
   pub split : tokens ≡ inner ++ others
   pub holds : AreArguments trees inner
   pub closes : NextIs Close others
 
--- the terms behind the first
+-- the terms after the first
 abbrev pub behind_first : Trees → Trees
 behind_first none = none
 behind_first (leaf token rest) = rest
@@ -59,13 +59,14 @@ abbrev pub deep_in_first : ℕ → Trees → Option Span
 deep_in_first level trees =
     if nat_lt max_level level then place_of_first trees else deep_in_arguments (level + 1) trees
 
--- this says that the first of the terms is too deep, and where
+-- the stop says that the first of the terms is too deep, and where
 abbrev pub IsDeepFirst : Trees → TreeStop → Type 0
 IsDeepFirst trees (NoList span) = ⊥
 IsDeepFirst trees (Deep span) = place_of_first trees ≡ Some span
 IsDeepFirst trees Memory = ⊥
 
--- the first of the terms has this level, and this comes of it where the others are behind it
+-- what reading the first of the terms gives, which has this level and is followed by the other
+-- tokens
 abbrev pub IsFirst : ℕ → Trees → List Token → List Token → Result Tree TreeStop → Type 0
 IsFirst level trees others left (Ok tree) =
     (trees ≡ tree_before tree (behind_first trees)) × (left ≡ others) × (deep_in_first level trees ≡ None)
@@ -73,7 +74,7 @@ IsFirst level trees others left (Err (NoList span)) = ⊥
 IsFirst level trees others left (Err (Deep span)) = deep_in_first level trees ≡ Some span
 IsFirst level trees others left (Err Memory) = Unit {0}
 
--- the terms have this level, and this comes of them where the others are behind them
+-- what reading all terms gives, which have this level and are followed by the other tokens
 abbrev pub AreRead : ℕ → Trees → List Token → List Token → Result (Vec Tree Global) TreeStop → Type 0
 AreRead level trees others left (Ok list) =
     (trees ≡ trees_of list.items) × (left ≡ others) × (first_deep level trees ≡ None)
@@ -81,24 +82,25 @@ AreRead level trees others left (Err (NoList span)) = ⊥
 AreRead level trees others left (Err (Deep span)) = first_deep level trees ≡ Some span
 AreRead level trees others left (Err Memory) = Unit {0}
 
--- whatever terms the tokens are, this says that the first is too deep, and where
+-- whatever terms the tokens are, the stop says that the first is too deep, and where
 abbrev pub FirstIsDeep : List Token → TreeStop → Type 0
 FirstIsDeep tokens stop =
     (trees : Trees) (others : List Token) → IsBefore trees tokens others → IsDeepFirst trees stop
 
--- whatever terms the tokens are, this comes of the first, and these tokens are left
+-- whatever terms the tokens are, reading the first gives this result and leaves these tokens
 abbrev pub ReadsFirst : ℕ → List Token → List Token → Result Tree TreeStop → Type 0
 ReadsFirst level tokens left result =
     (trees : Trees) (others : List Token) → IsBefore trees tokens others
     → IsFirst level trees others left result
 
--- whatever arguments the tokens are up to a `)`, this comes of them, and these tokens are left
+-- whatever arguments the tokens are up to a `)`, reading these gives this result and leaves these
+-- tokens
 abbrev pub ReadsInCall : ℕ → List Token → List Token → Result (Vec Tree Global) TreeStop → Type 0
 ReadsInCall level tokens left result =
     (trees : Trees) (others : List Token) → AreInCall trees tokens others
     → AreRead level trees others left result
 
--- whatever terms the tokens are, this comes of them, and these tokens are left
+-- whatever terms the tokens are, reading all gives this result and leaves these tokens
 abbrev pub ReadsAll : List Token → List Token → Result (Vec Tree Global) TreeStop → Type 0
 ReadsAll tokens left result =
     (trees : Trees) → AreTerms trees tokens → AreRead 1 trees [] left result

@@ -1,4 +1,4 @@
--- For the prover. The steps of a reader of terms, which remembers no more than a place.
+-- For the prover. The steps of a reader of terms, which remembers nothing but a `Place`.
 use Rattle.std.specs.Prelude.{ℕ, ◌+◌, ◌-◌, Bool, false, ◌==◌, if◌then◌else◌, List, Option, Some, None, fold}
 use Rattle.query_tokens.specs.declared.token.Token.{Token}
 use Rattle.query_tokens.specs.declared.token.TokenKind.{TokenKind}
@@ -6,13 +6,13 @@ use Rattle.query_tokens.specs.declared.token.TokenKind.TheVariants.{Word, Number
 use Rattle.query_trees.specs.declared.place.Place.{Place}
 use Rattle.query_trees.specs.declared.place.Place.TheVariants.{AfterTerm, AfterWord, Argument}
 
--- the number that the place has
+-- the number in the place
 abbrev pub calls_of : Place → ℕ
 calls_of (AfterTerm calls) = calls
 calls_of (AfterWord calls) = calls
 calls_of (Argument calls) = calls
 
--- a token where a term has to come, inside of so many calls
+-- the place after a token with which a term begins, inside `calls` calls
 abbrev pub begin : ℕ → TokenKind → Option Place
 begin calls Word = Some (AfterWord calls)
 begin calls Number = Some (AfterTerm calls)
@@ -21,7 +21,7 @@ begin calls Open = None
 begin calls Close = None
 begin calls Comma = None
 
--- a token behind an argument, inside of one call more than this number
+-- the place after a token that comes after an argument, inside one call more than `calls`
 abbrev pub go_on_inside : ℕ → TokenKind → Option Place
 go_on_inside calls Word = None
 go_on_inside calls Number = None
@@ -30,11 +30,11 @@ go_on_inside calls Open = None
 go_on_inside calls Close = Some (AfterTerm calls)
 go_on_inside calls Comma = Some (Argument calls)
 
--- a token behind a term, inside of so many calls
+-- the place after a token that comes after a term, inside `calls` calls
 abbrev pub go_on : ℕ → TokenKind → Option Place
 go_on calls kind = if calls == 0 then begin 0 kind else go_on_inside (calls - 1) kind
 
--- a token behind a word, inside of so many calls
+-- the place after a token that comes after a word, inside `calls` calls
 abbrev pub call_or_go_on : ℕ → TokenKind → Option Place
 call_or_go_on calls Open = Some (Argument calls)
 call_or_go_on calls Word = go_on calls Word
@@ -43,18 +43,18 @@ call_or_go_on calls Text = go_on calls Text
 call_or_go_on calls Close = go_on calls Close
 call_or_go_on calls Comma = go_on calls Comma
 
--- the place behind a token of this kind, where it may come
+-- the place after a token of this kind, if it may come
 abbrev pub step : Place → TokenKind → Option Place
 step (AfterTerm calls) kind = go_on calls kind
 step (AfterWord calls) kind = call_or_go_on calls kind
 step (Argument calls) kind = begin (calls + 1) kind
 
--- the place behind a token, where there still is one
+-- the same, if all tokens before it could come
 abbrev pub behind : Option Place → Token → Option Place
 behind None token = None
 behind (Some place) token = step place token.kind
 
--- the place behind tokens that are read from this place, where they may come
+-- the place after all tokens, if they may come
 abbrev pub walk : Option Place → List Token → Option Place
 walk place tokens = fold behind place tokens
 
@@ -68,7 +68,7 @@ may_end (AfterTerm calls) = calls == 0
 may_end (AfterWord calls) = calls == 0
 may_end (Argument calls) = false
 
--- whether a text may end after such a walk
+-- whether the text may end after such a walk
 abbrev pub ends : Option Place → Bool
 ends None = false
 ends (Some place) = may_end place

@@ -6,7 +6,8 @@ use Rattle.query_trees.specs.declared.stop.TreeStop.TheVariants.{NoList, Deep, M
 use Rattle.query_trees.specs.Terms.{AreTerms, IsNoList}
 use Rattle.query_trees.specs.Trees.{Trees, first_deep}
 
--- the tokens are no list of terms, or they are, and one of these is too deep, each at the place to name
+-- either the tokens are no list of terms, or they are one and a term is too deep; the span is the
+-- place to name
 abbrev pub IsStopAt : List Token → ℕ → TreeStop → Type 0
 IsStopAt tokens end (NoList span) = IsNoList tokens end span
 IsStopAt tokens end (Deep span) =

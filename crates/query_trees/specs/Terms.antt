@@ -9,7 +9,8 @@ use Rattle.query_trees.specs.Trees.{Trees, none, leaf, call}
 abbrev pub IsLeaf : Token → Type 0
 IsLeaf token = (token.kind ≡ Word) ⊎ (token.kind ≡ Number) ⊎ (token.kind ≡ Text)
 
--- the tokens begin with a word, `(`, tokens of which `inside` holds, and `)`, which are at this place; others follow
+-- the tokens begin with a word, `(`, tokens for which `inside` holds, and `)`, which together have
+-- this span; others follow
 pub record Calls (head : Token) (span : Span) (inside : List Token → Type 0) (tokens others : List Token) : Type 0 where
   pub open_ : Token
   pub inner : List Token
@@ -21,7 +22,7 @@ pub record Calls (head : Token) (span : Span) (inside : List Token → Type 0) (
   pub closes : close.kind ≡ Close
   pub place : span ≡ record { from = head.span.from; to = close.span.to }
 
--- behind an argument stands nothing more, or a comma and the arguments behind it
+-- after an argument comes nothing more, or a comma and the further arguments
 abbrev pub AreMore : (List Token → Type 0) → Trees → List Token → Type 0
 AreMore arguments none tokens = tokens ≡ []
 AreMore arguments _ tokens =
@@ -44,11 +45,12 @@ AreTerms (leaf token rest) tokens =
 AreTerms (call head arguments span rest) tokens =
     (others : List Token) × Calls head span (AreArguments arguments) tokens others × AreTerms rest others
 
--- tokens that more tokens make a list of terms
+-- with more tokens, these tokens are a list of terms
 abbrev pub BeginTerms : List Token → Type 0
 BeginTerms tokens = (more : List Token) × (trees : Trees) × AreTerms trees (tokens ++ more)
 
--- this token is the last of the shortest list of leading tokens that begins no list of terms
+-- this is the first token that cannot come: with the tokens before it a list of terms can begin,
+-- but not with it
 pub record IsMisplaced (tokens : List Token) (token : Token) : Type 0 where
   pub front : List Token
   pub rest : List Token
@@ -56,12 +58,13 @@ pub record IsMisplaced (tokens : List Token) (token : Token) : Type 0 where
   pub begins : BeginTerms front
   pub no_more : BeginTerms (front ++ token ∷ []) → ⊥
 
--- the tokens begin a list of terms, and are none
+-- a list of terms can begin with the tokens, but they are none
 pub record IsCutShort (tokens : List Token) : Type 0 where
   pub begins : BeginTerms tokens
   pub no_terms : (trees : Trees) → AreTerms trees tokens → ⊥
 
--- the tokens are no list of terms, and this is the place to name; the text ends at `end`
+-- the tokens are no list of terms, and this is the place to name: the first token that cannot come,
+-- or the end of the text
 abbrev pub IsNoList : List Token → ℕ → Span → Type 0
 IsNoList tokens end span = ((token : Token) × IsMisplaced tokens token × (span ≡ token.span))
     ⊎ (IsCutShort tokens × (span ≡ record { from = end; to = end }))

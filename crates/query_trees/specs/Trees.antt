@@ -5,12 +5,12 @@ use Rattle.language_base.specs.declared.span.Span.{Span}
 use Rattle.query_tokens.specs.declared.token.Token.{Token}
 use Rattle.query_trees.specs.declared.tree.Tree.{Tree, Leaf, Call', Row_of-Tree, end_of-Tree, more_of-Tree}
 
--- a list of terms: none, or a first term and the terms behind it
+-- a list of terms: none, or a first term and the terms after it
 pub data Trees : Type 0 where
   none : Trees
-  -- a word, a number or a string, and the terms behind it
+  -- a word, a number or a string, and the terms after it
   leaf : Token → Trees → Trees
-  -- a word, its arguments, the place of the whole, and the terms behind it
+  -- a word, its arguments, the place of the whole, and the terms after it
   call : Token → Trees → Span → Trees → Trees
 
 abbrev mutual
@@ -34,7 +34,8 @@ abbrev pub first_of_two : Option Span → Option Span → Option Span
 first_of_two (Some span) other = Some span
 first_of_two None other = other
 
--- the place of the first term in text order that is too deep, where the terms themselves have this level
+-- the place of the first term, in the order of the text, that is too deep, where the terms
+-- themselves have this level
 abbrev pub first_deep : ℕ → Trees → Option Span
 first_deep level none = None
 first_deep level (leaf token rest) =

@@ -1,4 +1,4 @@
-//! The trees of tokens that are known to be a list of terms.
+//! Builds the trees of tokens that are known to be a list of terms.
 ghost use Rattle.std.specs.Prelude.{◌≡◌, ◌<◌, [], ◌∷◌, ◌++◌, length, OnOk, IfErr};
 ghost use Rattle.query_trees.specs.Reads.{FirstIsDeep, ReadsFirst, ReadsInCall, ReadsAll};
 ghost use Rattle.query_trees.specs.declared.stop.TreeStop.TheVariants.{Memory};
@@ -61,7 +61,7 @@ impl Reader<'_> {
         }
     }
 
-    /// Where the term at the front is too deep.
+    /// The refusal of the term at the front, which is too deep.
     fn too_deep(&self) -> TreeStop
         ensures { FirstIsDeep self.now.rest.now result }
     {

@@ -1,4 +1,4 @@
-//! The pass over tokens that finds whether they are a list of terms.
+//! Whether tokens are a list of terms, decided in one pass.
 ghost use Rattle.std.specs.Prelude.{IfOk, IfErr};
 ghost use Rattle.query_trees.specs.Terms.{AreTerms, IsNoList};
 ghost use Rattle.query_trees.specs.Trees.{Trees};
@@ -7,7 +7,7 @@ use crate::place::{Place, may_end, step};
 use language_base::Span;
 use query_tokens::Token;
 
-/// The text ends at `end`.
+/// The text ends at `end`, which is the place to name if the last term is not finished.
 pub(crate) fn check(tokens: &[Token], end: u32) -> Result<(), Span>
     ensures terms { IfOk result (λ _. (trees : Trees) × AreTerms trees tokens.now) }
     ensures no_list { IfErr result (IsNoList tokens.now end) }

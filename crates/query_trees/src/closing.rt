@@ -1,4 +1,4 @@
-//! The place of a term by its tokens alone.
+//! The place of a term, found from its tokens alone.
 ghost use Rattle.std.specs.Prelude.{◌≡◌, List};
 ghost use Rattle.query_tokens.specs.declared.token.Token.{Token};
 ghost use Rattle.query_trees.specs.Ends.{closing};
@@ -8,7 +8,7 @@ ghost use Rattle.query_trees.specs.Trees.{Trees};
 use language_base::Span;
 use query_tokens::{Token, TokenKind};
 
-/// The `)` of a call whose arguments and more stand here.
+/// The `)` of a call, where the tokens are those after its `(`.
 fn closing(tokens: &[Token]) -> Option<Token>
     ensures { result ≡ closing tokens.now 0 }
 {

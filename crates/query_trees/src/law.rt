@@ -1,11 +1,11 @@
-//! What tokens are read as.
+//! Tokens have one reading at most.
 ghost use Rattle.std.specs.Prelude.{◌≡◌, ◌⊎◌, ℕ, List};
 ghost use Rattle.language_base.specs.declared.span.Span.{Span};
 ghost use Rattle.query_tokens.specs.declared.token.Token.{Token};
 ghost use Rattle.query_trees.specs.Terms.{AreTerms, IsNoList};
 ghost use Rattle.query_trees.specs.Trees.{Trees};
 
-/// Tokens are one list of terms, or none, and then there is one place to name.
+/// Tokens are exactly one list of terms, or none. If none, there is exactly one place to name.
 pub fn one_list_of_terms()
     ensures some { (tokens : List Token) (end : ℕ) → ((trees : Trees) × AreTerms trees tokens)
         ⊎ ((span : Span) × IsNoList tokens end span) }

@@ -1,21 +1,28 @@
-//! Where a reader of terms stands between two tokens.
+//! What a reader of terms remembers between two tokens. A pass over the tokens needs no more than
+//! this to know which token may come next:
+//!
+//!     f ( 1 , g ( x ) )
+//!      1 2 3 4 5 6 7 8 9
+//!
+//!     1: AfterWord(0)   2: Argument(0)   3: AfterTerm(1)   6: Argument(1)   9: AfterTerm(0)
 ghost use Rattle.std.specs.Prelude.{◌≡◌, ◌+◌, ◌<◌, ◌≤◌, ◌^◌, IfSome};
 ghost use Rattle.query_trees.specs.Steps.{begin, go_on_inside, go_on, call_or_go_on, step, may_end, calls_of};
 
 use query_tokens::TokenKind;
 
-/// What may come next, inside of how many calls.
+/// What comes before this point, with the number of open calls.
 #[derive(Clone, Copy)]
 pub(crate) enum Place {
-    /// At the start, or behind a term.
+    /// At the start, or after a term.
     AfterTerm(usize),
-    /// Behind a word, which may have arguments.
+    /// After a word, which may have arguments.
     AfterWord(usize),
-    /// Where an argument has to come, inside of one call more than this number.
+    /// After a `(` or a comma, so that an argument has to come. One more call is open than the
+    /// number says.
     Argument(usize),
 }
 
-/// Where a term has to come.
+/// The place after a token with which a term begins.
 fn begin(calls: usize, kind: TokenKind) -> Option<Place>
     ensures next { result ≡ begin calls kind }
     ensures few { IfSome result (λ next. calls_of next ≤ calls) }
@@ -27,7 +34,8 @@ fn begin(calls: usize, kind: TokenKind) -> Option<Place>
     }
 }
 
-/// Behind an argument.
+/// The place after a token that comes after an argument. One more call is open than the number
+/// says.
 fn go_on_inside(calls: usize, kind: TokenKind) -> Option<Place>
     ensures next { result ≡ go_on_inside calls kind }
     ensures few { IfSome result (λ next. calls_of next ≤ calls) }
@@ -39,7 +47,7 @@ fn go_on_inside(calls: usize, kind: TokenKind) -> Option<Place>
     }
 }
 
-/// Behind a term.
+/// The place after a token that comes after a term.
 fn go_on(calls: usize, kind: TokenKind) -> Option<Place>
     ensures next { result ≡ go_on calls kind }
     ensures few { IfSome result (λ next. calls_of next ≤ calls + 1) }
@@ -51,7 +59,7 @@ fn go_on(calls: usize, kind: TokenKind) -> Option<Place>
     }
 }
 
-/// Behind a word.
+/// The place after a token that comes after a word.
 fn call_or_go_on(calls: usize, kind: TokenKind) -> Option<Place>
     ensures next { result ≡ call_or_go_on calls kind }
     ensures few { IfSome result (λ next. calls_of next ≤ calls + 1) }
@@ -66,7 +74,7 @@ fn call_or_go_on(calls: usize, kind: TokenKind) -> Option<Place>
     }
 }
 
-/// The place behind a token of this kind, where it may come.
+/// The place after a token of this kind, if it may come.
 pub(crate) fn step(place: Place, kind: TokenKind) -> Option<Place>
     requires few { calls_of place < 2 ^ 63 }
     ensures next { result ≡ step place kind }

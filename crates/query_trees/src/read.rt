@@ -1,4 +1,4 @@
-//! The call that reads trees.
+//! Reads the terms of a query text.
 ghost use Rattle.std.specs.Prelude.{◌≡◌, None, IfOk, IfErr};
 ghost use Rattle.query_trees.specs.Stops.{IsStopAt};
 ghost use Rattle.query_trees.specs.Terms.{AreTerms};

@@ -1,12 +1,12 @@
-//! Why no trees are read.
+//! Why trees cannot be read.
 use language_base::Span;
 use std::alloc::AllocError;
 
 #[derive(Debug, Drop)]
 pub enum TreeStop {
-    /// The tokens are no list of terms.
+    /// The tokens are not a list of terms.
     NoList(Span),
-    /// This term is too deep inside others.
+    /// This term is nested too deeply.
     Deep(Span),
     Memory,
 }

@@ -6,7 +6,7 @@ use query_tokens::Token;
 #[derive(Drop)]
 pub enum Tree {
     Leaf(Token),
-    /// The word, the arguments, of which there is at least one, and the place from the word to the `)`.
+    /// The word, one argument or more, and the place of the whole: from the word to the `)`.
     Call(Token, Vec<Tree>, Span),
 }
 
