@@ -18,7 +18,7 @@ mod spoil;
 mod stop;
 mod tally;
 mod texts;
-mod told;
+mod transcripts;
 
 use crate::hostile::case::Case;
 use crate::hostile::draft::case_of;

@@ -9,7 +9,7 @@ mod refusal;
 mod run;
 mod stop;
 mod table;
-mod told;
+mod transcripts;
 mod trees;
 mod verdict;
 

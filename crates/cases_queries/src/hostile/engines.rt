@@ -7,7 +7,7 @@ use crate::hostile::answers::Answers;
 use crate::hostile::bound::bound_of;
 use crate::hostile::kept::Bound;
 use crate::hostile::stop::{Finding, Stop};
-use crate::hostile::told::{Told, told_by};
+use crate::hostile::transcripts::{Told, told_by};
 use eval_runner::Runner;
 use query_model::Checked;
 use slow_eval::Slow;

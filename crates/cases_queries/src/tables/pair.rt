@@ -1,7 +1,7 @@
 //! Both engines on one word.
 
 use crate::tables::stop::Stop;
-use crate::tables::told::{Told, told_by};
+use crate::tables::transcripts::{Told, told_by};
 use eval_runner::Runner;
 use memory_bound::slots;
 use query_model::Checked;

@@ -1,16 +1,12 @@
 use Rattle.std.proofs.Common.{◌≤◌, ◌+◌}
 use Rattle.sqre_run.specs.Sessions.{IsReady}
-use Rattle.cases_queries.proofs.hostile.told.told_by.Given as goal
+use Rattle.cases_queries.proofs.tables.transcripts.told_by.Given as goal
 
 -- the engine can go on, and has taken no more items than are counted
-abbrev pub invariant-lines : goal.invariant-lines
-invariant-lines g l =
+abbrev pub invariant-items : goal.invariant-items
+invariant-items g l =
     let f = g.F.Follower in
     record {
       ready : IsReady f.query f.columns f.lost f.sound l.session;
       count : f.position l.session.follower + l.left ≤ 1000;
     }
-
--- each turn takes a line
-abbrev pub decreases-lines : goal.decreases-lines
-decreases-lines g l = l.left
