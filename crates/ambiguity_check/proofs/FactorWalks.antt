@@ -16,7 +16,7 @@ use Rattle.rate_expr.proofs.Wording.{word_parts, comparable}
 use Rattle.ambiguity_check.specs.declared.graph.Node.{Node}
 use Rattle.ambiguity_check.specs.declared.graph.Phase.TheVariants.{Together, Parted}
 use Rattle.ambiguity_check.specs.Factorings.{BeginsFactors, Factors, EndsFactors}
-use Rattle.ambiguity_check.specs.Lengths.{TwoFactoringsOf, EndsBehind}
+use Rattle.ambiguity_check.specs.Lengths.{TwoFactoringsOf, EndsAfter}
 use Rattle.ambiguity_check.specs.Marked.{IsMarked, AreReached}
 use Rattle.ambiguity_check.specs.Meetings.{AreMeetings}
 use Rattle.ambiguity_check.specs.Overlaps.{IsInRows}
@@ -53,7 +53,7 @@ module _ (columns : List Column) (sets : Sets) (rows : List ℕ)
   -- a walk of so many items leads to an end
   abbrev pub EndWalk : ℕ → Type 0
   EndWalk items =
-      EndsBehind (BeginsFactors sets) (Factors sets) (IsInRows rows) (EndsFactors sets) items
+      EndsAfter (BeginsFactors sets) (Factors sets) (IsInRows rows) (EndsFactors sets) items
 
   -- one of at most so many items does
   abbrev pub ShortWalk : ℕ → Type 0

@@ -28,14 +28,14 @@ module _ (leads : ℕ → ℕ → Type 0) (mask : ℕ) where
   pub gathered_next : (rest found low after more : ℕ) → AreGathered rest found → IsLowest rest low
       → ((place : ℕ) → Has after place ↔ (Has rest place × (IsLowest rest place → ⊥)))
       → ((next : ℕ) → Has more next ↔ leads low next) → AreGathered after (bit_or found more)
-  gathered_next rest found low after more so_far lowest exact behind = record {
+  gathered_next rest found low after more so_far lowest exact leads_on = record {
     kept = λ from has. so_far.kept from ((exact from).0 has).0;
     sound = λ next has. ⊎_elim (λ was. so_far.sound next was)
-        (λ new. (low, so_far.kept low lowest.has, (behind next).0 new)) (has_or found more next has);
+        (λ new. (low, so_far.kept low lowest.has, (leads_on next).0 new)) (has_or found more next has);
     whole = λ from next has leads'. ⊎_elim
         (λ waits. elim (cases_eq from low) [
           | inl here ↦ inr (has_second found more next
-              ((behind next).1 (subst (λ (p : ℕ). leads p next) here leads')))
+              ((leads_on next).1 (subst (λ (p : ℕ). leads p next) here leads')))
           | inr differ ↦ inl ((exact from).1
               (waits, λ also. differ (one_lowest rest low from lowest also)))
         ])

@@ -11,7 +11,7 @@ use Rattle.rate_expr.proofs.PathSteps.{leads_one, leads_more}
 use Rattle.rate_expr.proofs.Wording.{word_more}
 use Rattle.ambiguity_check.specs.declared.graph.Node.{Node}
 use Rattle.ambiguity_check.specs.declared.graph.Phase.TheVariants.{Together}
-use Rattle.ambiguity_check.specs.Lengths.{OverlapOf, EndsBehind}
+use Rattle.ambiguity_check.specs.Lengths.{OverlapOf, EndsAfter}
 use Rattle.ambiguity_check.specs.Marked.{IsMarked, AreReached}
 use Rattle.ambiguity_check.specs.Meetings.{AreMeetings}
 use Rattle.ambiguity_check.specs.Overlaps.{BeginsBoth, FollowsBoth, IsInRows, EndsBoth}
@@ -84,7 +84,7 @@ module _ (columns : List Column) (first second : Sets) (rows : List ℕ)
 
   -- a walk of so many items leads to an end of both
   abbrev EndWalk : ℕ → Type 0
-  EndWalk items = EndsBehind (BeginsBoth first second) (FollowsBoth first second) (IsInRows rows)
+  EndWalk items = EndsAfter (BeginsBoth first second) (FollowsBoth first second) (IsInRows rows)
       (EndsBoth first second) items
 
   module _ (r s : Expression) (of_r : AreOf first r) (of_s : AreOf second s) where

@@ -7,7 +7,7 @@ use Rattle.ambiguity_check.specs.declared.graph.Moves.{Moves}
 use Rattle.ambiguity_check.specs.declared.graph.Node.{Node}
 use Rattle.ambiguity_check.specs.Walks.{IsIn, IsWalk, at_once, later}
 use Rattle.ambiguity_check.specs.Marked.{row_of, IsMarked, AreReached}
-use Rattle.ambiguity_check.specs.Found.{AreFound, IsBehind}
+use Rattle.ambiguity_check.specs.Found.{AreFound, IsAfter}
 use Rattle.ambiguity_check.specs.Levels.{Searched, IsShortest, IsLevel}
 use Rattle.ambiguity_check.proofs.Marking.{marked_sum}
 use Rattle.ambiguity_check.proofs.Walking.{walk_some, walk_cases}
@@ -61,7 +61,7 @@ module _ (begins : Node → Type 0) (goes_on : Node → Node → Type 0) (meet :
 
   module _ (items : ℕ) (old : Searched) (level : Level items old) where
     -- a node that is not seen and is behind the level has a shortest walk of one item more
-    new_walk : (node : Node) → IsBehind goes_on meet old.latest node → (IsMarked old.seen node → ⊥)
+    new_walk : (node : Node) → IsAfter goes_on meet old.latest node → (IsMarked old.seen node → ⊥)
         → IsShortest begins goes_on meet (items + 1) node
     new_walk node (before, marked, goes, met) new = record {
       walk = later items before node ((level.latest before).0 marked).walk goes met;
@@ -69,9 +69,9 @@ module _ (begins : Node → Type 0) (goes_on : Node → Node → Type 0) (meet :
     }
 
     -- and each node with such a walk is behind the level
-    behind_level : (node : Node) → IsShortest begins goes_on meet (items + 1) node
-        → IsBehind goes_on meet old.latest node
-    behind_level node shortest = ⊎_elim
+    after_level : (node : Node) → IsShortest begins goes_on meet (items + 1) node
+        → IsAfter goes_on meet old.latest node
+    after_level node shortest = ⊎_elim
         (λ first. let begun = level.begun in absurd (omega (arith, first.0)))
         (λ more.
         let same : more.0 ≡ items = omega (arith, more.2) in
@@ -89,7 +89,7 @@ module _ (begins : Node → Type 0) (goes_on : Node → Node → Type 0) (meet :
 
     -- behind one more item
     pub level_advances : (clear seen latest : List ℕ) → sum clear ≡ 0
-        → AreFound (IsBehind goes_on meet old.latest) old.seen clear seen latest
+        → AreFound (IsAfter goes_on meet old.latest) old.seen clear seen latest
         → Level (items + 1) (record { seen = seen; latest = latest })
     level_advances clear seen latest none found = record {
       begun = omega arith;
@@ -108,7 +108,7 @@ module _ (begins : Node → Type 0) (goes_on : Node → Node → Type 0) (meet :
         λ shortest. ⊎_elim
             (λ was. let some = (level.seen node).0 was in
             absurd (shortest.none some.0 (above some.0 some.1) some.2))
-            (λ new. new.1) (found.only node (found.marked node (behind_level node shortest))),
+            (λ new. new.1) (found.only node (found.marked node (after_level node shortest))),
       );
     }
       where
@@ -124,14 +124,14 @@ module _ (begins : Node → Type 0) (goes_on : Node → Node → Type 0) (meet :
         between : (n : ℕ) → n ≤ items + 1 → items + 1 ≤ n → n ≡ items + 1
         between n le ge = omega arith
 
-        new_level : (node : Node) → IsBehind goes_on meet old.latest node → Walk (items + 1) node
+        new_level : (node : Node) → IsAfter goes_on meet old.latest node → Walk (items + 1) node
         new_level node (before, marked, goes, met) =
             later items before node ((level.latest before).0 marked).walk goes met
 
         by_one_more : (node : Node) → Walk (items + 1) node → IsMarked seen node
         by_one_more node walk = elim (in_or_not old.seen node) [
           | inl was ↦ found.kept node was
-          | inr new ↦ found.marked node (behind_level node (record {
+          | inr new ↦ found.marked node (after_level node (record {
             walk = walk;
             none = λ fewer less walk'. new ((level.seen node).1 (fewer, at_most fewer less, walk'));
           }))

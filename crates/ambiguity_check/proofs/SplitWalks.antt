@@ -14,7 +14,7 @@ use Rattle.rate_expr.proofs.Wording.{word_parts, comparable}
 use Rattle.ambiguity_check.specs.declared.graph.Node.{Node}
 use Rattle.ambiguity_check.specs.declared.graph.Phase.{Phase}
 use Rattle.ambiguity_check.specs.declared.graph.Phase.TheVariants.{Together, Parted, Rejoined}
-use Rattle.ambiguity_check.specs.Lengths.{TwoSplitsOf, EndsBehind}
+use Rattle.ambiguity_check.specs.Lengths.{TwoSplitsOf, EndsAfter}
 use Rattle.ambiguity_check.specs.Marked.{IsMarked, AreReached}
 use Rattle.ambiguity_check.specs.Meetings.{AreMeetings}
 use Rattle.ambiguity_check.specs.Splits.{left_of, right_of, BeginsSplits, GoesOn, EndsSplits, MeetIn, rows_in}
@@ -38,7 +38,7 @@ module _ (columns : List Column) (first second : Sets) (together parted rejoined
 
   -- a walk of so many items leads to an end
   abbrev EndWalk : ℕ → Type 0
-  EndWalk items = EndsBehind (BeginsSplits first second) (GoesOn first second)
+  EndWalk items = EndsAfter (BeginsSplits first second) (GoesOn first second)
       (MeetIn together parted rejoined) (EndsSplits first second) items
 
   -- a walk goes on in a phase along a word

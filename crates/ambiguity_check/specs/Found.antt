@@ -16,11 +16,11 @@ pub record AreFound (nodes : Node → Type 0) (seen next seen' next' : List ℕ)
   pub fewer : room seen' + sum next' ≤ room seen + sum next
 
 -- one more item may lead to the node from some node of the level
-abbrev pub IsBehind : (Node → Node → Type 0) → (Node → Type 0) → List ℕ → Node → Type 0
-IsBehind goes_on meet level node =
+abbrev pub IsAfter : (Node → Node → Type 0) → (Node → Type 0) → List ℕ → Node → Type 0
+IsAfter goes_on meet level node =
     (before : Node) × IsMarked level before × goes_on before node × meet node
 
 -- the same from some node of the level in this phase
-abbrev pub IsBehindPhase : (Node → Node → Type 0) → (Node → Type 0) → List ℕ → Phase → Node → Type 0
-IsBehindPhase goes_on meet level phase node =
+abbrev pub IsAfterPhase : (Node → Node → Type 0) → (Node → Type 0) → List ℕ → Phase → Node → Type 0
+IsAfterPhase goes_on meet level phase node =
     (before : Node) × (before.phase ≡ phase) × IsMarked level before × goes_on before node × meet node

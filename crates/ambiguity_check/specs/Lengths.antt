@@ -20,7 +20,7 @@ abbrev pub TwoFactoringsOf : List Column → Expression → ℕ → Type 0
 TwoFactoringsOf columns r items = (two : HasTwoFactorings columns r) × (length (join two.us) ≡ items)
 
 -- a walk of `items` items leads to an end
-abbrev pub EndsBehind : (Node → Type 0) → (Node → Node → Type 0) → (Node → Type 0)
+abbrev pub EndsAfter : (Node → Type 0) → (Node → Node → Type 0) → (Node → Type 0)
     → (Node → Type 0) → ℕ → Type 0
-EndsBehind begins goes_on meet ends items =
+EndsAfter begins goes_on meet ends items =
     (node : Node) × IsWalk begins goes_on meet items node × ends node

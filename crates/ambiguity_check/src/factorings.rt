@@ -8,7 +8,7 @@ ghost use Rattle.ambiguity_check.specs.Meetings.{AreMeetings};
 use crate::graph::{Graph, Move, Moves, Phase};
 use crate::meetings::meetings;
 use crate::reach::reach;
-use crate::readings::{all_behind, all_onward, behind, onward, row};
+use crate::readings::{after, all_after, all_onward, onward, row};
 use rate_expr::Positions;
 use rate_expr::masks::has;
 use std::alloc::{AllocError, Global};
@@ -83,13 +83,13 @@ impl Graph for Factorings<'_> {
             Phase::Together => Moves {
                 stay: Move {
                     phase: Phase::Together,
-                    left: behind(self.positions, left),
-                    right: all_behind(self.positions, rights),
+                    left: after(self.positions, left),
+                    right: all_after(self.positions, rights),
                 },
                 turn: has(self.positions.last(), left).then_some(Move {
                     phase: Phase::Parted,
                     left: self.positions.first(),
-                    right: all_behind(self.positions, rights),
+                    right: all_after(self.positions, rights),
                 }),
             },
             Phase::Parted | Phase::Rejoined => Moves {

@@ -5,7 +5,7 @@ ghost use Rattle.rate_expr.specs.Paths.{AreOf};
 ghost use Rattle.rate_expr.specs.Rates.{Expression};
 ghost use Rattle.rate_expr.specs.Sets.{Sets};
 ghost use Rattle.ambiguity_check.specs.Factorings.{BeginsFactors, Factors, EndsFactors};
-ghost use Rattle.ambiguity_check.specs.Lengths.{EndsBehind, OverlapOf, TwoSplitsOf, TwoFactoringsOf};
+ghost use Rattle.ambiguity_check.specs.Lengths.{EndsAfter, OverlapOf, TwoSplitsOf, TwoFactoringsOf};
 ghost use Rattle.ambiguity_check.specs.declared.graph.Node.{Node};
 ghost use Rattle.ambiguity_check.specs.Levels.{Searched, IsLevel};
 ghost use Rattle.ambiguity_check.specs.Marked.{IsMarked, AreReached};
@@ -16,7 +16,7 @@ ghost use Rattle.ambiguity_check.specs.Splits.{AreRows, BeginsSplits, GoesOn, Me
 use crate::graph::Graph;
 
 /// Once a level is empty, all nodes to which walks lead are seen.
-pub fn all_are_seen_behind_an_empty_level<G: Graph>(graph: &G)
+pub fn all_are_seen_after_an_empty_level<G: Graph>(graph: &G)
     ensures { (items : ℕ) (search : Searched)
         → IsLevel (G.begins graph.now) (G.goes_on graph.now) (G.meet graph.now) items search
         → ((node : Node) → IsMarked search.latest node → ⊥)
@@ -30,13 +30,13 @@ pub fn overlaps_are_walks()
     ensures sound { (columns : List Column) (first second : Sets) (rows : List ℕ)
         → AreMeetings columns first second rows
         → (r s : Expression) → AreOf first r → AreOf second s → (items : ℕ)
-        → EndsBehind (BeginsBoth first second) (FollowsBoth first second) (IsInRows rows)
+        → EndsAfter (BeginsBoth first second) (FollowsBoth first second) (IsInRows rows)
         (EndsBoth first second) items → OverlapOf columns r s items }
     ensures whole { (columns : List Column) (first second : Sets) (rows : List ℕ)
         → AreMeetings columns first second rows
         → (r s : Expression) → AreOf first r → AreOf second s → (items : ℕ) → 0 < items
         → OverlapOf columns r s items
-        → EndsBehind (BeginsBoth first second) (FollowsBoth first second) (IsInRows rows)
+        → EndsAfter (BeginsBoth first second) (FollowsBoth first second) (IsInRows rows)
         (EndsBoth first second) items }
 {}
 
@@ -45,14 +45,14 @@ pub fn two_splits_are_walks()
     ensures sound { (columns : List Column) (first second : Sets) (together parted rejoined : List ℕ)
         → AreRows columns first second together parted rejoined
         → (r s : Expression) → AreOf first r → AreOf second s → (items : ℕ)
-        → EndsBehind (BeginsSplits first second) (GoesOn first second)
+        → EndsAfter (BeginsSplits first second) (GoesOn first second)
         (MeetIn together parted rejoined) (EndsSplits first second) items
         → TwoSplitsOf columns r s items }
     ensures whole { (columns : List Column) (first second : Sets) (together parted rejoined : List ℕ)
         → AreRows columns first second together parted rejoined
         → (r s : Expression) → AreOf first r → AreOf second s → (items : ℕ)
         → TwoSplitsOf columns r s items
-        → EndsBehind (BeginsSplits first second) (GoesOn first second)
+        → EndsAfter (BeginsSplits first second) (GoesOn first second)
         (MeetIn together parted rejoined) (EndsSplits first second) items }
 {}
 
@@ -61,11 +61,11 @@ pub fn two_splits_are_walks()
 pub fn two_factorings_are_walks()
     ensures sound { (columns : List Column) (sets : Sets) (rows : List ℕ)
         → AreMeetings columns sets sets rows → (r : Expression) → AreOf sets r → (items : ℕ)
-        → EndsBehind (BeginsFactors sets) (Factors sets) (IsInRows rows) (EndsFactors sets) items
+        → EndsAfter (BeginsFactors sets) (Factors sets) (IsInRows rows) (EndsFactors sets) items
         → TwoFactoringsOf columns r items }
     ensures whole { (columns : List Column) (sets : Sets) (rows : List ℕ)
         → AreMeetings columns sets sets rows → (r : Expression) → AreOf sets r
         → (sets.nullable ≡ true → ⊥) → (items : ℕ) → TwoFactoringsOf columns r items
         → (some : ℕ) × (some ≤ items)
-        × EndsBehind (BeginsFactors sets) (Factors sets) (IsInRows rows) (EndsFactors sets) some }
+        × EndsAfter (BeginsFactors sets) (Factors sets) (IsInRows rows) (EndsFactors sets) some }
 {}

@@ -16,7 +16,7 @@ mod splits;
 pub use factorings::{Factorings, one_factoring};
 pub use graph::{Graph, Move, Moves, Node, Phase};
 pub use laws::{
-    all_are_seen_behind_an_empty_level, overlaps_are_walks, two_factorings_are_walks,
+    all_are_seen_after_an_empty_level, overlaps_are_walks, two_factorings_are_walks,
     two_splits_are_walks,
 };
 pub use marks::Marks;

@@ -8,7 +8,7 @@ ghost use Rattle.ambiguity_check.specs.Meetings.{AreMeetings};
 use crate::graph::{Graph, Move, Moves, Phase};
 use crate::meetings::meetings;
 use crate::reach::reach;
-use crate::readings::{all_behind, behind, row};
+use crate::readings::{after, all_after, row};
 use rate_expr::Positions;
 use std::alloc::{AllocError, Global};
 use symbolic_nfa::Nfa;
@@ -86,8 +86,8 @@ impl Graph for Pairs<'_> {
         Moves {
             stay: Move {
                 phase: Phase::Together,
-                left: behind(self.first, left),
-                right: all_behind(self.second, rights),
+                left: after(self.first, left),
+                right: all_after(self.second, rights),
             },
             turn: None,
         }

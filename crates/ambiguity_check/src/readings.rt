@@ -8,7 +8,7 @@ use rate_expr::Positions;
 use rate_expr::masks::{has, lowest, overlap, without_lowest};
 
 /// The positions that may follow a position.
-pub(crate) fn behind(positions: &Positions, position: u32) -> u128
+pub(crate) fn after(positions: &Positions, position: u32) -> u128
     ensures { (next : ℕ) → Has result next ↔ Follows positions.now position next }
 {
     if position < positions.count() {
@@ -19,14 +19,14 @@ pub(crate) fn behind(positions: &Positions, position: u32) -> u128
 }
 
 /// The positions that may follow some position of the mask.
-pub(crate) fn all_behind(positions: &Positions, mask: u128) -> u128
+pub(crate) fn all_after(positions: &Positions, mask: u128) -> u128
     ensures { (next : ℕ) → Has result next
         ↔ ((from : ℕ) × Has mask from × Follows positions.now from next) }
 {
     let mut found = 0;
     let mut rest = mask;
     'positions: while rest != 0 {
-        found |= behind(positions, lowest(rest));
+        found |= after(positions, lowest(rest));
         rest = without_lowest(rest);
     }
     found
@@ -43,7 +43,7 @@ pub(crate) fn row(rows: &[u128], place: u32) -> u128
 pub(crate) fn onward(positions: &Positions, position: u32) -> u128
     ensures { (next : ℕ) → Has result next ↔ GoesOnward positions.now position next }
 {
-    let within = behind(positions, position);
+    let within = after(positions, position);
     if has(positions.last(), position) {
         within | positions.first()
     } else {
@@ -56,7 +56,7 @@ pub(crate) fn all_onward(positions: &Positions, mask: u128) -> u128
     ensures { (next : ℕ) → Has result next
         ↔ ((from : ℕ) × Has mask from × GoesOnward positions.now from next) }
 {
-    let followers = all_behind(positions, mask);
+    let followers = all_after(positions, mask);
     if overlap(mask, positions.last()) {
         followers | positions.first()
     } else {

@@ -13,7 +13,7 @@ use crate::graph::{Graph, Move, Moves, Phase};
 use crate::marks::Marks;
 use crate::meetings::meetings;
 use crate::reach::reach;
-use crate::readings::{all_behind, behind, row};
+use crate::readings::{after, all_after, row};
 use rate_expr::Positions;
 use rate_expr::masks::{has, overlap};
 use std::alloc::{AllocError, Global};
@@ -94,11 +94,11 @@ impl Splits<'_> {
             Phase::Together => has(self.first.last(), left).then_some(Move {
                 phase: Phase::Parted,
                 left: self.second.first(),
-                right: all_behind(self.first, rights),
+                right: all_after(self.first, rights),
             }),
             Phase::Parted => overlap(rights, self.first.last()).then_some(Move {
                 phase: Phase::Rejoined,
-                left: behind(self.second, left),
+                left: after(self.second, left),
                 right: self.second.first(),
             }),
             Phase::Rejoined => None,
@@ -156,8 +156,8 @@ impl Graph for Splits<'_> {
         Moves {
             stay: Move {
                 phase,
-                left: behind(self.left(phase), left),
-                right: all_behind(self.right(phase), rights),
+                left: after(self.left(phase), left),
+                right: all_after(self.right(phase), rights),
             },
             turn: self.turn(phase, left, rights),
         }

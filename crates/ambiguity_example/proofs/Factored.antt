@@ -16,7 +16,7 @@ use Rattle.ambiguity_check.specs.declared.graph.Node.{Node}
 use Rattle.ambiguity_check.specs.declared.graph.Phase.{Phase}
 use Rattle.ambiguity_check.specs.declared.graph.Phase.TheVariants.{Together, Parted, Rejoined}
 use Rattle.ambiguity_check.specs.Factorings.{BeginsFactors, Factors, FactorsOn, EndsFactors}
-use Rattle.ambiguity_check.specs.Lengths.{EndsBehind}
+use Rattle.ambiguity_check.specs.Lengths.{EndsAfter}
 use Rattle.ambiguity_check.specs.Meetings.{AreMeetings}
 use Rattle.ambiguity_check.specs.Overlaps.{IsInRows}
 use Rattle.ambiguity_example.proofs.MetItems.{all_meet_long, all_meet_word}
@@ -258,7 +258,7 @@ module _ (columns : List Column) (sets : Sets) (rows : List ℕ) (ends : Node �
 
     -- a walk of so many items leads to an end
     abbrev pub EndWalk : ℕ → Type 0
-    EndWalk items = EndsBehind (BeginsFactors sets) (Factors sets) (IsInRows rows) ends items
+    EndWalk items = EndsAfter (BeginsFactors sets) (Factors sets) (IsInRows rows) ends items
 
     module _ (are : AreMeetings columns sets sets rows) (not_empty : sets.nullable ≡ true → ⊥) where
       -- where there is none, no word has two factorings

@@ -15,7 +15,7 @@ use Rattle.ambiguity_check.proofs.SplitWalks.{splits_walks, same_split}
 use Rattle.ambiguity_check.specs.declared.graph.Node.{Node}
 use Rattle.ambiguity_check.specs.declared.graph.Phase.{Phase}
 use Rattle.ambiguity_check.specs.declared.graph.Phase.TheVariants.{Together, Parted, Rejoined}
-use Rattle.ambiguity_check.specs.Lengths.{EndsBehind}
+use Rattle.ambiguity_check.specs.Lengths.{EndsAfter}
 use Rattle.ambiguity_check.specs.Splits.{left_of, right_of, BeginsSplits, GoesOn, EndsSplits, MeetIn, AreRows}
 use Rattle.ambiguity_example.proofs.Halves.{InBoth, splits_shown}
 use Rattle.ambiguity_example.proofs.MetItems.{all_meet_long, all_meet_word}
@@ -324,7 +324,7 @@ module _ (columns : List Column) (first second : Sets) (together parted rejoined
 
     -- a walk of so many items leads to an end
     abbrev pub EndWalk : ℕ → Type 0
-    EndWalk items = EndsBehind (BeginsSplits first second) (GoesOn first second)
+    EndWalk items = EndsAfter (BeginsSplits first second) (GoesOn first second)
         (MeetIn together parted rejoined) ends items
 
     module _ (are : AreRows columns first second together parted rejoined) where

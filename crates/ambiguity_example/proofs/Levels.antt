@@ -6,7 +6,7 @@ use Rattle.std.specs.List.{Contains}
 use Rattle.ambiguity_check.proofs.Searches.{level_over}
 use Rattle.ambiguity_check.proofs.Walking.{walk_some}
 use Rattle.ambiguity_check.specs.declared.graph.Node.{Node}
-use Rattle.ambiguity_check.specs.Lengths.{EndsBehind}
+use Rattle.ambiguity_check.specs.Lengths.{EndsAfter}
 use Rattle.ambiguity_check.specs.Levels.{Searched, IsShortest, IsLevel}
 use Rattle.ambiguity_check.specs.Marked.{IsMarked}
 use Rattle.ambiguity_check.specs.Walks.{IsWalk}
@@ -98,7 +98,7 @@ module _ (begins : Node → Type 0) (goes_on : Node → Node → Type 0) (meet :
   module _ (ends : Node → Type 0) where
     -- no walk of fewer items leads to an end
     abbrev pub NoneBelow : ℕ → Type 0
-    NoneBelow items = (fewer : ℕ) → fewer < items → EndsBehind begins goes_on meet ends fewer → ⊥
+    NoneBelow items = (fewer : ℕ) → fewer < items → EndsAfter begins goes_on meet ends fewer → ⊥
 
     -- then an end of a walk of so many items is in the level
     end_latest : (items : ℕ) (search : Searched) → IsLevel begins goes_on meet items search
@@ -125,7 +125,7 @@ module _ (begins : Node → Type 0) (goes_on : Node → Node → Type 0) (meet :
     -- where a level is empty, no walk leads to an end
     pub none_ever : (items : ℕ) (search : Searched) → IsLevel begins goes_on meet items search
         → NoneBelow items → ((node : Node) → IsMarked search.latest node → ⊥)
-        → (any : ℕ) → EndsBehind begins goes_on meet ends any → ⊥
+        → (any : ℕ) → EndsAfter begins goes_on meet ends any → ⊥
     none_ever items search level none empty any (node, walk, ended) =
         let seen = (level_over begins goes_on meet items search level empty node).1 (any, walk) in
         let some = (level.seen node).0 seen in

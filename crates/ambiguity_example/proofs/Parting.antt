@@ -91,18 +91,18 @@ module _ (rate : Expression) where
   pub piece_on : (at : ℕ) (word : Word) (cut : ℕ) (cuts : List ℕ) (front rest : Word)
       → front ≡ take (cut - at) word → rest ≡ drop (cut - at) word
       → PartsFrom rate at word (cut ∷ cuts) → PartsFrom rate cut rest cuts
-  piece_on at word cut cuts front rest here behind from =
-      subst (λ w. PartsFrom rate cut w cuts) (sym behind) from.3
+  piece_on at word cut cuts front rest here after from =
+      subst (λ w. PartsFrom rate cut w cuts) (sym after) from.3
 
   pub piece_back : (at : ℕ) (word : Word) (cut : ℕ) (cuts : List ℕ) (front rest : Word)
       → front ≡ take (cut - at) word → rest ≡ drop (cut - at) word → at ≤ cut
       → cut - at ≤ length word → In rate front
       → PartsFrom rate cut rest cuts → PartsFrom rate at word (cut ∷ cuts)
-  piece_back at word cut cuts front rest here behind below within in_rate from = (
+  piece_back at word cut cuts front rest here after below within in_rate from = (
     below,
     within,
     subst (In rate) here in_rate,
-    subst (λ w. PartsFrom rate cut w cuts) behind from,
+    subst (λ w. PartsFrom rate cut w cuts) after from,
   )
 
   -- the same, by where the cut is

@@ -8,13 +8,13 @@ use Rattle.item_schema.specs.declared.column.Column.{Column}
 use Rattle.item_schema.specs.Items.{IsItemOf}
 use Rattle.predicate_cells.specs.Cells.{IsIn, cell_of}
 use Rattle.rate_expr.proofs.Wording.{word_parts}
-use Rattle.rate_expr.specs.Behind.{IsBehind}
+use Rattle.rate_expr.specs.After.{IsAfter}
 use Rattle.rate_expr.specs.Language.{In}
 use Rattle.rate_expr.specs.Paths.{AreOf}
 use Rattle.rate_expr.specs.Rates.{Expression}
 use Rattle.rate_expr.specs.Words.{Word, IsWordOf}
 use Rattle.rate_expr.specs.declared.state.State.{State}
-use Rattle.symbolic_nfa.proofs.WordsBehind.{is_behind-step, is_accepted-in}
+use Rattle.symbolic_nfa.proofs.WordsAfter.{is_after-step, is_accepted-in}
 use Rattle.symbolic_nfa.specs.Automata.{Automaton}
 use Rattle.symbolic_nfa.specs.States.{Steps, IsAccepted}
 use Rattle.ambiguity_example.proofs.Deciding.{decides}
@@ -41,25 +41,25 @@ word_rest columns word count is = (word_parts columns (take count word) (drop co
 -- the state after one more item
 pub read_on : (nfa : Automaton) (items : Word) (at : ℕ) (item : List Field) (cell : ℕ) (state next : State)
     → IsWordOf nfa.cells.layout.columns items → at < length items → item ≡ get_or items at item
-    → cell ≡ cell_of nfa.cells item → IsBehind nfa.sets (take at items) state
+    → cell ≡ cell_of nfa.cells item → IsAfter nfa.sets (take at items) state
     → ((x : List Field) → IsIn nfa.cells cell x → Steps nfa.sets state x next)
-    → IsBehind nfa.sets (take (at + 1) items) next
-read_on nfa items at item cell state next is below here in_cell behind steps =
+    → IsAfter nfa.sets (take (at + 1) items) next
+read_on nfa items at item cell state next is below here in_cell after steps =
     let one : IsItemOf nfa.cells.layout.columns item =
     subst (IsItemOf nfa.cells.layout.columns) (sym here)
     (word_at nfa.cells.layout.columns items at item is below) in
     let more : take (at + 1) items ≡ take at items ++ item ∷ [] =
     take_more items at item below ∙ ap (λ x. take at items ++ x ∷ []) (sym here) in
-    subst (λ w. IsBehind nfa.sets w next) (sym more)
-    (is_behind-step nfa.sets (take at items) state next item behind (steps item (one, sym in_cell)))
+    subst (λ w. IsAfter nfa.sets w next) (sym more)
+    (is_after-step nfa.sets (take at items) state next item after (steps item (one, sym in_cell)))
 
 -- the state after all items decides whether they are a word of the rate
 pub read_all : (nfa : Automaton) (items : Word) (at : ℕ) (state : State) (accepted : Bool) (rate : Expression)
-    → at ≤ length items → length items ≤ at → IsBehind nfa.sets (take at items) state
+    → at ≤ length items → length items ≤ at → IsAfter nfa.sets (take at items) state
     → AreOf nfa.sets rate → IsTrue accepted ↔ IsAccepted nfa.sets state
     → MatchBool accepted (In rate items) (In rate items → ⊥)
-read_all nfa items at state accepted rate le ge behind are tells =
+read_all nfa items at state accepted rate le ge after are tells =
     let end : at ≡ length items = omega arith in
     let all : take at items ≡ items = ap (λ (n : ℕ). take n items) end ∙ take-length items in
     decides accepted (IsAccepted nfa.sets state) (In rate items) tells
-    (is_accepted-in nfa.sets rate items state are (subst (λ w. IsBehind nfa.sets w state) all behind))
+    (is_accepted-in nfa.sets rate items state are (subst (λ w. IsAfter nfa.sets w state) all after))

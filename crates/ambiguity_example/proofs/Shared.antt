@@ -10,7 +10,7 @@ use Rattle.rate_expr.specs.Sets.{Sets, Has}
 use Rattle.rate_expr.specs.Words.{Word, IsWordOf}
 use Rattle.ambiguity_check.proofs.OverlapWalks.{overlap_walks}
 use Rattle.ambiguity_check.specs.declared.graph.Node.{Node}
-use Rattle.ambiguity_check.specs.Lengths.{EndsBehind}
+use Rattle.ambiguity_check.specs.Lengths.{EndsAfter}
 use Rattle.ambiguity_check.specs.Meetings.{AreMeetings}
 use Rattle.ambiguity_check.specs.Overlaps.{BeginsBoth, FollowsBoth, IsInRows, EndsBoth}
 use Rattle.ambiguity_example.proofs.MetItems.{all_meet_long, all_meet_word}
@@ -51,7 +51,7 @@ module _ (columns : List Column) (first second : Sets) (r s : Expression) (of_r 
       (exact : (node : Node) → ends node ↔ EndsBoth first second node) where
     -- a walk of so many items leads to an end
     abbrev pub EndWalk : ℕ → Type 0
-    EndWalk items = EndsBehind (BeginsBoth first second) (FollowsBoth first second) (IsInRows rows)
+    EndWalk items = EndsAfter (BeginsBoth first second) (FollowsBoth first second) (IsInRows rows)
         ends items
 
     -- a word of both rates has a walk to an end

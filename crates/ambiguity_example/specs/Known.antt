@@ -2,7 +2,7 @@
 use Rattle.std.specs.Prelude.{◌≡◌, ◌<◌, ◌≤◌, ◌++◌, ℕ, List, [], ◌∷◌}
 use Rattle.std.specs.List.{Contains}
 use Rattle.ambiguity_check.specs.declared.graph.Node.{Node}
-use Rattle.ambiguity_check.specs.Lengths.{EndsBehind}
+use Rattle.ambiguity_check.specs.Lengths.{EndsAfter}
 use Rattle.ambiguity_check.specs.Levels.{IsShortest}
 use Rattle.ambiguity_example.specs.declared.reached.Reached.{Reached}
 
@@ -35,5 +35,5 @@ pub record IsFirstEnd (begins : Node → Type 0) (goes_on : Node → Node → Ty
     (ends : Node → Type 0) (reached : List Reached) (end : Reached) : Type 0 where
   pub ended : ends end.node
   pub shortest : IsShortest begins goes_on meet end.items end.node
-  pub none : (fewer : ℕ) → fewer < end.items → EndsBehind begins goes_on meet ends fewer → ⊥
+  pub none : (fewer : ℕ) → fewer < end.items → EndsAfter begins goes_on meet ends fewer → ⊥
   pub known : AreKnown begins goes_on meet end.items reached

@@ -1,7 +1,7 @@
 -- Statement. The nodes of a walk, one after the other.
 use Rattle.std.specs.Prelude.{◌<◌, ◌^◌, ℕ, List, [], ◌∷◌, length}
 use Rattle.ambiguity_check.specs.declared.graph.Node.{Node}
-use Rattle.ambiguity_check.specs.Lengths.{EndsBehind}
+use Rattle.ambiguity_check.specs.Lengths.{EndsAfter}
 
 -- the walk leads from the node along the others to an end
 abbrev pub GoesAlong : (Node → Node → Type 0) → (Node → Type 0) → (Node → Type 0) → Node
@@ -22,4 +22,4 @@ pub record IsShortestWalk (begins : Node → Type 0) (goes_on : Node → Node �
     (meet : Node → Type 0) (ends : Node → Type 0) (nodes : List Node) : Type 0 where
   pub walk : IsWalkOf begins goes_on meet ends nodes
   pub few : length nodes < 2 ^ 32
-  pub none : (fewer : ℕ) → fewer < length nodes → EndsBehind begins goes_on meet ends fewer → ⊥
+  pub none : (fewer : ℕ) → fewer < length nodes → EndsAfter begins goes_on meet ends fewer → ⊥

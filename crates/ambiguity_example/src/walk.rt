@@ -1,6 +1,6 @@
 //! A shortest walk of a graph to an end.
 ghost use Rattle.std.specs.Prelude.{◌≡◌, ◌<◌, ◌↔◌, ◌^◌, ℕ, [], IfOk, IsTrue, MatchOption, length};
-ghost use Rattle.ambiguity_check.specs.Lengths.{EndsBehind};
+ghost use Rattle.ambiguity_check.specs.Lengths.{EndsAfter};
 ghost use Rattle.ambiguity_check.specs.Levels.{IsLevel, IsShortest};
 ghost use Rattle.ambiguity_check.specs.Walks.{IsIn, IsOf};
 ghost use Rattle.ambiguity_example.specs.Known.{AreKnown, IsFirstEnd};
@@ -19,7 +19,7 @@ pub(crate) fn shortest_walk<G: Graph>(
     ends: Moves,
 ) -> Result<Option<Vec<Node>>, AllocError>
     ensures { IfOk result (λ found. MatchOption found
-        ((items : ℕ) → EndsBehind (G.begins graph.now) (G.goes_on graph.now) (G.meet graph.now)
+        ((items : ℕ) → EndsAfter (G.begins graph.now) (G.goes_on graph.now) (G.meet graph.now)
         (IsIn ends) items → ⊥)
         (λ walk. IsShortestWalk (G.begins graph.now) (G.goes_on graph.now) (G.meet graph.now)
         (IsIn ends) walk.items)) }
@@ -40,7 +40,7 @@ fn first_end<G: Graph>(
 ) -> Result<Option<Reached>, AllocError>
     requires { reached.old.items ≡ [] }
     ensures { IfOk result (λ found. MatchOption found
-        ((items : ℕ) → EndsBehind (G.begins graph.now) (G.goes_on graph.now) (G.meet graph.now)
+        ((items : ℕ) → EndsAfter (G.begins graph.now) (G.goes_on graph.now) (G.meet graph.now)
         (IsIn ends) items → ⊥)
         (IsFirstEnd (G.begins graph.now) (G.goes_on graph.now) (G.meet graph.now) (IsIn ends)
         reached.new.items)) }

@@ -36,7 +36,7 @@ impl Work {
     pub(crate) fn done(self, alloc: Global, nfa: &Nfa, times: u32) -> Result<bool, EqualStop> {
         let cell = nfa.cells().of(&greatest(alloc)?);
         match self {
-            Work::Step => Ok(nfa.accepts(behind(nfa, cell, times))),
+            Work::Step => Ok(nfa.accepts(after(nfa, cell, times))),
             Work::Extends => Ok(all_extend(nfa, cell, times)),
             Work::Decide(decision) => decision.repeated(alloc, nfa, times),
         }
@@ -50,7 +50,7 @@ fn greatest(alloc: Global) -> Result<Item, AllocError> {
 }
 
 // The state after `times` items of the cell.
-fn behind(nfa: &Nfa, cell: u32, times: u32) -> State
+fn after(nfa: &Nfa, cell: u32, times: u32) -> State
     requires { cell < cell_count nfa.now.cells }
 {
     let mut state = State::Initial;

@@ -96,8 +96,8 @@ module _ {R : Type 0} where
   pub record IsNext {F : Type 0} (post : F → ℕ → Bool → Type 0) (test : F) (all : List (Instance R))
       (rested : List R) (turns place : ℕ) (live : List (Instance R)) (idle : List R) (x : Instance R) : Type 0 where
     pub parted : HasParted post test all rested turns place live idle
-    pub behind : List (Instance R)
-    pub first : parted.rest ≡ x ∷ behind
+    pub after : List (Instance R)
+    pub first : parted.rest ≡ x ∷ after
 
   module _ {F : Type 0} (post : F → ℕ → Bool → Type 0) (test : F) where
     next_of : (all live : List (Instance R)) (rested idle : List R) (turns place : ℕ) (x : Instance R)
@@ -111,7 +111,7 @@ module _ {R : Type 0} where
     next_of all live rested idle turns place x parted (y ∷ rest) are below read =
         let living = parted.living ∙ ap (λ (xs : List (Instance R)). parted.kept ++ xs) are in
         let same = read_next live parted.kept rest place y x living parted.placed read in
-        record { parted = parted; behind = rest; first = are ∙ ap (λ (z : Instance R). z ∷ rest) (sym same) }
+        record { parted = parted; after = rest; first = are ∙ ap (λ (z : Instance R). z ∷ rest) (sym same) }
 
     -- where not all have been seen, what is read at the place is the next one
     pub next : (all live : List (Instance R)) (rested idle : List R) (turns place : ℕ) (x : Instance R)
@@ -141,7 +141,7 @@ module _ {R : Type 0} where
         let parted = at.parted in
         let seen = parted.seen in
         let kept = parted.kept in
-        let rest = at.behind in
+        let rest = at.after in
         let seen_count = length-append seen (x ∷ []) in
         let kept_count = length-append kept (x ∷ []) in
         let turned = parted.turned in
@@ -175,7 +175,7 @@ module _ {R : Type 0} where
         let parted = at.parted in
         let seen = parted.seen in
         let kept = parted.kept in
-        let rest = at.behind in
+        let rest = at.after in
         let seen_count = length-append seen (x ∷ []) in
         let turned = parted.turned in
         let living = parted.living ∙ ap (λ (xs : List (Instance R)). kept ++ xs) at.first in
@@ -208,7 +208,7 @@ module _ {R : Type 0} where
     retired_kept all live left rested idle now turns place x room c d same grown at was removed came a b =
         let parted = at.parted in
         let kept = parted.kept in
-        let rest = at.behind in
+        let rest = at.after in
         let living : live ≡ kept ++ x ∷ rest = parted.living ∙ ap (λ (xs : List (Instance R)). kept ++ xs) at.first in
         let gone = removed ∙ ap (λ (xs : List (Instance R)). remove xs place) living
         ∙ ap (λ (i : ℕ). remove (kept ++ x ∷ rest) i) parted.placed ∙ left_at kept x rest in

@@ -33,10 +33,10 @@ module _ {R : Type 0} where
   none_first : (same : Bool) (x : Instance R) (outer : ℕ) (found : Option (Instance R)) (among : Bool)
       → (x.outer == outer) ≡ same → (found ≡ None → among ≡ false) → cond same (Some x) found ≡ None
       → ((outer == x.outer) || among) ≡ false
-  none_first true x outer found among same behind none = absurd (none-some x (sym none))
-  none_first false x outer found among same behind none =
+  none_first true x outer found among same after none = absurd (none-some x (sym none))
+  none_first false x outer found among same after none =
       let differs = ne_eqb outer x.outer (λ is. eqb-false x.outer outer same (sym is)) in
-      ap (λ (b : Bool). b || among) differs ∙ behind none
+      ap (λ (b : Bool). b || among) differs ∙ after none
 
   -- where no instance is found, none is fed from the start
   none_among : (live : List (Instance R)) (outer : ℕ) → instance_at live outer ≡ None
@@ -59,15 +59,15 @@ module _ {R : Type 0} where
       → (k : ℕ) × (i ≡ from + 1 + k) × IsAt live k outer)
       → cond same (Some from) (position_from (is_at outer) (from + 1) live) ≡ Some i
       → (k : ℕ) × (i ≡ from + k) × IsAt (x ∷ live) k outer
-  there_first true x live outer from i same behind some =
+  there_first true x live outer from i same after some =
       let is : x.outer ≡ outer = eqb-true x.outer outer same in
       let first : from ≡ i = same_Some from i some in (
         zero,
         omega (arith, first),
         (x.follower, ap (λ (start : ℕ). Some (record { outer = start; follower = x.follower })) is),
       )
-  there_first false x live outer from i same behind some =
-      let rest = behind some in
+  there_first false x live outer from i same after some =
+      let rest = after some in
       let is = rest.1 in
       (suc rest.0, omega (arith, is), rest.2)
 
@@ -89,8 +89,8 @@ module _ {R : Type 0} where
   nowhere_first : (same : Bool) (x : Instance R) (from : ℕ) (place : Option ℕ) (found : Option (Instance R))
       → (place ≡ None → found ≡ None) → cond same (Some from) place ≡ None
       → cond same (Some x) found ≡ None
-  nowhere_first true x from place found behind none = absurd (none-some from (sym none))
-  nowhere_first false x from place found behind none = behind none
+  nowhere_first true x from place found after none = absurd (none-some from (sym none))
+  nowhere_first false x from place found after none = after none
 
   -- where no place is found, no instance is
   pub nowhere : (live : List (Instance R)) (outer from : ℕ)

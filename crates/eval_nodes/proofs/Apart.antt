@@ -9,7 +9,7 @@ use Rattle.query_model.specs.Queries.{Qre, choice, split, combine}
 use Rattle.query_model.specs.Rates.{rate_of}
 use Rattle.query_model.specs.Rules.{bound, IsClear}
 use Rattle.eval_nodes.specs.Starts.{AreApart, IsPiece}
-use Rattle.eval_nodes.proofs.Pieces.{piece_goes_on, word_behind, word_join}
+use Rattle.eval_nodes.proofs.Pieces.{piece_goes_on, word_after, word_join}
 use Rattle.eval_nodes.proofs.SomeWords.{some_word}
 
 -- a piece in the rate of a query, from a start to the position
@@ -33,8 +33,8 @@ pub apart_same : (columns : List Column) (f g : Qre) (e : Expression) (word : Wo
     → AreApart columns (combine f g e) word starts → AreApart columns g word starts
 apart_same columns f g e word starts clear is apart = λ i j more more_is first second a b.
     apart i j more more_is first second
-    ((clear.3 (drop i word ++ more) (word_join columns (drop i word) more (word_behind columns word i is) more_is)).1 a)
-    ((clear.3 (drop j word ++ more) (word_join columns (drop j word) more (word_behind columns word j is) more_is)).1 b)
+    ((clear.3 (drop i word ++ more) (word_join columns (drop i word) more (word_after columns word i is) more_is)).1 a)
+    ((clear.3 (drop j word ++ more) (word_join columns (drop j word) more (word_after columns word j is) more_is)).1 b)
 
 -- a word of the right rate carries a clash of left pieces on
 pub apart_left : (columns : List Column) (f g : Qre) (e : Expression) (word : Word) (starts : List ℕ)
@@ -59,7 +59,7 @@ apart_right columns f g e word starts ends clear is apart reached = λ j k more 
     (u, drop j word ++ more, whole, in_f, a) (u', drop k word ++ more, whole', in_f', b) in
     let both : u ++ (drop j word ++ more) ≡ u' ++ (drop k word ++ more) =
     sym whole ∙ ap (λ at. drop at word ++ more) same ∙ whole' in
-    let words = word_join columns (drop i word) more (word_behind columns word i is) more_is in
+    let words = word_join columns (drop i word) more (word_after columns word i is) more_is in
     let firsts : u ≡ u' = clear.3 u (drop j word ++ more) u' (drop k word ++ more)
     (subst (IsWordOf columns) whole words) in_f a in_f' b both in
     let ends_at = piece.end in

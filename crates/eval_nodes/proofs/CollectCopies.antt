@@ -4,7 +4,7 @@ use Rattle.std.specs.Prelude.{filter}
 use Rattle.std.specs.List.{AllByRecursion, AllZip, Contains, sum_by}
 use Rattle.predicate_cells.specs.Predicates.{Predicate}
 use Rattle.predicate_cells.specs.Truth.{holds}
-use Rattle.rate_expr.specs.Behind.{IsBehind}
+use Rattle.rate_expr.specs.After.{IsAfter}
 use Rattle.rate_expr.specs.Words.{Word}
 use Rattle.query_model.specs.Denotation.{projection}
 use Rattle.map_collect.specs.Keys.{fallback_of, followers_of, names_of}
@@ -83,12 +83,12 @@ module _ {R : Type 0} (seen : R → Seen R) (is_copy : Holding R → Holding R �
       (was track : Track R)
       → ((u : Word) (was runner : R) → IsCopyOf seen is_copy was runner → follows u was → follows u runner)
       → IsCopiedTrack seen is_copy was track
-      → IsBehind sets (word was.start) was.state × StandFor follows column sync (word was.start) was.keys
-      → IsBehind sets (word track.start) track.state × StandFor follows column sync (word track.start) track.keys
-  track_stands follows column sync sets word was track each copied (behind, stands) =
-      subst (λ (start : ℕ). IsBehind sets (word start) track.state × StandFor follows column sync (word start) track.keys)
+      → IsAfter sets (word was.start) was.state × StandFor follows column sync (word was.start) was.keys
+      → IsAfter sets (word track.start) track.state × StandFor follows column sync (word track.start) track.keys
+  track_stands follows column sync sets word was track each copied (after, stands) =
+      subst (λ (start : ℕ). IsAfter sets (word start) track.state × StandFor follows column sync (word start) track.keys)
       (sym copied.start) (
-        subst (IsBehind sets (word was.start)) (sym copied.state) behind,
+        subst (IsAfter sets (word was.start)) (sym copied.state) after,
         keys_stand follows column sync (word was.start) was.keys track.keys each copied.keys stands,
       )
 

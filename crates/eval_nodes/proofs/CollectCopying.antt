@@ -7,7 +7,7 @@ use Rattle.std.proofs.lemmas.List.{take-map}
 use Rattle.std.proofs.lemmas.Map.Keys.{IsDistinct-head, IsDistinct-tail}
 use Rattle.std.proofs.lemmas.Option.{none-some, same_Some}
 use Rattle.std.proofs.lemmas.Slice.Eq.{bytes_eq-Decides}
-use Rattle.rate_expr.specs.Behind.{IsStateOf}
+use Rattle.rate_expr.specs.After.{IsStateOf}
 use Rattle.rate_expr.specs.Sets.{Sets}
 use Rattle.rate_expr.specs.declared.state.State.{State}
 use Rattle.map_collect.specs.Followers.{Followers, with_key}

@@ -4,7 +4,7 @@ use Rattle.std.proofs.lemmas.List.{take_more}
 use Rattle.std.proofs.lemmas.Option.{none-some, get_or_from_slice_get, slice_get_within}
 use Rattle.split_eval.specs.Entries.{entry_at, AreDistinct}
 use Rattle.split_eval.specs.declared.entry.Entry.{Entry}
-use Rattle.split_eval.proofs.Found.{found_behind}
+use Rattle.split_eval.proofs.Found.{found_after}
 use Rattle.split_eval.proofs.Places.{entry_at-place}
 
 module _ {V : Type 0} where
@@ -14,7 +14,7 @@ module _ {V : Type 0} where
   none_before [] i e distinct at = absurd (none-some e at)
   none_before (x ∷ es) zero e distinct at = refl
   none_before (x ∷ es) (suc i) e distinct at =
-      found_behind x (take i es) e.inner
+      found_after x (take i es) e.inner
       (λ is. none-some e (sym (ap (λ (start : ℕ). entry_at es start) (sym is) ∙ distinct.0)
       ∙ entry_at-place es i e distinct.1 at))
       ∙ none_before es i e distinct.1 at

@@ -94,13 +94,13 @@ module _ {R : Type 0} where
   some_fed (y ∷ live) outer there none = elim (member_cases y.outer outer (outers_of live) there) [
     | inl same ↦ none-some y (sym none
         ∙ ap (λ (is : Bool). cond is (Some y) (instance_at live outer)) (eq-eqb y.outer outer same))
-    | inr later ↦ behind (y.outer == outer) (some_fed live outer later) none
+    | inr later ↦ after (y.outer == outer) (some_fed live outer later) none
   ]
     where
-      behind : (same : Bool) → (instance_at live outer ≡ None → ⊥)
+      after : (same : Bool) → (instance_at live outer ≡ None → ⊥)
           → cond same (Some y) (instance_at live outer) ≡ None → ⊥
-      behind true never is = none-some y (sym is)
-      behind false never is = never is
+      after true never is = none-some y (sym is)
+      after false never is = never is
 
   -- with another follower at an index: the starts stay, and all others
   pub written_member : (live : List (Instance R)) (i outer : ℕ) (old new : R) (x : Instance R)
@@ -142,14 +142,14 @@ module _ {R : Type 0} where
           → (Contains (live_instances p live) x → Contains live x × IsTrue (p x.outer))
           → Contains (cond b (y ∷ live_instances p live) (live_instances p live)) x
           → Contains (y ∷ live) x × IsTrue (p x.outer)
-      chosen true is behind among = elim (member_cases y x (live_instances p live) among) [
+      chosen true is after among = elim (member_cases y x (live_instances p live) among) [
         | inl same ↦ (
           subst (Contains (y ∷ live)) same (first_member y live),
           subst (λ (z : Instance R). IsTrue (p z.outer)) same is,
         )
-        | inr later ↦ let (old, goes_on) = behind later in (later_member y x live old, goes_on)
+        | inr later ↦ let (old, goes_on) = after later in (later_member y x live old, goes_on)
       ]
-      chosen false is behind among = let (old, goes_on) = behind among in (later_member y x live old, goes_on)
+      chosen false is after among = let (old, goes_on) = after among in (later_member y x live old, goes_on)
 
   pub member_kept : (p : ℕ → Bool) (live : List (Instance R)) (x : Instance R) → Contains live x → IsTrue (p x.outer)
       → Contains (live_instances p live) x
@@ -158,13 +158,13 @@ module _ {R : Type 0} where
     | inl same ↦ subst (λ (b : Bool). Contains (cond b (y ∷ live_instances p live) (live_instances p live)) x)
         (sym (subst (λ (z : Instance R). IsTrue (p z.outer)) (sym same) goes_on))
         (subst (Contains (y ∷ live_instances p live)) same (first_member y (live_instances p live)))
-    | inr later ↦ behind (p y.outer) (member_kept p live x later goes_on)
+    | inr later ↦ after (p y.outer) (member_kept p live x later goes_on)
   ]
     where
-      behind : (b : Bool) → Contains (live_instances p live) x
+      after : (b : Bool) → Contains (live_instances p live) x
           → Contains (cond b (y ∷ live_instances p live) (live_instances p live)) x
-      behind true among = later_member y x (live_instances p live) among
-      behind false among = among
+      after true among = later_member y x (live_instances p live) among
+      after false among = among
 
   pub kept_different : (p : ℕ → Bool) (live : List (Instance R)) → AreDifferent (outers_of live)
       → AreDifferent (outers_of (live_instances p live))
@@ -173,14 +173,14 @@ module _ {R : Type 0} where
     where
       chosen : (b : Bool) → AreDifferent (outers_of (live_instances p live))
           → AreDifferent (outers_of (cond b (y ∷ live_instances p live) (live_instances p live)))
-      chosen true behind = (
+      chosen true after = (
         λ there.
             let (follower, among) = member_outer (live_instances p live) y.outer there in
             let x : Instance R = record { outer = y.outer; follower = follower } in
             different.0 (outer_member live x (kept_member p live x among).0),
-        behind,
+        after,
       )
-      chosen false behind = behind
+      chosen false after = after
 
   -- those that come to rest and the others are all
   pub kept_count : (p : ℕ → Bool) (live : List (Instance R))
@@ -205,8 +205,8 @@ module _ {R : Type 0} where
       chosen : (b : Bool) → AllByRecursion P (retired p live) → AllByRecursion P (followers_of
           (cond b (y ∷ filter (λ (x : Instance R). not (p x.outer)) live)
           (filter (λ (x : Instance R). not (p x.outer)) live)))
-      chosen true behind = (all.0, behind)
-      chosen false behind = behind
+      chosen true after = (all.0, after)
+      chosen false after = after
 
   pub all_written : (P : R → Type 0) (live : List (Instance R)) (i : ℕ) (new : R)
       → AllByRecursion (λ (x : Instance R). P x.follower) live → P new
@@ -237,8 +237,8 @@ module _ {R : Type 0} where
     where
       chosen : (b : Bool) → AllByRecursion P (live_instances p live)
           → AllByRecursion P (cond b (y ∷ live_instances p live) (live_instances p live))
-      chosen true behind = (all.0, behind)
-      chosen false behind = behind
+      chosen true after = (all.0, after)
+      chosen false after = after
 
 -- of one that is read at an index
 pub all_read : {A : Type 0} (P : A → Type 0) (xs : List A) (i : ℕ) (x : A) → AllByRecursion P xs

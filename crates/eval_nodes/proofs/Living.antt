@@ -17,7 +17,7 @@ use Rattle.query_model.proofs.Defined.{in_den}
 use Rattle.query_model.proofs.InRates.{den_in}
 use Rattle.split_eval.specs.Entries.{entry_at, AreDistinct}
 use Rattle.split_eval.specs.declared.entry.Entry.{Entry}
-use Rattle.split_eval.proofs.Found.{found_behind, found_first}
+use Rattle.split_eval.proofs.Found.{found_after, found_first}
 use Rattle.map_collect.specs.Tracks.{begins_at, starts_of}
 use Rattle.map_collect.specs.declared.track.Track.{Track}
 use Rattle.eval_nodes.specs.Holdings.{Holding, atom_held, eps_held, choice_held, combine_held, apply_held, split_held, iter_held, compose_held, collect_held, Seen}
@@ -28,7 +28,7 @@ use Rattle.eval_nodes.proofs.Chains.{star_push}
 use Rattle.eval_nodes.proofs.Few.{live_atom, no_live}
 use Rattle.eval_nodes.proofs.GoingOn.{live_iter, live_split}
 use Rattle.eval_nodes.proofs.Members.{first_member, later_member, member_cases, no_member}
-use Rattle.eval_nodes.proofs.Pieces.{behind_end, piece_goes_on, word_join, word_piece}
+use Rattle.eval_nodes.proofs.Pieces.{after_end, piece_goes_on, word_join, word_piece}
 use Rattle.eval_nodes.proofs.SomeWords.{some_word}
 use Rattle.eval_nodes.proofs.Entries.{is_entry}
 
@@ -54,7 +54,7 @@ outer_found (x ∷ entries) start distinct is =
       | inr later ↦
           let (entry, found, outer) = outer_found entries start distinct.1 later in (
             entry,
-            found_behind x entries entry.inner
+            found_after x entries entry.inner
                 (λ same. none-some entry (sym distinct.0 ∙ ap (entry_at entries) same ∙ found)) ∙ found,
             outer,
           )
@@ -113,7 +113,7 @@ module _ {R : Type 0} (seen : R → Seen R) where
             (item.is_item, tt),
             (
               item.item,
-              ap (λ u. u ++ item.item ∷ []) (behind_end word start there.1),
+              ap (λ u. u ++ item.item ∷ []) (after_end word start there.1),
               item.meets,
             ),
           ),

@@ -12,8 +12,8 @@ pub length_more : (word : Word) (item : List Field) → length (word ++ item ∷
 length_more word item = length-append word (item ∷ [])
 
 -- no item is behind the end
-pub behind_end : (word : Word) (at : ℕ) → at ≡ length word → drop at word ≡ []
-behind_end word at end = drop_all at word (omega (arith, end))
+pub after_end : (word : Word) (at : ℕ) → at ≡ length word → drop at word ≡ []
+after_end word at end = drop_all at word (omega (arith, end))
 
 -- an empty word behind a position: it is the end
 pub at_end : (word : Word) (at : ℕ) → at ≤ length word → drop at word ≡ [] → at ≡ length word
@@ -70,13 +70,13 @@ end_piece word from inside =
       end = omega (arith, inside, count);
       inside = omega arith;
       cut = sym (append-nil (drop from word))
-          ∙ ap (λ u. drop from word ++ u) (sym (behind_end word (length word) refl));
+          ∙ ap (λ u. drop from word ++ u) (sym (after_end word (length word) refl));
     }
 
 pub end_is : (word : Word) (from to : ℕ) (piece : Word) → IsPiece word from piece to → to ≡ length word
     → piece ≡ drop from word
 end_is word from to piece is end =
-    sym (append-nil piece) ∙ ap (λ u. piece ++ u) (sym (behind_end word to end)) ∙ sym is.cut
+    sym (append-nil piece) ∙ ap (λ u. piece ++ u) (sym (after_end word to end)) ∙ sym is.cut
 
 -- the piece from the end is empty
 pub empty_is : (word : Word) (from to : ℕ) (piece : Word) → IsPiece word from piece to → from ≡ length word
@@ -131,9 +131,9 @@ none_before (x ∷ word) item other more same =
     let tails : word ++ item ∷ more ≡ [] = cc in absurd (some_item word item more tails)
 
 -- parts of words of a stream, and two one after the other
-pub word_behind : (columns : List Column) (word : Word) (at : ℕ) → IsWordOf columns word
+pub word_after : (columns : List Column) (word : Word) (at : ℕ) → IsWordOf columns word
     → IsWordOf columns (drop at word)
-word_behind columns word at is =
+word_after columns word at is =
     (word_parts columns (take at word) (drop at word)
     (subst (IsWordOf columns) (sym (take-append-drop at word)) is)).1
 
@@ -147,4 +147,4 @@ pub word_piece : (columns : List Column) (word : Word) (from to : ℕ) (piece : 
     → IsPiece word from piece to → IsWordOf columns piece
 word_piece columns word from to piece is cut =
     (word_parts columns piece (drop to word)
-    (subst (IsWordOf columns) cut.cut (word_behind columns word from is))).0
+    (subst (IsWordOf columns) cut.cut (word_after columns word from is))).0

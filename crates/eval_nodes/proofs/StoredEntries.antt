@@ -20,7 +20,7 @@ use Rattle.memory_bound.proofs.Entries.{among_rest, among_whole, entries_few}
 use Rattle.memory_bound.proofs.Growth.{AreAmong, among_all, keys_mono}
 use Rattle.split_eval.specs.Entries.{entry_at, AreDistinct}
 use Rattle.split_eval.specs.declared.entry.Entry.{Entry}
-use Rattle.split_eval.proofs.Found.{first_differs, found_behind, found_first, none_behind}
+use Rattle.split_eval.proofs.Found.{first_differs, found_after, found_first, none_after}
 use Rattle.eval_nodes.specs.Counts.{size_of_value, sizes_of}
 use Rattle.eval_nodes.specs.Represents.{AreReached, AreWaiting}
 use Rattle.eval_nodes.specs.Starts.{AreApart, AreDifferent, ArePositions, IsPiece}
@@ -36,12 +36,12 @@ value_size (value.Scalar scalar) = omega arith
 value_size (value.Table entries) = omega arith
 
 -- items of a piece are items of the word
-pub behind_among : (word : Word) (at : ℕ) → AreAmong (drop at word) word
-behind_among word at = among_rest word (take at word) (drop at word) (sym (take-append-drop at word))
+pub after_among : (word : Word) (at : ℕ) → AreAmong (drop at word) word
+after_among word at = among_rest word (take at word) (drop at word) (sym (take-append-drop at word))
 
 pub piece_among : (word : Word) (from to : ℕ) (piece : Word) → IsPiece word from piece to → AreAmong piece word
 piece_among word from to piece is = record {
-  each = λ item there. (behind_among word from).each item
+  each = λ item there. (after_among word from).each item
       ((among_whole (drop from word) piece (drop to word) is.cut).each item there);
 }
 
@@ -54,7 +54,7 @@ none_at : (entries : List (Entry Value)) (inner : ℕ) → entry_at entries inne
 none_at [] inner none there = no_member inner there
 none_at (x ∷ entries) inner none there = elim (member_cases x.inner inner (inners_of entries) there) [
   | inl same ↦ first_differs x entries inner none same
-  | inr later ↦ none_at entries inner (none_behind x entries inner none) later
+  | inr later ↦ none_at entries inner (none_after x entries inner none) later
 ]
 
 inners_differ : (entries : List (Entry Value)) → AreDistinct entries → AreDifferent (inners_of entries)
@@ -71,7 +71,7 @@ pub only_at : (entries : List (Entry Value)) (entry : Entry Value) → AreDistin
 only_at [] entry distinct there = absurd (no_member entry there)
 only_at (x ∷ entries) entry distinct there = elim (member_cases x entry entries there) [
   | inl same ↦ found_first x entries entry.inner (ap (λ (e : Entry Value). e.inner) same) ∙ ap Some same
-  | inr later ↦ found_behind x entries entry.inner
+  | inr later ↦ found_after x entries entry.inner
       (λ same. none_at entries x.inner distinct.0
       (subst (Contains (inners_of entries)) (sym same) (inner_there entries entry later)))
       ∙ only_at entries entry distinct.1 later

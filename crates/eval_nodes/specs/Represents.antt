@@ -4,7 +4,7 @@ use Rattle.std.specs.Prelude.{◌≡◌, ◌≤◌, ◌↔◌, ℕ, ◌+◌, ◌
 use Rattle.std.specs.List.{AllByRecursion, Contains}
 use Rattle.value_ops.specs.declared.value.Value.{Value}
 use Rattle.item_schema.specs.declared.column.Column.{Column}
-use Rattle.rate_expr.specs.Behind.{IsBehind}
+use Rattle.rate_expr.specs.After.{IsAfter}
 use Rattle.rate_expr.specs.FirstLastFollow.{AreSetsOf}
 use Rattle.rate_expr.specs.Language.{In}
 use Rattle.rate_expr.specs.Rates as rate
@@ -108,7 +108,7 @@ module _ {R : Type 0} (seen : R → Seen R) where
   Represents columns (collect column sync rate f) (collect_held all) word starts =
       AreSetsOf all.nfa.sets rate × (all.nfa.cells.layout.columns ≡ columns)
       × AreTracked (IsLive columns (collect column sync rate f) word starts)
-      (λ start track. IsBehind all.nfa.sets (drop start word) track.state
+      (λ start track. IsAfter all.nfa.sets (drop start word) track.state
       × StandFor (IsFollowing (Represents columns f) f) column sync (drop start word) track.keys)
       all.tracks
   Represents columns query holding word starts = ⊥

@@ -94,7 +94,7 @@ module _ {R : Type 0} (seen : R → Seen R) where
         standing = bound;
         columns = can.columns;
         position = can.position;
-        behind = can.behind;
+        is_next = can.is_next;
         clear = can.clear.0;
         sound = can.sound.0;
         is_item = can.is_item;
@@ -108,7 +108,7 @@ module _ {R : Type 0} (seen : R → Seen R) where
         standing = bound;
         columns = can.columns;
         position = can.position;
-        behind = can.behind;
+        is_next = can.is_next;
         clear = can.clear.1;
         sound = can.sound.1;
         is_item = can.is_item;
@@ -121,7 +121,7 @@ module _ {R : Type 0} (seen : R → Seen R) where
     standing = bound;
     columns = can.columns;
     position = can.position;
-    behind = can.behind;
+    is_next = can.is_next;
     clear = can.clear.0;
     sound = can.sound;
     is_item = can.is_item;
@@ -136,7 +136,7 @@ module _ {R : Type 0} (seen : R → Seen R) where
         standing = bound;
         columns = can.columns;
         position = can.position;
-        behind = can.behind;
+        is_next = can.is_next;
         clear = can.clear.0;
         sound = can.sound.0;
         is_item = can.is_item;
@@ -151,7 +151,7 @@ module _ {R : Type 0} (seen : R → Seen R) where
         standing = bound;
         columns = can.columns;
         position = can.position;
-        behind = can.behind;
+        is_next = can.is_next;
         clear = can.clear.1;
         sound = can.sound.1;
         is_item = can.is_item;
@@ -159,12 +159,12 @@ module _ {R : Type 0} (seen : R → Seen R) where
       }
 
   -- the right operand is started behind the item that it has just seen
-  unfoldable pub start_behind : (f g : Qre) (e : Expression) (a b b' : Holding R) (held : Contents Value) (now : ℕ)
+  unfoldable pub start_after : (f g : Qre) (e : Expression) (a b b' : Holding R) (held : Contents Value) (now : ℕ)
       (item : List Field) (right : Option Hit) → CanStep seen (split f g e) (split_held a b held) now item
       → StepsSoundly seen g b now item b' right → CanStart seen g b' now
-  start_behind f g e a b b' held now item right can second =
+  start_after f g e a b b' held now item right can second =
       let room : now + (composes_of f + composes_of g) < 2 ^ 64 = can.room in
-      let y = second bound can.columns can.position can.behind can.clear.1 can.is_item can.sound.1 in
+      let y = second bound can.columns can.position can.is_next can.clear.1 can.is_item can.sound.1 in
       record {
         standing = bound;
         columns = can.columns;
@@ -186,7 +186,7 @@ module _ {R : Type 0} (seen : R → Seen R) where
       (item : List Field) (right : Option Hit) → CanStep seen (split f g e) (split_held a b held) now item
       → StepsSoundly seen g b now item b' right → AreTypedWith e held.entries right
   stepped_ended f g e a b b' held now item right can second =
-      let y = second bound can.columns can.position can.behind can.clear.1 can.is_item can.sound.1 in
+      let y = second bound can.columns can.position can.is_next can.clear.1 can.is_item can.sound.1 in
       all_typed_with (type_of can.columns f) (type_of can.columns g) _ e held.entries right can.sound.2.typed y.hit
       can.clear.2
 
@@ -196,8 +196,8 @@ module _ {R : Type 0} (seen : R → Seen R) where
       → StepsSoundly seen f a now item a' (Some left) → StepsSoundly seen g b now item b' right
       → StartsSoundly seen g b' now b'' begun → IsTypedWith e left.value begun
   stepped_joined f g e a b a' b' b'' held now item left right begun can first second third =
-      let x = first bound can.columns can.position can.behind can.clear.0 can.is_item can.sound.0 in
-      let y = second bound can.columns can.position can.behind can.clear.1 can.is_item can.sound.1 in
+      let x = first bound can.columns can.position can.is_next can.clear.0 can.is_item can.sound.0 in
+      let y = second bound can.columns can.position can.is_next can.clear.1 can.is_item can.sound.1 in
       let z = third bound can.columns can.clear.1 y.node in
       typed_with (type_of can.columns f) (type_of can.columns g) _ e left.value begun x.hit
       (hit_of (type_of can.columns g) now begun z.hit) can.clear.2

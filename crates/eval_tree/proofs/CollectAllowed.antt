@@ -56,7 +56,7 @@ module _ {R : Type 0} (seen : R → Seen R) where
     -- and it may go by at the keys
     pushes_allowed : CanPushAll seen f all.tracks item
     pushes_allowed =
-        let behind = can.behind in
+        let is_next = can.is_next in
         let room : now + composes_of f < 2 ^ 64 = can.room in
         record {
           standing = bound;
@@ -65,7 +65,7 @@ module _ {R : Type 0} (seen : R → Seen R) where
           clear = can.clear.0;
           sound = can.sound.4;
           is_item = can.is_item;
-          room = omega (arith, behind, room);
+          room = omega (arith, is_next, room);
         }
 
     -- so it may go by at the starts

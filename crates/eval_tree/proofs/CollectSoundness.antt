@@ -79,10 +79,10 @@ module _ {R : Type 0} (seen : R → Seen R) where
       → KeepsExtending pushed.nfa pushed.tracks kept.tracks → kept.nfa ≡ pushed.nfa
       → StepsSoundly seen (collect column sync rate f) (collect_held old) now item (collect_held kept) hit
   sound_step_collect column sync rate f old advanced pushed kept now item hit advances same pushes tabled keeps same_kept =
-      λ standing columns position behind clear is_item sound.
+      λ standing columns position is_next clear is_item sound.
       let before : AreSoundTracks columns f position old.tracks = record { distinct = sound.3; keys = sound.4 } in
       let after : AreSoundTracks columns f now kept.tracks =
-      subst (λ (n : ℕ). AreSoundTracks columns f n kept.tracks) (sym behind)
+      subst (λ (n : ℕ). AreSoundTracks columns f n kept.tracks) (sym is_next)
       (kept_soundly columns f pushed.nfa (position + 1) pushed.tracks kept.tracks keeps
       (pushed_soundly columns column sync f old.nfa position item old.tracks advanced.tracks pushed.tracks clear.0 is_item
       advances pushes before)) in

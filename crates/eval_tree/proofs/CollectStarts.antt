@@ -5,7 +5,7 @@ use Rattle.std.proofs.lemmas.List.{map-append}
 use Rattle.std.proofs.lemmas.List.Elements.{Contains-append_left, Contains-push, Contains-push_cases}
 use Rattle.predicate_cells.specs.Predicates.{Predicate}
 use Rattle.item_schema.specs.declared.column.Column.{Column}
-use Rattle.rate_expr.specs.Behind.{IsBehind}
+use Rattle.rate_expr.specs.After.{IsAfter}
 use Rattle.rate_expr.specs.FirstLastFollow.{AreSetsOf}
 use Rattle.rate_expr.specs.Rates as rates
 use Rattle.rate_expr.specs.Readings.{HasExtension}
@@ -18,7 +18,7 @@ use Rattle.query_model.specs.Queries.{Qre, collect}
 use Rattle.query_model.specs.Rules.{bound, IsClear}
 use Rattle.symbolic_nfa.specs.Automata.{Automaton}
 use Rattle.symbolic_nfa.specs.States.{Extends}
-use Rattle.symbolic_nfa.proofs.WordsBehind.{extends-in, is_accepted-in}
+use Rattle.symbolic_nfa.proofs.WordsAfter.{extends-in, is_accepted-in}
 use Rattle.map_collect.specs.Followers.{Followers}
 use Rattle.map_collect.specs.Tracks.{Contents, starts_of}
 use Rattle.map_collect.specs.declared.keys.Keys.{Keys}
@@ -27,7 +27,7 @@ use Rattle.eval_nodes.specs.Runners.{FollowsWord}
 use Rattle.eval_nodes.specs.Holdings.{Seen, collect_held}
 use Rattle.eval_nodes.specs.Starts.{AreDifferent, IsLive}
 use Rattle.eval_nodes.proofs.Instances.{different_more}
-use Rattle.eval_nodes.proofs.Pieces.{behind_end}
+use Rattle.eval_nodes.proofs.Pieces.{after_end}
 use Rattle.eval_tree.specs.declared.hit.Hit.{Hit}
 use Rattle.eval_tree.specs.Collects.{StandsFor}
 use Rattle.eval_tree.specs.Pushes.{AddsStart, AreNew, IsFirstTable}
@@ -54,7 +54,7 @@ module _ {R : Type 0} (seen : R → Seen R) where
     begins_is =
         subst (λ (cs : List Column). Extends nfa Initial ↔ HasExtension cs rate (drop at word)) on
         (extends-in nfa rate (drop at word) Initial (sets_spell nfa.sets rate of_rate)
-        (subst (λ (u : Word). IsBehind nfa.sets u Initial) (sym (behind_end word at end)) tt))
+        (subst (λ (u : Word). IsAfter nfa.sets u Initial) (sym (after_end word at end)) tt))
 
     -- it is put
     row_with : (tracks : List (Track R)) (keys : Keys R) → (Contains starts at → ⊥)
@@ -87,8 +87,8 @@ module _ {R : Type 0} (seen : R → Seen R) where
           each = λ track there. elim (Contains-push_cases tracks x track there) [
             | inl old ↦ row.each track old
             | inr same ↦ subst (λ (t : Track R). TrackOf seen columns column sync rate f nfa word t.start t) same (
-              subst (λ (u : Word). IsBehind nfa.sets u Initial) (sym (behind_end word at end)) tt,
-              subst (λ (u : Word). StandsFor seen columns f column sync u keys) (sym (behind_end word at end))
+              subst (λ (u : Word). IsAfter nfa.sets u Initial) (sym (after_end word at end)) tt,
+              subst (λ (u : Word). StandsFor seen columns f column sync u keys) (sym (after_end word at end))
                   (stand_new columns f column sync keys clear are),
             )
           ];

@@ -5,7 +5,7 @@ use Rattle.std.proofs.lemmas.Option.{same_Some}
 use Rattle.value_ops.specs.declared.field.Field.{Field}
 use Rattle.predicate_cells.specs.Predicates.{Predicate}
 use Rattle.item_schema.specs.declared.column.Column.{Column}
-use Rattle.rate_expr.specs.Behind.{IsBehind}
+use Rattle.rate_expr.specs.After.{IsAfter}
 use Rattle.rate_expr.specs.FirstLastFollow.{AreSetsOf}
 use Rattle.rate_expr.specs.Language.{In}
 use Rattle.rate_expr.specs.Rates as rates
@@ -19,7 +19,7 @@ use Rattle.query_model.specs.Queries.{Qre, collect}
 use Rattle.query_model.specs.Rules.{bound, IsClear}
 use Rattle.symbolic_nfa.specs.Automata.{Automaton}
 use Rattle.symbolic_nfa.specs.States.{Extends, IsAccepted}
-use Rattle.symbolic_nfa.proofs.WordsBehind.{extends-in, is_accepted-in, is_behind-step}
+use Rattle.symbolic_nfa.proofs.WordsAfter.{extends-in, is_accepted-in, is_after-step}
 use Rattle.map_collect.specs.Tracks.{Advances, AllAdvance, Contents, starts_of, states_of, KeepsExtending, NoneAccepted}
 use Rattle.map_collect.specs.declared.keys.Keys.{Keys}
 use Rattle.map_collect.specs.declared.track.Track.{Track}
@@ -27,7 +27,7 @@ use Rattle.eval_nodes.specs.Holdings.{Seen, collect_held}
 use Rattle.eval_nodes.specs.Keyed.{AreTracked}
 use Rattle.eval_nodes.specs.Starts.{AreDifferent, ArePositions, IsLive}
 use Rattle.eval_nodes.proofs.Instances.{all_member}
-use Rattle.eval_nodes.proofs.Pieces.{drop_more, word_behind}
+use Rattle.eval_nodes.proofs.Pieces.{drop_more, word_after}
 use Rattle.eval_nodes.proofs.Zips.{part_there, read_part, read_there, whole_there, zip_member, zip_same}
 use Rattle.eval_tree.specs.declared.hit.Hit.{Hit}
 use Rattle.eval_tree.specs.Collects.{StandsFor}
@@ -43,7 +43,7 @@ module _ {R : Type 0} (seen : R → Seen R) (columns : List Column) (column : �
 
   -- the state and the keys are those behind the piece
   abbrev pub TrackOf : Automaton → Word → ℕ → Track R → Type 0
-  TrackOf nfa word start track = IsBehind nfa.sets (drop start word) track.state
+  TrackOf nfa word start track = IsAfter nfa.sets (drop start word) track.state
       × StandsFor seen columns f column sync (drop start word) track.keys
 
   -- the starts, whatever these are
@@ -56,17 +56,17 @@ module _ {R : Type 0} (seen : R → Seen R) (columns : List Column) (column : �
     goes_by : (was mid now : Track R) → was.start ≤ length word → Advances nfa.sets item was mid
         → IsPushedAt seen f column sync item mid now → TrackOf nfa word was.start was
         → TrackOf nfa (word ++ item ∷ []) now.start now
-    goes_by was mid now inside advances pushed (behind, stands) =
+    goes_by was mid now inside advances pushed (holds_after, stands) =
         let same : now.start ≡ was.start = pushed.start ∙ advances.start in
         let more = drop_more word item was.start inside in
-        let after = is_behind-step nfa.sets (drop was.start word) was.state mid.state item behind advances.state in
+        let after = is_after-step nfa.sets (drop was.start word) was.state mid.state item holds_after advances.state in
         let keys = pushed.keys.word bound columns (drop was.start word) clear
-        (subst (IsWordOf columns) more (word_behind columns (word ++ item ∷ []) was.start is))
+        (subst (IsWordOf columns) more (word_after columns (word ++ item ∷ []) was.start is))
         (subst (λ (keys : Keys R). StandsFor seen columns f column sync (drop was.start word) keys) (sym advances.keys) stands)
         in
         subst (λ (start : ℕ). TrackOf nfa (word ++ item ∷ []) start now) (sym same) (
-          subst (λ (u : Word). IsBehind nfa.sets u now.state) (sym more)
-              (subst (IsBehind nfa.sets (drop was.start word ++ item ∷ [])) (sym pushed.state) after),
+          subst (λ (u : Word). IsAfter nfa.sets u now.state) (sym more)
+              (subst (IsAfter nfa.sets (drop was.start word ++ item ∷ [])) (sym pushed.state) after),
           subst (λ (u : Word). StandsFor seen columns f column sync u now.keys) (sym more) keys,
         )
 
@@ -95,11 +95,11 @@ module _ {R : Type 0} (seen : R → Seen R) (columns : List Column) (column : �
 
     module _ (of_rate : AreSetsOf nfa.sets rate) (on : nfa.cells.layout.columns ≡ columns) where
       -- a state behind a word extends exactly where the word has an extension
-      extends_is : (u : Word) (state : State) → IsBehind nfa.sets u state
+      extends_is : (u : Word) (state : State) → IsAfter nfa.sets u state
           → Extends nfa state ↔ HasExtension columns rate u
-      extends_is u state behind =
+      extends_is u state holds_after =
           subst (λ (cs : List Column). Extends nfa state ↔ HasExtension cs rate u) on
-          (extends-in nfa rate u state (sets_spell nfa.sets rate of_rate) behind)
+          (extends-in nfa rate u state (sets_spell nfa.sets rate of_rate) holds_after)
 
       -- those whose piece can go on stay
       row_kept : (pushed kept : List (Track R)) → KeepsExtending nfa pushed kept
@@ -114,16 +114,16 @@ module _ {R : Type 0} (seen : R → Seen R) (columns : List Column) (column : �
                   let (track, among, same) = whole_there (λ (t : Track R). t.start) kept start there in
                   let (was, extends) = kept_track nfa pushed kept track keeps among in
                   let from = (row.there track.start).0 (part_there (λ (t : Track R). t.start) pushed track was) in
-                  let behind = (row.each track was).0 in
+                  let holds_after = (row.each track was).0 in
                   subst (IsLive columns q (word ++ item ∷ []) starts) same
-                  (from.0, (extends_is (drop track.start (word ++ item ∷ [])) track.state behind).0 extends),
+                  (from.0, (extends_is (drop track.start (word ++ item ∷ [])) track.state holds_after).0 extends),
               λ live.
                   let before = extension_before columns rate (drop start word) item old.1
                   (subst (HasExtension columns rate) (drop_more word item start (positions start live.0)) live.1) in
                   let (track, among, same) = whole_there (λ (t : Track R). t.start) pushed start
                   ((row.there start).1 (live.0, before)) in
-                  let behind = (row.each track among).0 in
-                  let extends = (extends_is (drop track.start (word ++ item ∷ [])) track.state behind).1
+                  let holds_after = (row.each track among).0 in
+                  let extends = (extends_is (drop track.start (word ++ item ∷ [])) track.state holds_after).1
                   (subst (λ (at : ℕ). HasExtension columns rate (drop at (word ++ item ∷ []))) (sym same) live.1) in
                   subst (Contains (starts_of kept)) same
                   (part_there (λ (t : Track R). t.start) kept track (track_kept nfa pushed kept track keeps among extends)),
@@ -178,11 +178,11 @@ module _ {R : Type 0} (seen : R → Seen R) (columns : List Column) (column : �
       let keys_here : track.keys ≡ one.keys =
       ap (λ (t : Track R). t.keys) (same_Some track third (sym at ∙ at_keys)) ∙ keys in
       let there = read_there all.tracks one.place track at in
-      let (behind, stands) = row.each track there in
+      let (holds_after, stands) = row.each track there in
       let u = drop track.start word in
-      let in_rate = (is_accepted-in all.nfa.sets rate u track.state (sets_spell all.nfa.sets rate of_rate) behind).0
+      let in_rate = (is_accepted-in all.nfa.sets rate u track.state (sets_spell all.nfa.sets rate of_rate) holds_after).0
       (subst (IsAccepted all.nfa.sets) (sym state) first.accepted) in
-      let entries = one.entries bound columns f column sync u clear.0 clear.1 (word_behind columns word track.start is)
+      let entries = one.entries bound columns f column sync u clear.0 clear.1 (word_after columns word track.start is)
       (subst (λ (keys : Keys R). StandsFor seen columns f column sync u keys) keys_here stands) in
       record {
         sound = subst (λ (start : ℕ). Contains starts start × Den q (drop start word) found.value) starts_here (

@@ -13,7 +13,7 @@ use Rattle.query_model.proofs.InRates.{den_in}
 use Rattle.eval_nodes.specs.Holdings.{Holding, combine_held, Seen}
 use Rattle.eval_nodes.specs.Starts.{AreApart}
 use Rattle.eval_nodes.proofs.Apart.{apart_same}
-use Rattle.eval_nodes.proofs.Pieces.{word_behind}
+use Rattle.eval_nodes.proofs.Pieces.{word_after}
 use Rattle.eval_tree.specs.declared.hit.Hit.{Hit}
 use Rattle.eval_tree.specs.Lefts.{AreCombined}
 use Rattle.eval_tree.specs.Steps.{IsFirstHit, IsHit, Starts, Steps}
@@ -34,12 +34,12 @@ module _ (f g : Qre) (e : Expression) where
       → IsHit (Den f) word starts (Some left) → IsHit (Den g) word starts (Some right) → right.start ≡ left.start
   one_start columns word starts left right clear is apart a b =
       let in_f = den_in bound columns f (drop left.start word) left.value clear.0
-      (word_behind columns word left.start is) a.sound.1 in
+      (word_after columns word left.start is) a.sound.1 in
       let in_g = den_in bound columns g (drop right.start word) right.value clear.1
-      (word_behind columns word right.start is) b.sound.1 in
+      (word_after columns word right.start is) b.sound.1 in
       apart right.start left.start [] tt b.sound.0 a.sound.0
       (subst (In (rate_of f)) (sym (append-nil (drop right.start word)))
-      ((clear.3 (drop right.start word) (word_behind columns word right.start is)).1 in_g))
+      ((clear.3 (drop right.start word) (word_after columns word right.start is)).1 in_g))
       (subst (In (rate_of f)) (sym (append-nil (drop left.start word))) in_f)
 
   combined_hit : (columns : List Column) (word : Word) (starts : List ℕ) (left right hit : Option Hit)

@@ -33,7 +33,7 @@ module _ {R : Type 0} (seen : R → Seen R) where
         standing = can.standing;
         columns = can.columns;
         position = can.position;
-        behind = can.behind;
+        is_next = can.is_next;
         clear = can.clear.0;
         sound = can.sound.0;
         is_item = can.is_item;
@@ -46,8 +46,8 @@ module _ {R : Type 0} (seen : R → Seen R) where
       → CanPassOn seen g held left
   passes_allowed f g a a' held now item left can first =
       let room : now + (composes_of f + composes_of g + 1) < 2 ^ 64 = can.room in
-      let behind = can.behind in
-      let x = first can.standing can.columns can.position can.behind can.clear.0 can.is_item can.sound.0 in
+      let is_next = can.is_next in
+      let x = first can.standing can.columns can.position can.is_next can.clear.0 can.is_item can.sound.0 in
       record {
         standing = can.standing;
         columns = derived_columns (type_of can.columns f);
@@ -55,7 +55,7 @@ module _ {R : Type 0} (seen : R → Seen R) where
         clear = can.clear.1;
         live = can.sound.3;
         is_item = hit_item (type_of can.columns f) left x.hit;
-        room = omega (arith, room, behind);
+        room = omega (arith, room, is_next);
       }
 
   unfoldable pub feeds_allowed : (f g : Qre) (a a' : Holding R) (held : Contents R) (at : ℕ) (left : Option Hit)
@@ -95,7 +95,7 @@ module _ {R : Type 0} (seen : R → Seen R) where
     standing = can.standing;
     columns = can.columns;
     position = (seen runner).position;
-    behind = refl;
+    is_next = refl;
     clear = can.clear;
     sound = can.sound.node;
     is_item = can.is_item;

@@ -8,7 +8,7 @@ use Rattle.query_model.specs.Following.{IsAnswer}
 use Rattle.query_model.specs.Queries.{Qre, compose}
 use Rattle.query_model.specs.Rules.{Standing, IsClear}
 use Rattle.eval_nodes.specs.Starts.{AreApart}
-use Rattle.eval_nodes.proofs.Pieces.{word_behind}
+use Rattle.eval_nodes.proofs.Pieces.{word_after}
 use Rattle.eval_tree.specs.declared.hit.Hit.{Hit}
 use Rattle.eval_tree.specs.Feeds.{hit_at}
 use Rattle.eval_tree.specs.Steps.{IsFirstHit, IsHit}
@@ -35,7 +35,7 @@ module _ (standing : Standing) (columns : List Column) (f g : Qre) (clear : IsCl
         let same : start ≡ found.start = hit_start standing columns f clear word starts is apart found left start x there den
         in
         let outs : other ≡ out = out_one standing columns f clear (drop found.start word) other out
-        (word_behind columns word found.start is)
+        (word_after columns word found.start is)
         (subst (λ (at : ℕ). Outputs (Den f) [] (drop at word) other) same others) outputs in
         answers v (subst (λ (u : Word). Den g u v) outs right);
   }

@@ -20,10 +20,10 @@ module _ {R : Type 0} (seen : R → Seen R) where
       → kept.live ≡ live_instances p passed.live → kept.idle ≡ passed.idle ++ retired p passed.live
       → StepsSoundly seen (compose f g) (compose_held a held) now item (compose_held a' kept) hit
   sound_step_compose f g a a' held passed kept now item left hit p first passes live idle =
-      λ standing columns position behind clear is sound.
+      λ standing columns position is_next clear is sound.
       let derived = derived_columns (type_of columns f) in
       let count = places_of f + 1 in
-      let x = first standing columns position behind clear.0 is sound.0 in
+      let x = first standing columns position is_next clear.0 is sound.0 in
       let before : AreSoundly seen derived g count (position + 1) held = record {
         distinct = sound.1;
         full = sound.2;
@@ -33,7 +33,7 @@ module _ {R : Type 0} (seen : R → Seen R) where
       let (one_more, hit_is) = passed_soundly seen standing derived g clear.1 count (position + 1) held passed left hit
       (hit_item (type_of columns f) left x.hit) before passes in
       let after : AreSoundly seen derived g count (now + 1) kept =
-      subst (λ (n : ℕ). AreSoundly seen derived g count (n + 1) kept) (sym behind)
+      subst (λ (n : ℕ). AreSoundly seen derived g count (n + 1) kept) (sym is_next)
       (kept_soundly seen standing derived g clear.1 count (position + 1 + 1) passed kept p live idle one_more) in
       record {
         node = (x.node, after.distinct, after.full, after.live, after.idle);

@@ -18,7 +18,7 @@ use Rattle.eval_nodes.specs.Starts.{AreApart, AreDifferent, ArePositions, IsLive
 use Rattle.eval_nodes.proofs.Few.{few_live}
 use Rattle.eval_nodes.proofs.Instances.{different_more, none_fed}
 use Rattle.eval_nodes.proofs.Living.{living}
-use Rattle.eval_nodes.proofs.Pieces.{behind_end}
+use Rattle.eval_nodes.proofs.Pieces.{after_end}
 use Rattle.eval_tree.specs.declared.hit.Hit.{Hit}
 use Rattle.eval_tree.specs.Feeds.{Feeds, HasIdle, IsBegun, IsFedFrom, item_of}
 use Rattle.eval_tree.specs.Steps.{IsFirstHit, Starts}
@@ -179,7 +179,7 @@ module _ {R : Type 0} (seen : R → Seen R) where
             feeds_one.next hit x.hit feeds_one.begun in
             let (out, outputs, follows) = sees in
             let sees_at : Sees seen standing columns f g clear.0 clear.1 word at feeds_one.next =
-            (out, subst (λ (u : Word). Outputs (Den f) [] u out) (sym (behind_end word at end)) outputs, follows) in
+            (out, subst (λ (u : Word). Outputs (Den f) [] u out) (sym (after_end word at end)) outputs, follows) in
             record {
               after = (
                 x.after,

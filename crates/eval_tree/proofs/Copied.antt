@@ -4,7 +4,7 @@ use Rattle.std.specs.List.{Contains}
 use Rattle.value_ops.specs.declared.value.Value.{Value}
 use Rattle.value_ops.specs.declared.value.ValueType.TheVariants.{Number}
 use Rattle.item_schema.specs.declared.column.Column.{Column}
-use Rattle.rate_expr.specs.Behind.{IsBehind}
+use Rattle.rate_expr.specs.After.{IsAfter}
 use Rattle.rate_expr.specs.FirstLastFollow.{AreSetsOf}
 use Rattle.rate_expr.specs.Readings.{HasExtension}
 use Rattle.rate_expr.specs.Words.{Word}
@@ -167,12 +167,12 @@ module _ {R : Type 0} (seen : R → Seen R) where
         subst (λ (a : Automaton). AreSetsOf a.sets rate) (sym copy.nfa) rep.0,
         ap (λ (a : Automaton). a.cells.layout.columns) copy.nfa ∙ rep.1,
         tracks_stand seen (IsCopy seen f) (IsLive columns (collect column sync rate f) word starts)
-            (λ start track. IsBehind all'.nfa.sets (drop start word) track.state
+            (λ start track. IsAfter all'.nfa.sets (drop start word) track.state
             × StandFor (FollowsWord seen columns f) column sync (drop start word) track.keys) all.tracks all'.tracks
             (λ was track copied is. track_stands seen (IsCopy seen f) (FollowsWord seen columns f) column sync all'.nfa.sets
             (λ start. drop start word) was track follows copied is) copy.tracks
             (subst (λ (a : Automaton). AreTracked (IsLive columns (collect column sync rate f) word starts)
-            (λ start track. IsBehind a.sets (drop start word) track.state
+            (λ start track. IsAfter a.sets (drop start word) track.state
             × StandFor (FollowsWord seen columns f) column sync (drop start word) track.keys) all.tracks) (sym copy.nfa) rep.2),
       )
   copy_represents columns (collect column sync rate f) (collect_held all) new word starts copy rep = absurd copy

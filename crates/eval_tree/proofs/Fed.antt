@@ -25,7 +25,7 @@ use Rattle.eval_nodes.specs.Holdings.{Seen}
 use Rattle.eval_nodes.specs.Represents.{AreFed, IsFed}
 use Rattle.eval_nodes.specs.Starts.{AreApart, AreDifferent, ArePositions, IsLive}
 use Rattle.eval_nodes.proofs.Instances.{kept_count, kept_different, kept_member, member_kept, member_outer, outer_member, read_member, some_fed, written_member}
-use Rattle.eval_nodes.proofs.Pieces.{drop_more, word_behind}
+use Rattle.eval_nodes.proofs.Pieces.{drop_more, word_after}
 use Rattle.eval_tree.specs.declared.hit.Hit.{Hit}
 use Rattle.eval_tree.specs.Feeds.{IsPassed, IsTold, PassesOn, item_of}
 use Rattle.eval_tree.specs.Steps.{IsHit}
@@ -68,15 +68,15 @@ module _ {R : Type 0} (seen : R → Seen R) (standing : Standing) (columns : Lis
         → Den f (drop left.start (word ++ item ∷ [])) left.value → Sees word left.start runner
         → IsTold seen g runner left told hit → Sees (word ++ item ∷ []) left.start told
     sees_one left runner told hit inside den (out, outputs, follows) tells =
-        let behind = drop_more word item left.start inside in
-        let longer = subst (λ (u : Word). Outputs (Den f) [] u (out ++ item_of left.value ∷ [])) (sym behind)
+        let after = drop_more word item left.start inside in
+        let longer = subst (λ (u : Word). Outputs (Den f) [] u (out ++ item_of left.value ∷ [])) (sym after)
         (one_comes (Den f) (drop left.start word) item out left.value outputs
-        (subst (λ (u : Word). Den f u left.value) behind den)) in (
+        (subst (λ (u : Word). Den f u left.value) after den)) in (
           out ++ item_of left.value ∷ [],
           longer,
           tells.carried.word standing (derived_columns (type_of columns f)) out clear_right
               (out_word standing columns f clear (drop left.start (word ++ item ∷ [])) (out ++ item_of left.value ∷ [])
-              (word_behind columns (word ++ item ∷ []) left.start is) longer)
+              (word_after columns (word ++ item ∷ []) left.start is) longer)
               follows,
         )
 
@@ -131,7 +131,7 @@ module _ {R : Type 0} (seen : R → Seen R) (standing : Standing) (columns : Lis
     hit_feeds held found row left none =
         let from = left.sound.0 in
         let in_f = den_in standing columns f (drop found.start (word ++ item ∷ [])) found.value clear
-        (word_behind columns (word ++ item ∷ []) found.start is) left.sound.1 in
+        (word_after columns (word ++ item ∷ []) found.start is) left.sound.1 in
         let old = word_parts columns word (item ∷ []) is in
         some_fed held.live found.start ((row.there found.start).1 (
           from,

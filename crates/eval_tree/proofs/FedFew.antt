@@ -18,8 +18,8 @@ use Rattle.eval_nodes.specs.Holdings.{Seen}
 use Rattle.eval_nodes.specs.Represents.{KeepsFew}
 use Rattle.eval_nodes.proofs.Instances.{all_but_last, all_joined, all_mapped, all_retired}
 use Rattle.eval_nodes.proofs.Members.{first_member, later_member}
-use Rattle.eval_nodes.proofs.Pieces.{word_behind}
-use Rattle.eval_nodes.proofs.StoredEntries.{behind_among}
+use Rattle.eval_nodes.proofs.Pieces.{word_after}
+use Rattle.eval_nodes.proofs.StoredEntries.{after_among}
 use Rattle.eval_nodes.proofs.Totals.{scaled}
 use Rattle.eval_tree.specs.declared.hit.Hit.{Hit}
 use Rattle.eval_tree.specs.Feeds.{IsFedFrom, PassesOn}
@@ -55,12 +55,12 @@ module _ {R : Type 0} (seen : R → Seen R) where
     sees_few : (word : Word) (start : ℕ) (runner : R) → IsWordOf columns word
         → Sees seen standing columns f g clear clear_right word start runner → KeepsFewOn f g word runner
     sees_few word start runner is (out, outputs, follows) =
-        let behind = word_behind columns word start is in
+        let after = word_after columns word start is in
         let few = runner_few seen standing (derived_columns (type_of columns f)) g out runner clear_right
-        (derived_texts (type_of columns f)) (out_word standing columns f clear (drop start word) out behind outputs)
+        (derived_texts (type_of columns f)) (out_word standing columns f clear (drop start word) out after outputs)
         follows in
         let less = out_keys standing columns f g (drop start word) out clear none outputs in
-        let part = keys_mono f f (drop start word) word (among_all (key_columns f)) (behind_among word start) in
+        let part = keys_mono f f (drop start word) word (among_all (key_columns f)) (after_among word start) in
         scaled (size_of_runner seen (stored_in seen g) runner) (slots_of g) (keys_met g out)
         (keys_met (compose f g) word) few (omega (arith, less, part))
 

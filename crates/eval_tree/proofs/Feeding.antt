@@ -19,8 +19,8 @@ record IsLastOf {A : Type 0} (xs : List A) (last : A) : Type 0 where
   pub front : List A
   pub is : xs ≡ front ++ last ∷ []
 
-behind_first : {A : Type 0} (x last : A) (xs : List A) → IsLastOf xs last → IsLastOf (x ∷ xs) last
-behind_first x last xs is = record { front = x ∷ is.front; is = ap (λ (ys : List _). x ∷ ys) is.is }
+after_first : {A : Type 0} (x last : A) (xs : List A) → IsLastOf xs last → IsLastOf (x ∷ xs) last
+after_first x last xs is = record { front = x ∷ is.front; is = ap (λ (ys : List _). x ∷ ys) is.is }
 
 last_read : {A : Type 0} (xs : List A) (i : ℕ) (x : A) → 0 < length xs → i ≡ length xs - 1 → slice_get xs i ≡ Some x
     → IsLastOf xs x
@@ -29,7 +29,7 @@ last_read (y ∷ []) zero x some at is = record { front = []; is = ap (λ (z : _
 last_read (y ∷ []) (suc i) x some at is = absurd (omega (arith, at))
 last_read (y ∷ z ∷ xs) zero x some at is = absurd (omega (arith, at))
 last_read (y ∷ z ∷ xs) (suc i) x some at is =
-    behind_first y x (z ∷ xs) (last_read (z ∷ xs) i x (omega arith) (omega (arith, at)) is)
+    after_first y x (z ∷ xs) (last_read (z ∷ xs) i x (omega arith) (omega (arith, at)) is)
 
 -- another one in its place
 set_last : {A : Type 0} (front : List A) (x w : A) → set (front ++ x ∷ []) (length front) w ≡ front ++ w ∷ []

@@ -37,9 +37,9 @@ module _ {R : Type 0} (seen : R → Seen R) where
       → AreCombined e left right hit
       → StepsSoundly seen (combine f g e) (combine_held a b) now item (combine_held a' b') hit
   sound_step_combine f g e a b a' b' now item left right hit first second combined =
-      λ standing columns position behind clear is sound.
-      let x = first bound columns position behind clear.0 is sound.0 in
-      let y = second bound columns position behind clear.1 is sound.1 in
+      λ standing columns position is_next clear is sound.
+      let x = first bound columns position is_next clear.0 is sound.0 in
+      let y = second bound columns position is_next clear.1 is sound.1 in
       record {
         node = (x.node, y.node);
         hit = combined_of (type_of columns f) (type_of columns g) _ e left right hit x.hit y.hit clear.2 combined;
@@ -67,8 +67,8 @@ module _ {R : Type 0} (seen : R → Seen R) where
       → kept.entries ≡ live_entries live so_far.entries → kept.room ≡ so_far.room
       → StepsSoundly seen (iter f number e) (iter_held a so_far) now item (iter_held a' kept) None
   sound_step_iter_none f number e a a' so_far kept now item live piece first keeps room =
-      λ standing columns position behind clear is sound.
-      let x = first bound columns position behind clear.0 is sound.0 in
+      λ standing columns position is_next clear is sound.
+      let x = first bound columns position is_next clear.0 is sound.0 in
       record { node = (x.node, entries_kept type.Number _ live so_far kept sound.1 keeps room); hit = tt }
 
   pub sound_step_iter_some : (f : Qre) (number : ℤ) (e : Expression) (a a' a'' : Holding R)
@@ -81,8 +81,8 @@ module _ {R : Type 0} (seen : R → Seen R) where
       → StepsSoundly seen (iter f number e) (iter_held a so_far) now item (iter_held a'' new) (Some hit)
   sound_step_iter_some f number e a a' a'' so_far kept new now item live piece begun hit is_live first ended keeps room
       second put =
-      λ standing columns position behind clear is sound.
-      let x = first bound columns position behind clear.0 is sound.0 in
+      λ standing columns position is_next clear is sound.
+      let x = first bound columns position is_next clear.0 is sound.0 in
       let y = second bound columns clear.0 x.node in
       let typed = ended_of type.Number (type_of columns f) type.Number e so_far.entries piece (Some hit)
       sound.1.typed x.hit clear.2 ended in

@@ -68,7 +68,7 @@ module _ {R : Type 0} (seen : R → Seen R) where
         standing = bound;
         columns = can.columns;
         position = can.position;
-        behind = can.behind;
+        is_next = can.is_next;
         clear = can.clear.0;
         sound = can.sound.0;
         is_item = can.is_item;
@@ -82,7 +82,7 @@ module _ {R : Type 0} (seen : R → Seen R) where
         standing = bound;
         columns = can.columns;
         position = can.position;
-        behind = can.behind;
+        is_next = can.is_next;
         clear = can.clear.1;
         sound = can.sound.1;
         is_item = can.is_item;
@@ -93,8 +93,8 @@ module _ {R : Type 0} (seen : R → Seen R) where
       (left right : Option Hit) → CanStep seen (combine f g e) (combine_held a b) now item
       → StepsSoundly seen f a now item a' left → StepsSoundly seen g b now item b' right → AreTypedOnHits e left right
   stepped_combine f g e a b a' b' now item left right can first second =
-      let x = first bound can.columns can.position can.behind can.clear.0 can.is_item can.sound.0 in
-      let y = second bound can.columns can.position can.behind can.clear.1 can.is_item can.sound.1 in
+      let x = first bound can.columns can.position can.is_next can.clear.0 can.is_item can.sound.0 in
+      let y = second bound can.columns can.position can.is_next can.clear.1 can.is_item can.sound.1 in
       typed_on_hits (type_of can.columns f) (type_of can.columns g) _ e left right x.hit y.hit can.clear.2
 
   unfoldable pub step_piece : (f : Qre) (number : ℤ) (e : Expression) (a : Holding R) (so_far : Contents Value)
@@ -104,7 +104,7 @@ module _ {R : Type 0} (seen : R → Seen R) where
     standing = bound;
     columns = can.columns;
     position = can.position;
-    behind = can.behind;
+    is_next = can.is_next;
     clear = can.clear.0;
     sound = can.sound.0;
     is_item = can.is_item;
@@ -115,7 +115,7 @@ module _ {R : Type 0} (seen : R → Seen R) where
       (item : List Field) (piece : Option Hit) → CanStep seen (iter f number e) (iter_held a so_far) now item
       → StepsSoundly seen f a now item a' piece → AreTypedWith e so_far.entries piece
   stepped_iter f number e a a' so_far now item piece can first =
-      let x = first bound can.columns can.position can.behind can.clear.0 can.is_item can.sound.0 in
+      let x = first bound can.columns can.position can.is_next can.clear.0 can.is_item can.sound.0 in
       all_typed_with type.Number (type_of can.columns f) type.Number e so_far.entries piece can.sound.1.typed x.hit
       can.clear.2
 
@@ -125,7 +125,7 @@ module _ {R : Type 0} (seen : R → Seen R) where
       (item : List Field) (piece : Option Hit) → CanStep seen (iter f number e) (iter_held a so_far) now item
       → StepsSoundly seen f a now item a' piece → CanStart seen f a' now
   start_next f number e a a' so_far now item piece can first =
-      let x = first bound can.columns can.position can.behind can.clear.0 can.is_item can.sound.0 in
+      let x = first bound can.columns can.position can.is_next can.clear.0 can.is_item can.sound.0 in
       record {
         standing = bound;
         columns = can.columns;

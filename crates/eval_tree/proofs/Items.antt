@@ -14,7 +14,7 @@ use Rattle.rate_expr.specs.Words.{Word}
 use Rattle.query_model.specs.Queries.{atom, eps}
 use Rattle.eval_nodes.specs.Holdings.{atom_held, eps_held, Seen}
 use Rattle.eval_nodes.specs.Starts.{ArePositions}
-use Rattle.eval_nodes.proofs.Pieces.{at_end, behind_end, drop_more, length_more, one_item}
+use Rattle.eval_nodes.proofs.Pieces.{at_end, after_end, drop_more, length_more, one_item}
 use Rattle.eval_tree.specs.Steps.{Starts, Steps}
 
 -- the piece of one item begins at the end of the word before it
@@ -27,7 +27,7 @@ last_start word item other start inside whole =
 last_item : (word : Word) (item : List Field) (start : ℕ) → start ≡ length word
     → drop start (word ++ item ∷ []) ≡ item ∷ []
 last_item word item start end =
-    drop_more word item start (omega (arith, end)) ∙ ap (λ u. u ++ item ∷ []) (behind_end word start end)
+    drop_more word item start (omega (arith, end)) ∙ ap (λ u. u ++ item ∷ []) (after_end word start end)
 
 module _ {R : Type 0} (seen : R → Seen R) where
   pub start_atom : (pred : Predicate) (e : Expression) (old : Option ℕ) (at : ℕ)

@@ -21,7 +21,7 @@ use Rattle.eval_nodes.specs.Represents.{Represents}
 use Rattle.eval_nodes.specs.Starts.{ArePositions}
 use Rattle.eval_nodes.proofs.Apart.{apart_right}
 use Rattle.eval_nodes.proofs.Chains.{chain_apart, chain_clear}
-use Rattle.eval_nodes.proofs.Pieces.{behind_end, end_is, word_behind}
+use Rattle.eval_nodes.proofs.Pieces.{after_end, end_is, word_after}
 use Rattle.eval_tree.specs.declared.hit.Hit.{Hit}
 use Rattle.eval_tree.specs.Lefts.{IsPut}
 use Rattle.eval_tree.specs.Steps.{Starts}
@@ -47,7 +47,7 @@ module _ {R : Type 0} (seen : R → Seen R) (f : Qre) (number : ℤ) (e : Expres
       let all = starts ++ at ∷ [] in
       let apart_two = chain_apart columns f number e word all apart in
       let (ends, reached, operand_rep) = rep.0 in
-      let nothing = behind_end word at end in
+      let nothing = after_end word at end in
       let den : Den q (drop at word) x = subst (λ w. Den q w x) (sym nothing) ([], refl, refl) in
       let in_q : In (rate_of q) (drop at word) = subst (In (rate_of q)) (sym nothing) ([], refl, tt) in
       let none : NoneAtEnd (In (rate_of q)) word starts =
@@ -57,7 +57,7 @@ module _ {R : Type 0} (seen : R → Seen R) (f : Qre) (number : ℤ) (e : Expres
       (subst (In (rate_of q)) (sym (append-nil (drop at word))) in_q)) there)) in
       let no_value : (start : ℕ) (v : Value) → Contains starts start → Den q (drop start word) v → ⊥ =
       (λ start v there old. none start there
-      (den_in bound columns q (drop start word) v clear (word_behind columns word start is) old)) in
+      (den_in bound columns q (drop start word) v clear (word_after columns word start is) old)) in
       let before = reached_new (In (rate_of q)) word starts ends at end none reached in
       let inside : at ≤ length word = omega (arith, end) in
       let after = reached_end (In (rate_of q)) word all ends at before (Contains-push starts at) inside in_q in

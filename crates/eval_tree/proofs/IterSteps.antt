@@ -23,7 +23,7 @@ use Rattle.eval_nodes.specs.Represents.{AreWaiting, Represents}
 use Rattle.eval_nodes.specs.Starts.{ArePositions}
 use Rattle.eval_nodes.proofs.Apart.{apart_right}
 use Rattle.eval_nodes.proofs.Chains.{chain_apart, chain_clear, den_push, no_empty, star_last}
-use Rattle.eval_nodes.proofs.Pieces.{behind_end, drop_more, length_more, split_piece, word_behind, word_piece}
+use Rattle.eval_nodes.proofs.Pieces.{after_end, drop_more, length_more, split_piece, word_after, word_piece}
 use Rattle.eval_tree.specs.declared.hit.Hit.{Hit}
 use Rattle.eval_tree.specs.Lefts.{IsEnded, IsPut}
 use Rattle.eval_tree.specs.Steps.{IsHit, Starts, Steps}
@@ -52,7 +52,7 @@ module _ (columns : List Column) (f : Qre) (number : ℤ) (e : Expression)
     complete = λ start v there den.
         let q = iter f number e in
         let longer = word ++ item ∷ [] in
-        let in_q = den_in bound columns q (drop start longer) v clear (word_behind columns longer start is) den in
+        let in_q = den_in bound columns q (drop start longer) v clear (word_after columns longer start is) den in
         let more = drop_more word item start (positions start there) in
         let (first, last, same, in_first, in_last) =
         star_last (rate_of f) (drop start word) item (subst (In (rate_of q)) more in_q) in
@@ -63,11 +63,11 @@ module _ (columns : List Column) (f : Qre) (number : ℤ) (e : Expression)
               let x = in_den columns q first clear
               (word_piece columns longer start (start + length first) first is cut) in_first in
               let y = in_den columns f (drop (start + length first) longer) clear.0
-              (word_behind columns longer (start + length first) is) (subst (In (rate_of f)) (sym rest) in_last) in
+              (word_after columns longer (start + length first) is) (subst (In (rate_of f)) (sym rest) in_last) in
               before.complete start (start + length first) first x.0 y.0 there cut below x.1 y.1
           | inr end ↦
               absurd (no_empty columns (rate_of f) clear.3 (subst (In (rate_of f))
-              (sym rest ∙ behind_end longer (start + length first) end) in_last))
+              (sym rest ∙ after_end longer (start + length first) end) in_last))
         ];
   }
   chain_hit word item starts (Some found) is positions before = record {
@@ -145,7 +145,7 @@ module _ {R : Type 0} (seen : R → Seen R) (f : Qre) (number : ℤ) (e : Expres
       let from = is_hit.sound.0 in
       let den = is_hit.sound.1 in
       let in_q = den_in bound columns q (drop hit.start longer) hit.value clear
-      (word_behind columns longer hit.start is) den in
+      (word_after columns longer hit.start is) den in
       let after = reached_end (In (rate_of q)) longer starts ends hit.start before from (all hit.start from) in_q in
       let y = second bound columns longer ends clear.0 is
       (λ k there. let (start, part, begins, cut, below, in_part) = (before k).0 there in cut.inside) x.after

@@ -42,9 +42,9 @@ entry_none key None is = refl
 entry_none key (Some (value.Scalar other)) is = absurd (none-some other (sym is))
 entry_none key (Some (value.Table entries)) is = refl
 
-more_behind : {A : Type 0} (o : Option A) (xs ys : List A) → cons_option o (xs ++ ys) ≡ cons_option o xs ++ ys
-more_behind None xs ys = refl
-more_behind (Some x) xs ys = refl
+more_after : {A : Type 0} (o : Option A) (xs ys : List A) → cons_option o (xs ++ ys) ≡ cons_option o xs ++ ys
+more_after None xs ys = refl
+more_after (Some x) xs ys = refl
 
 -- names before an index differ from the one there
 names_before : (names : List (List ℕ)) (i : ℕ) (name : List ℕ) → IsDistinct bytes_eq names
@@ -65,7 +65,7 @@ module _ {R : Type 0} (seen : R → Seen R) where
   entries_push (x ∷ names) (y ∷ runners) name runner many =
       ap (λ (rest : List (List ℕ × Scalar)). cons_option (entry_with x (seen y).answer) rest)
       (entries_push names runners name runner (omega (arith, many)))
-      ∙ more_behind (entry_with x (seen y).answer) (entries_in seen names runners)
+      ∙ more_after (entry_with x (seen y).answer) (entries_in seen names runners)
       (cons_option (entry_with name (seen runner).answer) [])
   entries_push [] (y ∷ runners) name runner many = absurd (omega (arith, many))
   entries_push (x ∷ names) [] name runner many = absurd (omega (arith, many))

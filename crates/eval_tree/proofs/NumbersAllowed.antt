@@ -13,7 +13,7 @@ use Rattle.eval_tree.specs.declared.hit.Hit.{Hit}
 use Rattle.eval_tree.specs.Feeds.{IsRenewed, item_of}
 use Rattle.eval_tree.specs.Numbers.{BeginsNumbers, CarriesNumbers, FeedsNumbers, PassesNumbers, StartsNumbers, StepsNumbers}
 use Rattle.eval_tree.specs.Steps.{StartsSoundly, StepsSoundly}
-use Rattle.eval_tree.proofs.Allowed.{start_behind, start_first, start_left, start_operand, start_right, start_second, step_first, step_left, step_operand, step_right, step_second}
+use Rattle.eval_tree.proofs.Allowed.{start_after, start_first, start_left, start_operand, start_right, start_second, step_first, step_left, step_operand, step_right, step_second}
 use Rattle.eval_tree.proofs.ComposeAllowed.{carry_begun, feeds_allowed, passes_allowed, start_cleared, start_fed, step_carried, step_fed}
 use Rattle.eval_tree.proofs.Feeding.{begin_last, renew_allowed, tell_allowed}
 use Rattle.eval_tree.proofs.FoldsAllowed.{start_next, start_one, start_other, start_piece, step_one, step_other, step_piece}
@@ -102,9 +102,9 @@ module _ {R : Type 0} (seen : R → Seen R) where
   pub right_begins : (f g : Qre) (e : Expression) (a b b' : Holding R) (held : entries.Contents Value) (now : ℕ)
       (item : List Field) (right : Option Hit) → StepsNumbers seen (split f g e) (split_held a b held) now item
       → StepsSoundly seen g b now item b' right → StartsNumbers seen g b' now
-  unfolding start_behind
+  unfolding start_after
   right_begins f g e a b b' held now item right free second = (
-    start_behind seen f g e a b b' held now item right free.0 second,
+    start_after seen f g e a b b' held now item right free.0 second,
     record { no_collect = free.1.no_collect.1; no_tables = free.1.no_tables },
   )
 

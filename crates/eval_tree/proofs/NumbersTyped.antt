@@ -124,7 +124,7 @@ module _ {R : Type 0} (seen : R → Seen R) where
   applied_stepped f e a a' now item hit free stepped =
       let can = free.0 in
       let type = type_of can.columns f in
-      let x = stepped bound can.columns can.position can.behind can.clear.0 can.is_item can.sound in
+      let x = stepped bound can.columns can.position can.is_next can.clear.0 can.is_item can.sound in
       on_hit type e hit x.hit (number_typed (of_one type) e can.clear.1
       (number_type can.columns (apply f e) free.1.no_collect free.1.no_tables))
 
@@ -136,8 +136,8 @@ module _ {R : Type 0} (seen : R → Seen R) where
       let can = free.0 in
       let type = type_of can.columns f in
       let other = type_of can.columns g in
-      let x = first bound can.columns can.position can.behind can.clear.0 can.is_item can.sound.0 in
-      let y = second bound can.columns can.position can.behind can.clear.1 can.is_item can.sound.1 in
+      let x = first bound can.columns can.position can.is_next can.clear.0 can.is_item can.sound.0 in
+      let y = second bound can.columns can.position can.is_next can.clear.1 can.is_item can.sound.1 in
       on_hits type other e left right x.hit y.hit (number_typed (of_two type other) e can.clear.2
       (number_type can.columns (combine f g e) free.1.no_collect free.1.no_tables))
 
@@ -148,7 +148,7 @@ module _ {R : Type 0} (seen : R → Seen R) where
       let can = free.0 in
       let type = type_of can.columns f in
       let other = type_of can.columns g in
-      let y = second bound can.columns can.position can.behind can.clear.1 can.is_item can.sound.1 in
+      let y = second bound can.columns can.position can.is_next can.clear.1 can.is_item can.sound.1 in
       with_entries type other e held.entries right can.sound.2.typed y.hit
       (number_typed (of_two type other) e can.clear.2
       (number_type can.columns (split f g e) free.1.no_collect free.1.no_tables))
@@ -162,8 +162,8 @@ module _ {R : Type 0} (seen : R → Seen R) where
       let can = free.0 in
       let type = type_of can.columns f in
       let other = type_of can.columns g in
-      let x = first bound can.columns can.position can.behind can.clear.0 can.is_item can.sound.0 in
-      let y = second bound can.columns can.position can.behind can.clear.1 can.is_item can.sound.1 in
+      let x = first bound can.columns can.position can.is_next can.clear.0 can.is_item can.sound.0 in
+      let y = second bound can.columns can.position can.is_next can.clear.1 can.is_item can.sound.1 in
       let z = third bound can.columns can.clear.1 y.node in
       with_right type other e left.value begun x.hit (hit_of other now begun z.hit)
       (number_typed (of_two type other) e can.clear.2
@@ -174,7 +174,7 @@ module _ {R : Type 0} (seen : R → Seen R) where
       → StepsSoundly seen f a now item a' piece → AreNumbersWith e so_far.entries piece
   ended_piece f number e a a' so_far now item piece free first =
       let can = free.0 in
-      let x = first bound can.columns can.position can.behind can.clear.0 can.is_item can.sound.0 in
+      let x = first bound can.columns can.position can.is_next can.clear.0 can.is_item can.sound.0 in
       with_entries Number (type_of can.columns f) e so_far.entries piece can.sound.1.typed x.hit can.clear.2
 
   -- a value so far is none either
@@ -184,7 +184,7 @@ module _ {R : Type 0} (seen : R → Seen R) where
       → IsEnded e so_far.entries piece (Some hit) → IsNoTable hit.value
   ended_no_table f number e a a' so_far now item piece hit free first ended =
       let can = free.0 in
-      let x = first bound can.columns can.position can.behind can.clear.0 can.is_item can.sound.0 in
+      let x = first bound can.columns can.position can.is_next can.clear.0 can.is_item can.sound.0 in
       no_table hit.value (ended_of Number (type_of can.columns f) Number e so_far.entries piece (Some hit)
       can.sound.1.typed x.hit can.clear.2 ended)
 

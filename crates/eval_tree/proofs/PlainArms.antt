@@ -84,7 +84,7 @@ eps_steps number eps_held now item = record {
 }
 eps_steps number held now item = record {
   word = λ standing columns word starts clear is positions rep end apart. absurd rep;
-  sound = λ standing columns position behind clear is sound. absurd sound;
+  sound = λ standing columns position is_next clear is sound. absurd sound;
   no_memory = λ free. refl;
 }
 

@@ -14,7 +14,7 @@ use Rattle.query_model.specs.Rates.{rate_of}
 use Rattle.query_model.specs.Rules.{Standing, IsClear}
 use Rattle.query_model.proofs.InRates.{den_in}
 use Rattle.eval_nodes.specs.Starts.{AreApart}
-use Rattle.eval_nodes.proofs.Pieces.{word_behind}
+use Rattle.eval_nodes.proofs.Pieces.{word_after}
 use Rattle.eval_tree.specs.declared.hit.Hit.{Hit}
 use Rattle.eval_tree.specs.Steps.{IsHit}
 
@@ -29,7 +29,7 @@ module _ (standing : Standing) (columns : List Column) (f : Qre) (clear : IsClea
   whole_in : (start : ℕ) (v : Value) → Den f (drop start word) v → In (rate_of f) (drop start word ++ [])
   whole_in start v den =
       subst (In (rate_of f)) (sym (append-nil (drop start word)))
-      (den_in standing columns f (drop start word) v clear (word_behind columns word start is) den)
+      (den_in standing columns f (drop start word) v clear (word_after columns word start is) den)
 
   -- a value from a start is that of the hit
   pub hit_start : (found : Hit) → IsHit (Den f) word starts (Some found) → (start : ℕ) (v : Value)

@@ -84,7 +84,7 @@ module _ {R : Type 0} (seen : R → Seen R) where
 
   pub sound_step_atom_none : (pred : Predicate) (e : Expression) (old : Option ℕ) (now : ℕ) (item : List Field)
       → StepsSoundly seen (atom pred e) (atom_held old) now item (atom_held None) None
-  sound_step_atom_none pred e old now item = λ standing columns position behind clear is sound.
+  sound_step_atom_none pred e old now item = λ standing columns position is_next clear is sound.
       record { node = tt; hit = tt }
 
   pub sound_step_atom : (pred : Predicate) (e : Expression) (old : Option ℕ) (now start : ℕ)
@@ -92,21 +92,21 @@ module _ {R : Type 0} (seen : R → Seen R) where
       → value_of (given item None None) e ≡ Some v
       → StepsSoundly seen (atom pred e) (atom_held old) now item (atom_held None)
       (Some (record { start = start; value = v }))
-  sound_step_atom pred e old now start item v gives = λ standing columns position behind clear is sound. record {
+  sound_step_atom pred e old now start item v gives = λ standing columns position is_next clear is sound. record {
     node = tt;
     hit = atom_ranges columns item e v is clear.1 gives;
   }
 
   pub sound_step_eps : (number : ℤ) (now : ℕ) (item : List Field)
       → StepsSoundly seen (eps number) eps_held now item eps_held None
-  sound_step_eps number now item = λ standing columns position behind clear is sound. record { node = tt; hit = tt }
+  sound_step_eps number now item = λ standing columns position is_next clear is sound. record { node = tt; hit = tt }
 
   pub sound_step_choice : (f g : Qre) (a b a' b' : Holding R) (now : ℕ) (item : List Field) (left right : Option Hit)
       → StepsSoundly seen f a now item a' left → StepsSoundly seen g b now item b' right
       → StepsSoundly seen (choice f g) (choice_held a b) now item (choice_held a' b') (option_or left right)
-  sound_step_choice f g a b a' b' now item left right first second = λ standing columns position behind clear is sound.
-      let x = first bound columns position behind clear.0 is sound.0 in
-      let y = second bound columns position behind clear.1 is sound.1 in
+  sound_step_choice f g a b a' b' now item left right first second = λ standing columns position is_next clear is sound.
+      let x = first bound columns position is_next clear.0 is sound.0 in
+      let y = second bound columns position is_next clear.1 is sound.1 in
       record {
         node = (x.node, y.node);
         hit = either_of (type_of columns f) left right x.hit (subst (λ type. IsHitOf type right) clear.2 y.hit);
@@ -116,8 +116,8 @@ module _ {R : Type 0} (seen : R → Seen R) where
       (inner hit : Option Hit)
       → StepsSoundly seen f a now item a' inner → IsApplied e inner hit
       → StepsSoundly seen (apply f e) (apply_held a) now item (apply_held a') hit
-  sound_step_apply f e a a' now item inner hit first applied = λ standing columns position behind clear is sound.
-      let x = first bound columns position behind clear.0 is sound in
+  sound_step_apply f e a a' now item inner hit first applied = λ standing columns position is_next clear is sound.
+      let x = first bound columns position is_next clear.0 is sound in
       record { node = x.node; hit = applied_of (type_of columns f) _ e inner hit x.hit clear.1 applied }
 
   pub sound_step_split_none : (f g : Qre) (e : Expression) (a b a' b' : Holding R)
@@ -128,9 +128,9 @@ module _ {R : Type 0} (seen : R → Seen R) where
       → kept.entries ≡ live_entries live held.entries → kept.room ≡ held.room
       → StepsSoundly seen (split f g e) (split_held a b held) now item (split_held a' b' kept) hit
   sound_step_split_none f g e a b a' b' held kept now item live right hit first second ended keeps room =
-      λ standing columns position behind clear is sound.
-      let x = first bound columns position behind clear.0 is sound.0 in
-      let y = second bound columns position behind clear.1 is sound.1 in
+      λ standing columns position is_next clear is sound.
+      let x = first bound columns position is_next clear.0 is sound.0 in
+      let y = second bound columns position is_next clear.1 is sound.1 in
       record {
         node = (x.node, y.node, entries_kept (type_of columns f) _ live held kept sound.2 keeps room);
         hit = ended_of (type_of columns f) (type_of columns g) _ e held.entries right hit sound.2.typed y.hit
@@ -148,9 +148,9 @@ module _ {R : Type 0} (seen : R → Seen R) where
       → StepsSoundly seen (split f g e) (split_held a b held) now item (split_held a' b'' new) (option_or hit second_hit)
   sound_step_split_some f g e a b a' b' b'' held kept new now item live left right begun hit second_hit is_live first
       second ended keeps room third joined put =
-      λ standing columns position behind clear is sound.
-      let x = first bound columns position behind clear.0 is sound.0 in
-      let y = second bound columns position behind clear.1 is sound.1 in
+      λ standing columns position is_next clear is sound.
+      let x = first bound columns position is_next clear.0 is sound.0 in
+      let y = second bound columns position is_next clear.1 is sound.1 in
       let z = third bound columns clear.1 y.node in
       record {
         node = (

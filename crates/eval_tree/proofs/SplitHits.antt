@@ -21,7 +21,7 @@ use Rattle.split_eval.specs.Entries.{entry_at}
 use Rattle.split_eval.specs.declared.entry.Entry.{Entry}
 use Rattle.eval_nodes.specs.Represents.{AreReached, AreWaiting}
 use Rattle.eval_nodes.specs.Starts.{ArePositions, IsPiece}
-use Rattle.eval_nodes.proofs.Pieces.{behind_end, drop_more, end_is, piece_more, split_piece, word_behind, word_piece}
+use Rattle.eval_nodes.proofs.Pieces.{after_end, drop_more, end_is, piece_more, split_piece, word_after, word_piece}
 use Rattle.eval_nodes.proofs.Entries.{is_entry}
 use Rattle.eval_tree.specs.declared.hit.Hit.{Hit}
 use Rattle.eval_tree.specs.Lefts.{IsEnded, IsJoined, IsJoinedWith}
@@ -56,7 +56,7 @@ module _ (f g : Qre) (e : Expression) where
           | inl below ↦ a.complete start (start + length first) first x y there cut below in_f right
           | inr last ↦ b.complete start x y there
               (subst (λ u. Den f u x) (end_is word start (start + length first) first cut last) in_f)
-              (subst (λ u. Den g u y) (behind_end word (start + length first) last) right)
+              (subst (λ u. Den g u y) (after_end word (start + length first) last) right)
         ];
   }
   either_end word starts None (Some found) positions a b = record { sound = b.sound; complete = tt }
@@ -112,7 +112,7 @@ module _ (columns : List Column) (f g : Qre) (e : Expression) (clear : IsClear b
       let old = word_parts columns word (item ∷ []) is in
       let x = in_den columns f piece clear.0 (word_piece columns word start right.start piece old.0 cut) in_f in
       let in_g = den_in bound columns g (drop right.start (word ++ item ∷ [])) right.value clear.1
-      (word_behind columns (word ++ item ∷ []) right.start is) den in
+      (word_after columns (word ++ item ∷ []) right.start is) den in
       absurd (none-some _ (sym found ∙ (waiting.each right.start start x.0).1 (
         from,
         (piece, cut, x.1),

@@ -18,7 +18,7 @@ use Rattle.eval_nodes.specs.Holdings.{Holding, split_held, Seen}
 use Rattle.eval_nodes.specs.Live.{live_of}
 use Rattle.eval_nodes.specs.Represents.{Represents}
 use Rattle.eval_nodes.proofs.Apart.{apart_left, apart_right}
-use Rattle.eval_nodes.proofs.Pieces.{behind_end, end_is, word_behind}
+use Rattle.eval_nodes.proofs.Pieces.{after_end, end_is, word_after}
 use Rattle.eval_tree.specs.declared.hit.Hit.{Hit}
 use Rattle.eval_tree.specs.Lefts.{IsJoined, IsPut}
 use Rattle.eval_tree.specs.Steps.{IsFirstHit, Starts}
@@ -77,9 +77,9 @@ module _ {R : Type 0} (seen : R → Seen R) where
       let apart_f = apart_left columns f g e word all clear.1 apart in
       let x = first bound columns word starts clear.0 is positions rep.0 fresh end apart_f in
       let (ends, reached, right_rep) = rep.1 in
-      let nothing = behind_end word at end in
+      let nothing = after_end word at end in
       let den : Den f (drop at word) left.value = subst (λ w. Den f w left.value) (sym nothing) x.hit.1 in
-      let in_f = den_in bound columns f (drop at word) left.value clear.0 (word_behind columns word at is) den in
+      let in_f = den_in bound columns f (drop at word) left.value clear.0 (word_after columns word at is) den in
       let none : (start : ℕ) → Contains starts start → In (rate_of f) (drop start word) → ⊥ =
       (λ start there in_old. fresh (subst (Contains starts)
       (apart_f start at [] tt (Contains-append_left starts (at ∷ []) start there) (Contains-push starts at)
@@ -87,7 +87,7 @@ module _ {R : Type 0} (seen : R → Seen R) where
       (subst (In (rate_of f)) (sym (append-nil (drop at word))) in_f)) there)) in
       let no_value : (start : ℕ) (v : Value) → Contains starts start → Den f (drop start word) v → ⊥ =
       (λ start v there old. none start there
-      (den_in bound columns f (drop start word) v clear.0 (word_behind columns word start is) old)) in
+      (den_in bound columns f (drop start word) v clear.0 (word_after columns word start is) old)) in
       let before = reached_new (In (rate_of f)) word starts ends at end none reached in
       let inside : at ≤ length word = omega (arith, end) in
       let after = reached_end (In (rate_of f)) word all ends at before (Contains-push starts at) inside in_f in

@@ -24,7 +24,7 @@ use Rattle.eval_nodes.specs.Represents.{AreReached, AreWaiting, Represents}
 use Rattle.eval_nodes.specs.Starts.{ArePositions}
 use Rattle.eval_nodes.proofs.Apart.{apart_left, apart_right}
 use Rattle.eval_nodes.proofs.Living.{living}
-use Rattle.eval_nodes.proofs.Pieces.{length_more, word_behind, word_piece}
+use Rattle.eval_nodes.proofs.Pieces.{length_more, word_after, word_piece}
 use Rattle.eval_tree.specs.declared.hit.Hit.{Hit}
 use Rattle.eval_tree.specs.Lefts.{IsEnded, IsJoined, IsPut}
 use Rattle.eval_tree.specs.Steps.{IsHit, Starts, Steps}
@@ -147,7 +147,7 @@ module _ {R : Type 0} (seen : R → Seen R) where
       let from = x.hit.sound.0 in
       let den = x.hit.sound.1 in
       let in_f = den_in bound columns f (drop left.start longer) left.value clear.0
-      (word_behind columns longer left.start is) den in
+      (word_after columns longer left.start is) den in
       let after = reached_end (In (rate_of f)) longer starts ends left.start before from (all left.start from) in_f in
       let z = third bound columns longer ends clear.1 is
       (λ k there. let (start, piece, begins, cut, below, in_piece) = (before k).0 there in cut.inside) y.after

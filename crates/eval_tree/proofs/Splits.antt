@@ -20,7 +20,7 @@ use Rattle.query_model.proofs.InRates.{den_in}
 use Rattle.query_model.proofs.Unique.{one_value}
 use Rattle.split_eval.specs.Entries.{Contents, entry_at, AreDistinct}
 use Rattle.split_eval.specs.declared.entry.Entry.{Entry}
-use Rattle.split_eval.proofs.Found.{found_behind, found_first}
+use Rattle.split_eval.proofs.Found.{found_after, found_first}
 use Rattle.eval_nodes.specs.Holdings.{Holding, Seen}
 use Rattle.eval_nodes.specs.Live.{live_of}
 use Rattle.eval_nodes.specs.Represents.{AreReached, AreWaiting, Represents}
@@ -29,7 +29,7 @@ use Rattle.eval_nodes.proofs.Apart.{apart_left, apart_right}
 use Rattle.eval_nodes.proofs.Few.{few_live}
 use Rattle.eval_nodes.proofs.Living.{living}
 use Rattle.eval_nodes.proofs.Members.{member_cases, no_member}
-use Rattle.eval_nodes.proofs.Pieces.{word_behind, word_piece}
+use Rattle.eval_nodes.proofs.Pieces.{word_after, word_piece}
 use Rattle.eval_nodes.proofs.Entries.{is_entry}
 use Rattle.eval_tree.specs.Lefts.{IsPut}
 use Rattle.eval_tree.proofs.Ends.{AreReachedBefore, NoneAtEnd, reached_end}
@@ -52,7 +52,7 @@ inner_found (x ∷ entries) inner distinct there = elim (member_cases x.inner in
   | inr later ↦
       let (entry, found) = inner_found entries inner distinct.1 later in (
         entry,
-        found_behind x entries inner
+        found_after x entries inner
             (λ same. none-some entry (sym distinct.0 ∙ ap (entry_at entries) same ∙ found)) ∙ found,
       )
 ]
@@ -77,7 +77,7 @@ module _ (columns : List Column) (f g : Qre) (e : Expression) (clear : IsClear b
       → ((start : ℕ) (v : Value) → Contains starts start → Den f (drop start word) v → ⊥)
       → NoneAtEnd (In (rate_of f)) word starts
   none_in word starts is none = λ start there in_f.
-      let den = in_den columns f (drop start word) clear.0 (word_behind columns word start is) in_f in
+      let den = in_den columns f (drop start word) clear.0 (word_after columns word start is) in_f in
       none start den.0 there den.1
 
   -- The room is enough: left values that wait, and one more, have different live starts on the right.
@@ -138,7 +138,7 @@ module _ {R : Type 0} (seen : R → Seen R) (columns : List Column) (f g : Qre) 
       → IsRight word starts b new
   handed word starts ends b old new begun x live is positions apart before distinct waiting room there den
       right live_is put same_room =
-      let in_f = den_in bound columns f (drop begun word) x clear.0 (word_behind columns word begun is) den in
+      let in_f = den_in bound columns f (drop begun word) x clear.0 (word_after columns word begun is) den in
       let reached = reached_end (In (rate_of f)) word starts ends begun before there (positions begun there) in_f in
       let lives = living seen bound columns g b word (ends ++ length word ∷ []) (length word) clear.1 is
       (λ at among. let (start, piece, from, cut, in_piece) = (reached at).0 among in cut.inside) right in
@@ -148,12 +148,12 @@ module _ {R : Type 0} (seen : R → Seen R) (columns : List Column) (f g : Qre) 
             (positions begun there) den
             (λ start v from other.
             let in_other = den_in bound columns f (drop start word) v clear.0
-            (word_behind columns word start is) other in
+            (word_after columns word start is) other in
             let same : start ≡ begun = apart_f start begun [] tt from there
             (subst (In (rate_of f)) (sym (append-nil (drop start word))) in_other)
             (subst (In (rate_of f)) (sym (append-nil (drop begun word))) in_f) in (
               same,
-              one_value bound columns f (drop begun word) v x clear.0 (word_behind columns word begun is)
+              one_value bound columns f (drop begun word) v x clear.0 (word_after columns word begun is)
                   (subst (λ s. Den f (drop s word) v) same other) den,
             )) (
               (λ is_live. (lives.0 (sym live_is ∙ is_live)).1),

@@ -40,8 +40,8 @@ use Rattle.eval_nodes.proofs.Chains.{chain_apart, chain_clear}
 use Rattle.eval_nodes.proofs.Few.{few_live}
 use Rattle.eval_nodes.proofs.Instances.{all_member}
 use Rattle.eval_nodes.proofs.Members.{member_cases, no_member}
-use Rattle.eval_nodes.proofs.Pieces.{word_behind}
-use Rattle.eval_nodes.proofs.StoredEntries.{behind_among, entries_size, value_size}
+use Rattle.eval_nodes.proofs.Pieces.{word_after}
+use Rattle.eval_nodes.proofs.StoredEntries.{after_among, entries_size, value_size}
 use Rattle.eval_nodes.proofs.Totals.{many_parts, scaled, sum_few, three_parts, together, track_fits, two_parts}
 use Rattle.eval_nodes.proofs.Zips.{whole_there, zip_long, zip_member}
 use Rattle.eval_tree.proofs.Outputs.{out_word}
@@ -193,13 +193,13 @@ module _ {R : Type 0} (seen : R → Seen R) where
       let live = runners_size g n (followers_of held.live) (λ runner there.
       let (one, among, same) = whole_there (λ (x : Instance R). x.follower) held.live runner there in
       let (out, outputs, follows) = rep.1.each one.outer one.follower among in
-      let out_is = out_word standing columns f clear.0 (drop one.outer word) out (word_behind columns word one.outer is)
+      let out_is = out_word standing columns f clear.0 (drop one.outer word) out (word_after columns word one.outer is)
       outputs in
       let node = stored_few standing derived g (seen one.follower).node out (0 ∷ []) clear.1
       (derived_texts (type_of columns f)) out_is (first_position out) (first_apart derived g out) follows.node in
       let size = runner_size standing derived g out one.follower clear.1 follows.answer node in
       let less = out_keys standing columns f g (drop one.outer word) out clear.0 clear.2 outputs in
-      let part = keys_mono f f (drop one.outer word) word (among_all (key_columns f)) (behind_among word one.outer) in
+      let part = keys_mono f f (drop one.outer word) word (among_all (key_columns f)) (after_among word one.outer) in
       subst (λ (r : R). size_of_runner seen (stored_in seen g) r ≤ slots_of g * (1 + n)) same
       (scaled (size_of_runner seen (stored_in seen g) one.follower) (slots_of g) (keys_met g out) n size
       (omega (arith, less, part)))) in
@@ -222,10 +222,10 @@ module _ {R : Type 0} (seen : R → Seen R) where
       let each = sum_few (size_of_track seen (stored_in seen f)) ((1 + size_of rate + slots_of f) * (1 + n)) all.tracks
       (λ track there.
       let u = drop track.start word in
-      let u_is = word_behind columns word track.start is in
-      let (behind, stand) = row.each track there in
+      let u_is = word_after columns word track.start is in
+      let (after, stand) = row.each track there in
       let keys = keys_few column sync rate f u in
-      let more = keys_mono q q u word (among_all (key_columns q)) (behind_among word track.start) in
+      let more = keys_mono q q u word (among_all (key_columns q)) (after_among word track.start) in
       let kept = keys_size f column sync u n track.keys (FollowsWord seen columns f) stand (λ test runner follows.
       let part = filter test u in
       let part_is = kept_word columns test u u_is in
@@ -235,7 +235,7 @@ module _ {R : Type 0} (seen : R → Seen R) where
       let none : keys_met f part ≡ 0 = tables_only f part clear.2 ∙ texts.none column clear.3 part part_is in
       let least = subst (λ (k : ℕ). size_of_runner seen (stored_in seen f) runner ≤ slots_of f * (1 + k)) none size in
       omega (arith, least)) (omega (arith, keys, more)) in
-      track_fits _ (size_of rate) _ (slots_of f) n (state_size all.nfa.sets rate u track.state rep.0 behind) kept) in
+      track_fits _ (size_of rate) _ (slots_of f) n (state_size all.nfa.sets rate u track.state rep.0 after) kept) in
       many_parts _ (length all.tracks) (size_of rate + 1) (1 + size_of rate + slots_of f) n each
       (omega (arith, few, count))
   stored_few standing columns q holding word starts clear texts is positions apart rep = absurd rep

@@ -13,7 +13,7 @@ use Rattle.item_schema.specs.declared.column.Kind.TheVariants.{Int, Fixed, Text,
 use Rattle.item_schema.specs.Items.{IsFieldOf, IsItemOf}
 use Rattle.item_schema.specs.Layout.{is_read}
 use Rattle.predicate_cells.specs.Fits.{has_texts}
-use Rattle.rate_expr.specs.Behind.{IsBehind, IsStateOf}
+use Rattle.rate_expr.specs.After.{IsAfter, IsStateOf}
 use Rattle.rate_expr.specs.FirstLastFollow.{AreSetsOf}
 use Rattle.rate_expr.specs.Rates as rates
 use Rattle.rate_expr.specs.Rates.{preds_of, size_of}
@@ -22,7 +22,7 @@ use Rattle.rate_expr.specs.Words.{Word, IsWordOf}
 use Rattle.rate_expr.specs.declared.state.State.{State}
 use Rattle.rate_expr.specs.declared.state.State.TheVariants.{Initial, At}
 use Rattle.rate_expr.proofs.Meetings.{length-preds_of}
-use Rattle.rate_expr.proofs.StatesBehind.{behind_exists}
+use Rattle.rate_expr.proofs.StatesAfter.{after_exists}
 use Rattle.query_model.specs.QueryTypes.{derived_columns}
 use Rattle.memory_bound.specs.KeysMet.{entries_in, most_entries}
 use Rattle.memory_bound.proofs.Growth.{entries_cons, of_item}
@@ -94,9 +94,9 @@ state_few sets Initial is = omega arith
 state_few sets (At mask) is = ones-le (length sets.preds) mask is
 
 pub state_size : (sets : Sets) (rate : rates.Expression) (word : Word) (state : State) → AreSetsOf sets rate
-    → IsBehind sets word state → size_of_state state ≤ size_of rate
-state_size sets rate word state are behind =
-    let few = state_few sets state (behind_exists sets word state behind) in
+    → IsAfter sets word state → size_of_state state ≤ size_of rate
+state_size sets rate word state are after =
+    let few = state_few sets state (after_exists sets word state after) in
     let same = ap length are.preds in
     let positions = length-preds_of rate in
     omega (arith, few, same, positions)

@@ -55,7 +55,7 @@ module _ {R : Type 0} (seen : R → Seen R) where
     pub standing : Standing
     pub columns : List Column
     pub position : ℕ
-    pub behind : now ≡ position + 1
+    pub is_next : now ≡ position + 1
     pub clear : IsClear standing columns query
     pub sound : IsSound seen columns query position old
     pub is_item : IsItemOf columns item

@@ -10,7 +10,7 @@ use Rattle.query_syntax.specs.Plain.{plain_let, plain_query}
 use Rattle.query_syntax.specs.Programs.{Let}
 use Rattle.query_syntax.specs.Queries as q
 use Rattle.query_syntax.specs.Queries.{Query}
-use Rattle.query_lets.specs.Unfolded.{Binding, bindings_behind, bindings_of, meaning, replaced}
+use Rattle.query_lets.specs.Unfolded.{Binding, bindings_after, bindings_of, meaning, replaced}
 use Rattle.explanation.specs.Counted.{AreCounted}
 use Rattle.explanation.specs.Positions.{few_positions}
 use Rattle.explanation.proofs.Known.{changed, lets_more}
@@ -21,8 +21,8 @@ binding bindings name query = record { name = name; query = replaced bindings qu
 
 -- one let more
 bindings_more : (bindings : List Binding) (lets : List Let) (one : Let)
-    → bindings_behind bindings (lets ++ one ∷ [])
-    ≡ binding (bindings_behind bindings lets) one.name.bytes one.query ∷ bindings_behind bindings lets
+    → bindings_after bindings (lets ++ one ∷ [])
+    ≡ binding (bindings_after bindings lets) one.name.bytes one.query ∷ bindings_after bindings lets
 bindings_more bindings [] one = refl
 bindings_more bindings (first ∷ lets) one =
     bindings_more (binding bindings first.name.bytes first.query ∷ bindings) lets one

@@ -11,7 +11,7 @@ use Rattle.query_syntax.specs.Programs.{Let}
 use Rattle.explanation.specs.declared.uses.Inside.{Inside}
 use Rattle.explanation.specs.declared.uses.Lead.{Lead}
 use Rattle.explanation.specs.Leads.{AreLeads}
-use Rattle.explanation.specs.Uses.{Known, known_behind, lead_named, lead_to}
+use Rattle.explanation.specs.Uses.{Known, known_after, lead_named, lead_to}
 
 -- a let and what is known of it
 abbrev known_let : Inside → Span → List Known → Let → Known
@@ -19,8 +19,8 @@ known_let inside place known one = record { name = one.name.bytes; lead = lead_t
 
 -- one let more
 known_more : (inside : Inside) (place : Span) (known : List Known) (lets : List Let) (one : Let)
-    → known_behind inside place known (lets ++ one ∷ [])
-    ≡ known_let inside place (known_behind inside place known lets) one ∷ known_behind inside place known lets
+    → known_after inside place known (lets ++ one ∷ [])
+    ≡ known_let inside place (known_after inside place known lets) one ∷ known_after inside place known lets
 known_more inside place known [] one = refl
 known_more inside place known (first ∷ lets) one =
     known_more inside place (known_let inside place known first ∷ known) lets one
@@ -35,11 +35,11 @@ lets_more lets at one is_at within =
 -- what is known behind it
 known_with : (inside : Inside) (place : Span) (lets : List raw.Let) (at : ℕ) (one : raw.Let)
     → one ≡ get_or lets at one → at < length lets
-    → known_behind inside place [] (map plain_let (take (at + 1) lets))
-    ≡ known_let inside place (known_behind inside place [] (map plain_let (take at lets))) (plain_let one)
-    ∷ known_behind inside place [] (map plain_let (take at lets))
+    → known_after inside place [] (map plain_let (take (at + 1) lets))
+    ≡ known_let inside place (known_after inside place [] (map plain_let (take at lets))) (plain_let one)
+    ∷ known_after inside place [] (map plain_let (take at lets))
 known_with inside place lets at one is_at within =
-    ap (known_behind inside place []) (lets_more lets at one is_at within)
+    ap (known_after inside place []) (lets_more lets at one is_at within)
     ∙ known_more inside place [] (map plain_let (take at lets)) (plain_let one)
 
 -- a name as a key
@@ -61,12 +61,12 @@ pub leads_more : {S : Type 0} (inside : Inside) (place : Span) (old new : HashMa
     (lets : List raw.Let) (at : ℕ) (one : raw.Let)
     → one ≡ get_or lets at one → at < length lets → (name : Bor (List ℕ)) → name.now ≡ one.name.bytes
     → (lead : Lead)
-    → lead ≡ lead_to inside place (known_behind inside place [] (map plain_let (take at lets))) (plain_let one)
-    → AreLeads old (known_behind inside place [] (map plain_let (take at lets)))
+    → lead ≡ lead_to inside place (known_after inside place [] (map plain_let (take at lets))) (plain_let one)
+    → AreLeads old (known_after inside place [] (map plain_let (take at lets)))
     → hash.Updates (λ x y. bytes_eq x.now y.now) old new name (Some lead)
-    → AreLeads new (known_behind inside place [] (map plain_let (take (at + 1) lets)))
+    → AreLeads new (known_after inside place [] (map plain_let (take (at + 1) lets)))
 leads_more inside place old new lets at one is_at within name is_name lead is_lead are updates = λ other.
-    let known = known_behind inside place [] (map plain_let (take at lets)) in
+    let known = known_after inside place [] (map plain_let (take at lets)) in
     let made = lead_to inside place known (plain_let one) in
     changed old new name lead updates other
     ∙ ap (λ (l : Lead). cond (bytes_eq other name.now) (Some l) (get_by (λ k. bytes_eq other k.now) old)) is_lead

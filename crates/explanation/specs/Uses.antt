@@ -89,19 +89,19 @@ lead_to inside place known one = record {
 }
 
 -- what is known after these lets, the latest first, if this is known before them
-abbrev pub known_behind : Inside → Span → List Known → List Let → List Known
-known_behind inside place known [] = known
-known_behind inside place known (one ∷ lets) = known_behind inside place
+abbrev pub known_after : Inside → Span → List Known → List Let → List Known
+known_after inside place known [] = known
+known_after inside place known (one ∷ lets) = known_after inside place
     ((record { name = one.name.bytes; lead = lead_to inside place known one }) ∷ known) lets
 
 -- the first use of the let that contains the place
 abbrev pub first_use : Inside → Span → Program → Option Span
 first_use inside place program =
-    first_inside inside (known_behind inside place [] program.lets) program.main.query
+    first_inside inside (known_after inside place [] program.lets) program.main.query
 
 -- the let that contains the place is used only in the right operands of compositions
 abbrev pub is_on_values : Span → Program → Bool
 is_on_values place program =
-    let known = known_behind Compositions place [] program.lets in
+    let known = known_after Compositions place [] program.lets in
     is_some (first_inside Compositions known program.main.query)
     && not (leads_outside known program.main.query)

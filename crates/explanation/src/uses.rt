@@ -2,7 +2,7 @@
 ghost use Rattle.std.specs.Prelude.{◌≡◌, [], IfOk, List, map};
 ghost use Rattle.query_syntax.specs.Plain.{plain_let, plain_program, plain_query};
 ghost use Rattle.explanation.specs.Leads.{AreLeads};
-ghost use Rattle.explanation.specs.Uses.{Known, first_inside, first_lead, first_use, is_on_values, known_behind, lead_of, lead_to, leads_outside};
+ghost use Rattle.explanation.specs.Uses.{Known, first_inside, first_lead, first_use, is_on_values, known_after, lead_of, lead_to, leads_outside};
 
 use crate::spots::has_in;
 use language_base::Span;
@@ -65,7 +65,7 @@ fn leads_of(
     lets: &[Let],
 ) -> Result<HashMap<&[u8], Lead>, AllocError>
     ensures { IfOk result (λ leads.
-        AreLeads leads (known_behind inside place [] (map plain_let lets.now))) }
+        AreLeads leads (known_after inside place [] (map plain_let lets.now))) }
 {
     let mut leads = HashMap::new(alloc);
     'lets: for one in lets {

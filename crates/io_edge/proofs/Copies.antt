@@ -4,11 +4,11 @@ use Rattle.std.proofs.lemmas.List.{take-append-drop, drop-drop}
 use Rattle.std.proofs.Math.Seq.{take-append_seam}
 
 -- a piece that was copied to the front of a buffer, and the bytes behind it in the list
-pub copied_front : (items piece behind : List ℕ) (at n : ℕ)
+pub copied_front : (items piece after : List ℕ) (at n : ℕ)
     → piece ≡ take (at + n - at) (drop at items) → length piece ≡ n
-    → drop at items ≡ take n (piece ++ behind) ++ drop (at + n) items
-copied_front items piece behind at n copied size =
+    → drop at items ≡ take n (piece ++ after) ++ drop (at + n) items
+copied_front items piece after at n copied size =
     let count : at + n - at ≡ n = omega arith in
-    let front : take n (piece ++ behind) ≡ take n (drop at items) =
-    subst (λ k. take k (piece ++ behind) ≡ piece) size (take-append_seam piece behind) ∙ (rw count at copied) in
+    let front : take n (piece ++ after) ≡ take n (drop at items) =
+    subst (λ k. take k (piece ++ after) ≡ piece) size (take-append_seam piece after) ∙ (rw count at copied) in
     rw (front, ← drop-drop n at items) (sym (take-append-drop n (drop at items)))

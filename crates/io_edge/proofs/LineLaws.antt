@@ -14,9 +14,9 @@ lines_from-piece start [] rest ended no_lf = ap (λ s. lines_from s rest ended) 
 lines_from-piece start (x ∷ piece) rest ended no_lf =
     let not_lf = ne_eqb x 10 (All-head (λ b. b ≢ 10) x piece no_lf) in
     let more = piece ++ rest in
-    let behind = lines_from-piece (start ++ x ∷ []) piece rest ended (All-tail (λ b. b ≢ 10) x piece no_lf) in
+    let after = lines_from-piece (start ++ x ∷ []) piece rest ended (All-tail (λ b. b ≢ 10) x piece no_lf) in
     ap (λ b. cond b (ended_by_lf start ∷ lines_from [] more ended) (lines_from (start ++ x ∷ []) more ended)) not_lf
-    ∙ behind ∙ ap (λ s. lines_from s rest ended) (append_assoc start (x ∷ []) piece)
+    ∙ after ∙ ap (λ s. lines_from s rest ended) (append_assoc start (x ∷ []) piece)
 
 -- what is shown of a line depends on its bytes only where it is not too long
 unless_long : (shows : List ℕ → Shown) (bytes others : List ℕ) → StandsFor bytes others
@@ -62,6 +62,6 @@ lines_from-stands bytes others [] ended stands = last_line-stands bytes others e
 lines_from-stands bytes others (x ∷ rest) ended stands =
     let here = ended_by_lf-stands bytes others stands in
     let longer = StandsFor-append bytes others (x ∷ []) stands in
-    let behind = lines_from-stands (bytes ++ x ∷ []) (others ++ x ∷ []) rest ended longer in
+    let after = lines_from-stands (bytes ++ x ∷ []) (others ++ x ∷ []) rest ended longer in
     ap (λ s. cond (x == 10) (s ∷ lines_from [] rest ended) (lines_from (bytes ++ x ∷ []) rest ended)) here
-    ∙ ap (λ l. cond (x == 10) (ended_by_lf others ∷ lines_from [] rest ended) l) behind
+    ∙ ap (λ l. cond (x == 10) (ended_by_lf others ∷ lines_from [] rest ended) l) after

@@ -18,10 +18,10 @@ ends_nothing bytes = record {
 -- an LF at a place behind the first bytes
 lf_at : (bytes : List ℕ) (from k d at : ℕ) → from + k ≡ at → k < length (drop from bytes)
     → get_or (drop from bytes) k d ≡ 10 → (get_or bytes at 0 == 10) ≡ true
-lf_at bytes from k d at behind within is =
-    let inside : at < length bytes = omega (arith, length-drop from bytes, within, behind) in
+lf_at bytes from k d at later within is =
+    let inside : at < length bytes = omega (arith, length-drop from bytes, within, later) in
     let same : get_or bytes at 0 ≡ 10 =
-    get_or_default bytes at 0 d inside ∙ ap (λ i. get_or bytes i d) (sym behind) ∙ sym (get_or-drop from bytes k d) ∙ is
+    get_or_default bytes at 0 d inside ∙ ap (λ i. get_or bytes i d) (sym later) ∙ sym (get_or-drop from bytes k d) ∙ is
     in
     rw same refl
 
@@ -65,8 +65,8 @@ part_lf bytes end from to ordered ends before no_lf =
 -- and none in one that begins behind it
 pub part_no_lf : (bytes : List ℕ) (end from to : ℕ) → from ≤ to → EndsLines (take to bytes) end → end ≤ from
     → NoLf (take (to - from) (drop from bytes))
-part_no_lf bytes end from to ordered ends behind =
-    let at : end + (from - end) ≡ from = omega (arith, behind) in
+part_no_lf bytes end from to ordered ends later =
+    let at : end + (from - end) ≡ from = omega (arith, later) in
     let rest : drop (from - end) (drop end (take to bytes)) ≡ drop from (take to bytes) =
     drop-drop (from - end) end (take to bytes) ∙ ap (λ n. drop n (take to bytes)) at
     in

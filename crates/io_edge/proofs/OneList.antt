@@ -16,10 +16,10 @@ lines_from-parts : (raws : List (List ℕ)) (rest : List ℕ) (ended : Bool) →
 lines_from-parts [] rest ended each last =
     ap (λ l. lines l ended) (sym (append-nil rest)) ∙ lines_from-piece [] rest [] ended last
 lines_from-parts (raw ∷ raws) rest ended each last =
-    let behind = flat_map with_lf raws ++ rest in
+    let after = flat_map with_lf raws ++ rest in
     ap (λ l. lines l ended) (append_assoc (with_lf raw) (flat_map with_lf raws) rest)
-    ∙ ap (λ l. lines l ended) (append_assoc raw (10 ∷ []) behind)
-    ∙ lines_from-piece [] raw (10 ∷ behind) ended each.0
+    ∙ ap (λ l. lines l ended) (append_assoc raw (10 ∷ []) after)
+    ∙ lines_from-piece [] raw (10 ∷ after) ended each.0
     ∙ ap (λ l. ended_by_lf raw ∷ l) (lines_from-parts raws rest ended each.1 last)
 
 -- no other list is one of the lines

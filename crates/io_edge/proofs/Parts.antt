@@ -8,9 +8,9 @@ use Rattle.io_edge.specs.Chunked.{Chunked}
 pub part-skip : (xs : List ℕ) (from to count : ℕ) → from ≤ to → count ≤ length (take (to - from) (drop from xs))
     → take (to - (from + count)) (drop (from + count) xs) ≡ drop count (take (to - from) (drop from xs))
 part-skip xs from to count ordered within =
-    let behind : to - from ≡ count + (to - (from + count)) =
+    let after : to - from ≡ count + (to - (from + count)) =
     omega (arith, length-take (to - from) (drop from xs)) in
-    rw (behind, drop-take, drop-drop)
+    rw (after, drop-take, drop-drop)
 
 -- a line cut off at the front of a part
 pub part-cut : (xs : List ℕ) (from to at count : ℕ) → from ≤ to → at < length (take (to - from) (drop from xs))

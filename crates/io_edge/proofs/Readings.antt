@@ -210,8 +210,8 @@ Goes-quiet old now new got goes joins few (inr (inr full)) =
 -- an LF stands behind some bytes
 pub has_lf : (bytes piece rest : List ℕ) → bytes ≡ piece ++ 10 ∷ rest → NoLf bytes → ⊥
 has_lf bytes piece rest is no_lf =
-    let behind = All-drop (λ x. x ≢ 10) (length piece) _ (All-same (λ x. x ≢ 10) _ _ (sym is) no_lf) in
-    let at_lf = All-same (λ x. x ≢ 10) _ _ (sym (drop-append_seam piece (10 ∷ rest))) behind in
+    let later = All-drop (λ x. x ≢ 10) (length piece) _ (All-same (λ x. x ≢ 10) _ _ (sym is) no_lf) in
+    let at_lf = All-same (λ x. x ≢ 10) _ _ (sym (drop-append_seam piece (10 ∷ rest))) later in
     All-head (λ x. x ≢ 10) 10 rest at_lf refl
 
 -- and among the bytes of which a line was cut
@@ -227,8 +227,8 @@ Goes-at_limit old now new got shown goes cuts few no_lf full =
     let none : got ≡ [] = nil_from_length got (omega (arith, goes.shows.count, full, few)) in
     let seen : goes.seen ++ now.unread ≡ old.unread =
     sym goes.taken ∙ ap (λ l. old.unread ++ l) none ∙ append-nil old.unread in
-    let behind = All-drop (λ x. x ≢ 10) (length goes.seen) _ (All-same (λ x. x ≢ 10) _ _ seen no_lf) in
-    let now_no_lf = All-same (λ x. x ≢ 10) _ _ (sym (drop-append_seam goes.seen now.unread)) behind in
+    let later = All-drop (λ x. x ≢ 10) (length goes.seen) _ (All-same (λ x. x ≢ 10) _ _ seen no_lf) in
+    let now_no_lf = All-same (λ x. x ≢ 10) _ _ (sym (drop-append_seam goes.seen now.unread)) later in
     Cuts-lf now shown new cuts now_no_lf
 
 -- the end of the input, with a last line or without one

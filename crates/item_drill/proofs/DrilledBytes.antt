@@ -13,7 +13,7 @@ use Rattle.language_base.specs.Limits.{max_columns}
 use Rattle.item_schema.specs.declared.column.Column.{Column}
 use Rattle.item_schema.specs.Layout.{Layout, has_digits, is_read}
 use Rattle.item_schema.proofs.Cuts.{All-none}
-use Rattle.item_drill.specs.Draws.{drawn, state_after, state_behind}
+use Rattle.item_drill.specs.Draws.{drawn, state_after, next_state}
 use Rattle.item_drill.specs.Lines.{are_read, bytes_of, drill_bytes, header_of, line_from, lines_from, names_of, row_of, texts_from}
 use Rattle.item_drill.proofs.FieldValues.{field_is_short}
 use Rattle.item_drill.proofs.Readings.{first_is_read, is_row_byte, none_passes, row_is, texts_are}
@@ -23,11 +23,11 @@ line_is_short : (columns : List Column) (state : ℕ) → IsTrue (are_read colum
     → length (line_from columns state) ≤ 16 * length columns
 line_is_short [] state may = omega arith
 line_is_short (column ∷ []) state may =
-    omega (arith, field_is_short column.kind (drawn (state_behind state)) (first_is_read column [] may))
+    omega (arith, field_is_short column.kind (drawn (next_state state)) (first_is_read column [] may))
 line_is_short (column ∷ second ∷ columns) state may =
     let parts = and_parts (has_digits column.kind && is_read column.kind) (are_read (second ∷ columns)) may in
-    let here = field_is_short column.kind (drawn (state_behind state)) parts.0 in
-    let others = line_is_short (second ∷ columns) (state_behind state) parts.1 in
+    let here = field_is_short column.kind (drawn (next_state state)) parts.0 in
+    let others = line_is_short (second ∷ columns) (next_state state) parts.1 in
     rw length-append (omega (arith, here, others))
 
 -- its bytes are those of fields and commas
@@ -96,10 +96,10 @@ row_has_no_lf (name ∷ second ∷ names) are =
     All-append (λ byte. byte ≢ 10) name (44 ∷ row_of (second ∷ names)) are.0
     (All-append (λ byte. byte ≢ 10) (44 ∷ []) (row_of (second ∷ names)) without_lf-comma others)
 
-with_header : (has_header : Bool) (header : List ℕ) (behind : List (List ℕ)) → NoLf header
-    → AllByRecursion NoLf behind → AllByRecursion NoLf ((if has_header then header ∷ [] else []) ++ behind)
-with_header true header behind is are = (is, are)
-with_header false header behind is are = are
+with_header : (has_header : Bool) (header : List ℕ) (after : List (List ℕ)) → NoLf header
+    → AllByRecursion NoLf after → AllByRecursion NoLf ((if has_header then header ∷ [] else []) ++ after)
+with_header true header after is are = (is, are)
+with_header false header after is are = are
 
 -- the lines of a drill are those of its bytes
 pub bytes_have_lines : (layout : Layout) (count seed : ℕ) → length layout.columns ≤ max_columns
@@ -108,16 +108,16 @@ pub bytes_have_lines : (layout : Layout) (count seed : ℕ) → length layout.co
     ≡ map ended_by_lf (header_of layout) ++ map text (lines_from layout.columns count seed)
 bytes_have_lines layout count seed few may names =
     let header = header_of layout in
-    let behind = lines_from layout.columns count seed in
-    let shown : map ended_by_lf header ++ map text behind ≡ map ended_by_lf (header ++ behind) ++ [] =
+    let after = lines_from layout.columns count seed in
+    let shown : map ended_by_lf header ++ map text after ≡ map ended_by_lf (header ++ after) ++ [] =
     ap (λ (l : List Shown). map ended_by_lf header ++ l) (sym (lines_show layout.columns count seed few may))
-    ∙ sym (map-append ended_by_lf header behind) ∙ sym (append-nil (map ended_by_lf (header ++ behind)))
+    ∙ sym (map-append ended_by_lf header after) ∙ sym (append-nil (map ended_by_lf (header ++ after)))
     in
-    sym (lines-only (drill_bytes layout count seed) true (map ended_by_lf header ++ map text behind) (record {
-      raws = header ++ behind;
+    sym (lines-only (drill_bytes layout count seed) true (map ended_by_lf header ++ map text after) (record {
+      raws = header ++ after;
       rest = [];
-      whole = sym (append-nil (bytes_of (header ++ behind)));
-      each = with_header layout.has_header (row_of (names_of layout.columns)) behind
+      whole = sym (append-nil (bytes_of (header ++ after)));
+      each = with_header layout.has_header (row_of (names_of layout.columns)) after
           (row_has_no_lf (names_of layout.columns) names) (lines_are_lines layout.columns count seed);
       last = All-nil (λ byte. byte ≢ 10);
       are = shown;

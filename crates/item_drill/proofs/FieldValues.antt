@@ -65,8 +65,8 @@ filled places digits short =
     ∙ ap (λ (n : ℕ). n + length digits) (length-replicate (places - length digits) 48) ∙ omega arith
 
 -- they are a numeral
-numeral_behind : (zeros : ℕ) (digits : List ℕ) → IsNumeral 10 digits → IsNumeral 10 (replicate zeros 48 ++ digits)
-numeral_behind zeros digits numeral =
+numeral_after : (zeros : ℕ) (digits : List ℕ) → IsNumeral 10 digits → IsNumeral 10 (replicate zeros 48 ++ digits)
+numeral_after zeros digits numeral =
     let front = replicate zeros 48 in
     let some : 0 < length (front ++ digits) = omega (arith, length-append front digits, numeral.0) in
     let are = and_parts (nat_lt 0 (length digits)) (list_all is_ascii_digit digits) (numeral_passes digits numeral) in
@@ -81,7 +81,7 @@ in_digits_is : (places number : ℕ) → 0 < places → number < 10 ^ places →
 in_digits_is places number some below small =
     let back = read_back number small in
     record {
-      numeral = numeral_behind (places - length (decimal number)) (decimal number) back.0;
+      numeral = numeral_after (places - length (decimal number)) (decimal number) back.0;
       long = filled places (decimal number) (length-decimal-le places number some below (omega arith));
       value = zeros_in_front (places - length (decimal number)) (decimal number) ∙ back.1;
     }
@@ -112,7 +112,7 @@ fixed_writes places size number sign some small is =
     record {
       sign = sign;
       whole = whole;
-      behind = 46 ∷ rest;
+      after = 46 ∷ rest;
       fraction = rest;
       spelled = apart (sign_bytes sign) whole rest;
       numeral = whole_back.0;
@@ -157,11 +157,11 @@ field_is_some Int draw may = some (number_of draw) (number_is_small draw)
     some (pos n) small = (read_back n small).0.0
     some (negsuc n) small = omega arith
 field_is_some (Fixed places) draw may =
-    behind (sign_text (is_negative (number_of draw)) ++ decimal (unsigned_abs (number_of draw) / 10 ^ places)) _
+    after (sign_text (is_negative (number_of draw)) ++ decimal (unsigned_abs (number_of draw) / 10 ^ places)) _
   where
-    behind : (front rest : List ℕ) → 0 < length ((front ++ codes ".") ++ rest)
-    behind [] rest = omega arith
-    behind (byte ∷ front) rest = omega arith
+    after : (front rest : List ℕ) → 0 < length ((front ++ codes ".") ++ rest)
+    after [] rest = omega arith
+    after (byte ∷ front) rest = omega arith
 field_is_some Text draw may = omega arith
 field_is_some Number draw may = absurd (cc)
 field_is_some Table draw may = absurd (cc)

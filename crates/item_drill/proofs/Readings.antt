@@ -14,7 +14,7 @@ use Rattle.item_schema.proofs.Cuts.{All-none}
 use Rattle.item_schema.proofs.CutLines.{cut_item_of, strip_bom-none}
 use Rattle.item_schema.proofs.PlainLines.{no_break, plain_texts_in}
 use Rattle.item_schema.proofs.WrittenItems.{writes_field}
-use Rattle.item_drill.specs.Draws.{drawn, state_behind}
+use Rattle.item_drill.specs.Draws.{drawn, next_state}
 use Rattle.item_drill.specs.Fields.{field_of, field_text}
 use Rattle.item_drill.specs.Lines.{are_read, item_from, line_from, row_of, texts_from}
 use Rattle.item_drill.proofs.FieldBytes.{all_pass, field_is, is_field, is_field_byte}
@@ -49,7 +49,7 @@ AreFields texts = AllByRecursion (λ text. is_field text ≡ true) texts
 pub texts_are : (columns : List Column) (state : ℕ) → AreFields (texts_from columns state)
 texts_are [] state = tt
 texts_are (column ∷ columns) state =
-    (field_is column.kind (drawn (state_behind state)), texts_are columns (state_behind state))
+    (field_is column.kind (drawn (next_state state)), texts_are columns (next_state state))
 
 -- and their row has these and commas
 pub row_is : (texts : List (List ℕ)) → AreFields texts → list_all is_row_byte (row_of texts) ≡ true
@@ -89,23 +89,23 @@ pub not_empty : (columns : List Column) (state : ℕ) → 0 < length columns →
     → 0 < length (line_from columns state)
 not_empty [] state some may = absurd (omega arith)
 not_empty (column ∷ []) state some may =
-    field_is_some column.kind (drawn (state_behind state)) (first_is_read column [] may)
-not_empty (column ∷ second ∷ columns) state some may = behind (field_text column.kind (drawn (state_behind state))) _
+    field_is_some column.kind (drawn (next_state state)) (first_is_read column [] may)
+not_empty (column ∷ second ∷ columns) state some may = after (field_text column.kind (drawn (next_state state))) _
   where
-    behind : (front rest : List ℕ) → 0 < length (front ++ 44 ∷ rest)
-    behind [] rest = omega arith
-    behind (byte ∷ front) rest = omega arith
+    after : (front rest : List ℕ) → 0 < length (front ++ 44 ∷ rest)
+    after [] rest = omega arith
+    after (byte ∷ front) rest = omega arith
 
 -- its texts are read to the fields
 texts_are_read : (at : ℕ) (columns : List Column) (state : ℕ) → IsTrue (are_read columns)
     → fields_of at columns (texts_from columns state) ≡ Ok (item_from columns state)
 texts_are_read at [] state may = refl
 texts_are_read at (column ∷ columns) state may =
-    let draw = drawn (state_behind state) in
+    let draw = drawn (next_state state) in
     let parts = and_parts (has_digits column.kind && is_read column.kind) (are_read columns) may in
     let writes = field_writes column.kind draw parts.0 in
     let first = writes_field column.kind (field_text column.kind draw) (field_of column.kind draw) writes in
-    rw (first, texts_are_read (at + 1) columns (state_behind state) parts.1) refl
+    rw (first, texts_are_read (at + 1) columns (next_state state) parts.1) refl
 
 -- a line is read to the item of its draws
 pub line_has_item : (columns : List Column) (state : ℕ) → 0 < length columns → IsTrue (are_read columns)

@@ -5,7 +5,7 @@ use Rattle.std.proofs.lemmas.List.{length-map, length-take-le, map-append, take_
 use Rattle.std.proofs.lemmas.Bool.{and_from, and_parts}
 use Rattle.item_schema.specs.declared.column.Column.{Column}
 use Rattle.item_drill.specs.Commas.{comma_at}
-use Rattle.item_drill.specs.Draws.{drawn, state_after, state_behind}
+use Rattle.item_drill.specs.Draws.{drawn, state_after, next_state}
 use Rattle.item_drill.specs.Fields.{field_text}
 use Rattle.item_drill.specs.Lines.{texts_from, names_of, row_of}
 
@@ -22,21 +22,21 @@ row_of-push (first ∷ second ∷ others) text =
     apart a b c d = simp append_assoc
 
 -- a draw before others is one draw more
-state_after-behind : (draws state : ℕ) → state_after draws (state_behind state) ≡ state_behind (state_after draws state)
-state_after-behind zero state = refl
-state_after-behind (suc draws) state = ap state_behind (state_after-behind draws state)
+state_after-next : (draws state : ℕ) → state_after draws (next_state state) ≡ next_state (state_after draws state)
+state_after-next zero state = refl
+state_after-next (suc draws) state = ap next_state (state_after-next draws state)
 
 -- one column more has the field of the next draw
 texts_from-push : (columns : List Column) (column : Column) (state : ℕ)
     → texts_from (columns ++ column ∷ []) state
     ≡ texts_from columns state
-    ++ field_text column.kind (drawn (state_behind (state_after (length columns) state))) ∷ []
+    ++ field_text column.kind (drawn (next_state (state_after (length columns) state))) ∷ []
 texts_from-push [] column state = refl
 texts_from-push (first ∷ columns) column state =
-    ap (λ (l : List (List ℕ)). field_text first.kind (drawn (state_behind state)) ∷ l)
-    (texts_from-push columns column (state_behind state)
-    ∙ ap (λ (s : ℕ). texts_from columns (state_behind state)
-    ++ field_text column.kind (drawn (state_behind s)) ∷ []) (state_after-behind (length columns) state))
+    ap (λ (l : List (List ℕ)). field_text first.kind (drawn (next_state state)) ∷ l)
+    (texts_from-push columns column (next_state state)
+    ∙ ap (λ (s : ℕ). texts_from columns (next_state state)
+    ++ field_text column.kind (drawn (next_state s)) ∷ []) (state_after-next (length columns) state))
 
 -- the names up to a column and the one there
 pub row_of-names : (columns : List Column) (place : ℕ) (column : Column) → place < length columns
@@ -55,13 +55,13 @@ row_of-names columns place column within is =
 -- as many texts as columns
 pub length-texts_from : (columns : List Column) (state : ℕ) → length (texts_from columns state) ≡ length columns
 length-texts_from [] state = refl
-length-texts_from (column ∷ columns) state = ap suc (length-texts_from columns (state_behind state))
+length-texts_from (column ∷ columns) state = ap suc (length-texts_from columns (next_state state))
 
 -- the fields up to a column and the one there
 pub row_of-fields : (columns : List Column) (place : ℕ) (column : Column) (state : ℕ) → place < length columns
     → column ≡ get_or columns place column → row_of (texts_from (take (place + 1) columns) state)
     ≡ row_of (texts_from (take place columns) state) ++ comma_at place
-    ++ field_text column.kind (drawn (state_behind (state_after place state)))
+    ++ field_text column.kind (drawn (next_state (state_after place state)))
 row_of-fields columns place column state within is =
     ap (λ (l : List Column). row_of (texts_from l state)) (take_more columns place column within)
     ∙ ap (λ (c : Column). row_of (texts_from (take place columns ++ c ∷ []) state)) (sym is)
@@ -73,7 +73,7 @@ row_of-fields columns place column state within is =
     (length-take-le place columns (omega arith))
   where
     text : ℕ → List ℕ
-    text n = field_text column.kind (drawn (state_behind (state_after n state)))
+    text n = field_text column.kind (drawn (next_state (state_after n state)))
 
 -- one zero more behind the others
 pub replicate-push : (count digit : ℕ) → replicate (count + 1) digit ≡ replicate count digit ++ digit ∷ []
@@ -93,15 +93,15 @@ all_both p q (x ∷ xs) first second =
     and_from (p x && q x) _ (and_from (p x) (q x) one.0 two.0) (all_both p q xs one.1 two.1)
 
 -- behind a front and a row, a comma and a text make the row of one text more
-pub behind_row : (old behind_comma new front row longer text comma : List ℕ) → old ≡ front ++ row
-    → behind_comma ≡ old ++ comma → new ≡ behind_comma ++ text → longer ≡ row ++ comma ++ text → new ≡ front ++ longer
-behind_row old behind_comma new front row longer text comma is_old is_behind is_new is_longer =
-    is_new ∙ ap (λ (l : List ℕ). l ++ text) (is_behind ∙ ap (λ (l : List ℕ). l ++ comma) is_old)
+pub after_row : (old after_comma new front row longer text comma : List ℕ) → old ≡ front ++ row
+    → after_comma ≡ old ++ comma → new ≡ after_comma ++ text → longer ≡ row ++ comma ++ text → new ≡ front ++ longer
+after_row old after_comma new front row longer text comma is_old is_after is_new is_longer =
+    is_new ∙ ap (λ (l : List ℕ). l ++ text) (is_after ∙ ap (λ (l : List ℕ). l ++ comma) is_old)
     ∙ apart front row comma text ∙ ap (λ (l : List ℕ). front ++ l) (sym is_longer)
   where
     apart : (f r c t : List ℕ) → ((f ++ r) ++ c) ++ t ≡ f ++ (r ++ c ++ t)
     apart f r c t = simp append_assoc
 
 -- one draw more
-pub state_after-more : (draws state : ℕ) → state_behind (state_after draws state) ≡ state_after (draws + 1) state
+pub state_after-more : (draws state : ℕ) → next_state (state_after draws state) ≡ state_after (draws + 1) state
 state_after-more draws state = rw add-one refl

@@ -2,13 +2,13 @@
 use Rattle.std.specs.Prelude.{ℕ, zero, suc, ◌+◌, ◌*◌, ◌/◌, ◌%◌, ◌^◌}
 
 -- the state after one draw
-abbrev pub state_behind : ℕ → ℕ
-state_behind state = (state * 6364136223846793005 + 1442695040888963407) % 2 ^ 64
+abbrev pub next_state : ℕ → ℕ
+next_state state = (state * 6364136223846793005 + 1442695040888963407) % 2 ^ 64
 
 -- the state after a number of draws
 abbrev pub state_after : ℕ → ℕ → ℕ
 state_after zero state = state
-state_after (suc draws) state = state_behind (state_after draws state)
+state_after (suc draws) state = next_state (state_after draws state)
 
 -- the number that is drawn, where this is the state after the draw
 abbrev pub drawn : ℕ → ℕ

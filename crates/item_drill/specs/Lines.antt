@@ -4,7 +4,7 @@ use Rattle.std.specs.List.{flat_map, join_with_byte, list_all}
 use Rattle.value_ops.specs.declared.field.Field.{Field}
 use Rattle.item_schema.specs.declared.column.Column.{Column}
 use Rattle.item_schema.specs.Layout.{Layout, has_digits, is_read}
-use Rattle.item_drill.specs.Draws.{drawn, state_after, state_behind}
+use Rattle.item_drill.specs.Draws.{drawn, state_after, next_state}
 use Rattle.item_drill.specs.Fields.{field_of, field_text}
 
 -- the columns are of kinds that lines are read to
@@ -20,13 +20,13 @@ pub record Drilling : Type 0 where
 abbrev pub texts_from : List Column → ℕ → List (List ℕ)
 texts_from [] state = []
 texts_from (column ∷ columns) state =
-    field_text column.kind (drawn (state_behind state)) ∷ texts_from columns (state_behind state)
+    field_text column.kind (drawn (next_state state)) ∷ texts_from columns (next_state state)
 
 -- the item of these texts
 abbrev pub item_from : List Column → ℕ → List Field
 item_from [] state = []
 item_from (column ∷ columns) state =
-    field_of column.kind (drawn (state_behind state)) ∷ item_from columns (state_behind state)
+    field_of column.kind (drawn (next_state state)) ∷ item_from columns (next_state state)
 
 -- texts with commas between them
 abbrev pub row_of : List (List ℕ) → List ℕ

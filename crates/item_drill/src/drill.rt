@@ -85,8 +85,8 @@ fn push_fields(columns: &[Column], draws: Draws, text: &mut Vec<u8>) -> Result<D
     requires { IsTrue (are_read columns.now) }
     ensures text { OnOk result (
         text.new.items ≡ text.old.items ++ row_of (texts_from columns.now draws.state)) }
-    ensures state { IfOk result (λ behind.
-        behind.state ≡ state_after (length columns.now) draws.state) }
+    ensures state { IfOk result (λ after.
+        after.state ≡ state_after (length columns.now) draws.state) }
 {
     let mut draws = draws;
     'fields: for (place, column) in columns.iter().enumerate() {

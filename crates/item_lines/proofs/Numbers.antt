@@ -47,7 +47,7 @@ fixed_writes places size number sign some small is =
     record {
       sign = sign;
       whole = whole;
-      behind = 46 ∷ rest;
+      after = 46 ∷ rest;
       fraction = rest;
       spelled = apart (sign_bytes sign) whole rest;
       numeral = whole_back.0;

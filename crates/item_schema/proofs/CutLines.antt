@@ -12,7 +12,7 @@ use Rattle.csv.specs.declared.parser.Action.TheVariants as act
 use Rattle.item_schema.specs.CutLines.{ends_field, is_break, is_kept, mark, place_after, texts_at, texts_in}
 use Rattle.item_schema.specs.declared.column.Column.{Column}
 use Rattle.item_schema.specs.declared.place.Place.{Place}
-use Rattle.item_schema.specs.declared.place.Place.TheVariants.{Front, Plain, Quoted, Behind}
+use Rattle.item_schema.specs.declared.place.Place.TheVariants.{Front, Plain, Quoted, Closed}
 use Rattle.item_schema.specs.declared.stop.Cause.TheVariants as cause
 use Rattle.item_schema.specs.Reading.{fields_of, item_of, item_of_record, record_of, skip}
 
@@ -27,14 +27,14 @@ abbrev state_of : Place → State
 state_of Front = st.StartField
 state_of Plain = st.InField
 state_of Quoted = st.InQuoted
-state_of Behind = st.AfterQuote
+state_of Closed = st.AfterQuote
 
 -- a field is at hand there
 at_hand : (place : Place) → ends_at_end (state_of place) ≡ true
 at_hand Front = refl
 at_hand Plain = refl
 at_hand Quoted = refl
-at_hand Behind = refl
+at_hand Closed = refl
 
 -- what a byte that is no line break does
 abbrev taken : Bool → Bool → Place → State × Action
@@ -50,15 +50,15 @@ step_plain byte other = grind (arith, nat_tests)
 step_quoted : (byte : ℕ) → is_break byte ≡ false → step default_config st.InQuoted byte ≡ taken (ends_field Quoted byte) (is_kept Quoted byte) (place_after Quoted byte)
 step_quoted byte other = grind (arith, nat_tests)
 
-step_behind : (byte : ℕ) → is_break byte ≡ false → step default_config st.AfterQuote byte ≡ taken (ends_field Behind byte) (is_kept Behind byte) (place_after Behind byte)
-step_behind byte other = grind (arith, nat_tests)
+step_after : (byte : ℕ) → is_break byte ≡ false → step default_config st.AfterQuote byte ≡ taken (ends_field Closed byte) (is_kept Closed byte) (place_after Closed byte)
+step_after byte other = grind (arith, nat_tests)
 
 step_at : (place : Place) (byte : ℕ) → is_break byte ≡ false
     → step default_config (state_of place) byte ≡ taken (ends_field place byte) (is_kept place byte) (place_after place byte)
 step_at Front = step_front
 step_at Plain = step_plain
 step_at Quoted = step_quoted
-step_at Behind = step_behind
+step_at Closed = step_after
 
 -- a record begins as a field does
 step_begin : (byte : ℕ) → is_break byte ≡ false → step default_config st.StartRecord byte ≡ step default_config st.StartField byte
@@ -84,10 +84,10 @@ next_record-texts place fields text (byte ∷ bytes) none =
         → next_record default_config (state_of next) fields text bytes ≡ texts_read fields (texts_at next text bytes))
         → goes_on fields text byte bytes (taken ends kept next)
         ≡ texts_read fields (if ends then text ∷ texts_at Front [] bytes else texts_at next (if kept then text ++ byte ∷ [] else text) bytes)
-    by_byte true kept next behind =
-        behind Front (fields ++ text ∷ []) [] ∙ ap (λ texts. Some (texts, st.StartRecord, [])) (append_assoc fields (text ∷ []) (texts_at Front [] bytes))
-    by_byte false true next behind = behind next fields (text ++ byte ∷ [])
-    by_byte false false next behind = behind next fields text
+    by_byte true kept next after =
+        after Front (fields ++ text ∷ []) [] ∙ ap (λ texts. Some (texts, st.StartRecord, [])) (append_assoc fields (text ∷ []) (texts_at Front [] bytes))
+    by_byte false true next after = after next fields (text ++ byte ∷ [])
+    by_byte false false next after = after next fields text
 
 -- the first record of bytes
 abbrev first_record : List ℕ → Option (List (List ℕ))
@@ -130,7 +130,7 @@ line_return (a ∷ b ∷ c ∷ rest) none = by_mark (is_bom a b c) refl none
   where
     by_mark : (mark : Bool) → is_bom a b c ≡ mark → list_any is_break (if mark then rest else a ∷ b ∷ c ∷ rest) ≡ false
         → list_any (λ byte. byte == 13) (a ∷ b ∷ c ∷ rest) ≡ false
-    by_mark true is none = let behind = no_return rest none in grind (arith, nat_tests)
+    by_mark true is none = let after = no_return rest none in grind (arith, nat_tests)
     by_mark false is none = no_return (a ∷ b ∷ c ∷ rest) none
 
 -- the item of a line with a text for each column

@@ -13,9 +13,9 @@ is_found p [] = refl
 is_found p (x ∷ xs) = grind (arith, nat_tests, common_steps, is_found p xs)
 
 -- where none passes, nothing stands behind
-pub nothing_behind : {X : Type 0} (p : X → Bool) (xs : List X) → list_any p xs ≡ false → after_first p xs ≡ []
-nothing_behind p [] none = refl
-nothing_behind p (x ∷ xs) none = grind (arith, nat_tests, common_steps, nothing_behind p xs)
+pub nothing_after : {X : Type 0} (p : X → Bool) (xs : List X) → list_any p xs ≡ false → after_first p xs ≡ []
+nothing_after p [] none = refl
+nothing_after p (x ∷ xs) none = grind (arith, nat_tests, common_steps, nothing_after p xs)
 
 -- and all stands before
 pub before_first-none : {X : Type 0} (p : X → Bool) (xs : List X) → list_any p xs ≡ false → before_first p xs ≡ xs

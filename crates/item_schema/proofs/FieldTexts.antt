@@ -7,7 +7,7 @@ use Rattle.std.proofs.lemmas.Grind.{common_steps}
 use Rattle.std.proofs.lemmas.List.{drop_all}
 use Rattle.item_schema.specs.CutLines.{ends_field, is_comma, is_kept, is_quote, place_after, texts_at, texts_in, texts_of}
 use Rattle.item_schema.specs.declared.place.Place.{Place}
-use Rattle.item_schema.specs.declared.place.Place.TheVariants.{Front, Plain, Quoted, Behind}
+use Rattle.item_schema.specs.declared.place.Place.TheVariants.{Front, Plain, Quoted, Closed}
 use Rattle.item_schema.proofs.Cuts.{before_first-none}
 use Rattle.item_schema.proofs.Fields.{drop-next}
 
@@ -32,7 +32,7 @@ front_after : (place : Place) (byte : ℕ) → ends_field place byte ≡ true �
 front_after Front byte ends = rw ends refl
 front_after Plain byte ends = rw ends refl
 front_after Quoted byte ends = absurd (cc)
-front_after Behind byte ends = rw ends refl
+front_after Closed byte ends = rw ends refl
 
 -- how many texts there are does not rest on the first one
 length-texts_at : (place : Place) (text other bytes : List ℕ) → length (texts_at place text bytes) ≡ length (texts_at place other bytes)
@@ -96,10 +96,10 @@ unquoted_texts : (bytes : List ℕ) → is_quote (get_or bytes 0 0) ≡ false
 unquoted_texts bytes other = front_plain bytes other ∙ plain_texts [] bytes
 
 -- so does one behind a quote that closes it
-behind_plain : (text bytes : List ℕ) → starts_with ◌==◌ bytes (34 ∷ []) ≡ false → texts_at Behind text bytes ≡ texts_at Plain text bytes
+after_plain : (text bytes : List ℕ) → starts_with ◌==◌ bytes (34 ∷ []) ≡ false → texts_at Closed text bytes ≡ texts_at Plain text bytes
 unfolding texts_at
-behind_plain text [] other = refl
-behind_plain text (byte ∷ bytes) other =
+after_plain text [] other = refl
+after_plain text (byte ∷ bytes) other =
     let no_quote : is_quote byte ≡ false = grind (arith, nat_tests) in
     rw no_quote refl
 
@@ -110,14 +110,14 @@ opened_texts bytes = refl
 
 -- between quotes a field goes on to the next quote
 quoted_texts : (text bytes : List ℕ) → list_any is_quote bytes ≡ true
-    → texts_at Quoted text bytes ≡ texts_at Behind (text ++ before_first is_quote bytes) (after_first is_quote bytes)
+    → texts_at Quoted text bytes ≡ texts_at Closed (text ++ before_first is_quote bytes) (after_first is_quote bytes)
 quoted_texts text [] some = absurd (cc)
 quoted_texts text (byte ∷ bytes) some = by_quote (is_quote byte) refl (quoted_texts (text ++ byte ∷ []) bytes) some
   where
     by_quote : (quote : Bool) → is_quote byte ≡ quote
-        → (list_any is_quote bytes ≡ true → texts_at Quoted (text ++ byte ∷ []) bytes ≡ texts_at Behind ((text ++ byte ∷ []) ++ before_first is_quote bytes) (after_first is_quote bytes))
+        → (list_any is_quote bytes ≡ true → texts_at Quoted (text ++ byte ∷ []) bytes ≡ texts_at Closed ((text ++ byte ∷ []) ++ before_first is_quote bytes) (after_first is_quote bytes))
         → (quote || list_any is_quote bytes) ≡ true
-        → texts_at Quoted text (byte ∷ bytes) ≡ texts_at Behind (text ++ before_first is_quote (byte ∷ bytes)) (after_first is_quote (byte ∷ bytes))
+        → texts_at Quoted text (byte ∷ bytes) ≡ texts_at Closed (text ++ before_first is_quote (byte ∷ bytes)) (after_first is_quote (byte ∷ bytes))
     by_quote true is rest some = texts_more Quoted text byte bytes refl ∙ rw (is, append-nil text) refl
     by_quote false is rest some =
         texts_more Quoted text byte bytes refl
@@ -133,13 +133,13 @@ open_texts text (byte ∷ bytes) none =
     ∙ rw parts.0 (open_texts (text ++ byte ∷ []) bytes parts.1 ∙ rw (append_assoc text (byte ∷ []) bytes) refl)
 
 -- what stands behind the opening quote of a field, cut at the next quote
-pub record QuotedCut (bytes text : List ℕ) (behind : Option (List ℕ)) : Type 0 where
+pub record QuotedCut (bytes text : List ℕ) (after : Option (List ℕ)) : Type 0 where
   pub text_is : text ≡ before_first is_quote bytes
-  pub behind_is : behind ≡ (if list_any is_quote bytes then Some (after_first is_quote bytes) else None)
+  pub after_is : after ≡ (if list_any is_quote bytes then Some (after_first is_quote bytes) else None)
 
 -- where there is none
 pub open_text : (before bytes text : List ℕ) → QuotedCut bytes text None → texts_at Quoted before bytes ≡ (before ++ text) ∷ []
-open_text before bytes text cut = by_quote (list_any is_quote bytes) refl cut.behind_is
+open_text before bytes text cut = by_quote (list_any is_quote bytes) refl cut.after_is
   where
     by_quote : (quote : Bool) → list_any is_quote bytes ≡ quote → None ≡ (if quote then Some (after_first is_quote bytes) else None)
         → texts_at Quoted before bytes ≡ (before ++ text) ∷ []
@@ -147,46 +147,46 @@ open_text before bytes text cut = by_quote (list_any is_quote bytes) refl cut.be
     by_quote false is none = rw (cut.text_is, before_first-none is_quote bytes is) (open_texts before bytes is)
 
 -- where there is one
-closed : (before bytes text behind : List ℕ) → QuotedCut bytes text (Some behind)
-    → texts_at Quoted before bytes ≡ texts_at Behind (before ++ text) behind
-closed before bytes text behind cut = by_quote (list_any is_quote bytes) refl cut.behind_is
+closed : (before bytes text after : List ℕ) → QuotedCut bytes text (Some after)
+    → texts_at Quoted before bytes ≡ texts_at Closed (before ++ text) after
+closed before bytes text after cut = by_quote (list_any is_quote bytes) refl cut.after_is
   where
-    by_quote : (quote : Bool) → list_any is_quote bytes ≡ quote → Some behind ≡ (if quote then Some (after_first is_quote bytes) else None)
-        → texts_at Quoted before bytes ≡ texts_at Behind (before ++ text) behind
+    by_quote : (quote : Bool) → list_any is_quote bytes ≡ quote → Some after ≡ (if quote then Some (after_first is_quote bytes) else None)
+        → texts_at Quoted before bytes ≡ texts_at Closed (before ++ text) after
     by_quote true is some =
-        let same : behind ≡ after_first is_quote bytes = cc in
+        let same : after ≡ after_first is_quote bytes = cc in
         rw (cut.text_is, same) (quoted_texts before bytes is)
     by_quote false is some = absurd (cc)
 
 -- and a second quote stands behind it, which is one of the text
-pub doubled : (before bytes text behind : List ℕ) → QuotedCut bytes text (Some behind) → starts_with ◌==◌ behind (34 ∷ []) ≡ true
-    → texts_at Quoted before bytes ≡ texts_at Quoted ((before ++ text) ++ 34 ∷ []) (drop 1 behind)
+pub doubled : (before bytes text after : List ℕ) → QuotedCut bytes text (Some after) → starts_with ◌==◌ after (34 ∷ []) ≡ true
+    → texts_at Quoted before bytes ≡ texts_at Quoted ((before ++ text) ++ 34 ∷ []) (drop 1 after)
 doubled before bytes text [] cut is = absurd (cc)
-doubled before bytes text (byte ∷ behind) cut is =
+doubled before bytes text (byte ∷ after) cut is =
     let same : byte ≡ 34 = grind (arith, nat_tests) in
-    closed before bytes text (byte ∷ behind) cut ∙ rw same (texts_more Behind (before ++ text) 34 behind refl)
+    closed before bytes text (byte ∷ after) cut ∙ rw same (texts_more Closed (before ++ text) 34 after refl)
 
 -- and none does, so that the field goes on to the next comma
-pub unquoted : (before bytes text behind : List ℕ) → QuotedCut bytes text (Some behind) → starts_with ◌==◌ behind (34 ∷ []) ≡ false
-    → texts_at Quoted before bytes ≡ cut_texts (before ++ text) behind
-unquoted before bytes text behind cut other =
-    closed before bytes text behind cut ∙ behind_plain (before ++ text) behind other ∙ plain_texts (before ++ text) behind
+pub unquoted : (before bytes text after : List ℕ) → QuotedCut bytes text (Some after) → starts_with ◌==◌ after (34 ∷ []) ≡ false
+    → texts_at Quoted before bytes ≡ cut_texts (before ++ text) after
+unquoted before bytes text after cut other =
+    closed before bytes text after cut ∙ after_plain (before ++ text) after other ∙ plain_texts (before ++ text) after
 
 -- and nothing, or a comma, stands behind it
-pub closed_last : (bytes text behind : List ℕ) → QuotedCut bytes text (Some behind) → length behind ≡ 0 → texts_at Quoted [] bytes ≡ text ∷ []
-closed_last bytes text [] cut none = closed [] bytes text [] cut ∙ texts_none Behind text
-closed_last bytes text (byte ∷ behind) cut none = absurd (omega arith)
+pub closed_last : (bytes text after : List ℕ) → QuotedCut bytes text (Some after) → length after ≡ 0 → texts_at Quoted [] bytes ≡ text ∷ []
+closed_last bytes text [] cut none = closed [] bytes text [] cut ∙ texts_none Closed text
+closed_last bytes text (byte ∷ after) cut none = absurd (omega arith)
 
-pub closed_text : (bytes text behind : List ℕ) → QuotedCut bytes text (Some behind) → starts_with ◌==◌ behind (44 ∷ []) ≡ true
-    → texts_at Quoted [] bytes ≡ text ∷ texts_in (drop 1 behind)
+pub closed_text : (bytes text after : List ℕ) → QuotedCut bytes text (Some after) → starts_with ◌==◌ after (44 ∷ []) ≡ true
+    → texts_at Quoted [] bytes ≡ text ∷ texts_in (drop 1 after)
 closed_text bytes text [] cut is = absurd (cc)
-closed_text bytes text (byte ∷ behind) cut is =
+closed_text bytes text (byte ∷ after) cut is =
     let comma : is_comma byte ≡ true = grind (arith, nat_tests) in
-    closed [] bytes text (byte ∷ behind) cut ∙ texts_end Behind text byte behind comma
+    closed [] bytes text (byte ∷ after) cut ∙ texts_end Closed text byte after comma
 
 -- what is left of bytes behind the first of them
-pub behind_first : (bytes : List ℕ) (i : ℕ) → take (length bytes - i) (drop i bytes) ≡ drop i bytes
-behind_first bytes i = take_all (length bytes - i) (drop i bytes) (omega (arith, length-drop i bytes))
+pub drop_whole : (bytes : List ℕ) (i : ℕ) → take (length bytes - i) (drop i bytes) ≡ drop i bytes
+drop_whole bytes i = take_all (length bytes - i) (drop i bytes) (omega (arith, length-drop i bytes))
 
 -- bytes that begin with a quote, and others
 pub begin_quoted : (bytes : List ℕ) → starts_with ◌==◌ bytes (34 ∷ []) ≡ true → texts_in bytes ≡ texts_at Quoted [] (drop 1 bytes)

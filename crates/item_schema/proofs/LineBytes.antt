@@ -59,13 +59,13 @@ record_bytes s fields text (byte ∷ bytes) are is rest =
         → ((next : State) (fields : List (List ℕ)) (text : List ℕ) → are_texts fields ≡ true → are_bytes text ≡ true
         → ReadsTexts (next_record default_config next fields text bytes))
         → ReadsTexts (goes_on fields text byte bytes (next, action))
-    by_action next action behind = by_end (is_end action)
+    by_action next action after = by_end (is_end action)
       where
         by_end : (ends : Bool) → ReadsTexts (if ends then Some (fields_after action fields text, next, bytes)
             else next_record default_config next (fields_after action fields text) (field_after action byte text) bytes)
         by_end true = fields_bytes action fields text are is
         by_end false =
-            behind next (fields_after action fields text) (field_after action byte text)
+            after next (fields_after action fields text) (field_after action byte text)
             (fields_bytes action fields text are is)
             (field_bytes action byte text (and_parts (nat_lt byte 256) (are_bytes bytes) rest).0 is)
 

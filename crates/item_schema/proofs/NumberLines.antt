@@ -87,9 +87,9 @@ numeral_written digits form =
     (digits_written digits parts.1, grind (arith, nat_tests, parts.0))
 
 -- and of what stands behind it
-fraction_written : (behind digits : List ℕ) → IsFraction behind digits → list_all is_written behind ≡ true
-fraction_written behind digits (inl none) = rw none.0 refl
-fraction_written behind digits (inr some) = rw some.0 (numeral_written digits (numeral_passes digits some.1)).0
+fraction_written : (after digits : List ℕ) → IsFraction after digits → list_all is_written after ≡ true
+fraction_written after digits (inl none) = rw none.0 refl
+fraction_written after digits (inr some) = rw some.0 (numeral_written digits (numeral_passes digits some.1)).0
 
 -- what is written behind a sign
 record IsWritten (line : List ℕ) : Type 0 where
@@ -117,8 +117,8 @@ decimal_written line form =
     let whole = numeral_written (whole_of line) parts.0 in
     let point = cut_point (without_leading_sign line) (list_any is_point (without_leading_sign line)) refl parts.1 in
     signed_written line
-    (rw point.spelled (both_written (whole_of line) point.behind whole.0 (fraction_written point.behind (fraction_of line) point.point)))
-    (omega (arith, ap length point.spelled, length-append (whole_of line) point.behind, whole.1))
+    (rw point.spelled (both_written (whole_of line) point.after whole.0 (fraction_written point.after (fraction_of line) point.point)))
+    (omega (arith, ap length point.spelled, length-append (whole_of line) point.after, whole.1))
 
 -- the item of a whole number
 pub whole_item : (column : Column) (line : List ℕ) (field : Field) → column.kind ≡ Int → field_of Int line ≡ Ok field

@@ -9,7 +9,7 @@ use Rattle.std.proofs.lemmas.Str.Parse.{IsDigitsTest, IsNumeralModel, digit_from
 use Rattle.std.proofs.lemmas.List.{append-nil}
 use Rattle.std.proofs.lemmas.List.Folds.{list_all_at}
 use Rattle.std.proofs.lemmas.List.Sums.{passes_at_first, split_at_first}
-use Rattle.item_schema.proofs.Cuts.{after_first-front, before_first-front, before_first-none, is_found, nothing_behind}
+use Rattle.item_schema.proofs.Cuts.{after_first-front, before_first-front, before_first-none, is_found, nothing_after}
 use Rattle.item_schema.proofs.Sizes.{digits_value_after-append, digits_value_after-zeros}
 use Rattle.item_schema.specs.Reading.{fraction_of, is_decimal, is_numeral, is_point, signed, units, whole_of}
 use Rattle.item_schema.specs.Written.{IsFraction, Sign, sign_bytes, with_sign}
@@ -67,47 +67,47 @@ cut_sign (byte ∷ rest) = by_byte (byte == 45) (byte == 43) refl refl
     }
 
 -- digits begin with no sign
-no_sign : (digits behind : List ℕ) → IsNumeral 10 digits → (starts_with_minus (digits ++ behind) ≡ false) × ((slice_index (digits ++ behind) 0 == 43) ≡ false)
-no_sign [] behind numeral = absurd (omega (arith, numeral.0))
-no_sign (digit ∷ digits) behind numeral =
+no_sign : (digits after : List ℕ) → IsNumeral 10 digits → (starts_with_minus (digits ++ after) ≡ false) × ((slice_index (digits ++ after) 0 == 43) ≡ false)
+no_sign [] after numeral = absurd (omega (arith, numeral.0))
+no_sign (digit ∷ digits) after numeral =
     let range = digit_from_value digit numeral.1.0 in
     (grind (arith, nat_tests), grind (arith, nat_tests))
 
 -- what stands behind a sign, where it begins with digits
-pub without_leading_sign-digits : (sign : Sign) (digits behind : List ℕ) → IsNumeral 10 digits
-    → without_leading_sign (sign_bytes sign ++ (digits ++ behind)) ≡ digits ++ behind
-without_leading_sign-digits Absent digits behind numeral =
-    let none = no_sign digits behind numeral in
+pub without_leading_sign-digits : (sign : Sign) (digits after : List ℕ) → IsNumeral 10 digits
+    → without_leading_sign (sign_bytes sign ++ (digits ++ after)) ≡ digits ++ after
+without_leading_sign-digits Absent digits after numeral =
+    let none = no_sign digits after numeral in
     rw (none.0, none.1) refl
-without_leading_sign-digits Plus digits behind numeral = refl
-without_leading_sign-digits Minus digits behind numeral = refl
+without_leading_sign-digits Plus digits after numeral = refl
+without_leading_sign-digits Minus digits after numeral = refl
 
 -- and the number with that sign
-pub signed-digits : (sign : Sign) (digits behind : List ℕ) (size : ℕ) → IsNumeral 10 digits
-    → signed (sign_bytes sign ++ (digits ++ behind)) size ≡ with_sign sign size
-signed-digits Absent digits behind size numeral = rw (no_sign digits behind numeral).0 refl
-signed-digits Plus digits behind size numeral = refl
-signed-digits Minus digits behind size numeral = refl
+pub signed-digits : (sign : Sign) (digits after : List ℕ) (size : ℕ) → IsNumeral 10 digits
+    → signed (sign_bytes sign ++ (digits ++ after)) size ≡ with_sign sign size
+signed-digits Absent digits after size numeral = rw (no_sign digits after numeral).0 refl
+signed-digits Plus digits after size numeral = refl
+signed-digits Minus digits after size numeral = refl
 
 -- a text cut at its point, if it has one
 pub record CutPoint (text : List ℕ) : Type 0 where
-  pub behind : List ℕ
-  pub spelled : text ≡ before_first is_point text ++ behind
-  pub point : IsFraction behind (after_first is_point text)
+  pub after : List ℕ
+  pub spelled : text ≡ before_first is_point text ++ after
+  pub point : IsFraction after (after_first is_point text)
 
 -- where what stands behind a point is a numeral
 pub cut_point : (text : List ℕ) (found : Bool) → list_any is_point text ≡ found
     → (not found || is_numeral (after_first is_point text)) ≡ true → CutPoint text
 cut_point text false is form = record {
-  behind = [];
+  after = [];
   spelled = sym (append-nil (before_first is_point text) ∙ before_first-none is_point text is);
-  point = inl (refl, nothing_behind is_point text is);
+  point = inl (refl, nothing_after is_point text is);
 }
 cut_point text true is form =
     let within : position_or_len is_point text < length text = grind (arith, nat_tests, is_found is_point text) in
     let point : get_or text (position_or_len is_point text) 0 ≡ 46 = grind (arith, nat_tests, passes_at_first is_point text 0 within) in
     record {
-      behind = 46 ∷ after_first is_point text;
+      after = 46 ∷ after_first is_point text;
       spelled = split_at_first is_point text 0 within ∙ ap (λ byte. before_first is_point text ++ byte ∷ after_first is_point text) point;
       point = inr (refl, numeral_from_test (after_first is_point text) form);
     }
@@ -120,24 +120,24 @@ no_point (digit ∷ digits) are = grind (arith, nat_tests, no_point digits)
 -- what a text has before its first point and behind it
 pub record HasParts (text whole fraction : List ℕ) : Type 0 where
   pub before : before_first is_point text ≡ whole
-  pub behind : after_first is_point text ≡ fraction
+  pub after : after_first is_point text ≡ fraction
   pub form : (not (list_any is_point text) || is_numeral fraction) ≡ true
 
 -- digits and a fraction are these
-pub parts_from_fraction : (whole behind fraction : List ℕ) → list_all is_ascii_digit whole ≡ true → IsFraction behind fraction
-    → HasParts (whole ++ behind) whole fraction
-parts_from_fraction whole behind fraction digits (inl none) =
+pub parts_from_fraction : (whole after fraction : List ℕ) → list_all is_ascii_digit whole ≡ true → IsFraction after fraction
+    → HasParts (whole ++ after) whole fraction
+parts_from_fraction whole after fraction digits (inl none) =
     let none_whole = no_point whole digits in
     rw (none.0, none.1, append-nil whole) (record {
       before = before_first-none is_point whole none_whole;
-      behind = nothing_behind is_point whole none_whole;
+      after = nothing_after is_point whole none_whole;
       form = rw none_whole refl;
     })
-parts_from_fraction whole behind fraction digits (inr some) =
+parts_from_fraction whole after fraction digits (inr some) =
     let none_whole = no_point whole digits in
     rw some.0 (record {
       before = before_first-front is_point whole 46 fraction none_whole refl;
-      behind = after_first-front is_point whole 46 fraction none_whole refl;
+      after = after_first-front is_point whole 46 fraction none_whole refl;
       form = or_right (not (list_any is_point (whole ++ 46 ∷ fraction))) (is_numeral fraction) (numeral_passes fraction some.1);
     })
 
@@ -151,14 +151,14 @@ units-whole places whole fraction few =
 pub decimal_parts : (text whole fraction : List ℕ) → whole ≡ whole_of text
     → Some fraction ≡ (if list_any is_point (without_leading_sign text) then Some (fraction_of text) else None)
     → is_numeral whole ≡ true → is_numeral fraction ≡ true → (is_decimal text ≡ true) × (fraction ≡ fraction_of text)
-decimal_parts text whole fraction before behind first second = (form, same)
+decimal_parts text whole fraction before after first second = (form, same)
   where
     by_point : (found : Bool) → Some fraction ≡ (if found then Some (fraction_of text) else None) → fraction ≡ fraction_of text
     by_point true is = cc
     by_point false is = absurd (cc)
 
     same : fraction ≡ fraction_of text
-    same = by_point (list_any is_point (without_leading_sign text)) behind
+    same = by_point (list_any is_point (without_leading_sign text)) after
 
     form : is_decimal text ≡ true
     form =

@@ -83,10 +83,10 @@ slice_split-texts bytes false is =
     ∙ ap (λ text. text ∷ []) (sym (before_first-none is_comma bytes is))
 
 -- the same of a text that is cut there
-pub texts_between_commas : (bytes text : List ℕ) (behind : Option (List ℕ)) → text ≡ before_first is_comma bytes
-    → behind ≡ (if list_any is_comma bytes then Some (after_first is_comma bytes) else None)
-    → slice_split is_comma bytes ≡ text ∷ split_of behind
-texts_between_commas bytes text behind before after = rw (before, after) (slice_split-texts bytes (list_any is_comma bytes) refl)
+pub texts_between_commas : (bytes text : List ℕ) (tail : Option (List ℕ)) → text ≡ before_first is_comma bytes
+    → tail ≡ (if list_any is_comma bytes then Some (after_first is_comma bytes) else None)
+    → slice_split is_comma bytes ≡ text ∷ split_of tail
+texts_between_commas bytes text tail before after = rw (before, after) (slice_split-texts bytes (list_any is_comma bytes) refl)
 
 -- a line without commas
 no_commas : (line : List ℕ) → count_by is_comma line ≡ 0 → list_any is_comma line ≡ false

@@ -32,7 +32,7 @@ decimal_writes places text form few =
     record {
       sign = cut.sign;
       whole = whole_of text;
-      behind = point.behind;
+      after = point.after;
       fraction = fraction_of text;
       spelled = cut.spelled ∙ ap (λ rest. sign_bytes cut.sign ++ rest) point.spelled;
       numeral = numeral_from_test (whole_of text) parts.0;
@@ -73,21 +73,21 @@ pub record HasDecimal (places : ℕ) (text : List ℕ) (number : ℤ) : Type 0 w
 pub decimal_form : (places : ℕ) (text : List ℕ) (number : ℤ) → WritesDecimal places text number → HasDecimal places text number
 decimal_form places text number writes =
     let size = units places writes.whole writes.fraction in
-    let rest : without_leading_sign text ≡ writes.whole ++ writes.behind =
-    ap without_leading_sign writes.spelled ∙ without_leading_sign-digits writes.sign writes.whole writes.behind writes.numeral
+    let rest : without_leading_sign text ≡ writes.whole ++ writes.after =
+    ap without_leading_sign writes.spelled ∙ without_leading_sign-digits writes.sign writes.whole writes.after writes.numeral
     in
     let passes = numeral_passes writes.whole writes.numeral in
     let digits = (and_parts (nat_lt 0 (length writes.whole)) (list_all is_ascii_digit writes.whole) passes).1 in
-    let parts = parts_from_fraction writes.whole writes.behind writes.fraction digits writes.point in
+    let parts = parts_from_fraction writes.whole writes.after writes.fraction digits writes.point in
     let few : nat_lt places (length writes.fraction) ≡ false = grind (arith, nat_tests, writes.few) in
     let value : signed text size ≡ number =
     ap (λ text. signed text size) writes.spelled
-    ∙ signed-digits writes.sign writes.whole writes.behind size writes.numeral
+    ∙ signed-digits writes.sign writes.whole writes.after size writes.numeral
     ∙ ap (with_sign writes.sign) (units-whole places writes.whole writes.fraction writes.few)
     ∙ sym writes.value
     in
     record {
-      form = rw (rest, parts.before, parts.behind, passes, parts.form) refl;
-      few = rw (rest, parts.behind) few;
-      value = rw (rest, parts.before, parts.behind) value;
+      form = rw (rest, parts.before, parts.after, passes, parts.form) refl;
+      few = rw (rest, parts.after) few;
+      value = rw (rest, parts.before, parts.after) value;
     }

@@ -1,7 +1,7 @@
 -- Statement. The texts of a line: what stands between its commas, but for those between quotes.
 use Rattle.std.specs.Prelude.{ℕ, Bool, true, false, ◌==◌, ◌||◌, not, if◌then◌else◌, List, [], ◌∷◌, ◌++◌, Option, None, Some}
 use Rattle.item_schema.specs.declared.place.Place.{Place}
-use Rattle.item_schema.specs.declared.place.Place.TheVariants.{Front, Plain, Quoted, Behind}
+use Rattle.item_schema.specs.declared.place.Place.TheVariants.{Front, Plain, Quoted, Closed}
 
 -- a comma
 abbrev pub is_comma : ℕ → Bool
@@ -24,21 +24,21 @@ abbrev pub ends_field : Place → ℕ → Bool
 ends_field Front byte = is_comma byte
 ends_field Plain byte = is_comma byte
 ends_field Quoted byte = false
-ends_field Behind byte = is_comma byte
+ends_field Closed byte = is_comma byte
 
 -- the byte is one of the field: all but a quote that opens it or stands in it before another byte
 abbrev pub is_kept : Place → ℕ → Bool
 is_kept Front byte = not (is_quote byte)
 is_kept Plain byte = true
 is_kept Quoted byte = not (is_quote byte)
-is_kept Behind byte = true
+is_kept Closed byte = true
 
 -- the place behind a byte: a quote opens a field only at its front, and two of them go on with it
 abbrev pub place_after : Place → ℕ → Place
 place_after Front byte = if is_comma byte then Front else if is_quote byte then Quoted else Plain
 place_after Plain byte = if is_comma byte then Front else Plain
-place_after Quoted byte = if is_quote byte then Behind else Quoted
-place_after Behind byte = if is_comma byte then Front else if is_quote byte then Quoted else Plain
+place_after Quoted byte = if is_quote byte then Closed else Quoted
+place_after Closed byte = if is_comma byte then Front else if is_quote byte then Quoted else Plain
 
 -- the texts of bytes that begin at a place of a field, of which this text stands before them
 unfoldable pub texts_at : Place → List ℕ → List ℕ → List (List ℕ)

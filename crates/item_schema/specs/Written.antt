@@ -44,11 +44,11 @@ IsFraction bytes digits =
 pub record WritesDecimal (places : ℕ) (text : List ℕ) (number : ℤ) : Type 0 where
   pub sign : Sign
   pub whole : List ℕ
-  pub behind : List ℕ
+  pub after : List ℕ
   pub fraction : List ℕ
-  pub spelled : text ≡ sign_bytes sign ++ (whole ++ behind)
+  pub spelled : text ≡ sign_bytes sign ++ (whole ++ after)
   pub numeral : IsNumeral 10 whole
-  pub point : IsFraction behind fraction
+  pub point : IsFraction after fraction
   pub few : length fraction ≤ places
   pub value : number
       ≡ with_sign sign (digits_value 10 (whole ++ fraction) * 10 ^ (places - length fraction))

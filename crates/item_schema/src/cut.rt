@@ -7,7 +7,7 @@ ghost use Rattle.std.specs.Prelude.{◌≡◌, ◌==◌, Some, None, if◌then�
 #[tactic(auto, using(crate::proofs::Cuts::is_found))]
 pub(crate) fn cut_at(byte: u8, text: &[u8]) -> (&[u8], Option<&[u8]>)
     ensures before { result.0.now ≡ before_first (λ at. at == byte) text.now }
-    ensures behind { option_copied result.1 ≡ (if list_any (λ at. at == byte) text.now
+    ensures after { option_copied result.1 ≡ (if list_any (λ at. at == byte) text.now
         then Some (after_first (λ at. at == byte) text.now) else None) }
 {
     match place_of(byte, text) {

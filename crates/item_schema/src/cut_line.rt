@@ -87,9 +87,9 @@ fn cut_fields(alloc: Global, schema: &Schema, line: &[u8]) -> Result<Vec<Field>,
     let mut fields = Vec::with_capacity(alloc, schema.columns().len())?;
     let mut rest = Some(line);
     'texts: while let Some(bytes) = rest {
-        let (text, behind) = first_text(alloc, bytes)?;
+        let (text, tail) = first_text(alloc, bytes)?;
         push_field(alloc, schema, &mut fields, text.as_slice())?;
-        rest = behind;
+        rest = tail;
     }
     Ok(fields)
 }

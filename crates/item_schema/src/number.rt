@@ -13,7 +13,7 @@ use value_ops::Field;
 pub(crate) fn int_field(text: &[u8]) -> Result<Field, Cause>
     ensures { result ≡ field_of Kind.Int text.now }
 {
-    match size_behind(0, without_sign(text)) {
+    match size_after(0, without_sign(text)) {
         Some(size) => stored(text, size),
         None => Err(Cause::Number),
     }
@@ -50,42 +50,42 @@ fn without_sign(text: &[u8]) -> &[u8]
 }
 
 // What the text writes behind its sign, if it is a decimal number.
-#[tactic(auto, using(crate::proofs::Cuts::nothing_behind))]
+#[tactic(auto, using(crate::proofs::Cuts::nothing_after))]
 fn decimal_of(text: &[u8]) -> Option<Decimal>
     ensures { MatchOption result (is_decimal text.now ≡ false) (λ decimal.
         (is_decimal text.now ≡ true) × KeepsDecimal text.now decimal) }
 {
     let (whole, fraction) = cut_at(b'.', without_sign(text));
-    let size = size_behind(0, whole)?;
+    let size = size_after(0, whole)?;
     let Some(fraction) = fraction else {
         return Some(Decimal { size, places: 0 });
     };
     Some(Decimal {
-        size: size_behind(size, fraction)?,
+        size: size_after(size, fraction)?,
         places: fraction.len(),
     })
 }
 
 // The number that a numeral writes behind the digits of another, or the greatest of 64 bits.
 #[inline]
-fn size_behind(size: u64, digits: &[u8]) -> Option<u64>
-    ensures { MatchOption result (is_numeral digits.now ≡ false) (λ behind.
+fn size_after(size: u64, digits: &[u8]) -> Option<u64>
+    ensures { MatchOption result (is_numeral digits.now ≡ false) (λ after.
         (is_numeral digits.now ≡ true) × ((exact : ℕ) → size ≡ min exact u64.MAX
-        → behind ≡ min (digits_value_after 10 exact digits.now) u64.MAX)) }
+        → after ≡ min (digits_value_after 10 exact digits.now) u64.MAX)) }
 {
     if digits.is_empty() {
         return None;
     }
-    let mut behind = size;
+    let mut after = size;
     for digit in digits {
         if !digit.is_ascii_digit() {
             return None;
         }
-        behind = behind
+        after = after
             .saturating_mul(10)
             .saturating_add(u64::from(*digit - b'0'));
     }
-    Some(behind)
+    Some(after)
 }
 
 // The number times so many tens as it has less places, or the greatest of 64 bits.

@@ -12,7 +12,7 @@ pub(crate) enum Place {
     /// Between quotes.
     Quoted,
     /// Behind a quote that ends them, or is the first of two.
-    Behind,
+    Closed,
 }
 
 impl Place {
@@ -22,7 +22,7 @@ impl Place {
     {
         match self {
             Place::Quoted => false,
-            Place::Front | Place::Plain | Place::Behind => byte == b',',
+            Place::Front | Place::Plain | Place::Closed => byte == b',',
         }
     }
 
@@ -31,10 +31,10 @@ impl Place {
         ensures { result ≡ place_after self byte }
     {
         match (self, byte) {
-            (Place::Quoted, b'"') => Place::Behind,
+            (Place::Quoted, b'"') => Place::Closed,
             (Place::Quoted, _) => Place::Quoted,
             (_, b',') => Place::Front,
-            (Place::Front | Place::Behind, b'"') => Place::Quoted,
+            (Place::Front | Place::Closed, b'"') => Place::Quoted,
             _ => Place::Plain,
         }
     }

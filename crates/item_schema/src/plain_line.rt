@@ -65,9 +65,9 @@ fn plain_fields(alloc: Global, schema: &Schema, line: &[u8]) -> Result<Vec<Field
     let mut fields = Vec::with_capacity(alloc, schema.columns().len())?;
     let mut rest = Some(line);
     'texts: while let Some(bytes) = rest {
-        let (text, behind) = plain_text(bytes);
+        let (text, after) = plain_text(bytes);
         push_field(alloc, schema, &mut fields, text)?;
-        rest = behind;
+        rest = after;
     }
     Ok(fields)
 }

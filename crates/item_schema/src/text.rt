@@ -46,15 +46,15 @@ fn quoted_text(alloc: Global, bytes: &[u8]) -> Result<(Text<'_>, Option<&[u8]>),
     ensures { IfOk result (λ cut.
         texts_at Quoted [] bytes.now ≡ bytes_of cut.0 ∷ texts_of (option_copied cut.1)) }
 {
-    let (text, behind) = cut_at(b'"', bytes);
-    let Some(behind) = behind else {
+    let (text, after) = cut_at(b'"', bytes);
+    let Some(after) = after else {
         return Ok((Text::Part(text), None));
     };
-    if behind.is_empty() {
+    if after.is_empty() {
         return Ok((Text::Part(text), None));
     }
-    if behind.starts_with(b",") {
-        return Ok((Text::Part(text), Some(&behind[1..])));
+    if after.starts_with(b",") {
+        return Ok((Text::Part(text), Some(&after[1..])));
     }
     copied_text(alloc, bytes)
 }
@@ -67,17 +67,17 @@ fn copied_text(alloc: Global, bytes: &[u8]) -> Result<(Text<'_>, Option<&[u8]>),
     let mut text = Vec::with_capacity(alloc, bytes.len())?;
     let mut rest = bytes;
     'parts: loop {
-        let (part, behind) = cut_at(b'"', rest);
+        let (part, after) = cut_at(b'"', rest);
         text.extend_from_slice(part)?;
-        let Some(behind) = behind else {
+        let Some(after) = after else {
             return Ok((Text::Copy(text), None));
         };
-        if !behind.starts_with(b"\"") {
-            let (tail, behind) = cut_at(b',', behind);
+        if !after.starts_with(b"\"") {
+            let (tail, after) = cut_at(b',', after);
             text.extend_from_slice(tail)?;
-            return Ok((Text::Copy(text), behind));
+            return Ok((Text::Copy(text), after));
         }
         text.push(b'"')?;
-        rest = &behind[1..];
+        rest = &after[1..];
     }
 }

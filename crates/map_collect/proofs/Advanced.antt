@@ -2,7 +2,7 @@
 use Rattle.std.proofs.Common.{set, ◌≡◌, ◌==◌, ◌+◌, ◌<◌, ◌∙◌, ◌++◌, ℕ, zero, suc, List, [], ◌∷◌, drop, get_or, length, refl, sym, ap, subst, take, arith}
 use Rattle.std.specs.List.{IsDistinct}
 use Rattle.value_ops.specs.declared.field.Field.{Field}
-use Rattle.rate_expr.specs.Behind.{IsStateOf}
+use Rattle.rate_expr.specs.After.{IsStateOf}
 use Rattle.rate_expr.specs.Sets.{Sets}
 use Rattle.map_collect.specs.Tracks.{starts_of, Advances, AllAdvance, AreStates, AreTracks}
 use Rattle.map_collect.specs.declared.track.Track.{Track}

@@ -9,7 +9,7 @@ use Rattle.std.proofs.lemmas.Bool.{false≢true}
 use Rattle.std.proofs.lemmas.List.{get_or_default}
 use Rattle.std.proofs.lemmas.Map.Keys.{IsDistinct-cons, IsDistinct-head, IsDistinct-tail}
 use Rattle.std.proofs.lemmas.Option.{none-some, same_Some}
-use Rattle.rate_expr.specs.Behind.{IsStateOf}
+use Rattle.rate_expr.specs.After.{IsStateOf}
 use Rattle.rate_expr.specs.Sets.{Sets}
 use Rattle.rate_expr.specs.declared.state.State.{State}
 use Rattle.symbolic_nfa.specs.Automata.{Automaton}

@@ -18,12 +18,12 @@ there_first : (same : Bool) (key : List ℕ) (name : List ℕ) (names : List (Li
     → (k : ℕ) × (i ≡ from + 1 + k) × (slice_get names k ≡ Some key))
     → cond same (Some from) (position_from (bytes_eq key) (from + 1) names) ≡ Some i
     → (k : ℕ) × (i ≡ from + k) × (slice_get (name ∷ names) k ≡ Some key)
-there_first true key name names from i same behind some =
+there_first true key name names from i same further some =
     let is : key ≡ name = (bytes_eq-Decides key name).0 same in
     let first : from ≡ i = same_Some from i some in
     (zero, omega (arith, first), ap (λ (text : List ℕ). Some text) (sym is))
-there_first false key name names from i same behind some =
-    let rest = behind some in
+there_first false key name names from i same further some =
+    let rest = further some in
     let is = rest.1 in
     (suc rest.0, omega (arith, is), rest.2)
 
@@ -44,8 +44,8 @@ there key names i some =
 
 nowhere_first : (same : Bool) (from : ℕ) (place : Option ℕ) (among : Bool)
     → (place ≡ None → among ≡ false) → cond same (Some from) place ≡ None → (same || among) ≡ false
-nowhere_first true from place among behind none = absurd (none-some from (sym none))
-nowhere_first false from place among behind none = behind none
+nowhere_first true from place among further none = absurd (none-some from (sym none))
+nowhere_first false from place among further none = further none
 
 -- where no place is found, no name has the bytes of the key
 pub nowhere : (key : List ℕ) (names : List (List ℕ)) (from : ℕ)

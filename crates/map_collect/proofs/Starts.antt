@@ -7,7 +7,7 @@ use Rattle.std.proofs.lemmas.Cmp.{nat_eq_equiv}
 use Rattle.std.proofs.lemmas.List.{map-append}
 use Rattle.std.proofs.lemmas.Map.Keys.{IsDistinct-push}
 use Rattle.std.proofs.lemmas.Option.{none-some, same_Some}
-use Rattle.rate_expr.specs.Behind.{IsStateOf}
+use Rattle.rate_expr.specs.After.{IsStateOf}
 use Rattle.rate_expr.specs.Sets.{Sets}
 use Rattle.rate_expr.specs.declared.state.State.{State}
 use Rattle.map_collect.specs.Tracks.{begins_at, starts_of, states_of, AreTracks}
@@ -58,12 +58,12 @@ module _ {R : Type 0} where
       → (k : ℕ) × (i ≡ from + 1 + k) × (slice_get (starts_of tracks) k ≡ Some start))
       → cond same (Some from) (position_from (begins_at start) (from + 1) tracks) ≡ Some i
       → (k : ℕ) × (i ≡ from + k) × (slice_get (starts_of (x ∷ tracks)) k ≡ Some start)
-  there_first true x tracks start from i same behind some =
+  there_first true x tracks start from i same further some =
       let is : x.start ≡ start = eqb-true x.start start same in
       let first : from ≡ i = same_Some from i some in
       (zero, omega (arith, first), ap (λ (n : ℕ). Some n) is)
-  there_first false x tracks start from i same behind some =
-      let rest = behind some in
+  there_first false x tracks start from i same further some =
+      let rest = further some in
       let is = rest.1 in
       (suc rest.0, omega (arith, is), rest.2)
 
@@ -87,11 +87,11 @@ module _ {R : Type 0} where
       → (j : ℕ) → j < length (starts_of tracks) → get_or (starts_of tracks) j start ≡ start → ⊥)
       → cond same (Some from) (position_from (begins_at start) (from + 1) tracks) ≡ None
       → k < length (starts_of (x ∷ tracks)) → get_or (starts_of (x ∷ tracks)) k start ≡ start → ⊥
-  absent_first true x tracks start from k same behind none inside is = none-some from (sym none)
-  absent_first false x tracks start from zero same behind none inside is =
+  absent_first true x tracks start from k same further none inside is = none-some from (sym none)
+  absent_first false x tracks start from zero same further none inside is =
       eqb-false x.start start same is
-  absent_first false x tracks start from (suc k) same behind none inside is =
-      behind none k (omega (arith, inside)) is
+  absent_first false x tracks start from (suc k) same further none inside is =
+      further none k (omega (arith, inside)) is
 
   absent_from : (tracks : List (Track R)) (start from k : ℕ)
       → position_from (begins_at start) from tracks ≡ None

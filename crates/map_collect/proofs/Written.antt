@@ -3,7 +3,7 @@ use Rattle.std.proofs.Common.{set, ◌≡◌, ◌==◌, ◌<◌, ◌∙◌, ℕ,
 use Rattle.std.specs.List.{AllByRecursion, IsDistinct}
 use Rattle.std.specs.Option.{option_map}
 use Rattle.std.proofs.lemmas.Option.{slice_get-map, slice_get_read}
-use Rattle.rate_expr.specs.Behind.{IsStateOf}
+use Rattle.rate_expr.specs.After.{IsStateOf}
 use Rattle.rate_expr.specs.Sets.{Sets}
 use Rattle.map_collect.specs.Tracks.{keys_of, starts_of, states_of, with_keys, AreTracks, Contents}
 use Rattle.map_collect.specs.declared.keys.Keys.{Keys}

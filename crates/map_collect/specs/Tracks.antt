@@ -3,7 +3,7 @@
 use Rattle.std.specs.Prelude.{◌≡◌, ◌==◌, ◌<◌, ◌⊎◌, ℕ, zero, suc, Bool, List, [], ◌∷◌, map, slice_get, Some}
 use Rattle.std.specs.List.{AllByRecursion, AllZip, Contains, IsDistinct}
 use Rattle.value_ops.specs.declared.field.Field.{Field}
-use Rattle.rate_expr.specs.Behind.{IsStateOf}
+use Rattle.rate_expr.specs.After.{IsStateOf}
 use Rattle.rate_expr.specs.Sets.{Sets}
 use Rattle.rate_expr.specs.declared.state.State.{State}
 use Rattle.symbolic_nfa.specs.Automata.{Automaton}

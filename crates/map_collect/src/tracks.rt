@@ -3,7 +3,7 @@ ghost use Rattle.std.specs.Prelude.{◌≡◌, ◌<◌, ◌↔◌, ◌++◌, [],
 ghost use Rattle.std.specs.Borrow.{sem};
 ghost use Rattle.std.specs.List.{position_from, Contains};
 ghost use Rattle.item_schema.specs.Items.{IsItemOf};
-ghost use Rattle.rate_expr.specs.Behind.{IsStateOf};
+ghost use Rattle.rate_expr.specs.After.{IsStateOf};
 ghost use Rattle.map_collect.specs.LendingTracks.{LendsKeys};
 ghost use Rattle.map_collect.specs.Tracks.{begins_at, keys_of, starts_of, states_of, AllAdvance, AreDistinct, AreStates, IsFirstAccepted, IsLiveAmong, KeepsExtending, NoneAccepted};
 

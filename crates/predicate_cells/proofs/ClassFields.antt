@@ -74,8 +74,8 @@ module _ (starts : List ℤ) (rise : IsStrictlySortedBy int_cmp starts) (begin :
   number_of_class_fits (suc k) le = start_fits (get_or starts k least) (All-from_recursion _ starts begin k least le)
 
 -- what a text is before is behind it
-pub behind_is : (s t : List ℕ) → slice_cmp nat_cmp s t ≡ Less → slice_cmp nat_cmp t s ≡ Greater
-behind_is s t e = nat_list_cmp_total.antisymm t s ∙ ap ordering_reverse e
+pub after_is : (s t : List ℕ) → slice_cmp nat_cmp s t ≡ Less → slice_cmp nat_cmp t s ≡ Greater
+after_is s t e = nat_list_cmp_total.antisymm t s ∙ ap ordering_reverse e
 
 -- a text is before any that goes on behind it
 goes_on : (s : List ℕ) (b : ℕ) → slice_cmp nat_cmp s (s ++ b ∷ []) ≡ Less
@@ -87,10 +87,10 @@ module _ (texts : List (List ℕ)) (rise : IsStrictlySortedBy (slice_cmp nat_cmp
   in_order j k d below lt = Less-from_sorted (slice_cmp nat_cmp) texts j k d rise below lt
 
   not_earlier : (j k : ℕ) (d : List ℕ) → k ≤ j → j < length texts → is_lt (slice_cmp nat_cmp (get_or texts j d) (get_or texts k d)) ≡ false
-  not_earlier j k d le lt = ⊎_elim behind same (cases_lt k j)
+  not_earlier j k d le lt = ⊎_elim after same (cases_lt k j)
     where
-      behind : k < j → is_lt (slice_cmp nat_cmp (get_or texts j d) (get_or texts k d)) ≡ false
-      behind below = ap is_lt (behind_is (get_or texts k d) (get_or texts j d) (in_order k j d below lt))
+      after : k < j → is_lt (slice_cmp nat_cmp (get_or texts j d) (get_or texts k d)) ≡ false
+      after below = ap is_lt (after_is (get_or texts k d) (get_or texts j d) (in_order k j d below lt))
 
       same : j ≤ k → is_lt (slice_cmp nat_cmp (get_or texts j d) (get_or texts k d)) ≡ false
       same above = let is : j ≡ k = omega arith in rw is (ap is_lt (tied_itself nat_list_cmp_total (get_or texts k d)))
@@ -121,7 +121,7 @@ module _ (texts : List (List ℕ)) (rise : IsStrictlySortedBy (slice_cmp nat_cmp
   -- and that one is none of them
   pub other_text_is : text_rank texts (other_text texts) ≡ length texts
   other_text_is =
-      rw (list_any_none (bytes_eq (other_text texts)) texts (λ j d lt. bytes_eq_by_cmp (other_text texts) (get_or texts j d) ∙ ap is_eq (behind_is (get_or texts j d) (other_text texts) (all_before j d lt)))) refl
+      rw (list_any_none (bytes_eq (other_text texts)) texts (λ j d lt. bytes_eq_by_cmp (other_text texts) (get_or texts j d) ∙ ap is_eq (after_is (get_or texts j d) (other_text texts) (all_before j d lt)))) refl
 
 -- the text behind all others is one
 other_text_bytes : (texts : List (List ℕ)) → AllByRecursion IsText texts → IsText (other_text texts)

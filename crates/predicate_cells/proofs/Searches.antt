@@ -12,7 +12,7 @@ use Rattle.std.proofs.lemmas.List.Folds.{list_any_none}
 use Rattle.std.proofs.lemmas.List.Sorted.{searchable_from_sorted}
 use Rattle.std.proofs.lemmas.Map.Keys.{Less-from_sorted}
 use Rattle.predicate_cells.specs.Ranks.{number_rank, text_rank}
-use Rattle.predicate_cells.proofs.ClassFields.{int_le_less, behind_is, text_at_is}
+use Rattle.predicate_cells.proofs.ClassFields.{int_le_less, after_is, text_at_is}
 use Rattle.predicate_cells.proofs.Counts.{count_from_place}
 use Rattle.predicate_cells.proofs.SameClass.{at_most}
 use Rattle.predicate_cells.proofs.TextOrder.{bytes_eq_by_cmp, same_text}
@@ -37,7 +37,7 @@ number_searched starts n place le parts = count_from_place (λ start. int_le sta
 -- a list that rises is sorted
 sorted_texts : (texts : List (List ℕ)) → IsStrictlySortedBy (slice_cmp nat_cmp) texts → IsSorted (slice_cmp nat_cmp) texts
 sorted_texts texts rise k d low lt =
-    ap is_lt (behind_is (get_or texts k d) (get_or texts (k + 1) d) (Less-from_sorted (slice_cmp nat_cmp) texts k (k + 1) d rise (omega arith) lt))
+    ap is_lt (after_is (get_or texts k d) (get_or texts (k + 1) d) (Less-from_sorted (slice_cmp nat_cmp) texts k (k + 1) d rise (omega arith) lt))
 
 -- texts that stand apart are two
 apart : (s t : List ℕ) (r : Ordering) → is_eq (ordering_reverse r) ≡ false → slice_cmp nat_cmp t s ≡ r → bytes_eq s t ≡ false

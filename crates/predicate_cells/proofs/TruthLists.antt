@@ -29,13 +29,13 @@ map-same f g same [] = refl
 map-same f g same (x ∷ xs) = ap₂ (λ y ys. y ∷ ys) (same x) (map-same f g same xs)
 
 -- the row shows what was found in the column
-behind_blanks : (column : ℕ) (field : Field) → slice_get (replicate column blank ++ field ∷ []) column ≡ Some field
-behind_blanks zero field = refl
-behind_blanks (suc column) field = behind_blanks column field
+after_blanks : (column : ℕ) (field : Field) → slice_get (replicate column blank ++ field ∷ []) column ≡ Some field
+after_blanks zero field = refl
+after_blanks (suc column) field = after_blanks column field
 
 pub row_shows : (column : ℕ) (found : Option Field) → slice_get (row_of column found) column ≡ found
 row_shows column None = refl
-row_shows column (Some field) = behind_blanks column field
+row_shows column (Some field) = after_blanks column field
 
 -- the predicate is a test of the column
 abbrev pub IsTest : ℕ → Predicate → Type 0

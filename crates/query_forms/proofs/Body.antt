@@ -13,7 +13,7 @@ use Rattle.query_forms.specs.Terms.{Terms, none, word, number, string, call, cou
 use Rattle.query_forms.specs.Forms.{first_unfit}
 use Rattle.query_forms.specs.File.{first_place, is_let, unfit_body, unfit_file}
 use Rattle.query_forms.specs.Tops.{is_call, stream_places, unfit_call, unfit_stream}
-use Rattle.query_forms.proofs.Parts.{alone, behind, say_alone, say_behind, of_alone, of_behind}
+use Rattle.query_forms.proofs.Parts.{alone, after, say_alone, say_after, of_alone, of_after}
 
 -- std's word for the first of two
 pub option_or_is : (first others : Option Span) → option_or first others ≡ first_of_two first others
@@ -40,7 +40,7 @@ two_of_tests false true false count first others span same = refl
 two_of_tests false false high count first others span same = refl
 
 -- at `main`
-pub main_parts : (end : ℕ) (terms : Terms) → (terms ≡ none → ⊥) → is_call (codes "main") 1 (alone terms) ≡ true → unfit_body end terms ≡ first_of_two (unfit_call (codes "main") (Query ∷ []) (alone terms)) (first_place (behind terms))
+pub main_parts : (end : ℕ) (terms : Terms) → (terms ≡ none → ⊥) → is_call (codes "main") 1 (alone terms) ≡ true → unfit_body end terms ≡ first_of_two (unfit_call (codes "main") (Query ∷ []) (alone terms)) (first_place (after terms))
 main_parts end none some is = absurd (some refl)
 main_parts end (word bytes span rest) some is = absurd (cc)
 main_parts end (number value span rest) some is = absurd (cc)
@@ -48,7 +48,7 @@ main_parts end (string bytes span rest) some is = absurd (cc)
 main_parts end (call head arguments span rest) some is = rw is
 
 -- at another top term, which is to be a `let`
-pub let_parts : (end : ℕ) (terms : Terms) → (terms ≡ none → ⊥) → is_call (codes "main") 1 (alone terms) ≡ false → unfit_body end terms ≡ first_of_two (unfit_call (codes "let") (Name ∷ Query ∷ []) (alone terms)) (unfit_body end (behind terms))
+pub let_parts : (end : ℕ) (terms : Terms) → (terms ≡ none → ⊥) → is_call (codes "main") 1 (alone terms) ≡ false → unfit_body end terms ≡ first_of_two (unfit_call (codes "let") (Name ∷ Query ∷ []) (alone terms)) (unfit_body end (after terms))
 let_parts end none some is = absurd (some refl)
 let_parts end (word bytes span rest) some is = refl
 let_parts end (number value span rest) some is = refl
@@ -65,7 +65,7 @@ count_fits count some =
     rw length_is (grind (arith, nat_tests))
 
 -- at the stream
-pub stream_parts : (end : ℕ) (terms : Terms) → (terms ≡ none → ⊥) → unfit_file end terms ≡ first_of_two (unfit_stream (alone terms)) (unfit_body end (behind terms))
+pub stream_parts : (end : ℕ) (terms : Terms) → (terms ≡ none → ⊥) → unfit_file end terms ≡ first_of_two (unfit_stream (alone terms)) (unfit_body end (after terms))
 stream_parts end none some = absurd (some refl)
 stream_parts end (word bytes span rest) some = refl
 stream_parts end (number value span rest) some = refl
@@ -91,23 +91,23 @@ pub Rest-main : (text : List ℕ) (end : ℕ) (list : List Tree) (tree : Tree) (
     → ((terms : Terms) → Say text (trees_of left) terms → place ≡ first_place terms)
     → answer ≡ first_of_two unfit place
     → (terms : Terms) → Say text (trees_of list) terms → answer ≡ unfit_body end terms
-Rest-main text end list tree left unfit place answer had is inside behind_it answers terms say =
+Rest-main text end list tree left unfit place answer had is inside after_it answers terms say =
     let rest = had.same terms say in
     let first = say_alone text tree (trees_of left) rest.0 rest.1 in
-    let others = say_behind text tree (trees_of left) rest.0 rest.1 in
+    let others = say_after text tree (trees_of left) rest.0 rest.1 in
     answers ∙ ap (λ found. first_of_two found place) (inside (alone rest.0) first)
-    ∙ ap (λ found. first_of_two (unfit_call (codes "main") (Query ∷ []) (alone rest.0)) found) (behind_it (behind rest.0) others)
+    ∙ ap (λ found. first_of_two (unfit_call (codes "main") (Query ∷ []) (alone rest.0)) found) (after_it (after rest.0) others)
     ∙ sym (rest.2 ∙ main_parts end rest.0 (some_said text tree (trees_of left) rest.0 rest.1) (sym (is (alone rest.0) first)))
 
 -- the first unfit term is in the next, or in those behind it
 at_let : (text : List ℕ) (end : ℕ) (tree : Tree) (left : List Tree) (unfit : Option Span)
     → ((terms : Terms) → Say text (tree_before tree trees.none) terms → false ≡ is_call (codes "main") 1 terms)
     → ((terms : Terms) → Say text (tree_before tree trees.none) terms → unfit ≡ unfit_call (codes "let") (Name ∷ Query ∷ []) terms)
-    → (rest : Terms) → Say text (trees_of (tree ∷ left)) rest → unfit_body end rest ≡ first_of_two unfit (unfit_body end (behind rest))
+    → (rest : Terms) → Say text (trees_of (tree ∷ left)) rest → unfit_body end rest ≡ first_of_two unfit (unfit_body end (after rest))
 at_let text end tree left unfit other inside rest say =
     let first = say_alone text tree (trees_of left) rest say in
     let_parts end rest (some_said text tree (trees_of left) rest say) (sym (other (alone rest) first))
-    ∙ ap (λ found. first_of_two found (unfit_body end (behind rest))) (sym (inside (alone rest) first))
+    ∙ ap (λ found. first_of_two found (unfit_body end (after rest))) (sym (inside (alone rest) first))
 
 -- the next is no `main`, and is unfit or has something unfit in it
 pub Rest-found : (text : List ℕ) (end : ℕ) (list : List Tree) (tree : Tree) (left : List Tree) (span : Span) → Rest text end list (tree ∷ left)
@@ -123,9 +123,9 @@ pub Rest-next : (text : List ℕ) (end : ℕ) (list : List Tree) (tree : Tree) (
     → ((terms : Terms) → Say text (tree_before tree trees.none) terms → None ≡ unfit_call (codes "let") (Name ∷ Query ∷ []) terms)
     → Rest text end list left
 Rest-next text end list tree left had other inside = record {
-  of_text = of_behind text tree (trees_of left) had.of_text;
+  of_text = of_after text tree (trees_of left) had.of_text;
   same = λ terms say. let rest = had.same terms say in
-      (behind rest.0, say_behind text tree (trees_of left) rest.0 rest.1, rest.2 ∙ at_let text end tree left None other inside rest.0 rest.1);
+      (after rest.0, say_after text tree (trees_of left) rest.0 rest.1, rest.2 ∙ at_let text end tree left None other inside rest.0 rest.1);
 }
 
 -- no stream stands first
@@ -135,7 +135,7 @@ pub file_found : (text : List ℕ) (end : ℕ) (list : List Tree) (tree : Tree) 
 file_found text end list tree left span is unfit terms say =
     let whole = subst (λ l. Say text (trees_of l) terms) is say in
     sym (stream_parts end terms (some_said text tree (trees_of left) terms whole)
-    ∙ ap (λ found. first_of_two found (unfit_body end (behind terms))) (sym (unfit (alone terms) (say_alone text tree (trees_of left) terms whole))))
+    ∙ ap (λ found. first_of_two found (unfit_body end (after terms))) (sym (unfit (alone terms) (say_alone text tree (trees_of left) terms whole))))
 
 -- behind a stream the rest decides
 pub file_read : (text : List ℕ) (end : ℕ) (list : List Tree) (tree : Tree) (left : List Tree) (body : Option Span) → list ≡ tree ∷ left
@@ -144,9 +144,9 @@ pub file_read : (text : List ℕ) (end : ℕ) (list : List Tree) (tree : Tree) (
     → (terms : Terms) → Say text (trees_of list) terms → body ≡ unfit_file end terms
 file_read text end list tree left body is fits at_body terms say =
     let whole = subst (λ l. Say text (trees_of l) terms) is say in
-    at_body (behind terms) (say_behind text tree (trees_of left) terms whole)
+    at_body (after terms) (say_after text tree (trees_of left) terms whole)
     ∙ sym (stream_parts end terms (some_said text tree (trees_of left) terms whole)
-    ∙ ap (λ found. first_of_two found (unfit_body end (behind terms))) (sym (fits (alone terms) (say_alone text tree (trees_of left) terms whole))))
+    ∙ ap (λ found. first_of_two found (unfit_body end (after terms))) (sym (fits (alone terms) (say_alone text tree (trees_of left) terms whole))))
 
 -- the first of the trees is of the text
 pub file_first_of_text : (text : List ℕ) (list : List Tree) (tree : Tree) (left : List Tree) → list ≡ tree ∷ left → AreOf text (trees_of list) → AreOf text (tree_before tree trees.none)
@@ -154,4 +154,4 @@ file_first_of_text text list tree left is are = of_alone text tree (trees_of lef
 
 -- and the others are
 pub file_rest_of_text : (text : List ℕ) (list : List Tree) (tree : Tree) (left : List Tree) → list ≡ tree ∷ left → AreOf text (trees_of list) → AreOf text (trees_of left)
-file_rest_of_text text list tree left is are = of_behind text tree (trees_of left) (subst (λ l. AreOf text (trees_of l)) is are)
+file_rest_of_text text list tree left is are = of_after text tree (trees_of left) (subst (λ l. AreOf text (trees_of l)) is are)

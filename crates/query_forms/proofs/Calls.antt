@@ -8,9 +8,9 @@ use Rattle.query_trees.specs.Trees.{Trees, tree_before, trees_of, first_of_two}
 use Rattle.query_forms.specs.declared.place.Place.{Place}
 use Rattle.query_forms.specs.Terms.{Terms, none, word, number, string, call, bytes_at, count_of, Say}
 use Rattle.query_forms.specs.Forms.{places_of, unfit_in, first_unfit}
-use Rattle.query_forms.proofs.Parts.{behind, say_behind, first_of_two-None}
+use Rattle.query_forms.proofs.Parts.{after, say_after, first_of_two-None}
 
-count_before : (text : List ℕ) (tree : Tree) (others : Trees) (terms : Terms) → Say text (tree_before tree others) terms → count_of terms ≡ count_of (behind terms) + 1
+count_before : (text : List ℕ) (tree : Tree) (others : Trees) (terms : Terms) → Say text (tree_before tree others) terms → count_of terms ≡ count_of (after terms) + 1
 count_before text (Leaf token) others none say = absurd say
 count_before text (Call' first shape row place) others none say = absurd say
 count_before text tree others (word bytes span rest) say = refl
@@ -26,7 +26,7 @@ count_said text [] (number value span rest) say = absurd say
 count_said text [] (string bytes span rest) say = absurd say
 count_said text [] (call head arguments span rest) say = absurd say
 count_said text (tree ∷ list) terms say =
-    let behind_it = count_said text list (behind terms) (say_behind text tree (trees_of list) terms say) in
+    let after_it = count_said text list (after terms) (say_after text tree (trees_of list) terms say) in
     omega (arith, count_before text tree (trees_of list) terms say)
 
 -- the places of the arguments, from what was read of the call

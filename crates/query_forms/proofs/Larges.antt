@@ -8,10 +8,10 @@ use Rattle.query_trees.specs.Trees as trees
 use Rattle.query_trees.specs.Trees.{Trees, tree_before, trees_of, first_of_two}
 use Rattle.query_forms.specs.Terms.{Terms, none, word, number, string, call, AreOf, Say}
 use Rattle.query_forms.specs.File.{is_within, first_large}
-use Rattle.query_forms.proofs.Parts.{alone, behind, say_alone, say_behind, of_alone, of_behind, weight, weight_before, two_of_test, first_of_two-None}
+use Rattle.query_forms.proofs.Parts.{alone, after, say_alone, say_after, of_alone, of_after, weight, weight_before, two_of_test, first_of_two-None}
 
 -- the first large number is in the first term, or in those behind it
-large_parts : (terms : Terms) → first_large terms ≡ first_of_two (first_large (alone terms)) (first_large (behind terms))
+large_parts : (terms : Terms) → first_large terms ≡ first_of_two (first_large (alone terms)) (first_large (after terms))
 large_parts none = refl
 large_parts (word bytes span rest) = refl
 large_parts (number value span rest) = two_of_test (is_within value) span (first_large rest)
@@ -55,18 +55,18 @@ Left-of_text text list tree left had = of_alone text tree (trees_of left) had.of
 pub Left-lighter : (text : List ℕ) (list : List Tree) (tree : Tree) (left : List Tree) → Left text list (tree ∷ left) → weight (tree_before tree trees.none) < weight (trees_of list) + 1
 Left-lighter text list tree left had = let lighter = had.lighter in omega (arith, weight_before tree (trees_of left))
 
-at_next : (text : List ℕ) (tree : Tree) (left : List Tree) (answer : Option Span) → ((terms : Terms) → Say text (tree_before tree trees.none) terms → answer ≡ first_large terms) → (rest : Terms) → Say text (trees_of (tree ∷ left)) rest → first_large rest ≡ first_of_two answer (first_large (behind rest))
+at_next : (text : List ℕ) (tree : Tree) (left : List Tree) (answer : Option Span) → ((terms : Terms) → Say text (tree_before tree trees.none) terms → answer ≡ first_large terms) → (rest : Terms) → Say text (trees_of (tree ∷ left)) rest → first_large rest ≡ first_of_two answer (first_large (after rest))
 at_next text tree left answer answers rest say =
     large_parts rest
-    ∙ ap (λ first. first_of_two first (first_large (behind rest))) (sym (answers (alone rest) (say_alone text tree (trees_of left) rest say)))
+    ∙ ap (λ first. first_of_two first (first_large (after rest))) (sym (answers (alone rest) (say_alone text tree (trees_of left) rest say)))
 
 -- the next has none
 pub Left-next : (text : List ℕ) (list : List Tree) (tree : Tree) (left : List Tree) → Left text list (tree ∷ left) → ((terms : Terms) → Say text (tree_before tree trees.none) terms → None ≡ first_large terms) → Left text list left
 Left-next text list tree left had small = record {
-  of_text = of_behind text tree (trees_of left) had.of_text;
+  of_text = of_after text tree (trees_of left) had.of_text;
   lighter = let lighter = had.lighter in omega (arith, weight_before tree (trees_of left));
   same = λ terms say. let rest = had.same terms say in
-      (behind rest.0, say_behind text tree (trees_of left) rest.0 rest.1, rest.2 ∙ at_next text tree left None small rest.0 rest.1);
+      (after rest.0, say_after text tree (trees_of left) rest.0 rest.1, rest.2 ∙ at_next text tree left None small rest.0 rest.1);
 }
 
 -- the next has one

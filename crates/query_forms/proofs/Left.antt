@@ -7,7 +7,7 @@ use Rattle.query_trees.specs.Trees.{tree_before, trees_of, first_of_two}
 use Rattle.query_forms.specs.declared.place.Place.{Place}
 use Rattle.query_forms.specs.Terms.{Terms, AreOf, Say}
 use Rattle.query_forms.specs.Forms.{first_unfit}
-use Rattle.query_forms.proofs.Parts.{alone, behind, say_alone, say_behind, first_unfit_parts, of_alone, of_behind, weight, weight_before}
+use Rattle.query_forms.proofs.Parts.{alone, after, say_alone, say_after, first_unfit_parts, of_alone, of_after, weight, weight_before}
 
 -- of these places and trees, those are left, and the first unfit term is among what they say
 pub record Left (text : List ℕ) (places left_places : List Place) (list left : List Tree) : Type 0 where
@@ -22,18 +22,18 @@ Answers text place tree answer =
     (terms : Terms) → Say text (tree_before tree trees.none) terms → answer ≡ first_unfit (place ∷ []) terms
 
 -- the first unfit term is the next, or among those behind it
-at_next : (text : List ℕ) (place : Place) (places : List Place) (tree : Tree) (list : List Tree) (answer : Option Span) → Answers text place tree answer → (rest : Terms) → Say text (trees_of (tree ∷ list)) rest → first_unfit (place ∷ places) rest ≡ first_of_two answer (first_unfit places (behind rest))
+at_next : (text : List ℕ) (place : Place) (places : List Place) (tree : Tree) (list : List Tree) (answer : Option Span) → Answers text place tree answer → (rest : Terms) → Say text (trees_of (tree ∷ list)) rest → first_unfit (place ∷ places) rest ≡ first_of_two answer (first_unfit places (after rest))
 at_next text place places tree list answer answers rest say =
     first_unfit_parts place places rest
-    ∙ ap (λ first. first_of_two first (first_unfit places (behind rest))) (sym (answers (alone rest) (say_alone text tree (trees_of list) rest say)))
+    ∙ ap (λ first. first_of_two first (first_unfit places (after rest))) (sym (answers (alone rest) (say_alone text tree (trees_of list) rest say)))
 
 -- the next fits
 pub Left-next : (text : List ℕ) (places : List Place) (place : Place) (others : List Place) (list : List Tree) (tree : Tree) (left : List Tree) → Left text places (place ∷ others) list (tree ∷ left) → Answers text place tree None → Left text places others list left
 Left-next text places place others list tree left had fits = record {
-  of_text = of_behind text tree (trees_of left) had.of_text;
+  of_text = of_after text tree (trees_of left) had.of_text;
   lighter = let lighter = had.lighter in omega (arith, weight_before tree (trees_of left));
   same = λ terms say. let rest = had.same terms say in
-      (behind rest.0, say_behind text tree (trees_of left) rest.0 rest.1, rest.2 ∙ at_next text place others tree left None fits rest.0 rest.1);
+      (after rest.0, say_after text tree (trees_of left) rest.0 rest.1, rest.2 ∙ at_next text place others tree left None fits rest.0 rest.1);
 }
 
 -- the next is of the text

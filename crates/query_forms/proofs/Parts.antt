@@ -17,12 +17,12 @@ alone (string bytes span rest) = string bytes span none
 alone (call head arguments span rest) = call head arguments span none
 
 -- the terms behind the first
-abbrev pub behind : Terms → Terms
-behind none = none
-behind (word bytes span rest) = rest
-behind (number value span rest) = rest
-behind (string bytes span rest) = rest
-behind (call head arguments span rest) = rest
+abbrev pub after : Terms → Terms
+after none = none
+after (word bytes span rest) = rest
+after (number value span rest) = rest
+after (string bytes span rest) = rest
+after (call head arguments span rest) = rest
 
 -- a tree before others says the first term
 pub say_alone : (text : List ℕ) (tree : Tree) (others : Trees) (terms : Terms) → Say text (tree_before tree others) terms → Say text (tree_before tree trees.none) (alone terms)
@@ -38,17 +38,17 @@ say_alone text (Call' first shape row place) others (string bytes span rest) say
 say_alone text (Call' first shape row place) others (call head arguments span rest) say = (say.0, say.1, say.2, tt)
 
 -- and the others say the terms behind it
-pub say_behind : (text : List ℕ) (tree : Tree) (others : Trees) (terms : Terms) → Say text (tree_before tree others) terms → Say text others (behind terms)
-say_behind text (Leaf token) others none say = absurd say
-say_behind text (Leaf token) others (word bytes span rest) say = say.3
-say_behind text (Leaf token) others (number value span rest) say = say.3
-say_behind text (Leaf token) others (string bytes span rest) say = say.3
-say_behind text (Leaf token) others (call head arguments span rest) say = absurd say
-say_behind text (Call' first shape row place) others none say = absurd say
-say_behind text (Call' first shape row place) others (word bytes span rest) say = absurd say
-say_behind text (Call' first shape row place) others (number value span rest) say = absurd say
-say_behind text (Call' first shape row place) others (string bytes span rest) say = absurd say
-say_behind text (Call' first shape row place) others (call head arguments span rest) say = say.3
+pub say_after : (text : List ℕ) (tree : Tree) (others : Trees) (terms : Terms) → Say text (tree_before tree others) terms → Say text others (after terms)
+say_after text (Leaf token) others none say = absurd say
+say_after text (Leaf token) others (word bytes span rest) say = say.3
+say_after text (Leaf token) others (number value span rest) say = say.3
+say_after text (Leaf token) others (string bytes span rest) say = say.3
+say_after text (Leaf token) others (call head arguments span rest) say = absurd say
+say_after text (Call' first shape row place) others none say = absurd say
+say_after text (Call' first shape row place) others (word bytes span rest) say = absurd say
+say_after text (Call' first shape row place) others (number value span rest) say = absurd say
+say_after text (Call' first shape row place) others (string bytes span rest) say = absurd say
+say_after text (Call' first shape row place) others (call head arguments span rest) say = say.3
 
 pub two_of_test : (fits : Bool) (span : Span) (others : Option Span) → cond fits others (Some span) ≡ first_of_two (cond fits None (Some span)) others
 two_of_test true span others = refl
@@ -59,7 +59,7 @@ first_of_two-None None = refl
 first_of_two-None (Some span) = refl
 
 -- the first unfit term is the first, or else the first unfit one behind it
-pub first_unfit_parts : (place : Place) (places : List Place) (terms : Terms) → first_unfit (place ∷ places) terms ≡ first_of_two (first_unfit (place ∷ []) (alone terms)) (first_unfit places (behind terms))
+pub first_unfit_parts : (place : Place) (places : List Place) (terms : Terms) → first_unfit (place ∷ places) terms ≡ first_of_two (first_unfit (place ∷ []) (alone terms)) (first_unfit places (after terms))
 first_unfit_parts place [] none = refl
 first_unfit_parts place (following ∷ places) none = refl
 first_unfit_parts place places (word bytes span rest) = two_of_test (fits_word place bytes) span (first_unfit places rest)
@@ -74,9 +74,9 @@ of_alone text (Leaf token) others are = (are.0, tt)
 of_alone text (Call' first shape row place) others are = (are.0, are.1, tt)
 
 -- and the others are of the text
-pub of_behind : (text : List ℕ) (tree : Tree) (others : Trees) → AreOf text (tree_before tree others) → AreOf text others
-of_behind text (Leaf token) others are = are.1
-of_behind text (Call' first shape row place) others are = are.2
+pub of_after : (text : List ℕ) (tree : Tree) (others : Trees) → AreOf text (tree_before tree others) → AreOf text others
+of_after text (Leaf token) others are = are.1
+of_after text (Call' first shape row place) others are = are.2
 
 -- more than the arguments of a call have
 abbrev pub weight : Trees → ℕ

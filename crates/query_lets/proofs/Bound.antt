@@ -14,7 +14,7 @@ use Rattle.query_syntax.specs.Queries as q
 use Rattle.query_syntax.specs.Queries.{Query}
 use Rattle.query_lets.specs.declared.outline.Outline.{Outline}
 use Rattle.query_lets.specs.Outlines.{AreOutlines, outline_of}
-use Rattle.query_lets.specs.Unfolded.{Binding, bindings_behind, bindings_of, meaning, replaced}
+use Rattle.query_lets.specs.Unfolded.{Binding, bindings_after, bindings_of, meaning, replaced}
 use Rattle.query_lets.proofs.Keys.{changed}
 
 -- a let and what it stands for
@@ -23,8 +23,8 @@ binding bindings name query = record { name = name; query = replaced bindings qu
 
 -- one let more
 bindings_more : (bindings : List Binding) (lets : List Let) (one : Let)
-    → bindings_behind bindings (lets ++ one ∷ [])
-    ≡ binding (bindings_behind bindings lets) one.name.bytes one.query ∷ bindings_behind bindings lets
+    → bindings_after bindings (lets ++ one ∷ [])
+    ≡ binding (bindings_after bindings lets) one.name.bytes one.query ∷ bindings_after bindings lets
 bindings_more bindings [] one = refl
 bindings_more bindings (first ∷ lets) one =
     bindings_more (binding bindings first.name.bytes first.query ∷ bindings) lets one

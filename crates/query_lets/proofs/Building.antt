@@ -20,12 +20,12 @@ abbrev pub place_of : {S : Type 0} → HashMap (Bor (List ℕ)) ℕ S → List �
 place_of places name = get_by (λ k. bytes_eq name k.now) places
 
 -- the map has the places of the lets before, and those behind have other names
-pub record AreBuilt {S : Type 0} (places : HashMap (Bor (List ℕ)) ℕ S) (before behind : List Let) : Type 0 where
+pub record AreBuilt {S : Type 0} (places : HashMap (Bor (List ℕ)) ℕ S) (before after : List Let) : Type 0 where
   pub are : ArePlaces places before
   pub within : (name : List ℕ) (place : ℕ) → place_of places name ≡ Some place → place < length before
   pub names : List (List ℕ)
   pub known : (name : List ℕ) → is_known names name ≡ is_some (place_of places name)
-  pub apart : AreNamedApart names behind
+  pub apart : AreNamedApart names after
 
 -- at first there are none
 pub built_none : {S : Type 0} (places : HashMap (Bor (List ℕ)) ℕ S) (lets : List Let) → hash.IsEmpty places
@@ -50,8 +50,8 @@ last_or (first ∷ xs) y zero x at = inl at
 last_or (first ∷ xs) y (suc place) x at =
     ⊎_elim (λ here. inl here) (λ (is, same). inr (ap suc is, same)) (last_or xs y place x at)
 
-module _ {S : Type 0} (old new : HashMap (Bor (List ℕ)) ℕ S) (before behind : List Let) (one : Let)
-    (built : AreBuilt old before (one ∷ behind))
+module _ {S : Type 0} (old new : HashMap (Bor (List ℕ)) ℕ S) (before after : List Let) (one : Let)
+    (built : AreBuilt old before (one ∷ after))
     (more : (name : List ℕ) → place_of new name
     ≡ cond (bytes_eq name one.name.bytes) (Some (length before)) (place_of old name)) where
   -- the let is new
@@ -106,7 +106,7 @@ module _ {S : Type 0} (old new : HashMap (Bor (List ℕ)) ℕ S) (before behind 
           (last_or before one place other at)
 
   -- one let more
-  pub built_more : AreBuilt new (before ++ one ∷ []) behind
+  pub built_more : AreBuilt new (before ++ one ∷ []) after
   built_more = record {
     are = λ place other at. (own place other at, only place other at);
     within = λ name place is. ⊎_elim

@@ -9,7 +9,7 @@ use Rattle.query_syntax.specs.Programs.{Let}
 use Rattle.query_syntax.specs.Queries as q
 use Rattle.query_lets.specs.Places.{ArePlaces, nodes_in_lets, nodes_with}
 use Rattle.query_lets.specs.Sizes.{nodes_of}
-use Rattle.query_lets.specs.Unfolded.{Binding, bindings_behind, bindings_of, meaning, replaced}
+use Rattle.query_lets.specs.Unfolded.{Binding, bindings_after, bindings_of, meaning, replaced}
 use Rattle.query_lets.proofs.Bound.{binding}
 
 -- what is in one place is one thing
@@ -28,7 +28,7 @@ taken (suc count) (first ∷ xs) (suc place) x at = taken count xs place x at
 -- lets without the name change nothing
 absent : (bindings : List Binding) (lets : List Let) (name : List ℕ)
     → ((place : ℕ) (one : Let) → slice_get lets place ≡ Some one → bytes_eq name one.name.bytes ≡ false)
-    → meaning (bindings_behind bindings lets) name ≡ meaning bindings name
+    → meaning (bindings_after bindings lets) name ≡ meaning bindings name
 absent bindings [] name none = refl
 absent bindings (one ∷ lets) name none =
     absent (binding bindings one.name.bytes one.query ∷ bindings) lets name
@@ -41,8 +41,8 @@ present : (bindings : List Binding) (lets : List Let) (place : ℕ) (one : Let) 
     → slice_get lets place ≡ Some one → bytes_eq name one.name.bytes ≡ true
     → ((later : ℕ) (other : Let) → place < later → slice_get lets later ≡ Some other
     → bytes_eq name other.name.bytes ≡ false)
-    → meaning (bindings_behind bindings lets) name
-    ≡ Some (replaced (bindings_behind bindings (take place lets)) one.query)
+    → meaning (bindings_after bindings lets) name
+    ≡ Some (replaced (bindings_after bindings (take place lets)) one.query)
 present bindings [] place one name at same none = absurd (cc)
 present bindings (first ∷ lets) zero one name at same none =
     let is : first ≡ one = one_thing first one at in

@@ -7,7 +7,7 @@ use Rattle.query_syntax.specs.Queries as q
 use Rattle.query_syntax.specs.Queries.{Query}
 use Rattle.query_lets.specs.Known.{first_of, first_unknown}
 use Rattle.query_lets.specs.Places.{AreNamedApart}
-use Rattle.query_lets.specs.Unfolded.{Binding, bindings_behind, meaning, replaced, unfolded}
+use Rattle.query_lets.specs.Unfolded.{Binding, bindings_after, meaning, replaced, unfolded}
 use Rattle.query_lets.specs.Words.{column_words, first_wrong, is_known, let_words, names_in, wrong_name}
 use Rattle.query_lets.proofs.Bound.{binding}
 use Rattle.query_lets.proofs.FirstWrong.{first_unknown_is, let_first, wrong_name_is}
@@ -104,9 +104,9 @@ module _ (known : List (List ℕ)) (bindings : List Binding) (are : AreClear kno
   clear_more true now clear name query is = ap names_in (sym (ap (λ o. unwrap_or o now) is)) ∙ clear
   clear_more false now clear name query is = are.clear name query is
 
-  clear_behind : (one : Let) → first_unknown known one.query ≡ None
+  clear_after : (one : Let) → first_unknown known one.query ≡ None
       → AreClear (one.name.bytes ∷ known) (binding bindings one.name.bytes one.query ∷ bindings)
-  clear_behind one none = record {
+  clear_after one none = record {
     known_is = λ name. known_more (bytes_eq name one.name.bytes) (replaced bindings one.query) name;
     clear = λ name. clear_more (bytes_eq name one.name.bytes) (replaced bindings one.query)
         (all_replaced one.query none) name;
@@ -115,13 +115,13 @@ module _ (known : List (List ℕ)) (bindings : List Binding) (are : AreClear kno
 -- lets with right names leave no name
 all_unfolded : (known : List (List ℕ)) (bindings : List Binding) → AreClear known bindings
     → (lets : List Let) (main : Query)
-    → first_wrong (let_words known lets main) ≡ None → names_in (replaced (bindings_behind bindings lets) main) ≡ []
+    → first_wrong (let_words known lets main) ≡ None → names_in (replaced (bindings_after bindings lets) main) ≡ []
 all_unfolded known bindings are [] main right =
     all_replaced known bindings are main (first_unknown_is known main ∙ right)
 all_unfolded known bindings are (one ∷ lets) main right =
     let parts = let_right known one lets main right in
     all_unfolded (one.name.bytes ∷ known) (binding bindings one.name.bytes one.query ∷ bindings)
-    (clear_behind known bindings are one parts.1) lets main parts.2
+    (clear_after known bindings are one parts.1) lets main parts.2
 
 -- at first there are no names
 at_first : AreClear [] []

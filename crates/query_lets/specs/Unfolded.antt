@@ -34,14 +34,14 @@ replaced bindings (q.collect key sync rate f span) =
     q.collect key sync rate (replaced bindings f) span
 
 -- the bindings behind lets, the latest first, where these stand before
-abbrev pub bindings_behind : List Binding → List Let → List Binding
-bindings_behind bindings [] = bindings
-bindings_behind bindings (one ∷ lets) = bindings_behind
+abbrev pub bindings_after : List Binding → List Let → List Binding
+bindings_after bindings [] = bindings
+bindings_after bindings (one ∷ lets) = bindings_after
     ((record { name = one.name.bytes; query = replaced bindings one.query }) ∷ bindings) lets
 
 -- the bindings of lets
 abbrev pub bindings_of : List Let → List Binding
-bindings_of lets = bindings_behind [] lets
+bindings_of lets = bindings_after [] lets
 
 -- the main query after lets
 abbrev pub unfolded : Program → Query

@@ -39,14 +39,14 @@ impl<'p, 'm> Scope<'p, 'm> {
         ensures root { IsRoot result }
     {
         let mut scope = self;
-        'names: while let Some(next) = scope.behind_name() {
+        'names: while let Some(next) = scope.after_name() {
             scope = next;
         }
         scope
     }
 
     // The query of the let that the query names, and the lets before that one.
-    fn behind_name(self) -> Option<Scope<'p, 'm>>
+    fn after_name(self) -> Option<Scope<'p, 'm>>
         requires { IsPlaced self }
         ensures leads { IfSome result (Leads self.entry) }
         ensures shorter { IfSome result (λ next.

@@ -7,16 +7,16 @@ use Rattle.query_parser.proofs.PrintedLayout.{call_bytes, span_at, inner_at}
 -- the bytes of the text from a place on begin with these
 pub record LiesAt (text : List ℕ) (at : ℕ) (bytes : List ℕ) : Type 0 where
   pub front : List ℕ
-  pub behind : List ℕ
-  pub split : text ≡ front ++ (bytes ++ behind)
+  pub after : List ℕ
+  pub split : text ≡ front ++ (bytes ++ after)
   pub place : at ≡ length front
 
 -- the first of the bytes
 pub LiesAt-first : (text : List ℕ) (at : ℕ) (bytes more : List ℕ) → LiesAt text at (bytes ++ more) → LiesAt text at bytes
 LiesAt-first text at bytes more lies = record {
   front = lies.front;
-  behind = more ++ lies.behind;
-  split = lies.split ∙ ap (λ l. lies.front ++ l) (append_assoc bytes more lies.behind);
+  after = more ++ lies.after;
+  split = lies.split ∙ ap (λ l. lies.front ++ l) (append_assoc bytes more lies.after);
   place = lies.place;
 }
 
@@ -25,9 +25,9 @@ pub LiesAt-rest : (text : List ℕ) (at next : ℕ) (bytes more : List ℕ) → 
     → LiesAt text next more
 LiesAt-rest text at next bytes more lies is = record {
   front = lies.front ++ bytes;
-  behind = lies.behind;
-  split = lies.split ∙ ap (λ l. lies.front ++ l) (append_assoc bytes more lies.behind)
-      ∙ sym (append_assoc lies.front bytes (more ++ lies.behind));
+  after = lies.after;
+  split = lies.split ∙ ap (λ l. lies.front ++ l) (append_assoc bytes more lies.after)
+      ∙ sym (append_assoc lies.front bytes (more ++ lies.after));
   place = omega (arith, is, lies.place, length-append lies.front bytes);
 }
 
@@ -36,9 +36,9 @@ pub LiesAt-slice : (text : List ℕ) (at to : ℕ) (bytes : List ℕ) → LiesAt
     → bytes ≡ slice_range text at to
 LiesAt-slice text at to bytes lies is =
     let count : to - at ≡ length bytes = omega (arith, is) in
-    let from : drop at text ≡ bytes ++ lies.behind =
-    ap (λ l. drop at l) lies.split ∙ drop_at lies.front (bytes ++ lies.behind) at (sym lies.place) in
-    sym (rw (count, from) (take_at bytes lies.behind (length bytes) refl))
+    let from : drop at text ≡ bytes ++ lies.after =
+    ap (λ l. drop at l) lies.split ∙ drop_at lies.front (bytes ++ lies.after) at (sym lies.place) in
+    sym (rw (count, from) (take_at bytes lies.after (length bytes) refl))
 
 -- and so at the place of so many bytes
 pub LiesAt-bytes : (text : List ℕ) (at : ℕ) (bytes : List ℕ) → LiesAt text at bytes → bytes ≡ bytes_at text (span_at at (length bytes))
@@ -63,9 +63,9 @@ LiesAt-inner text at head inner rest lies =
     (LiesAt-rest text at (at + length head) head (40 ∷ (inner ++ 41 ∷ rest)) lies refl) refl
 
 -- what stands behind it
-pub LiesAt-behind : (text : List ℕ) (at : ℕ) (head inner rest : List ℕ) → LiesAt text at (call_bytes head inner rest)
+pub LiesAt-after : (text : List ℕ) (at : ℕ) (head inner rest : List ℕ) → LiesAt text at (call_bytes head inner rest)
     → LiesAt text (inner_at at head + length inner + 1) rest
-LiesAt-behind text at head inner rest lies =
+LiesAt-after text at head inner rest lies =
     LiesAt-rest text (inner_at at head + length inner) (inner_at at head + length inner + 1) (41 ∷ []) rest
     (LiesAt-rest text (inner_at at head) (inner_at at head + length inner) inner (41 ∷ rest)
     (LiesAt-inner text at head inner rest lies) refl) refl

@@ -55,12 +55,12 @@ joined_term first (Text bytes span) rest others = refl
 joined_term first (Call' head shape row span) rest others = refl
 
 -- an argument behind others
-abbrev pub argument_behind : Term → List ℕ
-argument_behind term = codes ", " ++ term_text term
+abbrev pub argument_after : Term → List ℕ
+argument_after term = codes ", " ++ term_text term
 
 -- each argument behind the first has a comma and a space before it
 joined_arguments : (first : List ℕ) (terms : List Term) →
-    joined first (terms_of terms) (arguments_text (terms_of terms)) ≡ first ++ flat_map argument_behind terms
+    joined first (terms_of terms) (arguments_text (terms_of terms)) ≡ first ++ flat_map argument_after terms
 joined_arguments first [] = grind (arith, common_steps)
 joined_arguments first (term ∷ terms) =
     joined_term first term (terms_of terms) (arguments_text (terms_of (term ∷ terms)))
@@ -69,7 +69,7 @@ joined_arguments first (term ∷ terms) =
 
 -- the arguments are the first and those behind it
 pub row_text : (term : Term) (terms : List Term) →
-    arguments_text (terms_of (term ∷ terms)) ≡ term_text term ++ flat_map argument_behind terms
+    arguments_text (terms_of (term ∷ terms)) ≡ term_text term ++ flat_map argument_after terms
 row_text term terms = first_text term (terms_of terms) ∙ joined_arguments (term_text term) terms
 
 -- a term on a line of its own
@@ -97,7 +97,7 @@ whole_file terms count le = ap (flat_map term_line) (take_all count terms le) �
 -- the first argument and those behind it, up to the last, are the text of all
 pub whole_row : (terms : List Term) (first : Term) (others : List Term) (count : ℕ) → 1 ≤ length terms →
     first ≡ get_or terms 0 first → others ≡ drop 1 terms → length others ≤ count →
-    term_text first ++ flat_map argument_behind (take count others) ≡ arguments_text (terms_of terms)
-whole_row [] first others count le is behind all = absurd (omega arith)
-whole_row (term ∷ terms) first others count le is behind all =
-    rw (is, take_all count others all, behind) (sym (row_text term terms))
+    term_text first ++ flat_map argument_after (take count others) ≡ arguments_text (terms_of terms)
+whole_row [] first others count le is after all = absurd (omega arith)
+whole_row (term ∷ terms) first others count le is after all =
+    rw (is, take_all count others all, after) (sym (row_text term terms))

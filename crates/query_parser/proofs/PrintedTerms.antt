@@ -10,7 +10,7 @@ use Rattle.query_parser.specs.Printing.{string_text, AreWritable}
 use Rattle.query_parser.proofs.StringParts.{string_text-is}
 use Rattle.query_parser.proofs.PrintedNumbers.{signed_decimal-is}
 use Rattle.query_parser.proofs.OptionCases.{first_of_two-none, chosen-none}
-use Rattle.query_parser.proofs.LiesAt.{LiesAt, LiesAt-first, LiesAt-rest, LiesAt-bytes, LiesAt-line, LiesAt-head, LiesAt-inner, LiesAt-behind}
+use Rattle.query_parser.proofs.LiesAt.{LiesAt, LiesAt-first, LiesAt-rest, LiesAt-bytes, LiesAt-line, LiesAt-head, LiesAt-inner, LiesAt-after}
 use Rattle.query_parser.proofs.PrintedLayout.{printed, more_bytes, argument_bytes, top_bytes, span_at, inner_at, close_at, trees_at, placed}
 
 -- where there is another argument, it lies behind a comma and a space
@@ -75,7 +75,7 @@ say-arguments (call head arguments span rest) text at level writable within lies
       refl,
       say-arguments arguments text (inner_at at head) (level + 1) writable.3 parts.0
           (LiesAt-first text (inner_at at head) bytes (41 ∷ more) (LiesAt-inner text at head bytes more lies)),
-      say-more text next rest (LiesAt-behind text at head bytes more lies)
+      say-more text next rest (LiesAt-after text at head bytes more lies)
           (say-arguments rest text (next + 2) level writable.4 parts.1),
     )
 
@@ -117,11 +117,11 @@ say-file (call head arguments span rest) text at level writable within lies =
       say-arguments arguments text (inner_at at head) (level + 1) writable.3 parts.0
           (LiesAt-first text (inner_at at head) bytes (41 ∷ 10 ∷ more) (LiesAt-inner text at head bytes (10 ∷ more) lies)),
       say-file rest text (next + 1) level writable.4 parts.1
-          (LiesAt-rest text next (next + 1) (10 ∷ []) more (LiesAt-behind text at head bytes (10 ∷ more) lies) refl),
+          (LiesAt-rest text next (next + 1) (10 ∷ []) more (LiesAt-after text at head bytes (10 ∷ more) lies) refl),
     )
 
 -- a whole printed text says its terms
 pub printed-said : (terms : Terms) → AreWritable 1 terms → first_large terms ≡ None
     → Say (top_bytes (printed terms)) (trees_at 1 0 (printed terms)) (placed 1 0 terms)
 printed-said terms writable within = say-file terms (top_bytes (printed terms)) 0 1 writable within
-    (record { front = []; behind = []; split = sym (append-nil (top_bytes (printed terms))); place = refl })
+    (record { front = []; after = []; split = sym (append-nil (top_bytes (printed terms))); place = refl })

@@ -46,8 +46,8 @@ longest-single Comma raw rest is token ends = absurd is
 
 -- tokens of bytes that are followed by others, with the tokens of those
 abbrev AreBefore : ℕ → List ℕ → List Token → ℕ → Type 0
-AreBefore at bytes tokens end = (behind : List ℕ) (others : List Token) → EndToken behind → AreTokens end behind others
-    → AreTokens at (bytes ++ behind) (tokens ++ others)
+AreBefore at bytes tokens end = (after : List ℕ) (others : List Token) → EndToken after → AreTokens end after others
+    → AreTokens at (bytes ++ after) (tokens ++ others)
 
 -- a call behind blank
 call-stands : (head : List ℕ) (arguments : Printed) (inner : List Token) (blank rest : List ℕ) (at start : ℕ) (others : List Token)
@@ -57,38 +57,38 @@ call-stands : (head : List ℕ) (arguments : Printed) (inner : List Token) (blan
     → AreTokens at (blank ++ call_bytes head (argument_bytes arguments) rest) (call_tokens start head arguments inner others)
 call-stands head arguments inner blank rest at start others is_blank from is_word before are =
     let place = close_at start head arguments in
-    let behind = token_at Close place 1 ∷ others in
+    let after = token_at Close place 1 ∷ others in
     let closed = mark-stands Close 41 rest place others (longest-close rest) are in
-    let inside = before (41 ∷ rest) behind refl closed in
-    let opened = mark-stands Open 40 _ (start + length head) (inner ++ behind) (longest-open _) inside in
-    token-stands Word head _ blank at start (token_at Open (start + length head) 1 ∷ inner ++ behind) is_blank from
+    let inside = before (41 ∷ rest) after refl closed in
+    let opened = mark-stands Open 40 _ (start + length head) (inner ++ after) (longest-open _) inside in
+    token-stands Word head _ blank at start (token_at Open (start + length head) 1 ∷ inner ++ after) is_blank from
     (longest-word head _ is_word refl) opened
 
 -- what stands behind an argument ends it
-more-ends : (rest : Printed) (others behind : List ℕ) → EndToken behind → EndToken (more_bytes rest others ++ behind)
-more-ends nothing others behind ends = ends
-more-ends (single kind raw rest) others behind ends = refl
-more-ends (applied head arguments rest) others behind ends = refl
+more-ends : (rest : Printed) (others after : List ℕ) → EndToken after → EndToken (more_bytes rest others ++ after)
+more-ends nothing others after ends = ends
+more-ends (single kind raw rest) others after ends = refl
+more-ends (applied head arguments rest) others after ends = refl
 
 -- what stands behind an argument
 more-before : (rest : Printed) (at end : ℕ) → end ≡ at + length (more_bytes rest (argument_bytes rest))
     → (HasSome rest → (place : ℕ) → place ≡ at + 2 + length (argument_bytes rest)
     → AreBefore (at + 1) (32 ∷ argument_bytes rest) (argument_tokens (at + 2) rest) place)
     → AreBefore at (more_bytes rest (argument_bytes rest)) (more_tokens at rest (argument_tokens (at + 2) rest)) end
-more-before nothing at end is before behind others ends are =
-    subst (λ place. AreTokens place behind others) (is ∙ omega arith) are
-more-before (single kind raw rest) at end is before behind others ends are =
+more-before nothing at end is before after others ends are =
+    subst (λ place. AreTokens place after others) (is ∙ omega arith) are
+more-before (single kind raw rest) at end is before after others ends are =
     mark-stands Comma 44 _ at (argument_tokens (at + 2) (single kind raw rest) ++ others) (longest-comma _)
-    (before tt end (omega (arith, is)) behind others ends are)
-more-before (applied head arguments rest) at end is before behind others ends are =
+    (before tt end (omega (arith, is)) after others ends are)
+more-before (applied head arguments rest) at end is before after others ends are =
     mark-stands Comma 44 _ at (argument_tokens (at + 2) (applied head arguments rest) ++ others) (longest-comma _)
-    (before tt end (omega (arith, is)) behind others ends are)
+    (before tt end (omega (arith, is)) after others ends are)
 
 -- a call's bytes before others
-call_bytes-before : (head inner rest behind : List ℕ) → call_bytes head inner rest ++ behind ≡ call_bytes head inner (rest ++ behind)
-call_bytes-before head inner rest behind =
-    append_assoc head (40 ∷ (inner ++ 41 ∷ rest)) behind
-    ∙ ap (λ l. head ++ 40 ∷ l) (append_assoc inner (41 ∷ rest) behind)
+call_bytes-before : (head inner rest after : List ℕ) → call_bytes head inner rest ++ after ≡ call_bytes head inner (rest ++ after)
+call_bytes-before head inner rest after =
+    append_assoc head (40 ∷ (inner ++ 41 ∷ rest)) after
+    ∙ ap (λ l. head ++ 40 ∷ l) (append_assoc inner (41 ∷ rest) after)
 
 -- how many bytes a call has with those behind it
 call_bytes-length : (head inner rest : List ℕ) → length (call_bytes head inner rest) ≡ length head + 1 + length inner + 1 + length rest
@@ -96,42 +96,42 @@ call_bytes-length head inner rest =
     omega (arith, length-append head (40 ∷ (inner ++ 41 ∷ rest)), length-append inner (41 ∷ rest))
 
 -- a call's tokens before others
-call_tokens-before : (at : ℕ) (head : List ℕ) (arguments : Printed) (inner others behind : List Token)
-    → call_tokens at head arguments inner others ++ behind ≡ call_tokens at head arguments inner (others ++ behind)
-call_tokens-before at head arguments inner others behind =
+call_tokens-before : (at : ℕ) (head : List ℕ) (arguments : Printed) (inner others after : List Token)
+    → call_tokens at head arguments inner others ++ after ≡ call_tokens at head arguments inner (others ++ after)
+call_tokens-before at head arguments inner others after =
     ap (λ l. token_at Word at (length head) ∷ token_at Open (at + length head) 1 ∷ l)
-    (append_assoc inner (token_at Close (close_at at head arguments) 1 ∷ others) behind)
+    (append_assoc inner (token_at Close (close_at at head arguments) 1 ∷ others) after)
 
 -- arguments behind blank
 arguments-before : (terms : Printed) (blank : List ℕ) (at start end : ℕ) → AreRaw terms → HasSome terms → IsBlank blank
     → start ≡ at + length blank → end ≡ start + length (argument_bytes terms)
-    → (behind : List ℕ) (others : List Token) → EndToken behind → AreTokens end behind others
-    → AreTokens at (blank ++ (argument_bytes terms ++ behind)) (argument_tokens start terms ++ others)
-arguments-before nothing blank at start end raws some is_blank from to behind others ends are = absurd some
-arguments-before (single kind raw rest) blank at start end raws some is_blank from to behind others ends are =
+    → (after : List ℕ) (others : List Token) → EndToken after → AreTokens end after others
+    → AreTokens at (blank ++ (argument_bytes terms ++ after)) (argument_tokens start terms ++ others)
+arguments-before nothing blank at start end raws some is_blank from to after others ends are = absurd some
+arguments-before (single kind raw rest) blank at start end raws some is_blank from to after others ends are =
     let next = start + length raw in
     let more = more_bytes rest (argument_bytes rest) in
     let tokens = more_tokens next rest (argument_tokens (next + 2) rest) in
-    subst (λ l. AreTokens at (blank ++ l) (token_at kind start (length raw) ∷ tokens ++ others)) (sym (append_assoc raw more behind))
-    (token-stands kind raw (more ++ behind) blank at start (tokens ++ others) is_blank from
-    (longest-single kind raw (more ++ behind) raws.0 raws.1 (more-ends rest (argument_bytes rest) behind ends))
+    subst (λ l. AreTokens at (blank ++ l) (token_at kind start (length raw) ∷ tokens ++ others)) (sym (append_assoc raw more after))
+    (token-stands kind raw (more ++ after) blank at start (tokens ++ others) is_blank from
+    (longest-single kind raw (more ++ after) raws.0 raws.1 (more-ends rest (argument_bytes rest) after ends))
     (more-before rest next end (omega (arith, to, length-append raw more))
     (λ has place is. arguments-before rest (32 ∷ []) (next + 1) (next + 2) place raws.2 has blank-space (omega arith) is)
-    behind others ends are))
-arguments-before (applied head arguments rest) blank at start end raws some is_blank from to behind others ends are =
+    after others ends are))
+arguments-before (applied head arguments rest) blank at start end raws some is_blank from to after others ends are =
     let next = close_at start head arguments + 1 in
     let bytes = argument_bytes arguments in
     let inner = argument_tokens (inner_at start head) arguments in
     let more = more_bytes rest (argument_bytes rest) in
     let tokens = more_tokens next rest (argument_tokens (next + 2) rest) in
-    subst (λ l. AreTokens at (blank ++ l) (call_tokens start head arguments inner tokens ++ others)) (sym (call_bytes-before head bytes more behind))
-    (subst (AreTokens at (blank ++ call_bytes head bytes (more ++ behind))) (sym (call_tokens-before start head arguments inner tokens others))
-    (call-stands head arguments inner blank (more ++ behind) at start (tokens ++ others) is_blank from raws.0
+    subst (λ l. AreTokens at (blank ++ l) (call_tokens start head arguments inner tokens ++ others)) (sym (call_bytes-before head bytes more after))
+    (subst (AreTokens at (blank ++ call_bytes head bytes (more ++ after))) (sym (call_tokens-before start head arguments inner tokens others))
+    (call-stands head arguments inner blank (more ++ after) at start (tokens ++ others) is_blank from raws.0
     (arguments-before arguments [] (inner_at start head) (inner_at start head) (close_at start head arguments) raws.2 raws.1
     blank-none (omega arith) refl)
     (more-before rest next end (omega (arith, to, call_bytes-length head bytes more))
     (λ has place is. arguments-before rest (32 ∷ []) (next + 1) (next + 2) place raws.3 has blank-space (omega arith) is)
-    behind others ends are)))
+    after others ends are)))
 
 -- a file behind blank
 pub file-tokens : (terms : Printed) (blank : List ℕ) (at start : ℕ) → AreRaw terms → IsBlank blank → start ≡ at + length blank

@@ -12,14 +12,14 @@ abbrev IsByte : ℕ → Type 0
 IsByte byte = byte < 256
 
 -- of bytes those in front are bytes
-bytes-front : (front behind : List ℕ) → AllByRecursion IsByte (front ++ behind) → AllByRecursion IsByte front
-bytes-front [] behind all = tt
-bytes-front (byte ∷ front) behind all = (all.0, bytes-front front behind all.1)
+bytes-front : (front after : List ℕ) → AllByRecursion IsByte (front ++ after) → AllByRecursion IsByte front
+bytes-front [] after all = tt
+bytes-front (byte ∷ front) after all = (all.0, bytes-front front after all.1)
 
 -- of bytes those behind are bytes
-bytes-behind : (front behind : List ℕ) → AllByRecursion IsByte (front ++ behind) → AllByRecursion IsByte behind
-bytes-behind [] behind all = all
-bytes-behind (byte ∷ front) behind all = bytes-behind front behind all.1
+bytes-after : (front after : List ℕ) → AllByRecursion IsByte (front ++ after) → AllByRecursion IsByte after
+bytes-after [] after all = all
+bytes-after (byte ∷ front) after all = bytes-after front after all.1
 
 -- a part of bytes stands for a byte
 part-byte : (part : List ℕ) (byte : ℕ) → IsPart part byte → AllByRecursion IsByte part → byte < 256
@@ -33,7 +33,7 @@ parts-bytes : (bytes parts : List ℕ) → AreParts parts bytes → AllByRecursi
 parts-bytes [] parts are all = tt
 parts-bytes (byte ∷ bytes) parts (part, rest, split, is, are) all =
     let both = subst (AllByRecursion IsByte) split all in
-    (part-byte part byte is (bytes-front part rest both), parts-bytes bytes rest are (bytes-behind part rest both))
+    (part-byte part byte is (bytes-front part rest both), parts-bytes bytes rest are (bytes-after part rest both))
 
 -- a string in a text of bytes stands for bytes
 pub string-bytes : (text : List ℕ) (span : Span) (bytes : List ℕ) → All (λ byte. byte < 256) text

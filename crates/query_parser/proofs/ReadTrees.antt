@@ -19,14 +19,14 @@ AreTrees P (call head arguments span rest) =
     P head × (head.kind ≡ Word) × HasTree arguments × AreTrees P arguments × AreTrees P rest
 
 -- what holds of all holds of those in front
-all-front : (P : Token → Type 0) (front behind : List Token) → AllByRecursion P (front ++ behind) → AllByRecursion P front
-all-front P [] behind all = tt
-all-front P (token ∷ front) behind all = (all.0, all-front P front behind all.1)
+all-front : (P : Token → Type 0) (front after : List Token) → AllByRecursion P (front ++ after) → AllByRecursion P front
+all-front P [] after all = tt
+all-front P (token ∷ front) after all = (all.0, all-front P front after all.1)
 
 -- and of those behind
-all-behind : (P : Token → Type 0) (front behind : List Token) → AllByRecursion P (front ++ behind) → AllByRecursion P behind
-all-behind P [] behind all = all
-all-behind P (token ∷ front) behind all = all-behind P front behind all.1
+all-after : (P : Token → Type 0) (front after : List Token) → AllByRecursion P (front ++ after) → AllByRecursion P after
+all-after P [] after all = all
+all-after P (token ∷ front) after all = all-after P front after all.1
 
 -- arguments are one or more
 arguments-some : (trees : Trees) (tokens : List Token) → AreArguments trees tokens → HasTree trees
@@ -53,12 +53,12 @@ arguments-trees P (leaf token rest) tokens (others, split, is, more) all =
     (parts.0, more-trees P rest others more parts.1 (arguments-trees P rest))
 arguments-trees P (call head arguments span rest) tokens (others, calls, more) all =
     let parts = subst (AllByRecursion P) calls.split all in
-    let behind = all-behind P calls.inner (calls.close ∷ others) parts.1.1 in (
+    let after = all-after P calls.inner (calls.close ∷ others) parts.1.1 in (
       parts.0,
       calls.word,
       arguments-some arguments calls.inner calls.holds,
       arguments-trees P arguments calls.inner calls.holds (all-front P calls.inner (calls.close ∷ others) parts.1.1),
-      more-trees P rest others more behind.1 (arguments-trees P rest),
+      more-trees P rest others more after.1 (arguments-trees P rest),
     )
 
 -- the trees of a list
@@ -70,10 +70,10 @@ terms-trees P (leaf token rest) tokens (others, split, is, more) all =
     (parts.0, terms-trees P rest others more parts.1)
 terms-trees P (call head arguments span rest) tokens (others, calls, more) all =
     let parts = subst (AllByRecursion P) calls.split all in
-    let behind = all-behind P calls.inner (calls.close ∷ others) parts.1.1 in (
+    let after = all-after P calls.inner (calls.close ∷ others) parts.1.1 in (
       parts.0,
       calls.word,
       arguments-some arguments calls.inner calls.holds,
       arguments-trees P arguments calls.inner calls.holds (all-front P calls.inner (calls.close ∷ others) parts.1.1),
-      terms-trees P rest others more behind.1,
+      terms-trees P rest others more after.1,
     )

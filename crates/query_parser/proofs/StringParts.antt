@@ -14,8 +14,8 @@ part_length bytes =
     cond (eqb (get_or bytes 0 0) 92) (cond (eqb (get_or bytes 1 0) 120) 4 2) 1
 
 -- the bytes behind the first part
-abbrev behind_part : List ℕ → List ℕ
-behind_part bytes = drop (part_length bytes) bytes
+abbrev after_part : List ℕ → List ℕ
+after_part bytes = drop (part_length bytes) bytes
 
 -- a byte that stands for itself is no backslash
 IsPlain-not_backslash : (byte : ℕ) → IsPlain byte → eqb byte 92 ≡ false
@@ -23,12 +23,12 @@ IsPlain-not_backslash byte (inl low) = ne_eqb byte 92 low.3
 IsPlain-not_backslash byte (inr high) = ne_eqb byte 92 (λ e. omega (arith, e, high))
 
 -- what stands behind a part is found from its bytes alone
-behind_part-is : (part : List ℕ) (byte : ℕ) (rest : List ℕ) → IsPart part byte → behind_part (part ++ rest) ≡ rest
-behind_part-is part byte rest (plain b is) =
+after_part-is : (part : List ℕ) (byte : ℕ) (rest : List ℕ) → IsPart part byte → after_part (part ++ rest) ≡ rest
+after_part-is part byte rest (plain b is) =
     ap (λ t. drop (cond t (cond (eqb (get_or rest 0 0) 120) 4 2) 1) (b ∷ rest)) (IsPlain-not_backslash b is)
-behind_part-is part byte rest quote = refl
-behind_part-is part byte rest backslash = refl
-behind_part-is part byte rest (code high low is_high is_low) = refl
+after_part-is part byte rest quote = refl
+after_part-is part byte rest backslash = refl
+after_part-is part byte rest (code high low is_high is_low) = refl
 
 -- a part does not begin with a quote
 part-no_quote : (part : List ℕ) (byte : ℕ) (rest more : List ℕ) → IsPart part byte → part ++ rest ≡ 34 ∷ more → ⊥
@@ -61,10 +61,10 @@ parts-one_end (x ∷ bytes) [] parts ends more (part, rest, split, is, are) end 
     ∙ ap (λ l. l ++ 34 ∷ []) end))
 parts-one_end (x ∷ bytes) (y ∷ others) parts ends more (part, rest, split, is, are) (part', rest', split', is', end) e =
     parts-one_end bytes others rest rest' more are end
-    (sym (behind_part-is part x (rest ++ 34 ∷ more) is)
-    ∙ ap behind_part (sym (append_assoc part rest (34 ∷ more)) ∙ ap (λ l. l ++ 34 ∷ more) (sym split) ∙ e
+    (sym (after_part-is part x (rest ++ 34 ∷ more) is)
+    ∙ ap after_part (sym (append_assoc part rest (34 ∷ more)) ∙ ap (λ l. l ++ 34 ∷ more) (sym split) ∙ e
     ∙ ap (λ l. l ++ 34 ∷ []) split' ∙ append_assoc part' rest' (34 ∷ []))
-    ∙ behind_part-is part' y (rest' ++ 34 ∷ []) is')
+    ∙ after_part-is part' y (rest' ++ 34 ∷ []) is')
 
 -- the digits of printing have their values
 hex_digit-value : (digit : ℕ) → digit < 16 → digit_value (hex_digit digit) ≡ digit

@@ -11,16 +11,16 @@ use Rattle.query_forms.specs.Terms.{IsTokenOf, bytes_at}
 pub range_between : (front here rest : List ℕ) (from to : ℕ) → from ≡ length front → to ≡ from + length here →
     slice_range (front ++ (here ++ rest)) from to ≡ here
 range_between front here rest from to starts ends =
-    let behind : drop from (front ++ (here ++ rest)) ≡ here ++ rest =
+    let after : drop from (front ++ (here ++ rest)) ≡ here ++ rest =
     ap (λ n. drop n (front ++ (here ++ rest))) starts ∙ drop-append_seam front (here ++ rest) in
     let count : to - from ≡ length here = omega arith in
-    rw (behind, count) (take-append_seam here rest)
+    rw (after, count) (take-append_seam here rest)
 
 -- each token that stands behind a front is one of the whole text
-tokens_behind : (whole front text : List ℕ) (at : ℕ) (tokens : List Token) → whole ≡ front ++ text → at ≡ length front →
+tokens_after : (whole front text : List ℕ) (at : ℕ) (tokens : List Token) → whole ≡ front ++ text → at ≡ length front →
     AreTokens at text tokens → AllByRecursion (IsTokenOf whole) tokens
-tokens_behind whole front text at [] split starts are = tt
-tokens_behind whole front text at (token ∷ tokens) split starts (rest, stands, others) =
+tokens_after whole front text at [] split starts are = tt
+tokens_after whole front text at (token ∷ tokens) split starts (rest, stands, others) =
     let before = front ++ stands.blank in
     let whole_is : whole ≡ before ++ (stands.raw ++ rest) =
     split ∙ ap (λ bytes. front ++ bytes) stands.split ∙ sym (append_assoc front stands.blank (stands.raw ++ rest)) in
@@ -35,10 +35,10 @@ tokens_behind whole front text at (token ∷ tokens) split starts (rest, stands,
         within = within;
         raw = subst (IsRaw token.kind) (sym here) stands.is_token.token;
       },
-      tokens_behind whole (before ++ stands.raw) rest token.span.to tokens (whole_is ∙ sym (append_assoc before stands.raw rest)) ends others,
+      tokens_after whole (before ++ stands.raw) rest token.span.to tokens (whole_is ∙ sym (append_assoc before stands.raw rest)) ends others,
     )
 
 -- each token of a text
 pub tokens_of_text : (text : List ℕ) (tokens : List Token) → AreTokens 0 text tokens →
     AllByRecursion (IsTokenOf text) tokens
-tokens_of_text text tokens are = tokens_behind text [] text 0 tokens refl refl are
+tokens_of_text text tokens are = tokens_after text [] text 0 tokens refl refl are

@@ -29,12 +29,12 @@ module _ (H : Type 0) (word_of : H → List ℕ) (places_of : H → List Place) 
       → (bytes_eq first.word word && (length first.places == count)) ≡ test
       → cond test (Some first.is) (head_in rest word count) ≡ Some head
       → (head_in rest word count ≡ Some head → Found rest word count head) → Found (first ∷ rest) word count head
-  found_at first rest word count head true is passes found behind =
+  found_at first rest word count head true is passes found after =
       let same : first.is ≡ head = cc in
       let written = (bytes_eq-Decides first.word word).0 (both_tests (bytes_eq first.word word) _ passes).0 in
       (sym written ∙ is.0 ∙ ap word_of same, rw passes (ap Some (is.1 ∙ ap places_of same)))
-  found_at first rest word count head false is passes found behind =
-      let there = behind found in
+  found_at first rest word count head false is passes found after =
+      let there = after found in
       (there.0, rw passes there.1)
 
   found_in : (rows : List (Row H)) (word : List ℕ) (count : ℕ) (head : H) → AllByRecursion IsOf rows
@@ -54,8 +54,8 @@ module _ (H : Type 0) (word_of : H → List ℕ) (places_of : H → List Place) 
       missing_at : (test : Bool) → cond test (Some first.is) (head_in rest word count) ≡ None
           → (head_in rest word count ≡ None → places_in (map form_of rest) word count ≡ None)
           → cond test (Some first.places) (places_in (map form_of rest) word count) ≡ None
-      missing_at true none behind = absurd (cc)
-      missing_at false none behind = behind none
+      missing_at true none after = absurd (cc)
+      missing_at false none after = after none
 
   module _ (place : Place) (rows : List (Row H)) (word : List ℕ) (arguments : List Term) where
     -- a call with a form is found, and its arguments stand at the places of what it is

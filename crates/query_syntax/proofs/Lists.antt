@@ -51,10 +51,10 @@ pub file_split : (list : List Term) (first last : Term) → 1 ≤ length list �
     (take (length (take (length list - 1) (drop 1 list)) - 1) (take (length list - 1) (drop 1 list))) (term_before last none))
 file_split [] first last some body is-first is-last = absurd (omega arith)
 file_split (term ∷ list) first last some body is-first is-last =
-    let behind = take (suc (length list) - 1) list in
-    let rest : behind ≡ list = take_all _ list (omega arith) in
-    let split = ends_with behind last body is-last in
-    let front = take (length behind - 1) behind in
+    let after = take (suc (length list) - 1) list in
+    let rest : after ≡ list = take_all _ list (omega arith) in
+    let split = ends_with after last body is-last in
+    let front = take (length after - 1) after in
     ap (λ (t : Term). term_before t (terms_of list)) (sym is-first)
-    ∙ ap (term_before first) (ap terms_of (sym rest) ∙ terms_before behind
+    ∙ ap (term_before first) (ap terms_of (sym rest) ∙ terms_before after
     ∙ ap (λ l. all_before term_before l none) split ∙ before_append term_before front (last ∷ []) none)

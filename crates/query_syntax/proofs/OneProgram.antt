@@ -26,14 +26,14 @@ apart : (terms others : Terms) → terms ≡ others → (length (front_word term
 apart terms others same differ = differ (ap (λ t. length (front_word t)) same)
 
 -- calls that are the same have the same parts
-record SameCall (head other : List ℕ) (arguments inner : Terms) (span place : Span) (rest behind : Terms) : Type 0 where
+record SameCall (head other : List ℕ) (arguments inner : Terms) (span place : Span) (rest after : Terms) : Type 0 where
   inside : arguments ≡ inner
   span_is : span ≡ place
-  rest_is : rest ≡ behind
+  rest_is : rest ≡ after
 
-same_call : (head other : List ℕ) (arguments inner : Terms) (span place : Span) (rest behind : Terms)
-    → call head arguments span rest ≡ call other inner place behind → SameCall head other arguments inner span place rest behind
-same_call head other arguments inner span place rest behind same = record { inside = cc; span_is = cc; rest_is = cc }
+same_call : (head other : List ℕ) (arguments inner : Terms) (span place : Span) (rest after : Terms)
+    → call head arguments span rest ≡ call other inner place after → SameCall head other arguments inner span place rest after
+same_call head other arguments inner span place rest after same = record { inside = cc; span_is = cc; rest_is = cc }
 
 -- names before others
 one_name : (a b : Name) (rest others : Terms) → name_before a rest ≡ name_before b others → (a ≡ b) × (rest ≡ others)

@@ -255,8 +255,8 @@ expression_back (e.choice op a b place c d span) rest =
     let x = expression_back a (expression_before b none) in
     let y = expression_back b none in
     let test : Comparison = record { compare = op; left = a; right = b; span = place } in
-    let behind = expression_before c (expression_before d none) in
-    let t = call_back (λ (x : Reading). x.comparison) test (compare_word op) _ place behind (x.reading ∷ y.reading ∷ []) (before _ _ _ _ _ x y.is)
+    let after = expression_before c (expression_before d none) in
+    let t = call_back (λ (x : Reading). x.comparison) test (compare_word op) _ place after (x.reading ∷ y.reading ∷ []) (before _ _ _ _ _ x y.is)
     (ap (λ h. comparison_from h (x.reading ∷ y.reading ∷ []) place) (compare_found op) ∙ (λ i. record { compare = op; left = x.says i; right = y.says i; span = place })) in
     let z = expression_back c (expression_before d none) in
     let w = expression_back d none in

@@ -116,8 +116,8 @@ some_program end (call head arguments span rest) fit =
   where
     by_trees : AreTrees (place.Mode ∷ replicate (count_of arguments - 1) place.Column) arguments → head ≡ codes "stream" → HasBody rest
         → (program : Program) × (call head arguments span rest ≡ program_terms program)
-    by_trees (behind, (mode, is-mode), others) is-head (lets, main, is-rest) =
-        let columns = some_columns (count_of arguments - 1) behind others in (
+    by_trees (after, (mode, is-mode), others) is-head (lets, main, is-rest) =
+        let columns = some_columns (count_of arguments - 1) after others in (
           record { stream = record { mode = mode; columns = columns.0; span = span }; lets = lets; main = main },
           λ i. call (is-head i) ((is-mode ∙ ap (mode_before mode) columns.1) i) span (is-rest i),
         )

@@ -14,7 +14,7 @@ use Rattle.query_forms.specs.File.{first_place, unfit_body, unfit_file}
 use Rattle.query_forms.specs.Forms.{first_unfit}
 use Rattle.query_forms.specs.Tops.{is_call, stream_places, unfit_call, unfit_stream}
 use Rattle.query_forms.proofs.Body.{main_parts, let_parts, stream_parts}
-use Rattle.query_forms.proofs.Parts.{alone, behind}
+use Rattle.query_forms.proofs.Parts.{alone, after}
 use Rattle.query_parser.specs.declared.term.Term.{Term, Word, Number, Text, Call, Call'}
 use Rattle.query_parser.specs.declared.term.Terms.{Terms as Arguments}
 use Rattle.query_parser.specs.Plain.{term_before, terms_of}
@@ -39,11 +39,11 @@ alone_is (Text bytes span) rest = refl
 alone_is (Call' head shape arguments span) rest = refl
 
 -- and the others are behind it
-behind_is : (term : Term) (rest : Terms) → behind (term_before term rest) ≡ rest
-behind_is (Word bytes span) rest = refl
-behind_is (Number value span) rest = refl
-behind_is (Text bytes span) rest = refl
-behind_is (Call' head shape arguments span) rest = refl
+after_is : (term : Term) (rest : Terms) → after (term_before term rest) ≡ rest
+after_is (Word bytes span) rest = refl
+after_is (Number value span) rest = refl
+after_is (Text bytes span) rest = refl
+after_is (Call' head shape arguments span) rest = refl
 
 -- where no term is first there is none
 no_more : (list : List Term) → first_place (terms_of list) ≡ None → list ≡ []
@@ -60,19 +60,19 @@ at_top : (end : ℕ) (term : Term) (rest : List Term) (main : Bool) → unfit_bo
 at_top end term rest true fit is body =
     let terms = term_before term (terms_of rest) in
     let apart = main_parts end terms (some_term term (terms_of rest)) (ap (is_call (codes "main") 1) (alone_is term (terms_of rest)) ∙ is) in
-    let parts = first_of_two-none (unfit_call (codes "main") (Query ∷ []) (alone terms)) (first_place (behind terms)) (sym apart ∙ fit) in
+    let parts = first_of_two-none (unfit_call (codes "main") (Query ∷ []) (alone terms)) (first_place (after terms)) (sym apart ∙ fit) in
     record {
       lets = [];
       main = term;
-      split = ap (λ (l : List Term). term ∷ l) (no_more rest (ap first_place (sym (behind_is term (terms_of rest))) ∙ parts.1));
+      split = ap (λ (l : List Term). term ∷ l) (no_more rest (ap first_place (sym (after_is term (terms_of rest))) ∙ parts.1));
       lets_fit = All-nil FitsLet;
       main_fits = record { fit = ap (unfit_call (codes "main") (Query ∷ [])) (sym (alone_is term (terms_of rest))) ∙ parts.0 };
     }
 at_top end term rest false fit is body =
     let terms = term_before term (terms_of rest) in
     let apart = let_parts end terms (some_term term (terms_of rest)) (ap (is_call (codes "main") 1) (alone_is term (terms_of rest)) ∙ is) in
-    let parts = first_of_two-none (unfit_call (codes "let") (Name ∷ Query ∷ []) (alone terms)) (unfit_body end (behind terms)) (sym apart ∙ fit) in
-    let others = body (ap (unfit_body end) (sym (behind_is term (terms_of rest))) ∙ parts.1) in
+    let parts = first_of_two-none (unfit_call (codes "let") (Name ∷ Query ∷ []) (alone terms)) (unfit_body end (after terms)) (sym apart ∙ fit) in
+    let others = body (ap (unfit_body end) (sym (after_is term (terms_of rest))) ∙ parts.1) in
     record {
       lets = term ∷ others.lets;
       main = others.main;
@@ -93,13 +93,13 @@ tops end [] fit = absurd (Some-no_none _ fit)
 tops end (stream ∷ body) fit =
     let terms = term_before stream (terms_of body) in
     let apart = stream_parts end terms (some_term stream (terms_of body)) in
-    let parts = first_of_two-none (unfit_stream (alone terms)) (unfit_body end (behind terms)) (sym apart ∙ fit) in
+    let parts = first_of_two-none (unfit_stream (alone terms)) (unfit_body end (after terms)) (sym apart ∙ fit) in
     record {
       stream = stream;
       body = body;
       split = refl;
       stream_fits = record { fit = ap unfit_stream (sym (alone_is stream (terms_of body))) ∙ parts.0 };
-      are_body = body_apart end body (ap (unfit_body end) (sym (behind_is stream (terms_of body))) ∙ parts.1);
+      are_body = body_apart end body (ap (unfit_body end) (sym (after_is stream (terms_of body))) ∙ parts.1);
     }
 
 -- a call of a word, whose arguments fit

@@ -44,13 +44,13 @@ closing_with_part bytes found is (None, none) =
 closing_with_part bytes found is (Some len, closes) = (Some (found.1 + len), Closes-more bytes found len is closes)
 
 closing_from : (bytes : List ℕ) → ((rest : List ℕ) → length rest < length bytes → HaveClosing rest) → HaveClosing bytes
-closing_from bytes behind = by_part (part_of bytes) refl
+closing_from bytes after = by_part (part_of bytes) refl
   where
     by_part : (part : Option (ℕ × ℕ)) → part_of bytes ≡ part → HaveClosing bytes
     by_part None is = closing_without_part bytes is
     by_part (Some found) is =
         let within = part_within bytes found is in
-        closing_with_part bytes found is (behind (drop found.1 bytes) (omega (arith, within.0, within.1, length-drop found.1 bytes)))
+        closing_with_part bytes found is (after (drop found.1 bytes) (omega (arith, within.0, within.1, length-drop found.1 bytes)))
 
 -- the bytes are no more than these
 some_closing : (most : ℕ) (bytes : List ℕ) → length bytes < most → HaveClosing bytes
@@ -136,13 +136,13 @@ HasTokensOrFault at text =
     ((tokens : List Token) × AreTokens at text tokens)
     ⊎ ((before : List Token) × (place : ℕ) × FaultAfter at text before place)
 
-tokens_behind : (at : ℕ) (text : List ℕ) (next : Next) → IsNext at text next
+tokens_after : (at : ℕ) (text : List ℕ) (next : Next) → IsNext at text next
     → ((to : ℕ) (rest : List ℕ) → length rest < length text → HasTokensOrFault to rest) → HasTokensOrFault at text
-tokens_behind at text End is behind = inl ([], is)
-tokens_behind at text (Fault place) is behind = inr ([], place, is)
-tokens_behind at text (AToken token) is behind =
+tokens_after at text End is after = inl ([], is)
+tokens_after at text (Fault place) is after = inr ([], place, is)
+tokens_after at text (AToken token) is after =
     let rest = drop (token.span.to - at) text in
-    elim (behind token.span.to rest (omega (arith, is.later, is.within, length-drop (token.span.to - at) text))) [
+    elim (after token.span.to rest (omega (arith, is.later, is.within, length-drop (token.span.to - at) text))) [
       | inl more ↦ inl (token ∷ more.0, (rest, is.stands, more.1))
       | inr more ↦ inr (token ∷ more.0, more.1, (rest, is.stands, more.2))
     ]
@@ -151,7 +151,7 @@ some_tokens : (most at : ℕ) (text : List ℕ) → length text < most → HasTo
 some_tokens zero at text few = absurd (omega arith)
 some_tokens (suc most) at text few =
     let next = some_next at text in
-    tokens_behind at text next.0 next.1 (λ to rest less. some_tokens most to rest (omega (arith, less, few)))
+    tokens_after at text next.0 next.1 (λ to rest less. some_tokens most to rest (omega (arith, less, few)))
 
 -- each text has one or the other
 pub tokens_or_fault : (at : ℕ) (text : List ℕ) → HasTokensOrFault at text

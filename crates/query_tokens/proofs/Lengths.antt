@@ -61,10 +61,10 @@ number_within raw beyond number =
     let numeral = rw (without_sign raw) at number in
     let sign : sign_len (raw ++ beyond) ≡ sign_len raw = sign_at raw beyond (raw_not_empty Number raw number) in
     let inside = sign_within raw in
-    let behind : drop (sign_len (raw ++ beyond)) (raw ++ beyond) ≡ drop (sign_len raw) raw ++ beyond =
+    let after : drop (sign_len (raw ++ beyond)) (raw ++ beyond) ≡ drop (sign_len raw) raw ++ beyond =
     ap (λ n. drop n (raw ++ beyond)) sign ∙ drop-append-le (sign_len raw) raw beyond inside in
     let long = run_longest_of is_ascii_digit (λ b. digit_value b < 10) digit_passes
-    (drop (sign_len (raw ++ beyond)) (raw ++ beyond)) (drop (sign_len raw) raw) beyond behind (digits_each _ numeral.1) in
+    (drop (sign_len (raw ++ beyond)) (raw ++ beyond)) (drop (sign_len raw) raw) beyond after (digits_each _ numeral.1) in
     record {
       some = omega (arith, long, numeral.0);
       within = omega (arith, long, sign, inside, length-drop (sign_len raw) raw);
@@ -82,10 +82,10 @@ number_token bytes some =
     let long : length raw ≡ sign + digits = length-take-le (sign + digits) bytes within in
     let same : sign_len raw ≡ sign =
     sym (sign_at raw (drop (sign + digits) bytes) (omega arith)) ∙ ap sign_len (take-append-drop (sign + digits) bytes) in
-    let behind : without_leading_sign raw ≡ take digits (drop sign bytes) =
+    let after : without_leading_sign raw ≡ take digits (drop sign bytes) =
     without_sign raw ∙ ap (λ n. drop n raw) same ∙ drop-take sign digits bytes in
     let count : length (take digits (drop sign bytes)) ≡ digits = length-take-le digits (drop sign bytes) front.within in
-    (within, subst (IsNumeral 10) (sym behind) (omega arith, digits_all _ front.each))
+    (within, subst (IsNumeral 10) (sym after) (omega arith, digits_all _ front.each))
 
 -- a number at the front
 pub length_of_number : (bytes : List ℕ) → IsLength Number bytes (number_len bytes)

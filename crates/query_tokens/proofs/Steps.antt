@@ -15,8 +15,8 @@ up_to bytes blank (inl (all, to_end)) less = absurd (omega (arith, all))
 up_to bytes blank (inr found) less = found
 
 -- what stands behind it
-behind : (bytes : List ℕ) (blank : ℕ) (found : BlankUpTo bytes blank) → found.rest ≡ drop blank bytes
-behind bytes blank found = sym (ap (drop blank) found.split ∙ drop_at found.blank found.rest blank (sym found.is))
+after : (bytes : List ℕ) (blank : ℕ) (found : BlankUpTo bytes blank) → found.rest ≡ drop blank bytes
+after bytes blank found = sym (ap (drop blank) found.split ∙ drop_at found.blank found.rest blank (sym found.is))
 
 -- no token behind the blank
 pub fails_at : (place : ℕ) (bytes : List ℕ) (blank : ℕ) → IsBlankLength bytes blank → blank < length bytes → BeginsNone (drop blank bytes) → FailsAt place bytes (place + blank)
@@ -28,7 +28,7 @@ fails_at place bytes blank is less none =
       split = found.split;
       is_blank = found.is_blank;
       no_blank = found.no_blank;
-      no_token = subst BeginsNone (sym (behind bytes blank found)) none;
+      no_token = subst BeginsNone (sym (after bytes blank found)) none;
       is = ap (λ n. place + n) found.is;
     }
 
@@ -46,7 +46,7 @@ stands_at place bytes blank kind len is less first =
       stands = record {
         blank = found.blank;
         raw = take len here;
-        split = found.split ∙ ap (λ r. found.blank ++ r) (behind bytes blank found ∙ sym (take-append-drop len here) ∙ ap (λ r. take len here ++ r) beyond);
+        split = found.split ∙ ap (λ r. found.blank ++ r) (after bytes blank found ∙ sym (take-append-drop len here) ∙ ap (λ r. take len here ++ r) beyond);
         is_blank = found.is_blank;
         is_token = rw (← beyond) first.1;
         from = ap (λ n. place + n) found.is;

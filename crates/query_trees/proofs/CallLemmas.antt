@@ -11,7 +11,7 @@ use Rattle.query_trees.specs.declared.stop.TreeStop.TheVariants.{NoList, Deep, M
 use Rattle.query_trees.specs.declared.tree.Tree.{Tree}
 use Rattle.query_trees.specs.Terms.{Calls, AreArguments}
 use Rattle.query_trees.specs.Trees.{Trees, none, leaf, call, tree_before, trees_of}
-use Rattle.query_trees.specs.Reads.{ReadsInCall, NextIs, Begins, IsBefore, AreInCall, behind_first, deep_in_arguments, deep_in_first, IsFirst}
+use Rattle.query_trees.specs.Reads.{ReadsInCall, NextIs, Begins, IsBefore, AreInCall, after_first, deep_in_arguments, deep_in_first, IsFirst}
 
 -- up to the most levels only its arguments may be
 deep-within : (level : ℕ) (trees : Trees) → level ≤ max_level → deep_in_first level trees ≡ deep_in_arguments (level + 1) trees
@@ -78,13 +78,13 @@ call-read level tokens inner now after head close list tree within begins reads 
     let got = reads c.arguments (c.close ∷ others) c.in_call in
     let same : c.close ≡ close = cc (got.1, closing) in
     let left : after ≡ others = cc (got.1, closing) in
-    let behind : behind_first trees ≡ c.rest = ap behind_first c.is in
+    let further : after_first trees ≡ c.rest = ap after_first c.is in
     let place : c.span ≡ record { from = head.span.from; to = close.span.to } =
     c.place ∙ ap (λ (h : Token). record { from = head.span.from; to = h.span.to }) same in
     let deep : deep_in_first level trees ≡ None =
     deep-within level trees within ∙ (ap (deep_in_arguments (level + 1)) c.is ∙ got.2) in
-    let is_made = made (behind_first trees) in
-    let whole : trees ≡ tree_before tree (behind_first trees) = c.is ∙ (rw (got.0, place, ← behind) (sym is_made)) in
+    let is_made = made (after_first trees) in
+    let whole : trees ≡ tree_before tree (after_first trees) = c.is ∙ (rw (got.0, place, ← further) (sym is_made)) in
     (whole, left, deep)
 
 -- the arguments of a call are not read

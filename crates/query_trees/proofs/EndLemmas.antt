@@ -5,17 +5,17 @@ use Rattle.std.proofs.Math.Dec.{eqb-suc-zero}
 use Rattle.query_tokens.specs.declared.token.Token.{Token}
 use Rattle.query_tokens.specs.declared.token.TokenKind.{TokenKind}
 use Rattle.query_tokens.specs.declared.token.TokenKind.TheVariants.{Word, Open, Close}
-use Rattle.query_trees.specs.Ends.{this_or_behind, closing}
+use Rattle.query_trees.specs.Ends.{this_or_after, closing}
 use Rattle.query_trees.specs.Reads.{NextIs, Begins, IsBefore, place_of_first}
 use Rattle.query_trees.specs.Terms.{IsLeaf, Calls, AreMore, AreArguments}
 use Rattle.query_trees.specs.Trees.{Trees, none, leaf, call}
 
 -- the end of an inner call
 close-inner :
-    (calls : ℕ) (token : Token) (behind : ℕ → Option Token)
-    → token.kind ≡ Close → this_or_behind token.kind (calls + 1) token behind ≡ behind calls
-close-inner calls token behind closes =
-    let at = ap (λ (k : TokenKind). this_or_behind k (calls + 1) token behind) closes in
+    (calls : ℕ) (token : Token) (after : ℕ → Option Token)
+    → token.kind ≡ Close → this_or_after token.kind (calls + 1) token after ≡ after calls
+close-inner calls token after closes =
+    let at = ap (λ (k : TokenKind). this_or_after k (calls + 1) token after) closes in
     let e : suc calls - 1 ≡ calls = omega arith in
     at ∙ rw (add-one, eqb-suc-zero calls, e) refl
 
@@ -41,14 +41,14 @@ pub arguments-closing :
     → closing (tokens ++ rest) calls ≡ closing rest calls
 arguments-closing none tokens rest calls are = absurd are
 arguments-closing (leaf token others) tokens rest calls (more, split, is_leaf, are) =
-    let behind = more-closing others more rest calls (λ inner fit. arguments-closing others inner rest calls fit) are in
-    rw split (leaf-closing token (more ++ rest) calls is_leaf ∙ behind)
+    let after = more-closing others more rest calls (λ inner fit. arguments-closing others inner rest calls fit) are in
+    rw split (leaf-closing token (more ++ rest) calls is_leaf ∙ after)
 arguments-closing (call head arguments span others) tokens rest calls (more, c, are) =
-    let behind = more-closing others more rest calls (λ inner fit. arguments-closing others inner rest calls fit) are in
+    let after = more-closing others more rest calls (λ inner fit. arguments-closing others inner rest calls fit) are in
     let inner = arguments-closing arguments c.inner (c.close ∷ more ++ rest) (calls + 1) c.holds in
     let close : closing (c.close ∷ more ++ rest) (calls + 1) ≡ closing (more ++ rest) calls =
     close-inner calls c.close (closing (more ++ rest)) c.closes in
-    rw (c.split, append_assoc c.inner (c.close ∷ more) rest, c.word, c.opens) (inner ∙ (close ∙ behind))
+    rw (c.split, append_assoc c.inner (c.close ∷ more) rest, c.word, c.opens) (inner ∙ (close ∙ after))
 
 -- the place of a call, by its tokens
 pub record HasPlace (trees : Trees) (head : Token) (inner : List Token) : Type 0 where

@@ -5,7 +5,7 @@ use Rattle.query_tokens.specs.declared.token.TokenKind.{TokenKind}
 use Rattle.query_tokens.specs.declared.token.TokenKind.TheVariants.{Open, Close, Comma}
 use Rattle.query_trees.specs.Terms.{AreMore, AreArguments, AreTerms}
 use Rattle.query_trees.specs.Trees.{Trees, none, leaf, call}
-use Rattle.query_trees.specs.Reads.{NextIs, IsBefore, AreInCall, behind_first}
+use Rattle.query_trees.specs.Reads.{NextIs, IsBefore, AreInCall, after_first}
 
 -- tokens do not begin in two ways
 pub no_two : (a b : TokenKind) (tokens : List Token) → (a ≡ b → ⊥) → NextIs a tokens → NextIs b tokens → ⊥
@@ -53,9 +53,9 @@ more-follows (call head inner span rest) tokens others (comma, more, split, is_c
 
 -- the first of arguments stands before the rest of them
 pub record HasFirst (trees : Trees) (tokens others : List Token) : Type 0 where
-  pub behind : List Token
-  pub first : IsBefore trees tokens behind
-  pub follows : Follows (behind_first trees) behind others
+  pub after : List Token
+  pub first : IsBefore trees tokens after
+  pub follows : Follows (after_first trees) after others
 
 -- so it does
 pub first-in_call : (trees : Trees) (tokens others : List Token) → AreInCall trees tokens others → HasFirst trees tokens others
@@ -64,7 +64,7 @@ first-in_call (leaf token rest) tokens others are =
     let held : AreArguments (leaf token rest) are.inner = are.holds in
     let has = more-follows rest held.0 others held.3 are.closes in
     record {
-      behind = held.0 ++ others;
+      after = held.0 ++ others;
       first = record { begins = (are.split ∙ ap (λ (x : List Token). x ++ others) held.1, held.2); no_open = has.no_open };
       follows = has.follows;
     }
@@ -73,7 +73,7 @@ first-in_call (call head arguments span rest) tokens others are =
     let c = held.1 in
     let has = more-follows rest held.0 others held.2 are.closes in
     record {
-      behind = held.0 ++ others;
+      after = held.0 ++ others;
       first = record {
         begins = record {
           open_ = c.open_;
@@ -107,20 +107,20 @@ terms-no_open (call head arguments span rest) tokens (others, c, are) opens =
 
 -- the first of terms stands before the rest of them
 pub record HasFirstTerm (trees : Trees) (tokens : List Token) : Type 0 where
-  pub behind : List Token
-  pub first : IsBefore trees tokens behind
-  pub are : AreTerms (behind_first trees) behind
+  pub after : List Token
+  pub first : IsBefore trees tokens after
+  pub are : AreTerms (after_first trees) after
 
 -- so it does
 pub first-term : (trees : Trees) (tokens : List Token) → AreTerms trees tokens → (tokens ≡ [] → ⊥) → HasFirstTerm trees tokens
 first-term none tokens are some = absurd (some are)
 first-term (leaf token rest) tokens (others, split, is_leaf, are) some = record {
-  behind = others;
+  after = others;
   first = record { begins = (split, is_leaf); no_open = terms-no_open rest others are };
   are = are;
 }
 first-term (call head arguments span rest) tokens (others, c, are) some = record {
-  behind = others;
+  after = others;
   first = record { begins = c; no_open = terms-no_open rest others are };
   are = are;
 }

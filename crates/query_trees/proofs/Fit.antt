@@ -24,9 +24,9 @@ more-walk :
     → walk (Some place) (others ++ close ∷ rest) ≡ walk (Some (AfterTerm calls)) rest
 more-walk none others place calls close rest ih inside more closes =
     rw (more, closes, inside.close) refl
-more-walk (leaf token behind) others place calls close rest ih inside (comma, tokens, split, is_comma, are) closes =
+more-walk (leaf token after) others place calls close rest ih inside (comma, tokens, split, is_comma, are) closes =
     rw (split, is_comma, inside.comma) (ih tokens are)
-more-walk (call head inner span behind) others place calls close rest ih inside (comma, tokens, split, is_comma, are) closes =
+more-walk (call head inner span after) others place calls close rest ih inside (comma, tokens, split, is_comma, are) closes =
     rw (split, is_comma, inside.comma) (ih tokens are)
 
 -- a place behind a leaf, inside of one call more than `calls`
@@ -55,16 +55,16 @@ pub arguments-walk :
 arguments-walk none tokens calls close rest are closes = absurd are
 arguments-walk (leaf token others) tokens calls close rest (more, split, is_leaf, are) closes =
     let at = leaf-inside token calls is_leaf in
-    let behind = more-walk others more at.0 calls close rest
+    let after = more-walk others more at.0 calls close rest
     (λ inner fit. arguments-walk others inner calls close rest fit closes) at.2 are closes in
-    rw split (walk-step (Argument calls) token (more ++ close ∷ rest) _ at.1 ∙ behind)
+    rw split (walk-step (Argument calls) token (more ++ close ∷ rest) _ at.1 ∙ after)
 arguments-walk (call head arguments span others) tokens calls close rest (more, calls_, are) closes =
     let inside = arguments-walk arguments calls_.inner (suc calls) calls_.close (more ++ close ∷ rest) calls_.holds calls_.closes in
     let all = call-walk head calls_.open_ calls_.close calls_.inner (more ++ close ∷ rest) (Argument calls) (suc calls)
     (rw (calls_.word, add-one) refl) calls_.opens inside in
-    let behind = more-walk others more (AfterTerm (suc calls)) calls close rest
+    let after = more-walk others more (AfterTerm (suc calls)) calls close rest
     (λ inner fit. arguments-walk others inner calls close rest fit closes) (IsInside-term calls) are closes in
-    rw (calls_.split, append_assoc calls_.inner (calls_.close ∷ more) (close ∷ rest)) (all ∙ behind)
+    rw (calls_.split, append_assoc calls_.inner (calls_.close ∷ more) (close ∷ rest)) (all ∙ after)
 
 -- a place behind a leaf, outside of calls
 leaf-outside :

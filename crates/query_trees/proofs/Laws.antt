@@ -26,7 +26,7 @@ record AreSame (head other : Token) (span place : Span) (a b : Trees) (x y : Lis
   head_is : other ≡ head
   span_is : place ≡ span
   arguments : b ≡ a
-  behind : y ≡ x
+  after : y ≡ x
 
 -- so they are
 one-call :
@@ -41,20 +41,20 @@ one-call head other span place a b tokens x y only c d =
     (record { inner = c.inner; split = refl; holds = c.holds; closes = c.closes })
     (record { inner = d.inner; split = sym inner; holds = d.holds; closes = d.closes }) in
     let close : d.close ≡ c.close = cc (got.1) in
-    let behind : y ≡ x = cc (got.1) in
+    let after : y ≡ x = cc (got.1) in
     let span_is : place ≡ span = cc (c.place, d.place, head_is, close) in
-    record { head_is = head_is; span_is = span_is; arguments = got.0; behind = behind }
+    record { head_is = head_is; span_is = span_is; arguments = got.0; after = after }
 
 -- what stands behind an argument
-one-behind :
-    (a b : Trees) (behind x y : List Token) → IsOnly a → Follows a behind x → Follows b behind y
+one-after :
+    (a b : Trees) (after x y : List Token) → IsOnly a → Follows a after x → Follows b after y
     → (b ≡ a) × (y ≡ x)
-one-behind a b behind x y only (inl (is, at, closes)) (inl (is', at', closes')) = (cc (is, is'), cc (at, at'))
-one-behind a b behind x y only (inl (is, at, closes)) (inr (comma, more, split, is_comma, are)) =
-    absurd (no_two Close Comma behind (λ k. cc) (subst (NextIs Close) (sym at) closes) (subst (NextIs Comma) (sym split) is_comma))
-one-behind a b behind x y only (inr (comma, more, split, is_comma, are)) (inl (is, at, closes)) =
-    absurd (no_two Close Comma behind (λ k. cc) (subst (NextIs Close) (sym at) closes) (subst (NextIs Comma) (sym split) is_comma))
-one-behind a b behind x y only (inr (comma, more, split, is_comma, are)) (inr (comma', more', split', is_comma', are')) =
+one-after a b after x y only (inl (is, at, closes)) (inl (is', at', closes')) = (cc (is, is'), cc (at, at'))
+one-after a b after x y only (inl (is, at, closes)) (inr (comma, more, split, is_comma, are)) =
+    absurd (no_two Close Comma after (λ k. cc) (subst (NextIs Close) (sym at) closes) (subst (NextIs Comma) (sym split) is_comma))
+one-after a b after x y only (inr (comma, more, split, is_comma, are)) (inl (is, at, closes)) =
+    absurd (no_two Close Comma after (λ k. cc) (subst (NextIs Close) (sym at) closes) (subst (NextIs Comma) (sym split) is_comma))
+one-after a b after x y only (inr (comma, more, split, is_comma, are)) (inr (comma', more', split', is_comma', are')) =
     let e : more' ≡ more = cc (split, split') in
     only b more x y are (subst (λ (m : List Token). AreInCall b m y) e are')
 
@@ -65,29 +65,29 @@ only-arguments (leaf token rest) none tokens x y are others = absurd others.hold
 only-arguments (leaf token rest) (leaf token' rest') tokens x y are others =
     let f = first-in_call (leaf token rest) tokens x are in
     let g = first-in_call (leaf token' rest') tokens y others in
-    let fb : Begins (leaf token rest) tokens f.behind = f.first.begins in
-    let gb : Begins (leaf token' rest') tokens g.behind = g.first.begins in
-    let e : g.behind ≡ f.behind = cc (fb.0, gb.0) in
+    let fb : Begins (leaf token rest) tokens f.after = f.first.begins in
+    let gb : Begins (leaf token' rest') tokens g.after = g.first.begins in
+    let e : g.after ≡ f.after = cc (fb.0, gb.0) in
     let t : token' ≡ token = cc (fb.0, gb.0) in
-    let got = one-behind rest rest' f.behind x y (only-arguments rest) f.follows (subst (λ (m : List Token). Follows rest' m y) e g.follows) in
+    let got = one-after rest rest' f.after x y (only-arguments rest) f.follows (subst (λ (m : List Token). Follows rest' m y) e g.follows) in
     (cc (t, got.0), got.1)
 only-arguments (leaf token rest) (call head arguments span rest') tokens x y are others =
     let f = first-in_call (leaf token rest) tokens x are in
     let g = first-in_call (call head arguments span rest') tokens y others in
-    let fb : Begins (leaf token rest) tokens f.behind = f.first.begins in
-    absurd (leaf-or-call token head span (AreArguments arguments) tokens f.behind g.behind fb.0 f.first.no_open g.first.begins)
+    let fb : Begins (leaf token rest) tokens f.after = f.first.begins in
+    absurd (leaf-or-call token head span (AreArguments arguments) tokens f.after g.after fb.0 f.first.no_open g.first.begins)
 only-arguments (call head arguments span rest) none tokens x y are others = absurd others.holds
 only-arguments (call head arguments span rest) (leaf token rest') tokens x y are others =
     let f = first-in_call (call head arguments span rest) tokens x are in
     let g = first-in_call (leaf token rest') tokens y others in
-    let gb : Begins (leaf token rest') tokens g.behind = g.first.begins in
-    absurd (leaf-or-call token head span (AreArguments arguments) tokens g.behind f.behind gb.0 g.first.no_open f.first.begins)
+    let gb : Begins (leaf token rest') tokens g.after = g.first.begins in
+    absurd (leaf-or-call token head span (AreArguments arguments) tokens g.after f.after gb.0 g.first.no_open f.first.begins)
 only-arguments (call head arguments span rest) (call head' arguments' span' rest') tokens x y are others =
     let f = first-in_call (call head arguments span rest) tokens x are in
     let g = first-in_call (call head' arguments' span' rest') tokens y others in
-    let same = one-call head head' span span' arguments arguments' tokens f.behind g.behind (only-arguments arguments) f.first.begins g.first.begins in
-    let got = one-behind rest rest' f.behind x y (only-arguments rest) f.follows
-    (subst (λ (m : List Token). Follows rest' m y) same.behind g.follows) in
+    let same = one-call head head' span span' arguments arguments' tokens f.after g.after (only-arguments arguments) f.first.begins g.first.begins in
+    let got = one-after rest rest' f.after x y (only-arguments rest) f.follows
+    (subst (λ (m : List Token). Follows rest' m y) same.after g.follows) in
     (cc (same.head_is, same.span_is, same.arguments, got.0), got.1)
 
 -- terms are the only ones in their tokens
@@ -108,7 +108,7 @@ only-terms (call head arguments span rest) (leaf token rest') tokens (others, c,
     absurd (leaf-or-call token head span (AreArguments arguments) tokens others' others split (terms-no_open rest' others' more') c)
 only-terms (call head arguments span rest) (call head' arguments' span' rest') tokens (others, c, more) (others', d, more') =
     let same = one-call head head' span span' arguments arguments' tokens others others' (only-arguments arguments) c d in
-    let got = only-terms rest rest' others more (subst (AreTerms rest') same.behind more') in
+    let got = only-terms rest rest' others more (subst (AreTerms rest') same.after more') in
     cc (same.head_is, same.span_is, same.arguments, got)
 
 -- the front of tokens that begin terms begins terms
@@ -159,7 +159,7 @@ unfolding Order
 one-misplaced tokens t u m n =
     ⊎_elim (λ same. sym same.1)
     (⊎_elim (λ before. absurd (m.no_more (begin-one m.front before.0 n.front t before.1 n.begins)))
-    (λ behind. absurd (n.no_more (begin-one n.front behind.0 m.front u behind.1 m.begins))))
+    (λ after. absurd (n.no_more (begin-one n.front after.0 m.front u after.1 m.begins))))
     (order m.front n.front m.rest n.rest t u (sym m.split ∙ n.split))
 
 -- tokens that are no terms have one place to name

@@ -7,7 +7,7 @@ use Rattle.query_tokens.specs.declared.token.TokenKind.{TokenKind}
 use Rattle.query_tokens.specs.declared.token.TokenKind.TheVariants.{Word, Close}
 use Rattle.query_trees.specs.declared.place.Place.{Place}
 use Rattle.query_trees.specs.declared.place.Place.TheVariants.{AfterTerm, AfterWord, Argument}
-use Rattle.query_trees.specs.Steps.{step, walk, ends, behind, start, may_end}
+use Rattle.query_trees.specs.Steps.{step, walk, ends, after, start, may_end}
 use Rattle.query_trees.specs.Terms.{AreTerms, BeginTerms, IsMisplaced, IsCutShort, IsNoList}
 use Rattle.query_trees.specs.Trees.{Trees}
 use Rattle.query_trees.proofs.Places.{go_on-suc, walk-none, IsOutside-term}
@@ -55,7 +55,7 @@ ending-ends (Argument calls) =
 -- a walk that has come to a place begins terms
 pub begins : (front : List Token) (place : Place) → walk start front ≡ Some place → BeginTerms front
 begins front place at =
-    let joined = fold-append behind start front (ending place) in
+    let joined = fold-append after start front (ending place) in
     let ended : ends (walk start (front ++ ending place)) ≡ true =
     ap ends (joined ∙ ap (λ p. walk p (ending place)) at) ∙ ending-ends place in
     let fits = walk-finish (front ++ ending place) (AfterTerm 0) ended in
@@ -64,7 +64,7 @@ begins front place at =
 -- a walk that has come to no place begins none
 pub begins-none : (front : List Token) → walk start front ≡ None → BeginTerms front → ⊥
 begins-none front at (more, trees, are) =
-    let joined = fold-append behind start front more in
+    let joined = fold-append after start front more in
     let lost : walk start (front ++ more) ≡ None = joined ∙ (ap (λ p. walk p more) at ∙ walk-none more) in
     let ended = terms-end trees (front ++ more) (AfterTerm 0) are IsOutside-term in
     absurd (cc)
@@ -74,7 +74,7 @@ pub misplaced :
     (tokens front rest : List Token) (token : Token) (place : Place) → tokens ≡ front ++ token ∷ rest
     → walk start front ≡ Some place → step place token.kind ≡ None → IsMisplaced tokens token
 misplaced tokens front rest token place split at lost =
-    let joined = fold-append behind start front (token ∷ []) in
+    let joined = fold-append after start front (token ∷ []) in
     record {
       front = front;
       rest = rest;
@@ -116,16 +116,16 @@ at_token tokens front rest end token place None split at lost on = inr (token.sp
 at_token tokens front rest end token place (Some next) split at goes on = on next refl
 
 -- where it has come to any place
-none_behind : (tokens front rest : List Token) (end : ℕ) (place : Place) → tokens ≡ front ++ rest
+none_after : (tokens front rest : List Token) (end : ℕ) (place : Place) → tokens ≡ front ++ rest
     → walk start front ≡ Some place → AreListOrNone tokens end
-none_behind tokens front [] end place split at =
+none_after tokens front [] end place split at =
     at_end tokens end place (may_end place) (ap (walk start) (split ∙ append-nil front) ∙ at) refl
-none_behind tokens front (token ∷ rest) end place split at =
-    let joined = fold-append behind start front (token ∷ []) in
+none_after tokens front (token ∷ rest) end place split at =
+    let joined = fold-append after start front (token ∷ []) in
     at_token tokens front rest end token place (step place token.kind) split at refl
-    (λ next goes. none_behind tokens (front ++ token ∷ []) rest end next (split ∙ sym (append_assoc front (token ∷ []) rest))
+    (λ next goes. none_after tokens (front ++ token ∷ []) rest end next (split ∙ sym (append_assoc front (token ∷ []) rest))
     (joined ∙ (ap (λ p. walk p (token ∷ [])) at ∙ goes)))
 
 -- and so at the start
 pub list_or_none : (tokens : List Token) (end : ℕ) → AreListOrNone tokens end
-list_or_none tokens end = none_behind tokens [] tokens end (AfterTerm 0) refl refl
+list_or_none tokens end = none_after tokens [] tokens end (AfterTerm 0) refl refl

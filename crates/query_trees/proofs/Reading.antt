@@ -11,7 +11,7 @@ use Rattle.query_trees.specs.declared.tree.Tree.{Tree}
 use Rattle.query_trees.specs.Terms.{AreTerms}
 use Rattle.query_trees.specs.Trees.{Trees, none, leaf, call, tree_before, trees_of, first_of_two, first_deep}
 use Rattle.query_trees.proofs.Firsts.{no_two, first-in_call, first-term}
-use Rattle.query_trees.specs.Reads.{ReadsFirst, NextIs, AreInCall, behind_first, deep_in_first, AreRead}
+use Rattle.query_trees.specs.Reads.{ReadsFirst, NextIs, AreInCall, after_first, deep_in_first, AreRead}
 
 -- terms without tokens are none
 no-terms : (trees : Trees) (tokens : List Token) → AreTerms trees tokens → tokens ≡ [] → trees ≡ none
@@ -39,7 +39,7 @@ deep-call false span inner rest = refl
 -- in any
 first_deep-first :
     (level : ℕ) (trees : Trees)
-    → first_deep level trees ≡ first_of_two (deep_in_first level trees) (first_deep level (behind_first trees))
+    → first_deep level trees ≡ first_of_two (deep_in_first level trees) (first_deep level (after_first trees))
 first_deep-first level none = deep-none (nat_lt max_level level)
 first_deep-first level (leaf token rest) = deep-leaf (nat_lt max_level level) token.span (first_deep level rest)
 first_deep-first level (call head arguments span rest) =
@@ -77,11 +77,11 @@ left-all level trees = record { split = refl; deep = refl }
 -- one more
 left-next :
     (level : ℕ) (read : List Tree) (trees left : Trees) (tree : Tree) → AreLeft level read trees left
-    → left ≡ tree_before tree (behind_first left) → deep_in_first level left ≡ None
-    → AreLeft level (read ++ tree ∷ []) trees (behind_first left)
+    → left ≡ tree_before tree (after_first left) → deep_in_first level left ≡ None
+    → AreLeft level (read ++ tree ∷ []) trees (after_first left)
 left-next level read trees left tree are is deep = record {
-  split = are.split ∙ (ap (trees_before read) is ∙ sym (trees_before-push read tree (behind_first left)));
-  deep = are.deep ∙ (first_deep-first level left ∙ ap (λ (d : Option Span). first_of_two d (first_deep level (behind_first left))) deep);
+  split = are.split ∙ (ap (trees_before read) is ∙ sym (trees_before-push read tree (after_first left)));
+  deep = are.deep ∙ (first_deep-first level left ∙ ap (λ (d : Option Span). first_of_two d (first_deep level (after_first left))) deep);
 }
 
 -- the next is too deep
@@ -89,7 +89,7 @@ left-deep :
     (level : ℕ) (read : List Tree) (trees left : Trees) (span : Span) → AreLeft level read trees left
     → deep_in_first level left ≡ Some span → first_deep level trees ≡ Some span
 left-deep level read trees left span are deep =
-    are.deep ∙ (first_deep-first level left ∙ ap (λ (d : Option Span). first_of_two d (first_deep level (behind_first left))) deep)
+    are.deep ∙ (first_deep-first level left ∙ ap (λ (d : Option Span). first_of_two d (first_deep level (after_first left))) deep)
 
 -- all are read
 left-none :
@@ -117,12 +117,12 @@ pub in_call-next :
 in_call-next level read tokens now mid rest tree comma left reads split is trees others are =
     let l = left trees others are in
     let first = first-in_call l.0 now others l.1 in
-    let got = reads l.0 first.behind first.first in
+    let got = reads l.0 first.after first.first in
     let next = left-next level read trees l.0 tree l.2 got.0 got.2 in
     ⊎_elim
     (λ end. absurd (no_two Close Comma others (λ k. cc) end.2 (subst (NextIs Comma) (got.1 ∙ end.1) is)))
     (λ more. let e : rest ≡ more.1 = cc (got.1, more.2, split) in
-    (behind_first l.0, subst (λ (x : List Token). AreInCall (behind_first l.0) x others) (sym e) more.4, next))
+    (after_first l.0, subst (λ (x : List Token). AreInCall (after_first l.0) x others) (sym e) more.4, next))
     first.follows
 
 -- no comma follows
@@ -134,10 +134,10 @@ pub in_call-end :
 in_call-end level read tokens now mid tree left reads no_comma trees others are =
     let l = left trees others are in
     let first = first-in_call l.0 now others l.1 in
-    let got = reads l.0 first.behind first.first in
+    let got = reads l.0 first.after first.first in
     let next = left-next level read trees l.0 tree l.2 got.0 got.2 in
     ⊎_elim
-    (λ end. let all = left-none level (read ++ tree ∷ []) trees (behind_first l.0) next end.0 in (all.0, got.1 ∙ end.1, all.1))
+    (λ end. let all = left-none level (read ++ tree ∷ []) trees (after_first l.0) next end.0 in (all.0, got.1 ∙ end.1, all.1))
     (λ more. absurd (no_comma (subst (NextIs Comma) (sym (got.1 ∙ more.2)) more.3)))
     first.follows
 
@@ -149,11 +149,11 @@ pub in_call-err :
 in_call-err level read tokens now mid (NoList span) left reads trees others are =
     let l = left trees others are in
     let first = first-in_call l.0 now others l.1 in
-    reads l.0 first.behind first.first
+    reads l.0 first.after first.first
 in_call-err level read tokens now mid (Deep span) left reads trees others are =
     let l = left trees others are in
     let first = first-in_call l.0 now others l.1 in
-    left-deep level read trees l.0 span l.2 (reads l.0 first.behind first.first)
+    left-deep level read trees l.0 span l.2 (reads l.0 first.after first.first)
 in_call-err level read tokens now mid Memory left reads trees others are = tt
 
 -- one more term outside of calls
@@ -164,8 +164,8 @@ pub outside-next :
 outside-next read tokens now mid tree left reads some trees are =
     let l = left trees are in
     let first = first-term l.0 now l.1 some in
-    let got = reads l.0 first.behind first.first in
-    (behind_first l.0, subst (AreTerms (behind_first l.0)) (sym got.1) first.are, left-next 1 read trees l.0 tree l.2 got.0 got.2)
+    let got = reads l.0 first.after first.first in
+    (after_first l.0, subst (AreTerms (after_first l.0)) (sym got.1) first.are, left-next 1 read trees l.0 tree l.2 got.0 got.2)
 
 -- all of them
 pub outside-end :
@@ -185,11 +185,11 @@ pub outside-err :
 outside-err read tokens now mid (NoList span) left reads some trees are =
     let l = left trees are in
     let first = first-term l.0 now l.1 some in
-    reads l.0 first.behind first.first
+    reads l.0 first.after first.first
 outside-err read tokens now mid (Deep span) left reads some trees are =
     let l = left trees are in
     let first = first-term l.0 now l.1 some in
-    left-deep 1 read trees l.0 span l.2 (reads l.0 first.behind first.first)
+    left-deep 1 read trees l.0 span l.2 (reads l.0 first.after first.first)
 outside-err read tokens now mid Memory left reads some trees are = tt
 
 -- a list whose length is not 0 is not empty

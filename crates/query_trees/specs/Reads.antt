@@ -37,10 +37,10 @@ pub record AreInCall (trees : Trees) (tokens others : List Token) : Type 0 where
   pub closes : NextIs Close others
 
 -- the terms after the first
-abbrev pub behind_first : Trees → Trees
-behind_first none = none
-behind_first (leaf token rest) = rest
-behind_first (call head arguments span rest) = rest
+abbrev pub after_first : Trees → Trees
+after_first none = none
+after_first (leaf token rest) = rest
+after_first (call head arguments span rest) = rest
 
 -- the place of the first term
 abbrev pub place_of_first : Trees → Option Span
@@ -69,7 +69,7 @@ IsDeepFirst trees Memory = ⊥
 -- tokens
 abbrev pub IsFirst : ℕ → Trees → List Token → List Token → Result Tree TreeStop → Type 0
 IsFirst level trees others left (Ok tree) =
-    (trees ≡ tree_before tree (behind_first trees)) × (left ≡ others) × (deep_in_first level trees ≡ None)
+    (trees ≡ tree_before tree (after_first trees)) × (left ≡ others) × (deep_in_first level trees ≡ None)
 IsFirst level trees others left (Err (NoList span)) = ⊥
 IsFirst level trees others left (Err (Deep span)) = deep_in_first level trees ≡ Some span
 IsFirst level trees others left (Err Memory) = Unit {0}

@@ -50,13 +50,13 @@ step (AfterWord calls) kind = call_or_go_on calls kind
 step (Argument calls) kind = begin (calls + 1) kind
 
 -- the same, if all tokens before it could come
-abbrev pub behind : Option Place → Token → Option Place
-behind None token = None
-behind (Some place) token = step place token.kind
+abbrev pub after : Option Place → Token → Option Place
+after None token = None
+after (Some place) token = step place token.kind
 
 -- the place after all tokens, if they may come
 abbrev pub walk : Option Place → List Token → Option Place
-walk place tokens = fold behind place tokens
+walk place tokens = fold after place tokens
 
 -- the place at the start of a text
 abbrev pub start : Option Place

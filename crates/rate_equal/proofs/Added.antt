@@ -10,7 +10,7 @@ use Rattle.rate_equal.specs.Pairs.{IsGrown}
 use Rattle.rate_equal.specs.PlaceSets.{AddsPlace}
 use Rattle.rate_equal.specs.Reach.{max_reach}
 use Rattle.rate_equal.specs.declared.pair.Pair.{Pair}
-use Rattle.rate_equal.proofs.Inserted.{put_behind}
+use Rattle.rate_equal.proofs.Inserted.{put_after}
 
 -- a list with nothing behind it
 pub grown_none : (old : List Pair) → IsGrown old old
@@ -118,8 +118,8 @@ pub added_one : (eq : Pair → Pair → Bool) (old new : List Pair) (pair : Pair
     → (k : Pair) × (slice_get new place ≡ Some k) × (eq pair k ≡ true) → AddsPlace held places place
     → AreAdded (λ other. pair ≡ other) (λ other. pair ≡ other) old held new places
 added_one eq old new pair held places place distinct put_in same few (k, found, is) adds = record {
-  grown = let put = put_behind eq old pair in (put.0, put_in ∙ put.1);
-  each = λ other c. (put_behind eq old pair).2 other (subst (λ l. Contains l other) put_in c);
+  grown = let put = put_after eq old pair in (put.0, put_in ∙ put.1);
+  each = λ other c. (put_after eq old pair).2 other (subst (λ l. Contains l other) put_in c);
   few = few;
   kept = λ other has. (adds other).1 (inl has);
   more = λ other has. elim ((adds other).0 has) [

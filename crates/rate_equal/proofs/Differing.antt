@@ -3,13 +3,13 @@ use Rattle.std.proofs.Common.{◌≡◌, ℕ, suc, ◌<◌, ◌∙◌, Bool, fal
 use Rattle.std.specs.List.{AllByRecursion, AllPairs, Contains, IsDistinct}
 use Rattle.std.proofs.lemmas.Map.Keys.{IsDistinct-head, IsDistinct-tail}
 use Rattle.item_schema.specs.declared.column.Column.{Column}
-use Rattle.rate_expr.specs.Behind.{IsBehind}
+use Rattle.rate_expr.specs.After.{IsAfter}
 use Rattle.rate_expr.specs.Sets.{Sets}
 use Rattle.rate_expr.specs.Words.{Word, IsWordOf}
 use Rattle.symbolic_nfa.specs.Automata.{Automaton}
-use Rattle.rate_expr.proofs.StatesBehind.{one_behind}
+use Rattle.rate_expr.proofs.StatesAfter.{one_after}
 use Rattle.rate_equal.specs.Reach.{max_reach, LeadApart, LeadToApart, ReachStates, ReachPairs}
-use Rattle.rate_equal.specs.Pairs.{IsReached, AreAll, AreBehind}
+use Rattle.rate_equal.specs.Pairs.{IsReached, AreAll, AreAfter}
 use Rattle.rate_equal.specs.declared.pair.Pair.{Pair}
 use Rattle.rate_equal.proofs.Pigeons.{all_of_contained, all_as, pairs_more, as_many_places}
 
@@ -38,11 +38,11 @@ module _ (first second : Automaton) where
     apart_to : (x y : Pair) (one : IsReached first second x)
         (other : IsReached first second y) → eq x y ≡ false
         → LeadToApart first.sets second.sets one.0 other.0
-    apart_to x y (u, is, (at, at')) (v, is', (to, to')) differ s s' t t' behind behind' also also' same same' =
-        let one : x.first ≡ y.first = sym (one_behind first.sets u x.first s at behind) ∙ same
-        ∙ one_behind first.sets v y.first s' to behind' in
-        let two : x.second ≡ y.second = sym (one_behind second.sets u x.second t at' also) ∙ same'
-        ∙ one_behind second.sets v y.second t' to' also' in
+    apart_to x y (u, is, (at, at')) (v, is', (to, to')) differ s s' t t' after after' also also' same same' =
+        let one : x.first ≡ y.first = sym (one_after first.sets u x.first s at after) ∙ same
+        ∙ one_after first.sets v y.first s' to after' in
+        let two : x.second ≡ y.second = sym (one_after second.sets u x.second t at' also) ∙ same'
+        ∙ one_after second.sets v y.second t' to' also' in
         unlike x y differ (λ j. record { first = one j; second = two j })
 
     -- from words to all these
@@ -82,7 +82,7 @@ module _ (first second : Automaton) where
     -- no more words have different pairs of states behind them
     pub no_more_pairs : ReachPairs first.cells.layout.columns first.sets second.sets count → ⊥
     no_more_pairs reach =
-        let few' = as_many_places (AreBehind first second) (LeadToApart first.sets second.sets)
+        let few' = as_many_places (AreAfter first second) (LeadToApart first.sets second.sets)
         (λ u v pair at to apart. apart pair.first pair.first pair.second pair.second at.0 to.0 at.1 to.1 refl refl)
         reach.words pairs (all_as _ _ reach.words all.whole reach.items) reach.each_two in
         omega (arith, reach.so_many, all.reached.few)
@@ -90,7 +90,7 @@ module _ (first second : Automaton) where
     -- nor different states of the first automaton
     pub no_more_states : ReachStates first.cells.layout.columns first.sets count → ⊥
     no_more_states reach =
-        let few' = as_many_places (λ w (pair : Pair). IsBehind first.sets w pair.first) (LeadApart first.sets)
+        let few' = as_many_places (λ w (pair : Pair). IsAfter first.sets w pair.first) (LeadApart first.sets)
         (λ u v pair at to apart. apart pair.first pair.first at to refl)
         reach.words pairs
         (all_as _ _ reach.words (λ w is. let (pair, c, (at, to)) = all.whole w is in (pair, c, at)) reach.items)

@@ -11,7 +11,7 @@ use Rattle.rate_expr.proofs.Wording.{word_more}
 use Rattle.symbolic_nfa.specs.Automata.{Automaton}
 use Rattle.symbolic_nfa.specs.States.{Steps}
 use Rattle.symbolic_nfa.proofs.StatesOn.{steps_to-and}
-use Rattle.symbolic_nfa.proofs.WordsBehind.{is_behind-step}
+use Rattle.symbolic_nfa.proofs.WordsAfter.{is_after-step}
 use Rattle.rate_equal.specs.Added.{AreTooMany}
 use Rattle.rate_equal.specs.Letters.{AreLetters, IsLetter, IsLetterOf}
 use Rattle.rate_equal.specs.Pairs.{AreReached, AreWaysOnFrom, IsExplored, IsGrown, IsReached}
@@ -58,8 +58,8 @@ module _ (first second : Automaton) where
             word ++ item ∷ [],
             word_more first.cells.layout.columns word item is is_item,
             (
-              is_behind-step first.sets word from.first (target ways letter).first item at one,
-              is_behind-step second.sets word from.second (target ways letter).second item at' two,
+              is_after-step first.sets word from.first (target ways letter).first item at one,
+              is_after-step second.sets word from.second (target ways letter).second item at' two,
             ),
           )
 

@@ -12,7 +12,7 @@ use Rattle.rate_equal.specs.Letters.{AreLetters, AreMetBy, HasThese, IsGathered,
 use Rattle.rate_equal.specs.declared.letters.Letter.{Letter}
 use Rattle.indexmap.specs.IndexSet.{insert_key}
 use Rattle.indexmap.proofs.CallerLemmas.{Contains-list_any, Contains-insert_key}
-use Rattle.rate_equal.proofs.Inserted.{put_behind}
+use Rattle.rate_equal.proofs.Inserted.{put_after}
 
 module _ (first second : Automaton) where
   module _ (eq : ℕ × ℕ → ℕ × ℕ → Bool) (cell : ℕ) (known known' : List (ℕ × ℕ)) (letters : List Letter)
@@ -25,7 +25,7 @@ module _ (first second : Automaton) where
         → (letter : Letter) × Contains letters' letter × HasThese letter met
         → IsGathered first second (cell + 1) known' letters'
     gathered_next letters' sound kept one =
-        let put = put_behind eq known met in
+        let put = put_after eq known met in
         subst (λ l. IsGathered first second (cell + 1) l letters') (sym put_in) record {
           sound = sound;
           stands = λ other c. elim (put.2 other c) [

@@ -10,10 +10,10 @@ use Rattle.indexmap.proofs.CallerLemmas.{Contains-list_any}
 
 module _ {K : Type 0} (eq : K → K → Bool) (ks : List K) (k : K) where
   -- what is put behind the list
-  pub put_behind : (more : List K) × (insert_key eq ks k ≡ ks ++ more)
+  pub put_after : (more : List K) × (insert_key eq ks k ≡ ks ++ more)
       × ((other : K) → Contains (insert_key eq ks k) other → Contains ks other ⊎ (k ≡ other))
       × (length (insert_key eq ks k) ≤ length ks + 1)
-  put_behind = by (list_any (eq k) ks) refl
+  put_after = by (list_any (eq k) ks) refl
     where
       by : (test : Bool) → list_any (eq k) ks ≡ test → (more : List K)
           × (insert_key eq ks k ≡ ks ++ more)
@@ -36,7 +36,7 @@ module _ {K : Type 0} (eq : K → K → Bool) (ks ks' : List K) (k : K) (distinc
     (put_in : ks' ≡ insert_key eq ks k) where
   -- what is there now was there, or is what was put there
   pub had_or_put : (other : K) → Contains ks' other → Contains ks other ⊎ (k ≡ other)
-  had_or_put other c = (put_behind eq ks k).2 other (subst (λ l. Contains l other) put_in c)
+  had_or_put other c = (put_after eq ks k).2 other (subst (λ l. Contains l other) put_in c)
 
   -- what passed for one of the list was there
   pub had_before : ((x y : K) → eq x y ≡ true → x ≡ y) → list_any (eq k) ks ≡ true → Contains ks k
@@ -48,11 +48,11 @@ module _ {K : Type 0} (test : K → Bool) where
       → (j : ℕ) × (k : K) × (i ≡ from + 1 + j) × (slice_get xs j ≡ Some k) × (test k ≡ true))
       → cond is (Some from) (position_from test (from + 1) xs) ≡ Some i
       → (j : ℕ) × (k : K) × (i ≡ from + j) × (slice_get (x ∷ xs) j ≡ Some k) × (test k ≡ true)
-  there_first true x xs from i is behind some =
+  there_first true x xs from i is after some =
       let first : from ≡ i = same_Some from i some in
       (zero, x, omega (arith, first), refl, is)
-  there_first false x xs from i is behind some =
-      let (j, k, at, found, passes) = behind some in
+  there_first false x xs from i is after some =
+      let (j, k, at, found, passes) = after some in
       (suc j, k, omega (arith, at), found, passes)
 
   there_from : (xs : List K) (from i : ℕ) → position_from test from xs ≡ Some i

@@ -56,21 +56,21 @@ module _ {A : Type 0} (R : A → A → Type 0) where
 
 -- a list parted at something that is in it
 parted_at : {B : Type 0} (ys : List B) (y : B) (k : ℕ) → k < length ys → get_or ys k y ≡ y
-    → (before : List B) × (behind : List B) × (ys ≡ before ++ y ∷ behind)
+    → (before : List B) × (after : List B) × (ys ≡ before ++ y ∷ after)
 parted_at [] y k lt same = absurd (omega arith)
 parted_at (z ∷ ys) y zero lt same = ([], ys, ap (λ v. v ∷ ys) same)
 parted_at (z ∷ ys) y (suc k) lt same =
     let rest = parted_at ys y k (omega arith) same in (z ∷ rest.0, rest.1, ap (λ v. z ∷ v) rest.2)
 
 -- what is in a parted list is the thing itself or in one of the parts
-others : {B : Type 0} (before behind : List B) (y other : B) → Contains (before ++ y ∷ behind) other
-    → (y ≡ other) ⊎ Contains (before ++ behind) other
-others before behind y other c = elim (Contains-append_cases before (y ∷ behind) other c) [
-  | inl in_before ↦ inr (Contains-append_left before behind other in_before)
-  | inr in_rest ↦ elim (Contains-append_cases (y ∷ []) behind other in_rest) [
+others : {B : Type 0} (before after : List B) (y other : B) → Contains (before ++ y ∷ after) other
+    → (y ≡ other) ⊎ Contains (before ++ after) other
+others before after y other c = elim (Contains-append_cases before (y ∷ after) other c) [
+  | inl in_before ↦ inr (Contains-append_left before after other in_before)
+  | inr in_rest ↦ elim (Contains-append_cases (y ∷ []) after other in_rest) [
     | inl (zero, lt, same) ↦ inl same
     | inl (suc k, lt, same) ↦ absurd (omega arith)
-    | inr in_behind ↦ inr (Contains-append_right before behind other in_behind)
+    | inr in_after ↦ inr (Contains-append_right before after other in_after)
   ]
 ]
 

@@ -8,8 +8,8 @@ use Rattle.std.proofs.lemmas.Option.{get_or_from_slice_get, slice_get_within}
 use Rattle.rate_expr.specs.Words.{Word, IsWordOf}
 use Rattle.rate_expr.specs.declared.state.State.TheVariants.{Initial}
 use Rattle.symbolic_nfa.specs.Automata.{Automaton}
-use Rattle.symbolic_nfa.proofs.WordsBehind.{is_behind-step}
-use Rattle.rate_equal.specs.Pairs.{IsReached, AreReached, AreAll, AreBehind, LeadsInto, IsExplored}
+use Rattle.symbolic_nfa.proofs.WordsAfter.{is_after-step}
+use Rattle.rate_equal.specs.Pairs.{IsReached, AreReached, AreAll, AreAfter, LeadsInto, IsExplored}
 use Rattle.rate_equal.specs.declared.pair.Pair.{Pair}
 
 -- where a list has nothing, it has ended
@@ -65,18 +65,18 @@ module _ (first second : Automaton) where
 
   module _ (pairs : List Pair) (closed : (pair : Pair) → Contains pairs pair → LeadsInto first second pairs pair) where
     -- a word leads on into these
-    word_leads : (u rest : Word) (pair : Pair) → Contains pairs pair → AreBehind first second u pair
+    word_leads : (u rest : Word) (pair : Pair) → Contains pairs pair → AreAfter first second u pair
         → IsWordOf first.cells.layout.columns rest
-        → (to : Pair) × Contains pairs to × AreBehind first second (u ++ rest) to
-    word_leads u [] pair c behind is =
-        (pair, c, subst (λ w. AreBehind first second w pair) (sym (append-nil u)) behind)
-    word_leads u (item ∷ rest) pair c behind is =
+        → (to : Pair) × Contains pairs to × AreAfter first second (u ++ rest) to
+    word_leads u [] pair c after is =
+        (pair, c, subst (λ w. AreAfter first second w pair) (sym (append-nil u)) after)
+    word_leads u (item ∷ rest) pair c after is =
         let (next, c', one, two) = closed pair c item is.0 in
         let (to, c'', there) = word_leads (u ++ item ∷ []) rest next c' (
-          is_behind-step first.sets u pair.first next.first item behind.0 one,
-          is_behind-step second.sets u pair.second next.second item behind.1 two,
+          is_after-step first.sets u pair.first next.first item after.0 one,
+          is_after-step second.sets u pair.second next.second item after.1 two,
         ) is.1 in
-        (to, c'', subst (λ w. AreBehind first second w to) (append_assoc u (item ∷ []) rest) there)
+        (to, c'', subst (λ w. AreAfter first second w to) (append_assoc u (item ∷ []) rest) there)
 
   -- all words lead to these
   pub searched_all : (pairs : List Pair) (end : ℕ) → IsSearched pairs end → length pairs ≤ end

@@ -2,7 +2,7 @@
 use Rattle.std.proofs.Common.{Bool, true, false, List, [], ◌∷◌, inl, inr, All, Any, MatchBool}
 use Rattle.std.proofs.lemmas.List.Elements.{All-contains}
 use Rattle.value_ops.specs.declared.field.Field.{Field}
-use Rattle.rate_expr.specs.Behind.{IsBehind}
+use Rattle.rate_expr.specs.After.{IsAfter}
 use Rattle.rate_expr.specs.Language.{In}
 use Rattle.rate_expr.specs.Paths.{AreOf}
 use Rattle.rate_expr.specs.Rates.{Expression}
@@ -11,7 +11,7 @@ use Rattle.rate_expr.specs.Words.{Word, IsWordOf}
 use Rattle.rate_expr.specs.declared.state.State.{State}
 use Rattle.rate_expr.specs.declared.state.State.TheVariants.{Initial, At}
 use Rattle.symbolic_nfa.specs.Automata.{Automaton}
-use Rattle.symbolic_nfa.proofs.WordsBehind.{is_accepted-in}
+use Rattle.symbolic_nfa.proofs.WordsAfter.{is_accepted-in}
 use Rattle.rate_equal.specs.Endings.{Agree, Disagree, EndsThere, EndsElsewhere, IsFull, IsLacking}
 use Rattle.rate_equal.specs.Differences.{IsInOne, HaveDifference, LacksSome}
 use Rattle.rate_equal.specs.Pairs.{AreAll}
@@ -20,8 +20,8 @@ use Rattle.rate_equal.specs.declared.pair.Pair.{Pair}
 module _ (first second : Automaton) (pairs : List Pair) (all : AreAll first second pairs) where
   module _ (r s : Expression) (of_r : AreOf first.sets r) (of_s : AreOf second.sets s) where
     -- states that disagree are behind a word that is in one of the rates
-    in_one : (word : Word) (pair : Pair) → IsBehind first.sets word pair.first
-        → IsBehind second.sets word pair.second → Disagree first.sets second.sets pair → IsInOne r s word
+    in_one : (word : Word) (pair : Pair) → IsAfter first.sets word pair.first
+        → IsAfter second.sets word pair.second → Disagree first.sets second.sets pair → IsInOne r s word
     in_one word pair at to (inl (yes', no')) = inl (
       (is_accepted-in first.sets r word pair.first of_r at).0 yes',
       λ in_s. no' ((is_accepted-in second.sets s word pair.second of_s to).1 in_s),
@@ -47,22 +47,22 @@ module _ (first second : Automaton) (pairs : List Pair) (all : AreAll first seco
 
   module _ (r : Expression) (of_r : AreOf first.sets r) where
     -- a word of at least one item is in the rate where words may end behind it
-    in_full : (item : List Field) (more : Word) (state : State) → IsBehind first.sets (item ∷ more) state
+    in_full : (item : List Field) (more : Word) (state : State) → IsAfter first.sets (item ∷ more) state
         → EndsThere first.sets state → In r (item ∷ more)
-    in_full item more Initial behind ends = absurd behind
-    in_full item more (At mask) behind ends =
-        (is_accepted-in first.sets r (item ∷ more) (At mask) of_r behind).0 ends
+    in_full item more Initial after ends = absurd after
+    in_full item more (At mask) after ends =
+        (is_accepted-in first.sets r (item ∷ more) (At mask) of_r after).0 ends
 
     -- and not in it where none may
-    not_in : (word : Word) (state : State) → IsWordOf first.cells.layout.columns word → IsBehind first.sets word state
+    not_in : (word : Word) (state : State) → IsWordOf first.cells.layout.columns word → IsAfter first.sets word state
         → EndsElsewhere first.sets state → LacksSome first.cells.layout.columns r
-    not_in word Initial is behind none = absurd none
-    not_in [] (At mask) is behind none = absurd behind
-    not_in (item ∷ more) (At mask) is behind none = (
+    not_in word Initial is after none = absurd none
+    not_in [] (At mask) is after none = absurd after
+    not_in (item ∷ more) (At mask) is after none = (
       item,
       more,
       is,
-      λ in_r. none ((is_accepted-in first.sets r (item ∷ more) (At mask) of_r behind).1 in_r),
+      λ in_r. none ((is_accepted-in first.sets r (item ∷ more) (At mask) of_r after).1 in_r),
     )
 
     -- whether the rate has all words but the empty one

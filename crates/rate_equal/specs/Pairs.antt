@@ -3,7 +3,7 @@ use Rattle.std.specs.Prelude.{◌≡◌, ◌≤◌, ℕ, List, ◌++◌, length}
 use Rattle.std.specs.List.{Contains}
 use Rattle.value_ops.specs.declared.field.Field.{Field}
 use Rattle.item_schema.specs.Items.{IsItemOf}
-use Rattle.rate_expr.specs.Behind.{IsBehind}
+use Rattle.rate_expr.specs.After.{IsAfter}
 use Rattle.rate_expr.specs.Words.{Word, IsWordOf}
 use Rattle.rate_expr.specs.declared.state.State.{State}
 use Rattle.rate_expr.specs.declared.state.State.TheVariants.{Initial, At}
@@ -18,9 +18,9 @@ mask_of Initial = 0
 mask_of (At mask) = mask
 
 -- the states of the pair are those after the word
-abbrev pub AreBehind : Automaton → Automaton → Word → Pair → Type 0
-AreBehind first second word pair =
-    IsBehind first.sets word pair.first × IsBehind second.sets word pair.second
+abbrev pub AreAfter : Automaton → Automaton → Word → Pair → Type 0
+AreAfter first second word pair =
+    IsAfter first.sets word pair.first × IsAfter second.sets word pair.second
 
 -- the masks have exactly the positions that may be next after the states of the pair
 abbrev pub AreWaysOnFrom : Automaton → Automaton → Pair → ℕ × ℕ → Type 0
@@ -30,7 +30,7 @@ AreWaysOnFrom first second pair ways =
 -- some word of items of the stream leads to the pair
 abbrev pub IsReached : Automaton → Automaton → Pair → Type 0
 IsReached first second pair = (word : Word) × IsWordOf first.cells.layout.columns word
-    × AreBehind first second word pair
+    × AreAfter first second word pair
 
 -- words lead to each of these pairs, and they are not more than the limit
 pub record AreReached (first second : Automaton) (pairs : List Pair) : Type 0 where
@@ -41,7 +41,7 @@ pub record AreReached (first second : Automaton) (pairs : List Pair) : Type 0 wh
 pub record AreAll (first second : Automaton) (pairs : List Pair) : Type 0 where
   pub reached : AreReached first second pairs
   pub whole : (word : Word) → IsWordOf first.cells.layout.columns word
-      → (pair : Pair) × Contains pairs pair × AreBehind first second word pair
+      → (pair : Pair) × Contains pairs pair × AreAfter first second word pair
 
 -- each item of the stream leads from the pair to one of these pairs
 abbrev pub LeadsInto : Automaton → Automaton → List Pair → Pair → Type 0

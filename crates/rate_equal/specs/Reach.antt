@@ -2,7 +2,7 @@
 use Rattle.std.specs.Prelude.{◌≡◌, ℕ, List, length, AllPairs}
 use Rattle.std.specs.List.{AllByRecursion}
 use Rattle.item_schema.specs.declared.column.Column.{Column}
-use Rattle.rate_expr.specs.Behind.{IsBehind}
+use Rattle.rate_expr.specs.After.{IsAfter}
 use Rattle.rate_expr.specs.Sets.{Sets}
 use Rattle.rate_expr.specs.Words.{Word, IsWordOf}
 use Rattle.rate_expr.specs.declared.state.State.{State}
@@ -13,12 +13,12 @@ max_reach = 4096
 
 -- the words lead to different states
 abbrev pub LeadApart : Sets → Word → Word → Type 0
-LeadApart sets u v = (s s' : State) → IsBehind sets u s → IsBehind sets v s' → s ≡ s' → ⊥
+LeadApart sets u v = (s s' : State) → IsAfter sets u s → IsAfter sets v s' → s ≡ s' → ⊥
 
 -- the words lead to different pairs of a state of the one automaton and a state of the other
 abbrev pub LeadToApart : Sets → Sets → Word → Word → Type 0
-LeadToApart first second u v = (s s' t t' : State) → IsBehind first u s → IsBehind first v s'
-    → IsBehind second u t → IsBehind second v t' → s ≡ s' → t ≡ t' → ⊥
+LeadToApart first second u v = (s s' t t' : State) → IsAfter first u s → IsAfter first v s'
+    → IsAfter second u t → IsAfter second v t' → s ≡ s' → t ≡ t' → ⊥
 
 -- there are `count` words of items of these columns, of which each two differ in a given way
 pub record Differ (columns : List Column) (different : Word → Word → Type 0) (count : ℕ) : Type 0 where

@@ -4,12 +4,12 @@ use Rattle.std.proofs.lemmas.List.{take_at}
 use Rattle.predicate_cells.specs.Predicates.{Predicate}
 use Rattle.rate_expr.specs.declared.part.Part.{Part}
 use Rattle.rate_expr.specs.FirstLastFollow.{AreSetsOf}
-use Rattle.rate_expr.specs.Joined.{moved, part_moved, ends_of, ends_behind, with_ends, with_links, beside, sets_of_one}
+use Rattle.rate_expr.specs.Joined.{moved, part_moved, ends_of, ends_after, with_ends, with_links, beside, sets_of_one}
 use Rattle.rate_expr.specs.Parts.{all_linked, of_choice, of_sequence, of_star}
 use Rattle.rate_expr.specs.Rates as rates
 use Rattle.rate_expr.specs.Rates.{Expression}
 use Rattle.rate_expr.specs.Sets.{Sets, AreSets}
-use Rattle.rate_expr.proofs.JoinedSets.{AreFew, beside_sets, linked_sets, behind_below, choice_below, sequence_below, choice_of, sequence_of, star_of, one_of}
+use Rattle.rate_expr.proofs.JoinedSets.{AreFew, beside_sets, linked_sets, after_below, choice_below, sequence_below, choice_of, sequence_of, star_of, one_of}
 use Rattle.rate_expr.proofs.Linking.{length-all_linked}
 
 -- the sets with other masks and predicates
@@ -80,17 +80,17 @@ beside_made a b left right count others follow preds is also are of_b few counte
         ∙ ap (λ (p : List Predicate). with_lists a (beside a b).follow p) list
 
 -- two parts, the ends of both, and their positions beside each other
-pub record AreReady (a b : Sets) (part behind : Part) (sets : Sets) : Type 0 where
+pub record AreReady (a b : Sets) (part after : Part) (sets : Sets) : Type 0 where
   pub both : AreFew a b
   pub ends : part ≡ ends_of a
-  pub others : behind ≡ ends_behind a b
+  pub others : after ≡ ends_after a b
   pub beside_is : sets ≡ beside a b
 
-pub ready : (a b : Sets) (part other behind : Part) (count : ℕ) (sets : Sets) → AreSets a
+pub ready : (a b : Sets) (part other after : Part) (count : ℕ) (sets : Sets) → AreSets a
     → AreSets b → length a.preds + length b.preds ≤ 128 → part ≡ ends_of a → other ≡ ends_of b
-    → count ≡ length a.preds → behind ≡ part_moved count other → sets ≡ beside a b
-    → AreReady a b part behind sets
-ready a b part other behind count sets are also few ends others counted moves is = record {
+    → count ≡ length a.preds → after ≡ part_moved count other → sets ≡ beside a b
+    → AreReady a b part after sets
+ready a b part other after count sets are also few ends others counted moves is = record {
   both = record { first = are; second = also; few = few };
   ends = ends;
   others = moves
@@ -103,78 +103,78 @@ ready a b part other behind count sets are also few ends others counted moves is
 abbrev IsBelow : ℕ → Part → Type 0
 IsBelow k part = (part.first < 2 ^ k) × (part.last < 2 ^ k)
 
-pub behind_bounds : (a b : Sets) (part behind : Part) (sets : Sets)
-    → AreReady a b part behind sets → IsBelow (length sets.preds) behind
-behind_bounds a b part behind sets known =
-    subst (λ (s : Sets). IsBelow (length s.preds) behind) (sym known.beside_is)
+pub after_bounds : (a b : Sets) (part after : Part) (sets : Sets)
+    → AreReady a b part after sets → IsBelow (length sets.preds) after
+after_bounds a b part after sets known =
+    subst (λ (s : Sets). IsBelow (length s.preds) after) (sym known.beside_is)
     (subst (λ (p : Part). IsBelow (length (a.preds ++ b.preds)) p) (sym known.others)
-    (behind_below a b known.both))
+    (after_below a b known.both))
 
 -- the ends of a choice and of a sequence
-choice_part : (a b : Sets) (part behind : Part) (sets : Sets) → AreReady a b part behind sets
-    → of_choice part behind ≡ of_choice (ends_of a) (ends_behind a b)
-choice_part a b part behind sets known =
-    ap (λ (p : Part). of_choice p behind) known.ends
+choice_part : (a b : Sets) (part after : Part) (sets : Sets) → AreReady a b part after sets
+    → of_choice part after ≡ of_choice (ends_of a) (ends_after a b)
+choice_part a b part after sets known =
+    ap (λ (p : Part). of_choice p after) known.ends
     ∙ ap (λ (p : Part). of_choice (ends_of a) p) known.others
 
-sequence_part : (a b : Sets) (part behind : Part) (sets : Sets) → AreReady a b part behind sets
-    → of_sequence part behind ≡ of_sequence (ends_of a) (ends_behind a b)
-sequence_part a b part behind sets known =
-    ap (λ (p : Part). of_sequence p behind) known.ends
+sequence_part : (a b : Sets) (part after : Part) (sets : Sets) → AreReady a b part after sets
+    → of_sequence part after ≡ of_sequence (ends_of a) (ends_after a b)
+sequence_part a b part after sets known =
+    ap (λ (p : Part). of_sequence p after) known.ends
     ∙ ap (λ (p : Part). of_sequence (ends_of a) p) known.others
 
-pub choice_bounds : (a b : Sets) (part behind whole : Part) (sets : Sets)
-    → AreReady a b part behind sets → whole ≡ of_choice part behind
+pub choice_bounds : (a b : Sets) (part after whole : Part) (sets : Sets)
+    → AreReady a b part after sets → whole ≡ of_choice part after
     → IsBelow (length sets.preds) whole
-choice_bounds a b part behind whole sets known is =
+choice_bounds a b part after whole sets known is =
     subst (λ (s : Sets). IsBelow (length s.preds) whole) (sym known.beside_is)
     (subst (λ (p : Part). IsBelow (length (a.preds ++ b.preds)) p)
-    (sym (is ∙ choice_part a b part behind sets known)) (choice_below a b known.both))
+    (sym (is ∙ choice_part a b part after sets known)) (choice_below a b known.both))
 
-pub choice_made : (a b : Sets) (part behind whole : Part) (sets result : Sets)
-    → AreReady a b part behind sets → whole ≡ of_choice part behind → result ≡ with_ends sets whole
+pub choice_made : (a b : Sets) (part after whole : Part) (sets result : Sets)
+    → AreReady a b part after sets → whole ≡ of_choice part after → result ≡ with_ends sets whole
     → (r s : Expression) → AreSetsOf a r → AreSetsOf b s → AreSetsOf result (rates.choice r s)
-choice_made a b part behind whole sets result known is made r s of_r of_s =
+choice_made a b part after whole sets result known is made r s of_r of_s =
     subst (λ (x : Sets). AreSetsOf x (rates.choice r s)) (sym same)
     (choice_of a b r s known.both of_r of_s)
   where
-    same : result ≡ with_ends (beside a b) (of_choice (ends_of a) (ends_behind a b))
+    same : result ≡ with_ends (beside a b) (of_choice (ends_of a) (ends_after a b))
     same =
         made
         ∙ ap (λ (x : Sets). with_ends x whole) known.beside_is
-        ∙ ap (with_ends (beside a b)) (is ∙ choice_part a b part behind sets known)
+        ∙ ap (with_ends (beside a b)) (is ∙ choice_part a b part after sets known)
 
-pub sequence_bounds : (a b : Sets) (part behind whole : Part) (sets linked : Sets)
-    → AreReady a b part behind sets → linked ≡ with_links sets part.last behind.first
-    → whole ≡ of_sequence part behind → IsBelow (length linked.preds) whole
-sequence_bounds a b part behind whole sets linked known links is =
+pub sequence_bounds : (a b : Sets) (part after whole : Part) (sets linked : Sets)
+    → AreReady a b part after sets → linked ≡ with_links sets part.last after.first
+    → whole ≡ of_sequence part after → IsBelow (length linked.preds) whole
+sequence_bounds a b part after whole sets linked known links is =
     subst (λ (s : Sets). IsBelow (length s.preds) whole) (sym links)
     (subst (λ (s : Sets). IsBelow (length s.preds) whole) (sym known.beside_is)
     (subst (λ (p : Part). IsBelow (length (a.preds ++ b.preds)) p)
-    (sym (is ∙ sequence_part a b part behind sets known)) (sequence_below a b known.both)))
+    (sym (is ∙ sequence_part a b part after sets known)) (sequence_below a b known.both)))
 
-pub sequence_made : (a b : Sets) (part behind whole : Part) (sets linked result : Sets)
-    → AreReady a b part behind sets → linked ≡ with_links sets part.last behind.first
-    → whole ≡ of_sequence part behind → result ≡ with_ends linked whole → (r s : Expression)
+pub sequence_made : (a b : Sets) (part after whole : Part) (sets linked result : Sets)
+    → AreReady a b part after sets → linked ≡ with_links sets part.last after.first
+    → whole ≡ of_sequence part after → result ≡ with_ends linked whole → (r s : Expression)
     → AreSetsOf a r → AreSetsOf b s → AreSetsOf result (rates.sequence r s)
-sequence_made a b part behind whole sets linked result known links is made r s of_r of_s =
+sequence_made a b part after whole sets linked result known links is made r s of_r of_s =
     subst (λ (x : Sets). AreSetsOf x (rates.sequence r s)) (sym same)
     (sequence_of a b r s known.both of_r of_s)
   where
-    linked_is : linked ≡ with_links (beside a b) a.last (ends_behind a b).first
+    linked_is : linked ≡ with_links (beside a b) a.last (ends_after a b).first
     linked_is =
         links
-        ∙ ap (λ (x : Sets). with_links x part.last behind.first) known.beside_is
-        ∙ ap (λ (p : Part). with_links (beside a b) p.last behind.first) known.ends
+        ∙ ap (λ (x : Sets). with_links x part.last after.first) known.beside_is
+        ∙ ap (λ (p : Part). with_links (beside a b) p.last after.first) known.ends
         ∙ ap (λ (p : Part). with_links (beside a b) a.last p.first) known.others
 
-    same : result ≡ with_ends (with_links (beside a b) a.last (ends_behind a b).first)
-        (of_sequence (ends_of a) (ends_behind a b))
+    same : result ≡ with_ends (with_links (beside a b) a.last (ends_after a b).first)
+        (of_sequence (ends_of a) (ends_after a b))
     same =
         made
         ∙ ap (λ (x : Sets). with_ends x whole) linked_is
-        ∙ ap (with_ends (with_links (beside a b) a.last (ends_behind a b).first))
-        (is ∙ sequence_part a b part behind sets known)
+        ∙ ap (with_ends (with_links (beside a b) a.last (ends_after a b).first))
+        (is ∙ sequence_part a b part after sets known)
 
 -- a star
 pub star_made : (a : Sets) (part whole : Part) (linked result : Sets) → AreSets a

@@ -6,7 +6,7 @@ use Rattle.std.specs.List.{AllByRecursion}
 use Rattle.predicate_cells.specs.Predicates.{Predicate}
 use Rattle.rate_expr.specs.declared.part.Part.{Part}
 use Rattle.rate_expr.specs.FirstLastFollow.{AreSetsOf, IsFirst, IsLast, IsFollowedBy}
-use Rattle.rate_expr.specs.Joined.{moved, ends_of, ends_behind, with_ends, with_links, beside, sets_of_empty, sets_of_one, sets_of_choice, sets_of_sequence, sets_of_star}
+use Rattle.rate_expr.specs.Joined.{moved, ends_of, ends_after, with_ends, with_links, beside, sets_of_empty, sets_of_one, sets_of_choice, sets_of_sequence, sets_of_star}
 use Rattle.rate_expr.specs.Parts.{of_choice, of_sequence}
 use Rattle.rate_expr.specs.Rates.{Expression, empty, one, sequence, choice, star, size_of, preds_of}
 use Rattle.rate_expr.specs.Sets.{Sets, AreSets}
@@ -91,39 +91,39 @@ ends_sets a part are first last =
     record { few = are.few; each = are.each; first = first; last = last; follow = are.follow }
 
 -- where words of the second begin and end there
-pub behind_below : (a b : Sets) → AreFew a b
-    → ((ends_behind a b).first < 2 ^ length (a.preds ++ b.preds))
-    × ((ends_behind a b).last < 2 ^ length (a.preds ++ b.preds))
-behind_below a b both =
+pub after_below : (a b : Sets) → AreFew a b
+    → ((ends_after a b).first < 2 ^ length (a.preds ++ b.preds))
+    × ((ends_after a b).last < 2 ^ length (a.preds ++ b.preds))
+after_below a b both =
     let long = sym (length-append a.preds b.preds) in (
-      subst (λ (k : ℕ). (ends_behind a b).first < 2 ^ k) long
+      subst (λ (k : ℕ). (ends_after a b).first < 2 ^ k) long
           (moved_below (length a.preds) b.first (length b.preds) both.second.first both.few),
-      subst (λ (k : ℕ). (ends_behind a b).last < 2 ^ k) long
+      subst (λ (k : ℕ). (ends_after a b).last < 2 ^ k) long
           (moved_below (length a.preds) b.last (length b.preds) both.second.last both.few),
     )
 
 -- and where those of a choice do
 pub choice_below : (a b : Sets) → AreFew a b
-    → ((of_choice (ends_of a) (ends_behind a b)).first < 2 ^ length (a.preds ++ b.preds))
-    × ((of_choice (ends_of a) (ends_behind a b)).last < 2 ^ length (a.preds ++ b.preds))
+    → ((of_choice (ends_of a) (ends_after a b)).first < 2 ^ length (a.preds ++ b.preds))
+    × ((of_choice (ends_of a) (ends_after a b)).last < 2 ^ length (a.preds ++ b.preds))
 choice_below a b both =
     let k = length (a.preds ++ b.preds) in
     let left = beside_sets a b both in
-    let right = behind_below a b both in (
-      or_lt k a.first (ends_behind a b).first left.first right.0,
-      or_lt k a.last (ends_behind a b).last left.last right.1,
+    let right = after_below a b both in (
+      or_lt k a.first (ends_after a b).first left.first right.0,
+      or_lt k a.last (ends_after a b).last left.last right.1,
     )
 
 -- and of a sequence
 pub sequence_below : (a b : Sets) → AreFew a b
-    → ((of_sequence (ends_of a) (ends_behind a b)).first < 2 ^ length (a.preds ++ b.preds))
-    × ((of_sequence (ends_of a) (ends_behind a b)).last < 2 ^ length (a.preds ++ b.preds))
+    → ((of_sequence (ends_of a) (ends_after a b)).first < 2 ^ length (a.preds ++ b.preds))
+    × ((of_sequence (ends_of a) (ends_after a b)).last < 2 ^ length (a.preds ++ b.preds))
 sequence_below a b both =
     let k = length (a.preds ++ b.preds) in
     let left = beside_sets a b both in
-    let right = behind_below a b both in (
-      with_if_below k a.first a.nullable (ends_behind a b).first left.first right.0,
-      with_if_below k (ends_behind a b).last b.nullable a.last right.1 left.last,
+    let right = after_below a b both in (
+      with_if_below k a.first a.nullable (ends_after a b).first left.first right.0,
+      with_if_below k (ends_after a b).last b.nullable a.last right.1 left.last,
     )
 
 -- where words of a rate begin and end
@@ -137,10 +137,10 @@ count_is a r are =
     let same = ap length are.preds in
     omega arith
 
-behind_are : (a b : Sets) (r s : Expression) → AreFew a b → AreSetsOf a r → AreSetsOf b s
-    → AreEnds (0 + size_of r) (ends_behind a b) s
-behind_are a b r s both of_r of_s =
-    subst (λ (base : ℕ). AreEnds base (ends_behind a b) s) (count_is a r of_r)
+after_are : (a b : Sets) (r s : Expression) → AreFew a b → AreSetsOf a r → AreSetsOf b s
+    → AreEnds (0 + size_of r) (ends_after a b) s
+after_are a b r s both of_r of_s =
+    subst (λ (base : ℕ). AreEnds base (ends_after a b) s) (count_is a r of_r)
     (ends_higher (length a.preds) (length b.preds) (ends_of b) s both.second.first both.second.last
     both.few (ends_are b s of_s))
 
@@ -164,8 +164,8 @@ preds_are a b r s of_r of_s =
 pub choice_of : (a b : Sets) (r s : Expression) → AreFew a b → AreSetsOf a r → AreSetsOf b s
     → AreSetsOf (sets_of_choice a b) (choice r s)
 choice_of a b r s both of_r of_s =
-    let ends = choice_ends 0 (ends_of a) (ends_behind a b) r s (ends_are a r of_r)
-    (behind_are a b r s both of_r of_s) in
+    let ends = choice_ends 0 (ends_of a) (ends_after a b) r s (ends_are a r of_r)
+    (after_are a b r s both of_r of_s) in
     record {
       nullable = ends.nullable;
       first = ends.first;
@@ -178,8 +178,8 @@ choice_of a b r s both of_r of_s =
 pub sequence_of : (a b : Sets) (r s : Expression) → AreFew a b → AreSetsOf a r → AreSetsOf b s
     → AreSetsOf (sets_of_sequence a b) (sequence r s)
 sequence_of a b r s both of_r of_s =
-    let behind = behind_are a b r s both of_r of_s in
-    let ends = sequence_ends 0 (ends_of a) (ends_behind a b) r s (ends_are a r of_r) behind in
+    let after = after_are a b r s both of_r of_s in
+    let ends = sequence_ends 0 (ends_of a) (ends_after a b) r s (ends_are a r of_r) after in
     let long = follow_long a b both in
     let within : a.last < 2 ^ length (beside a b).follow =
     raised a.last (length a.preds) (length (beside a b).follow) (omega arith) both.first.last in
@@ -187,10 +187,10 @@ sequence_of a b r s both of_r of_s =
       nullable = ends.nullable;
       first = ends.first;
       last = ends.last;
-      follow = λ i n. steps_linked a.last (ends_behind a b).first (beside a b).follow i n
+      follow = λ i n. steps_linked a.last (ends_after a b).first (beside a b).follow i n
           (IsFollowedBy r 0 i n ⊎ IsFollowedBy s (0 + size_of r) i n) (IsLast r 0 i)
           (IsFirst s (0 + size_of r) n) within (goes_are a b r s both of_r of_s i n)
-          (of_r.last i) (behind.first n);
+          (of_r.last i) (after.first n);
       preds = preds_are a b r s of_r of_s;
     }
 

@@ -12,17 +12,17 @@ use Rattle.rate_expr.proofs.Moved.{is_moved}
 use Rattle.rate_expr.proofs.Renumbered.{follow_from}
 
 -- a step of the masks behind others
-abbrev GoesBehind : List ℕ → List ℕ → ℕ → ℕ → Type 0
-GoesBehind xs ys i n = (j : ℕ) × (length xs + j ≡ i) × Goes ys j n
+abbrev GoesAfter : List ℕ → List ℕ → ℕ → ℕ → Type 0
+GoesAfter xs ys i n = (j : ℕ) × (length xs + j ≡ i) × Goes ys j n
 
 -- a step of two lists of masks, one behind the other, is one of either
-goes_in_one : (xs ys : List ℕ) (i n : ℕ) → Goes (xs ++ ys) i n → Goes xs i n ⊎ GoesBehind xs ys i n
+goes_in_one : (xs ys : List ℕ) (i n : ℕ) → Goes (xs ++ ys) i n → Goes xs i n ⊎ GoesAfter xs ys i n
 goes_in_one [] ys i n goes = inr (i, omega arith, goes)
 goes_in_one (x ∷ xs) ys zero n goes = inl goes
 goes_in_one (x ∷ xs) ys (suc i) n goes = further (goes_in_one xs ys i n goes)
   where
-    further : Goes xs i n ⊎ GoesBehind xs ys i n
-        → Goes (x ∷ xs) (suc i) n ⊎ GoesBehind (x ∷ xs) ys (suc i) n
+    further : Goes xs i n ⊎ GoesAfter xs ys i n
+        → Goes (x ∷ xs) (suc i) n ⊎ GoesAfter (x ∷ xs) ys (suc i) n
     further (inl there) = inl there
     further (inr (j, at, there)) =
         let next : suc (length xs) + j ≡ suc i = omega arith in inr (j, next, there)
@@ -80,7 +80,7 @@ steps_beside count long xs ys r s is_long is_size few all of_r of_s i n =
     base : count ≡ 0 + size_of r
     base = omega arith
 
-    there : Goes xs i n ⊎ GoesBehind xs (map (moved count) ys) i n
+    there : Goes xs i n ⊎ GoesAfter xs (map (moved count) ys) i n
         → IsFollowedBy r 0 i n ⊎ IsFollowedBy s (0 + size_of r) i n
     there (inl goes) = inl ((of_r i n).0 goes)
     there (inr (j, at, goes)) =

@@ -27,6 +27,6 @@ pub mod SetsOf
 pub mod Sharing
 pub mod Spelled
 pub mod Stars
-pub mod StatesBehind
+pub mod StatesAfter
 pub mod Textbook
 pub mod Wording

@@ -35,9 +35,9 @@ meets_before (first ∷ preds) pred zero item meets = meets
 meets_before (first ∷ preds) pred (suc n) item meets = meets_before preds pred n item meets
 
 -- and is at the next
-meets_behind : (preds : List Predicate) (pred : Predicate) (item : List Field) → holds pred item ≡ true → MeetsAt (preds ++ pred ∷ []) (length preds) item
-meets_behind [] pred item meet = (pred, refl, meet)
-meets_behind (first ∷ preds) pred item meet = meets_behind preds pred item meet
+meets_after : (preds : List Predicate) (pred : Predicate) (item : List Field) → holds pred item ≡ true → MeetsAt (preds ++ pred ∷ []) (length preds) item
+meets_after [] pred item meet = (pred, refl, meet)
+meets_after (first ∷ preds) pred item meet = meets_after preds pred item meet
 
 -- and there alone
 meets_no_more : (preds : List Predicate) (pred : Predicate) (n : ℕ) (item : List Field) → MeetsAt (preds ++ pred ∷ []) n item → MeetsAt preds n item ⊎ (length preds ≡ n) × (holds pred item ≡ true)
@@ -87,7 +87,7 @@ add_preds empty base before is = record {
 }
 add_preds (one pred) base before is = record {
   kept = meets_before before pred;
-  each = λ p item meet. subst (λ (n : ℕ). MeetsAt (before ++ pred ∷ []) n item) is (meets_behind before pred item meet);
+  each = λ p item meet. subst (λ (n : ℕ). MeetsAt (before ++ pred ∷ []) n item) is (meets_after before pred item meet);
   only = λ n item meets. found n item (meets_no_more before pred n item meets);
 }
   where

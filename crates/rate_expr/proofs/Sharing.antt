@@ -15,9 +15,9 @@ got_before [] x y i found = absurd (cc)
 got_before (first ∷ xs) x y zero found = found
 got_before (first ∷ xs) x y (suc i) found = got_before xs x y i found
 
-pub got_behind : {X : Type 0} (xs : List X) (x : X) → slice_get (xs ++ x ∷ []) (length xs) ≡ Some x
-got_behind [] x = refl
-got_behind (first ∷ xs) x = got_behind xs x
+pub got_after : {X : Type 0} (xs : List X) (x : X) → slice_get (xs ++ x ∷ []) (length xs) ≡ Some x
+got_after [] x = refl
+got_after (first ∷ xs) x = got_after xs x
 
 pub got_push : {X : Type 0} (xs : List X) (x y : X) (i : ℕ) → slice_get (xs ++ x ∷ []) i ≡ Some y → (slice_get xs i ≡ Some y) ⊎ ((i ≡ length xs) × (x ≡ y))
 got_push [] x y zero found = inr (refl, cc)
@@ -113,13 +113,13 @@ shared_new shared pred are new = record {
 
     once : (place other : ℕ) (p : Predicate) → (slice_get shared.distinct place ≡ Some p) ⊎ ((place ≡ length shared.distinct) × (pred ≡ p)) → (slice_get shared.distinct other ≡ Some p) ⊎ ((other ≡ length shared.distinct) × (pred ≡ p)) → other ≡ place
     once place other p (inl at) (inl also) = are.once place other p at also
-    once place other p (inl at) (inr (behind, same)) = absurd (is_new place p at same)
-    once place other p (inr (behind, same)) (inl also) = absurd (is_new other p also same)
-    once place other p (inr (behind, same)) (inr (too, also)) = too ∙ sym behind
+    once place other p (inl at) (inr (after, same)) = absurd (is_new place p at same)
+    once place other p (inr (after, same)) (inl also) = absurd (is_new other p also same)
+    once place other p (inr (after, same)) (inr (too, also)) = too ∙ sym after
 
     used : (place : ℕ) → (place ≡ length shared.distinct) ⊎ (place < length shared.distinct) → (position : ℕ) × (slice_get (shared.places ++ length shared.distinct ∷ []) position ≡ Some place)
     used place (inl same) =
-        (length shared.places, got_behind shared.places (length shared.distinct) ∙ ap Some (sym same))
+        (length shared.places, got_after shared.places (length shared.distinct) ∙ ap Some (sym same))
     used place (inr below) =
         let at = are.used place below in (at.0, got_before shared.places (length shared.distinct) place at.0 at.1)
 

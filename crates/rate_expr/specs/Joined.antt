@@ -62,18 +62,18 @@ sets_of_one pred =
     record { nullable = false; first = 1; last = 1; follow = 0 ∷ []; preds = pred ∷ [] }
 
 -- where words of `b` begin and end once its positions are appended to those of `a`
-abbrev pub ends_behind : Sets → Sets → Part
-ends_behind a b = part_moved (length a.preds) (ends_of b)
+abbrev pub ends_after : Sets → Sets → Part
+ends_after a b = part_moved (length a.preds) (ends_of b)
 
 -- the sets for the words of either
 abbrev pub sets_of_choice : Sets → Sets → Sets
-sets_of_choice a b = with_ends (beside a b) (of_choice (ends_of a) (ends_behind a b))
+sets_of_choice a b = with_ends (beside a b) (of_choice (ends_of a) (ends_after a b))
 
 -- the sets for a word of the first and then one of the second
 abbrev pub sets_of_sequence : Sets → Sets → Sets
 sets_of_sequence a b =
-    with_ends (with_links (beside a b) a.last (ends_behind a b).first)
-    (of_sequence (ends_of a) (ends_behind a b))
+    with_ends (with_links (beside a b) a.last (ends_after a b).first)
+    (of_sequence (ends_of a) (ends_after a b))
 
 -- the sets for any number of words, one after the other
 abbrev pub sets_of_star : Sets → Sets

@@ -1,4 +1,4 @@
-pub mod Behind
+pub mod After
 pub mod FirstLastFollow
 pub mod Joined
 pub mod Language

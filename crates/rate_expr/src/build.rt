@@ -93,7 +93,7 @@ fn add_sequence(
         ++ preds_of (sequence (plain_of first.now) (plain_of second.now))) }
 {
     let before = add(first, follow, preds)?;
-    let behind = add(second, follow, preds)?;
-    link(follow, before.last, behind.first);
-    Ok(before.then(behind))
+    let after = add(second, follow, preds)?;
+    link(follow, before.last, after.first);
+    Ok(before.then(after))
 }

@@ -27,9 +27,9 @@ impl Positions {
             → IfOk result (λ sets. AreSetsOf sets (sequence r s)) }
     {
         let before = self.ends();
-        let behind = other.ends().moved(self.count());
-        let linked = self.beside(other)?.with_links(before.last, behind.first);
-        Ok(linked.with_ends(before.then(behind)))
+        let after = other.ends().moved(self.count());
+        let linked = self.beside(other)?.with_links(before.last, after.first);
+        Ok(linked.with_ends(before.then(after)))
     }
 
     /// Any number of words of the rate, one after the other.

@@ -1,6 +1,6 @@
 //! What holds of every rate, of its sets, and of the states after words.
 ghost use Rattle.std.specs.Prelude.{◌≡◌, ◌⊎◌};
-ghost use Rattle.rate_expr.specs.Behind.{IsBehind, IsStateOf};
+ghost use Rattle.rate_expr.specs.After.{IsAfter, IsStateOf};
 ghost use Rattle.rate_expr.specs.FirstLastFollow.{AreSetsOf};
 ghost use Rattle.rate_expr.specs.Language.{In};
 ghost use Rattle.rate_expr.specs.Paths.{AreOf};
@@ -27,10 +27,10 @@ pub fn one_automaton_of_a_rate()
 {}
 
 /// After each word there is exactly one state.
-pub fn one_state_behind_a_word()
-    ensures some { (sets : Sets) (word : Word) → (state : State) × IsBehind sets word state }
+pub fn one_state_after_a_word()
+    ensures some { (sets : Sets) (word : Word) → (state : State) × IsAfter sets word state }
     ensures only { (sets : Sets) (word : Word) (state other : State)
-        → IsBehind sets word state → IsBehind sets word other → other ≡ state }
+        → IsAfter sets word state → IsAfter sets word other → other ≡ state }
     ensures exists { (sets : Sets) (word : Word) (state : State)
-        → IsBehind sets word state → IsStateOf sets state }
+        → IsAfter sets word state → IsStateOf sets state }
 {}

@@ -14,7 +14,7 @@ mod shared_preds;
 mod state;
 
 pub use laws::{
-    each_word_is_in_or_not, one_automaton_of_a_rate, one_state_behind_a_word, sets_spell_their_rate,
+    each_word_is_in_or_not, one_automaton_of_a_rate, one_state_after_a_word, sets_spell_their_rate,
 };
 pub use positions::Positions;
 pub use rate::{MAX_POSITIONS, Rate};

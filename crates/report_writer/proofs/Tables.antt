@@ -48,10 +48,10 @@ entries_text-next entries place key scalar is_key is_scalar =
 
 -- behind a front and the entries so far, the parts of an entry make the text of one entry more
 pub pushed_entry : (result : Result (Unit {0}) AllocError) (entries : List (List ℕ × Scalar)) (place : ℕ)
-    (key : List ℕ) (scalar : Scalar) (old behind_comma behind_key behind_colon new : List ℕ)
+    (key : List ℕ) (scalar : Scalar) (old after_comma after_key after_colon new : List ℕ)
     → slice_get (keys_of entries) place ≡ Some key → slice_get (values_of entries) place ≡ Some scalar
-    → behind_comma ≡ old ++ comma_at place → behind_key ≡ behind_comma ++ key_text key
-    → behind_colon ≡ behind_key ++ codes ":" → OnOk result (new ≡ behind_colon ++ scalar_text scalar)
+    → after_comma ≡ old ++ comma_at place → after_key ≡ after_comma ++ key_text key
+    → after_colon ≡ after_key ++ codes ":" → OnOk result (new ≡ after_colon ++ scalar_text scalar)
     → OnOk result ((front : List ℕ) → old ≡ front ++ entries_text (take place entries)
     → new ≡ front ++ entries_text (take (place + 1) entries))
 pushed_entry (Err error) entries place key scalar old a b c new is_key is_scalar comma keyed colon last = tt

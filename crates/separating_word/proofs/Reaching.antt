@@ -2,7 +2,7 @@
 use Rattle.std.proofs.Common.{◌≡◌, ℕ, ◌+◌, ◌<◌, ◌^◌, List, [], ◌∷◌, ◌++◌, length, length-append, get_or, sym, ap, subst, arith}
 use Rattle.std.proofs.lemmas.List.Elements.{All-push}
 use Rattle.predicate_cells.specs.Cells.{cell_count}
-use Rattle.rate_expr.specs.Behind.{IsStateOf}
+use Rattle.rate_expr.specs.After.{IsStateOf}
 use Rattle.rate_expr.specs.declared.state.State.TheVariants.{At}
 use Rattle.symbolic_nfa.specs.States.{AreWaysOn}
 use Rattle.separating_word.specs.Letters.{AreLetters, target}

@@ -8,7 +8,7 @@ use Rattle.rate_expr.specs.Words.{Word, IsWordOf}
 use Rattle.rate_expr.specs.declared.state.State.{State}
 use Rattle.rate_expr.specs.declared.state.State.TheVariants.{Initial, At}
 use Rattle.rate_expr.proofs.Wording.{word_parts}
-use Rattle.symbolic_nfa.proofs.WordsBehind.{is_behind-step}
+use Rattle.symbolic_nfa.proofs.WordsAfter.{is_after-step}
 use Rattle.separating_word.specs.Searched.{Agree, AgreeBelow, AreAfter, AreAmong, AreKnown, IsGrown, IsSearched, LeadIntoKnown}
 use Rattle.separating_word.specs.declared.automata.Automata.{Automata}
 use Rattle.separating_word.specs.declared.search.Reached.{Reached}
@@ -118,8 +118,8 @@ module _ (automata : Automata) where
           At led.0.0,
           At led.0.1,
           (
-            is_behind-step automata.left.sets word at.0 (At led.0.0) item at.2.0 led.2,
-            is_behind-step automata.right.sets word at.1 (At led.0.1) item at.2.1 led.3,
+            is_after-step automata.left.sets word at.0 (At led.0.0) item at.2.0 led.2,
+            is_after-step automata.right.sets word at.1 (At led.0.1) item at.2.1 led.3,
           ),
           led.1,
         )

@@ -6,7 +6,7 @@ use Rattle.query_model.specs.Monitors.{monitor_of}
 use Rattle.query_model.specs.Queries.{plain_of}
 use Rattle.query_model.specs.Rates.{rate_of}
 use Rattle.rate_expr.specs.Words.{IsWordOf}
-use Rattle.symbolic_nfa.proofs.WordsBehind.{is_accepted-in}
+use Rattle.symbolic_nfa.proofs.WordsAfter.{is_accepted-in}
 use Rattle.separating_word.specs.Pairs.{AreOfRates}
 use Rattle.separating_word.specs.Searched.{AgreeBelow}
 use Rattle.separating_word.specs.Separations.{ShareWordsBelow}

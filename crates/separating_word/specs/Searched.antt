@@ -3,7 +3,7 @@ use Rattle.std.specs.Prelude.{◌≡◌, ◌<◌, ◌≤◌, ◌⊎◌, ◌↔�
 use Rattle.std.specs.List.{Contains}
 use Rattle.value_ops.specs.declared.field.Field.{Field}
 use Rattle.item_schema.specs.Items.{IsItemOf}
-use Rattle.rate_expr.specs.Behind.{IsBehind, IsStateOf}
+use Rattle.rate_expr.specs.After.{IsAfter, IsStateOf}
 use Rattle.rate_expr.specs.Words.{Word, IsWordOf}
 use Rattle.rate_expr.specs.declared.state.State.{State}
 use Rattle.rate_expr.specs.declared.state.State.TheVariants.{Initial, At}
@@ -17,7 +17,7 @@ use Rattle.separating_word.specs.declared.search.Reached.{Reached}
 -- the states are those after the word
 abbrev pub AreAfter : Automata → Word → State → State → Type 0
 AreAfter automata word left right =
-    IsBehind automata.left.sets word left × IsBehind automata.right.sets word right
+    IsAfter automata.left.sets word left × IsAfter automata.right.sets word right
 
 -- a word may end in both states or in neither
 abbrev pub Agree : Automata → State → State → Type 0

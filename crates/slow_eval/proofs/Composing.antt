@@ -106,12 +106,12 @@ module _ (f g : Qre) (word : Word) (firsts seconds : List (Option Value)) (place
       (get_or seconds (length (stream_of (take (place + 1) firsts))) None)
   outer =
       let front = stream_of (take (place + 1) firsts) in
-      let behind = stream_of (drop (place + 1) firsts) in
-      let whole : stream_of firsts ≡ front ++ behind = stream_front firsts (place + 1) in
-      let long : length (stream_of firsts) ≡ length front + length behind =
-      ap length whole ∙ length-append front behind in
+      let after = stream_of (drop (place + 1) firsts) in
+      let whole : stream_of firsts ≡ front ++ after = stream_front firsts (place + 1) in
+      let long : length (stream_of firsts) ≡ length front + length after =
+      ap length whole ∙ length-append front after in
       subst (λ w. IsAnswer g w (get_or seconds (length front) None))
-      (ap (take (length front)) whole ∙ take_at front behind (length front) refl)
+      (ap (take (length front)) whole ∙ take_at front after (length front) refl)
       (right.each (length front) (omega arith))
 
   -- nothing else comes out

@@ -13,8 +13,8 @@ pub record IsCut (word : Word) (place : ℕ) (first second : Word) : Type 0 wher
 pub cut : (word : Word) (place : ℕ) (first second : Word) → place ≤ length word
     → take place word ≡ first ++ second → IsCut word place first second
 cut word place first second inside whole =
-    let behind = drop place word in
-    let all : word ≡ first ++ (second ++ behind) =
+    let after = drop place word in
+    let all : word ≡ first ++ (second ++ after) =
     sym (take-append-drop place word) ∙ ap (λ u. u ++ drop place word) whole ∙ append_assoc first second (drop place word) in
     record {
       count = sym (length-append first second) ∙ sym (ap length whole) ∙ length-take-le place word inside;

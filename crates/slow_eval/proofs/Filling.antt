@@ -33,7 +33,7 @@ skipped L R W expression word at row filled none = record {
 }
 
 -- the right answers behind a front
-pub record AreBehind (R : Word → Value → Type 0) (word : Word) (at : ℕ) (right : List (Option Value)) : Type 0 where
+pub record AreAfter (R : Word → Value → Type 0) (word : Word) (at : ℕ) (right : List (Option Value)) : Type 0 where
   pub count : length right ≡ length word - at + 1
   pub some : (m : ℕ) (y : Value) → at + m ≤ length word → get_or right m None ≡ Some y → R (take m (drop at word)) y
   pub none : (m : ℕ) (y : Value) → at + m ≤ length word → get_or right m None ≡ None → R (take m (drop at word)) y → ⊥
@@ -54,22 +54,22 @@ values_same a b same = cc
 -- a value at the place of a joined row
 joined_at : (L R W : Word → Value → Type 0) (expression : Expression) (word : Word) (at : ℕ)
     (old new right : List (Option Value)) (x : Value) → IsFilled L R W expression word at old
-    → IsJoined expression x right at old new → AreBehind R word at right
+    → IsJoined expression x right at old new → AreAfter R word at right
     → ((m : ℕ) (y v : Value) → at + m ≤ length word → R (take m (drop at word)) y → on_both expression x y ≡ Some v
     → W (take (at + m) word) v)
     → (m : ℕ) (v : Value) → at + m ≤ length word → get_or new (at + m) None ≡ Some v → W (take (at + m) word) v
-joined_at L R W expression word at old new right x filled is_joined behind whole m v within there =
-    let count : length right ≡ length word - at + 1 = behind.count in
+joined_at L R W expression word at old new right x filled is_joined after whole m v within there =
+    let count : length right ≡ length word - at + 1 = after.count in
     let below : m < length right = omega arith in
-    elim (put_or_same expression x _ _ _ (is_joined.behind m below)) [
+    elim (put_or_same expression x _ _ _ (is_joined.after m below)) [
       | inl (y, some, (w, is, gives)) ↦ subst (W (take (at + m) word)) (values_same w v (sym is ∙ there))
-          (whole m y w within (behind.some m y within some) gives)
+          (whole m y w within (after.some m y within some) gives)
       | inr (none, same) ↦ filled.sound (at + m) v within (sym same ∙ there)
     ]
 
 -- a place is before another, or behind it by so many
-before_or_behind : (at place : ℕ) → (place < at) ⊎ ((m : ℕ) × (place ≡ at + m))
-before_or_behind at place =
+before_or_after : (at place : ℕ) → (place < at) ⊎ ((m : ℕ) × (place ≡ at + m))
+before_or_after at place =
     elim (cases_lt place at) [
       | inl below ↦ inl below
       | inr above ↦ inr (place - at, omega arith)
@@ -78,17 +78,17 @@ before_or_behind at place =
 -- a place of a joined row stays filled
 kept_at : (L R W : Word → Value → Type 0) (expression : Expression) (word : Word) (at : ℕ)
     (old new right : List (Option Value)) (x : Value) → IsJoined expression x right at old new
-    → AreBehind R word at right → (place : ℕ) → place ≤ length word → get_or new place None ≡ None
+    → AreAfter R word at right → (place : ℕ) → place ≤ length word → get_or new place None ≡ None
     → get_or old place None ≡ None
-kept_at L R W expression word at old new right x is_joined behind place within none =
-    elim (before_or_behind at place) [
+kept_at L R W expression word at old new right x is_joined after place within none =
+    elim (before_or_after at place) [
       | inl below ↦ sym (is_joined.before place below) ∙ none
       | inr (m, is) ↦
-          let count : length right ≡ length word - at + 1 = behind.count in
+          let count : length right ≡ length word - at + 1 = after.count in
           let below : m < length right = omega arith in
           let there : get_or new (at + m) None ≡ None = subst (λ p. get_or new p None ≡ None) is none in
           subst (λ p. get_or old p None ≡ None) (sym is)
-          (elim (put_or_same expression x _ _ _ (is_joined.behind m below)) [
+          (elim (put_or_same expression x _ _ _ (is_joined.after m below)) [
             | inl (y, some, (w, given, gives)) ↦ absurd (some_not_none w _ given there)
             | inr (free, same) ↦ sym same ∙ there
           ])
@@ -97,27 +97,27 @@ kept_at L R W expression word at old new right x is_joined behind place within n
 -- a left value on the front, joined with all right values behind it
 pub joined : (L R W : Word → Value → Type 0) (expression : Expression) (word : Word) (at : ℕ)
     (old new right : List (Option Value)) (x : Value) → IsFilled L R W expression word at old
-    → IsJoined expression x right at old new → AreBehind R word at right → at ≤ length word
+    → IsJoined expression x right at old new → AreAfter R word at right → at ≤ length word
     → ((other : Value) → L (take at word) other → other ≡ x)
     → ((m : ℕ) (y v : Value) → at + m ≤ length word → R (take m (drop at word)) y → on_both expression x y ≡ Some v
     → W (take (at + m) word) v)
     → IsFilled L R W expression word (at + 1) new
-joined L R W expression word at old new right x filled is_joined behind inside one whole = record {
+joined L R W expression word at old new right x filled is_joined after inside one whole = record {
   count = is_joined.count ∙ filled.count;
-  sound = λ place v within there. elim (before_or_behind at place) [
+  sound = λ place v within there. elim (before_or_after at place) [
     | inl below ↦ filled.sound place v within (sym (is_joined.before place below) ∙ there)
     | inr (m, is) ↦ subst (λ p. W (take p word) v) (sym is)
-        (joined_at L R W expression word at old new right x filled is_joined behind whole m v
+        (joined_at L R W expression word at old new right x filled is_joined after whole m v
         (subst (λ p. p ≤ length word) is within) (subst (λ p. get_or new p None ≡ Some v) is there))
   ];
   full = below_more _ _
       (λ k below m z y v within left right_den gives none. filled.full k below m z y v within left right_den gives
-      (kept_at L R W expression word at old new right x is_joined behind (k + m) within none))
+      (kept_at L R W expression word at old new right x is_joined after (k + m) within none))
       (λ m z y v within left right_den gives none.
-      let count : length right ≡ length word - at + 1 = behind.count in
+      let count : length right ≡ length word - at + 1 = after.count in
       let below : m < length right = omega arith in
-      elim (put_or_same expression x _ _ _ (is_joined.behind m below)) [
+      elim (put_or_same expression x _ _ _ (is_joined.after m below)) [
         | inl (w, some, (u, given, made)) ↦ some_not_none u _ given none
-        | inr (free, same) ↦ behind.none m y within free right_den
+        | inr (free, same) ↦ after.none m y within free right_den
       ]);
 }

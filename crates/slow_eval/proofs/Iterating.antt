@@ -27,7 +27,7 @@ use Rattle.slow_eval.proofs.Filling.{IsFilled, joined, put_or_same, skipped, som
 use Rattle.slow_eval.proofs.Folding.{fold_less, fold_more, join_more, last_piece}
 use Rattle.slow_eval.proofs.Reading.{is_answer, is_none, of_piece, one_at}
 use Rattle.slow_eval.proofs.WellTyped.{typed_at, typed_on_both}
-use Rattle.slow_eval.proofs.Splitting.{answers_behind}
+use Rattle.slow_eval.proofs.Splitting.{answers_after}
 
 -- The values on all pieces but the last, on the last, and on the whole, where the empty front has one
 pub record IsIterated (f : Qre) (number : ℤ) (e : Expression) (word : Word) (at : ℕ)
@@ -118,7 +118,7 @@ begins_still : (e : Expression) (x : Value) (right : List (Option Value)) (from 
     → get_or new 0 None ≡ None → ⊥
 begins_still e x right zero old new n is begins some none =
     let inside : 0 < length right = omega arith in
-    elim (put_or_same e x _ _ _ (is.behind 0 inside)) [
+    elim (put_or_same e x _ _ _ (is.after 0 inside)) [
       | inl (y, there, (v, given, gives)) ↦ some_not_none v _ given none
       | inr (free, same) ↦ begins (sym same ∙ none)
     ]
@@ -134,7 +134,7 @@ iter_joined f number e word at row new x can so_far inside there (pieces, answer
     let den = so_far.filled.sound at x inside there in
     record {
       filled = joined (Den (iter f number e)) (Den f) (Den (iter f number e)) e word at row new pieces x so_far.filled
-          is_joined (answers_behind f word at pieces inside answers) inside
+          is_joined (answers_after f word at pieces inside answers) inside
           (λ other den'. one_at (iter f number e) word at x other can den den')
           (λ m y v within right gives. one_piece_more f number e word at m x y v den right gives);
       begins = begins_still e x pieces at row new _ is_joined so_far.begins answers.count;

@@ -9,7 +9,7 @@ use Rattle.query_model.specs.QueryTypes.{type_of}
 use Rattle.slow_eval.specs.Answers.{AreAnswers, CanBeRead}
 use Rattle.slow_eval.specs.Rests.{IsJoinedWithRest, IsTypedWithRest}
 use Rattle.slow_eval.proofs.Cutting.{cut}
-use Rattle.slow_eval.proofs.Filling.{AreBehind, IsFilled, joined, skipped}
+use Rattle.slow_eval.proofs.Filling.{AreAfter, IsFilled, joined, skipped}
 use Rattle.slow_eval.proofs.Reading.{is_answer, is_none, is_value, of_front, of_rest, one_at, value_at}
 use Rattle.slow_eval.proofs.WellTyped.{typed_at, typed_on_both}
 
@@ -18,9 +18,9 @@ abbrev pub IsSplit : Qre → Qre → Expression → Word → ℕ → List (Optio
 IsSplit f g e word at row = IsFilled (Den f) (Den g) (Den (split f g e)) e word at row
 
 -- the answers of a query behind a front
-pub answers_behind : (g : Qre) (word : Word) (at : ℕ) (right : List (Option Value)) → at ≤ length word
-    → AreAnswers g (drop at word) right → AreBehind (Den g) word at right
-answers_behind g word at right inside answers =
+pub answers_after : (g : Qre) (word : Word) (at : ℕ) (right : List (Option Value)) → at ≤ length word
+    → AreAnswers g (drop at word) right → AreAfter (Den g) word at right
+answers_after g word at right inside answers =
     let rest : length (drop at word) ≡ length word - at = length-drop at word in
     let count : length right ≡ length (drop at word) + 1 = answers.count in
     record {
@@ -46,7 +46,7 @@ split_joined : (f g : Qre) (e : Expression) (word : Word) (at : ℕ) (lefts row 
 split_joined f g e word at lefts row new x can left filled there (rights, right, is_joined) =
     let found = value_at f word lefts at x left there in
     joined (Den f) (Den g) (Den (split f g e)) e word at row new rights x filled is_joined
-    (answers_behind g word at rights found.0 right) found.0
+    (answers_after g word at rights found.0 right) found.0
     (λ other den. one_at f word at x other (of_front f g e word can) found.1 den)
     (λ m y v inside den gives. (take at word, take m (drop at word), x, y, take-add at m word, found.1, den, gives))
 

@@ -10,7 +10,7 @@ use Rattle.rate_expr.specs.Words.{Word}
 use Rattle.rate_expr.proofs.MaskMembers.{has_added, has_added_same, has_first, has_or, has_second, has_zero}
 use Rattle.rate_expr.proofs.MaskSets.{AreMeeting, below-more, overlap_tells}
 use Rattle.rate_expr.proofs.PathSteps.{follows_below, leads_less, leads_more, leads_one, leads_only_one, meets_below}
-use Rattle.slow_eval.specs.Fronts.{AreBehind, AreInRate, AreMet, AreSpelled}
+use Rattle.slow_eval.specs.Fronts.{AreAfter, AreInRate, AreMet, AreSpelled}
 
 -- those of the positions below a bound that the mask has and the item meets
 abbrev pub AreMetBelow : Sets → ℕ → List Field → ℕ → ℕ → Type 0
@@ -62,12 +62,12 @@ met_all sets mask item bound met so_far all position = (
 )
 
 -- the positions behind those of the mask that are below a bound
-abbrev pub AreBehindBelow : Sets → ℕ → ℕ → ℕ → Type 0
-AreBehindBelow sets mask bound behind =
-    (next : ℕ) → Has behind next ↔ ((from : ℕ) × (from < bound) × Has mask from × Follows sets from next)
+abbrev pub AreAfterBelow : Sets → ℕ → ℕ → ℕ → Type 0
+AreAfterBelow sets mask bound reached =
+    (next : ℕ) → Has reached next ↔ ((from : ℕ) × (from < bound) × Has mask from × Follows sets from next)
 
-pub behind_none : (sets : Sets) (mask : ℕ) → AreBehindBelow sets mask 0 0
-behind_none sets mask next = (
+pub after_none : (sets : Sets) (mask : ℕ) → AreAfterBelow sets mask 0 0
+after_none sets mask next = (
   λ has. absurd (has_zero next has),
   λ (from, below, has, follows). absurd (omega arith),
 )
@@ -78,23 +78,23 @@ followers : (sets : Sets) (at follow next : ℕ) → slice_get sets.follow at �
 followers sets at follow next read (other, found, has) =
     let same : other ≡ follow = cc in subst (λ m. Has m next) same has
 
-pub behind_added : (sets : Sets) (mask at behind follow : ℕ) → AreBehindBelow sets mask at behind → Has mask at
-    → slice_get sets.follow at ≡ Some follow → AreBehindBelow sets mask (at + 1) (bit_or behind follow)
-behind_added sets mask at behind follow so_far has read next = (
-  λ there. elim (has_or behind follow next there) [
+pub after_added : (sets : Sets) (mask at reached follow : ℕ) → AreAfterBelow sets mask at reached → Has mask at
+    → slice_get sets.follow at ≡ Some follow → AreAfterBelow sets mask (at + 1) (bit_or reached follow)
+after_added sets mask at reached follow so_far has read next = (
+  λ there. elim (has_or reached follow next there) [
     | inl before ↦ let (from, below, has', follows) = (so_far next).0 before in (from, omega arith, has', follows)
     | inr here ↦ (at, omega arith, has, (follow, read, here))
   ],
   λ (from, below, has', follows). elim (below-more from at below) [
-    | inl here ↦ has_second behind follow next
+    | inl here ↦ has_second reached follow next
         (followers sets at follow next read (subst (λ p. Follows sets p next) here follows))
-    | inr before ↦ has_first behind follow next ((so_far next).1 (from, before, has', follows))
+    | inr before ↦ has_first reached follow next ((so_far next).1 (from, before, has', follows))
   ],
 )
 
-pub behind_passed : (sets : Sets) (mask at behind : ℕ) → AreBehindBelow sets mask at behind → (Has mask at → ⊥)
-    → AreBehindBelow sets mask (at + 1) behind
-behind_passed sets mask at behind so_far not next = (
+pub after_passed : (sets : Sets) (mask at reached : ℕ) → AreAfterBelow sets mask at reached → (Has mask at → ⊥)
+    → AreAfterBelow sets mask (at + 1) reached
+after_passed sets mask at reached so_far not next = (
   λ there. let (from, below, has, follows) = (so_far next).0 there in (from, omega arith, has, follows),
   λ (from, below, has, follows). elim (below-more from at below) [
     | inl here ↦ absurd (not (subst (Has mask) here has))
@@ -102,9 +102,9 @@ behind_passed sets mask at behind so_far not next = (
   ],
 )
 
-pub behind_all : (sets : Sets) (mask bound behind : ℕ) → AreSets sets → AreBehindBelow sets mask bound behind
-    → length sets.preds ≤ bound → AreBehind sets mask behind
-behind_all sets mask bound behind are so_far all next = (
+pub after_all : (sets : Sets) (mask bound reached : ℕ) → AreSets sets → AreAfterBelow sets mask bound reached
+    → length sets.preds ≤ bound → AreAfter sets mask reached
+after_all sets mask bound reached are so_far all next = (
   λ there. let (from, below, has, follows) = (so_far next).0 there in (from, has, follows),
   λ (from, has, follows).
       let below : from < length sets.follow = follows_below sets from next follows in
@@ -144,14 +144,14 @@ ends_more sets (first ∷ word) item ways ends are met to = (
 
 -- what comes behind the ends are the ways on
 pub ways_more : (sets : Sets) (word : Word) (item : List Field) (ends ways : ℕ)
-    → AreEnds sets (word ++ item ∷ []) ends → AreBehind sets ends ways → AreWays sets (word ++ item ∷ []) ways
-ways_more sets [] item ends ways are behind next = (
-  λ has. let (from, end, follows) = (behind next).0 has in (from, (are from).0 end, follows),
-  λ (from, leads, follows). (behind next).1 (from, (are from).1 leads, follows),
+    → AreEnds sets (word ++ item ∷ []) ends → AreAfter sets ends ways → AreWays sets (word ++ item ∷ []) ways
+ways_more sets [] item ends ways are reached next = (
+  λ has. let (from, end, follows) = (reached next).0 has in (from, (are from).0 end, follows),
+  λ (from, leads, follows). (reached next).1 (from, (are from).1 leads, follows),
 )
-ways_more sets (first ∷ word) item ends ways are behind next = (
-  λ has. let (from, end, follows) = (behind next).0 has in (from, (are from).0 end, follows),
-  λ (from, leads, follows). (behind next).1 (from, (are from).1 leads, follows),
+ways_more sets (first ∷ word) item ends ways are reached next = (
+  λ has. let (from, end, follows) = (reached next).0 has in (from, (are from).0 end, follows),
+  λ (from, leads, follows). (reached next).1 (from, (are from).1 leads, follows),
 )
 
 -- a word is spelled where one of its ends is one of the rate
@@ -189,10 +189,10 @@ step_none sets word = record {
 -- one more item
 pub step_more : (sets : Sets) (word : Word) (at ways ends after : ℕ) (fronts : List Bool) (item : List Field)
     (test : Bool) → IsStepped sets word at ways fronts → at < length word → get_or word at item ≡ item
-    → AreMet sets ways item ends → AreBehind sets ends after
+    → AreMet sets ways item ends → AreAfter sets ends after
     → MatchBool test ((p : ℕ) × Has ends p × Has sets.last p) ((p : ℕ) → Has ends p → Has sets.last p → ⊥)
     → IsStepped sets word (at + 1) after (fronts ++ test ∷ [])
-step_more sets word at ways ends after fronts item test so_far inside read met behind overlaps =
+step_more sets word at ways ends after fronts item test so_far inside read met reached overlaps =
     let more : take (at + 1) word ≡ take at word ++ item ∷ [] =
     take_more word at item inside ∙ ap (λ x. take at word ++ x ∷ []) read in
     let are : AreEnds sets (take at word ++ item ∷ []) ends =
@@ -212,7 +212,7 @@ step_more sets word at ways ends after fronts item test so_far inside read met b
             (sym (get_or_append_left fronts (test ∷ []) false place (omega arith)))
             (so_far.each place (omega arith))
       ];
-      goes_on = subst (λ w. AreWays sets w after) (sym more) (ways_more sets (take at word) item ends after are behind);
+      goes_on = subst (λ w. AreWays sets w after) (sym more) (ways_more sets (take at word) item ends after are reached);
     }
 
 -- all fronts

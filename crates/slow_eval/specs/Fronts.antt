@@ -24,7 +24,7 @@ abbrev pub AreMet : Sets → ℕ → List Field → ℕ → Type 0
 AreMet sets mask item met =
     (position : ℕ) → Has met position ↔ (Has mask position × Meets sets position item)
 
--- `behind` has exactly the positions that may follow some position of the mask
-abbrev pub AreBehind : Sets → ℕ → ℕ → Type 0
-AreBehind sets mask behind =
-    (next : ℕ) → Has behind next ↔ ((from : ℕ) × Has mask from × Follows sets from next)
+-- `after` has exactly the positions that may follow some position of the mask
+abbrev pub AreAfter : Sets → ℕ → ℕ → Type 0
+AreAfter sets mask after =
+    (next : ℕ) → Has after next ↔ ((from : ℕ) × Has mask from × Follows sets from next)

@@ -49,5 +49,5 @@ pub record IsJoined (expression : Expression) (left : Value) (right : List (Opti
     (old new : List (Option Value)) : Type 0 where
   pub count : length new ≡ length old
   pub before : (place : ℕ) → place < from → answer_at new place ≡ answer_at old place
-  pub behind : (place : ℕ) → place < length right
+  pub after : (place : ℕ) → place < length right
       → IsPut expression left (answer_at right place) (answer_at old (from + place)) (answer_at new (from + place))

@@ -3,7 +3,7 @@ ghost use Rattle.std.specs.Prelude.{◌≤◌, IfOk};
 ghost use Rattle.language_base.specs.Limits.{max_positions};
 ghost use Rattle.rate_expr.specs.Plain as rates;
 ghost use Rattle.rate_expr.specs.Rates.{size_of};
-ghost use Rattle.slow_eval.specs.Fronts.{AreBehind, AreInRate, AreMet, AreSpelled};
+ghost use Rattle.slow_eval.specs.Fronts.{AreAfter, AreInRate, AreMet, AreSpelled};
 
 use item_schema::Item;
 use predicate_cells::holds;
@@ -33,7 +33,7 @@ fn fronts_by(alloc: Global, positions: &Positions, word: &[Item]) -> Result<Vec<
     'items: for item in word {
         let ends = met(positions, ways, item);
         fronts.push(overlap(ends, positions.last()))?;
-        ways = behind(positions, ends);
+        ways = after(positions, ends);
     }
     Ok(fronts)
 }
@@ -51,8 +51,8 @@ fn met(positions: &Positions, mask: u128, item: &Item) -> u128
 }
 
 /// The positions that may follow some position of the mask.
-fn behind(positions: &Positions, mask: u128) -> u128
-    ensures { AreBehind positions.now mask result }
+fn after(positions: &Positions, mask: u128) -> u128
+    ensures { AreAfter positions.now mask result }
 {
     let mut found = 0;
     'positions: for position in 0..positions.count() {

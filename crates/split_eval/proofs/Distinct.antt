@@ -4,7 +4,7 @@ use Rattle.std.specs.List.{items_where_true}
 use Rattle.std.specs.List.Retain.{IsFiltered}
 use Rattle.split_eval.specs.Entries.{entry_at, live_entries, AreDistinct}
 use Rattle.split_eval.specs.declared.entry.Entry.{Entry}
-use Rattle.split_eval.proofs.Found.{entry_at-put_other, either, entry_at-live, first_differs, found_behind, none_behind}
+use Rattle.split_eval.proofs.Found.{entry_at-put_other, either, entry_at-live, first_differs, found_after, none_after}
 
 module _ {V : Type 0} where
   -- with one more, whose inner start none has
@@ -13,7 +13,7 @@ module _ {V : Type 0} where
   AreDistinct-put [] e distinct none = (refl, tt)
   AreDistinct-put (x ∷ es) e distinct none =
       let first = entry_at-put_other es e x.inner (first_differs x es e.inner none) ∙ distinct.0 in
-      (first, AreDistinct-put es e distinct.1 (none_behind x es e.inner none))
+      (first, AreDistinct-put es e distinct.1 (none_after x es e.inner none))
 
   -- among some of the entries nothing is found where nothing is among all
   none_chosen : (bs : List Bool) (es : List (Entry V)) (inner : ℕ)
@@ -21,10 +21,10 @@ module _ {V : Type 0} where
   none_chosen [] es inner none = refl
   none_chosen (b ∷ bs) [] inner none = refl
   none_chosen (true ∷ bs) (x ∷ es) inner none =
-      found_behind x (items_where_true bs es) inner (first_differs x es inner none)
-      ∙ none_chosen bs es inner (none_behind x es inner none)
+      found_after x (items_where_true bs es) inner (first_differs x es inner none)
+      ∙ none_chosen bs es inner (none_after x es inner none)
   none_chosen (false ∷ bs) (x ∷ es) inner none =
-      none_chosen bs es inner (none_behind x es inner none)
+      none_chosen bs es inner (none_after x es inner none)
 
   -- some of distinct entries
   AreDistinct-chosen : (bs : List Bool) (es : List (Entry V)) → AreDistinct es

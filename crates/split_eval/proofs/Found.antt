@@ -13,9 +13,9 @@ module _ {V : Type 0} where
       ap (λ (same : Bool). cond same (Some x) (entry_at es inner)) (eq-eqb x.inner inner is)
 
   -- behind an entry with another inner start the same is found as with it
-  pub found_behind : (x : Entry V) (es : List (Entry V)) (inner : ℕ) → x.inner ≢ inner
+  pub found_after : (x : Entry V) (es : List (Entry V)) (inner : ℕ) → x.inner ≢ inner
       → entry_at (x ∷ es) inner ≡ entry_at es inner
-  found_behind x es inner differs =
+  found_after x es inner differs =
       ap (λ (same : Bool). cond same (Some x) (entry_at es inner)) (ne_eqb x.inner inner differs)
 
   -- where nothing is found, the first entry has another inner start
@@ -24,23 +24,23 @@ module _ {V : Type 0} where
   first_differs x es inner none is = none-some x (sym none ∙ found_first x es inner is)
 
   -- and nothing is found behind it
-  pub none_behind : (x : Entry V) (es : List (Entry V)) (inner : ℕ)
+  pub none_after : (x : Entry V) (es : List (Entry V)) (inner : ℕ)
       → entry_at (x ∷ es) inner ≡ None → entry_at es inner ≡ None
-  none_behind x es inner none =
-      sym (found_behind x es inner (first_differs x es inner none)) ∙ none
+  none_after x es inner none =
+      sym (found_after x es inner (first_differs x es inner none)) ∙ none
 
   -- what is put is found where nothing was
   pub entry_at-put : (es : List (Entry V)) (e : Entry V) → entry_at es e.inner ≡ None
       → entry_at (es ++ e ∷ []) e.inner ≡ Some e
   entry_at-put [] e none = found_first e [] e.inner refl
   entry_at-put (x ∷ es) e none =
-      found_behind x (es ++ e ∷ []) e.inner (first_differs x es e.inner none)
-      ∙ entry_at-put es e (none_behind x es e.inner none)
+      found_after x (es ++ e ∷ []) e.inner (first_differs x es e.inner none)
+      ∙ entry_at-put es e (none_after x es e.inner none)
 
   -- and elsewhere what was found before
   pub entry_at-put_other : (es : List (Entry V)) (e : Entry V) (inner : ℕ) → inner ≢ e.inner
       → entry_at (es ++ e ∷ []) inner ≡ entry_at es inner
-  entry_at-put_other [] e inner differs = found_behind e [] inner (λ is. differs (sym is))
+  entry_at-put_other [] e inner differs = found_after e [] inner (λ is. differs (sym is))
   entry_at-put_other (x ∷ es) e inner differs =
       ap
       (λ (found : Option (Entry V)). cond (x.inner == inner) (Some x) found)
@@ -62,7 +62,7 @@ module _ {V : Type 0} where
       let now : is_live inner ≡ true = ap is_live (sym is) ∙ live in
       found_first x kept inner is ∙ sym (ap (λ (b : Bool). cond b (Some x) None) now)
   live_first true false is_live x es kept inner live same found =
-      found_behind x kept inner (eqb-false x.inner inner same) ∙ found
+      found_after x kept inner (eqb-false x.inner inner same) ∙ found
   live_first false true is_live x es kept inner live same found =
       let is : x.inner ≡ inner = eqb-true x.inner inner same in
       let now : is_live inner ≡ false = ap is_live (sym is) ∙ live in
@@ -102,4 +102,4 @@ module _ {V : Type 0} where
       ap
       (λ (same : Bool). cond (not same) (x ∷ without es inner) (without es inner))
       (ne_eqb x.inner inner (first_differs x es inner none))
-      ∙ ap (λ (rest : List (Entry V)). x ∷ rest) (without-none es inner (none_behind x es inner none))
+      ∙ ap (λ (rest : List (Entry V)). x ∷ rest) (without-none es inner (none_after x es inner none))

@@ -5,7 +5,7 @@ use Rattle.std.proofs.lemmas.Bool.{eqb-true, eq-eqb, ne_eqb}
 use Rattle.std.proofs.lemmas.Option.{none-some, same_Some, get_or_from_slice_get}
 use Rattle.split_eval.specs.Entries.{entry_at, is_at, without, AreDistinct}
 use Rattle.split_eval.specs.declared.entry.Entry.{Entry}
-use Rattle.split_eval.proofs.Found.{first_differs, found_behind, found_first, none_behind, without-none}
+use Rattle.split_eval.proofs.Found.{first_differs, found_after, found_first, none_after, without-none}
 
 module _ {V : Type 0} where
   -- at the inner start of an entry something is found
@@ -14,12 +14,12 @@ module _ {V : Type 0} where
   present [] i e at none = none-some e at
   present (x ∷ es) zero e at none =
       first_differs x es e.inner none (ap (λ (y : Entry V). y.inner) (same_Some x e at))
-  present (x ∷ es) (suc i) e at none = present es i e at (none_behind x es e.inner none)
+  present (x ∷ es) (suc i) e at none = present es i e at (none_after x es e.inner none)
 
   -- the first of distinct entries has another inner start than one behind it
-  differs_behind : (x : Entry V) (es : List (Entry V)) (i : ℕ) (e : Entry V)
+  differs_after : (x : Entry V) (es : List (Entry V)) (i : ℕ) (e : Entry V)
       → AreDistinct (x ∷ es) → slice_get es i ≡ Some e → x.inner ≢ e.inner
-  differs_behind x es i e distinct at is =
+  differs_after x es i e distinct at is =
       present es i e at (ap (λ (start : ℕ). entry_at es start) (sym is) ∙ distinct.0)
 
   -- each of distinct entries is found at its inner start
@@ -29,7 +29,7 @@ module _ {V : Type 0} where
   entry_at-place (x ∷ es) zero e distinct at =
       found_first x es e.inner (ap (λ (y : Entry V). y.inner) (same_Some x e at)) ∙ at
   entry_at-place (x ∷ es) (suc i) e distinct at =
-      found_behind x es e.inner (differs_behind x es i e distinct at)
+      found_after x es e.inner (differs_after x es i e distinct at)
       ∙ entry_at-place es i e distinct.1 at
 
   -- and once it is removed, those with another inner start are left
@@ -50,13 +50,13 @@ module _ {V : Type 0} where
       ∙ sym
       (ap
       (λ (same : Bool). cond (not same) (x ∷ without es e.inner) (without es e.inner))
-      (ne_eqb x.inner e.inner (differs_behind x es i e distinct at)))
+      (ne_eqb x.inner e.inner (differs_after x es i e distinct at)))
 
   none_first : (passes : Bool) (i : ℕ) (x : Entry V) (place : Option ℕ) (found : Option (Entry V))
       → (place ≡ None → found ≡ None) → cond passes (Some i) place ≡ None
       → cond passes (Some x) found ≡ None
-  none_first true i x place found behind none = absurd (none-some i (sym none))
-  none_first false i x place found behind none = behind none
+  none_first true i x place found after none = absurd (none-some i (sym none))
+  none_first false i x place found after none = after none
 
   no_place : (inner i : ℕ) (es : List (Entry V))
       → position_from (is_at inner) i es ≡ None → entry_at es inner ≡ None
@@ -87,7 +87,7 @@ module _ {V : Type 0} where
       → cond passes (Some from) (position_from (is_at inner) (from + 1) es)
       ≡ Some place
       → IsPlace (x ∷ es) inner from place
-  place_first true x es inner from place same behind some = record {
+  place_first true x es inner from place same after some = record {
     at = zero;
     entry = x;
     is = let e = same_Some from place some in omega (arith, e);
@@ -95,8 +95,8 @@ module _ {V : Type 0} where
     there = refl;
     starts = eqb-true x.inner inner same;
   }
-  place_first false x es inner from place same behind some =
-      let rest = behind some in
+  place_first false x es inner from place same after some =
+      let rest = after some in
       record {
         at = suc rest.at;
         entry = rest.entry;

@@ -81,9 +81,9 @@ columns_have_no_lf [] have = tt
 columns_have_no_lf (column ∷ columns) have =
     (word_has_no_lf column.name.bytes have.0.0, columns_have_no_lf columns have.1)
 
-behind_mode : (mode : Mode) (rest : Terms) → HaveWords (mode_before mode rest) → HaveWords rest
-behind_mode (Plain span) rest have = have.1
-behind_mode (Header span) rest have = have.1
+after_mode : (mode : Mode) (rest : Terms) → HaveWords (mode_before mode rest) → HaveWords rest
+after_mode (Plain span) rest have = have.1
+after_mode (Header span) rest have = have.1
 
 -- columns within the limits of a stream are read from lines
 kind_is_read : (kind : Kind) → HasDigits kind → IsTrue (has_digits (kind_of kind) && is_read (kind_of kind))
@@ -107,7 +107,7 @@ stream_is_drillable program within have =
       some = rw (length-map columns column_of) within.some;
       few = rw (length-map columns column_of) within.few;
       read = columns_are_read columns within.digits;
-      names = columns_have_no_lf columns (behind_mode program.stream.mode _ have.0);
+      names = columns_have_no_lf columns (after_mode program.stream.mode _ have.0);
     }
 
 -- in each query that a program is judged to be

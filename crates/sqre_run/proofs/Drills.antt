@@ -26,10 +26,10 @@ values_after-push meaning before [] line =
     append-nil (value_at meaning before line) ∙ ap (λ (b : List Shown). value_at meaning b line) (sym (append-nil before))
 values_after-push meaning before (first ∷ shown) line =
     let here = value_at meaning before first in
-    let behind = before ++ first ∷ [] in
-    ap (λ (l : List (Option Value)). here ++ l) (values_after-push meaning behind shown line)
-    ∙ sym (append_assoc here (values_after meaning behind shown) (value_at meaning (behind ++ shown) line))
-    ∙ ap (λ (b : List Shown). (here ++ values_after meaning behind shown) ++ value_at meaning b line)
+    let after = before ++ first ∷ [] in
+    ap (λ (l : List (Option Value)). here ++ l) (values_after-push meaning after shown line)
+    ∙ sym (append_assoc here (values_after meaning after shown) (value_at meaning (after ++ shown) line))
+    ∙ ap (λ (b : List Shown). (here ++ values_after meaning after shown) ++ value_at meaning b line)
     (append_assoc before (first ∷ []) shown)
 
 -- a line of an item, which is not empty, gives the item

@@ -18,7 +18,7 @@ use Rattle.query_model.specs.Rules.{free}
 use Rattle.report_writer.specs.Texts.{answer_text, skip_text}
 use Rattle.sqre_run.specs.Meanings.{Meaning}
 use Rattle.sqre_run.specs.Output.{answer, body_of, is_header, item_in, items_of, read_of, reply_to, value_after}
-use Rattle.sqre_run.specs.Sessions.{FollowsOn, IsBehind, IsReady, IsReplyTo, RepliesTo, awaits_header, is_begun, read_by, text_of}
+use Rattle.sqre_run.specs.Sessions.{FollowsOn, IsAfter, IsReady, IsReplyTo, RepliesTo, awaits_header, is_begun, read_by, text_of}
 use Rattle.sqre_run.specs.declared.session.Reply.{Reply}
 use Rattle.sqre_run.specs.declared.session.Reply.TheVariants.{Answered, Silent, Skipped}
 use Rattle.sqre_run.specs.declared.session.Session.{Session}
@@ -30,8 +30,8 @@ flat_map-push f [] x = append-nil (f x)
 flat_map-push f (y ∷ xs) x = ap (λ l. f y ++ l) (flat_map-push f xs x) ∙ sym (append_assoc (f y) (flat_map f xs) (f x))
 
 -- what a line behind these gives; the header gives nothing
-abbrev pub read_behind : Layout → List Shown → Shown → Option (Result (List Field) Skip)
-read_behind layout before line = cond (is_header layout before) None (read_of layout.columns line)
+abbrev pub read_after : Layout → List Shown → Shown → Option (Result (List Field) Skip)
+read_after layout before line = cond (is_header layout before) None (read_of layout.columns line)
 
 -- the first line of all gives no item where it is the header
 first_line : (columns : List Column) (has_header : Bool) (line : Shown)
@@ -49,7 +49,7 @@ later_line columns false first before line = flat_map-push (λ l. item_in (read_
 
 -- the items of one line more
 items-push : (layout : Layout) (before : List Shown) (line : Shown)
-    → items_of layout (before ++ line ∷ []) ≡ items_of layout before ++ item_in (read_behind layout before line)
+    → items_of layout (before ++ line ∷ []) ≡ items_of layout before ++ item_in (read_after layout before line)
 items-push layout [] line = first_line layout.columns layout.has_header line
 items-push layout (first ∷ before) line = later_line layout.columns layout.has_header first before line
 
@@ -75,7 +75,7 @@ header_next layout (line ∷ before) = and-false layout.has_header
 -- a line that is not the header is replied to by what it gives
 answer-is : (meaning : Meaning) (before : List Shown) (line : Shown)
     → answer meaning before line
-    ≡ reply_to (read_behind meaning.layout before line) (value_after meaning (before ++ line ∷ []))
+    ≡ reply_to (read_after meaning.layout before line) (value_after meaning (before ++ line ∷ []))
 answer-is meaning before line = at (is_header meaning.layout before)
   where
     value : Option Value
@@ -99,11 +99,11 @@ reply-text _ _ answered value is same = absurd is
 
 module _ {F : Type 0} (follows : F → Word → Type 0) (query : F → Qre) where
   -- before the first line
-  pub behind_none : (on : OnStream) (session : Session F) → session.checked.now ≡ on → session.begun ≡ false
-      → follows session.follower [] → IsBehind follows on [] session
-  behind_none on session same fresh none = at on.layout.has_header refl
+  pub after_none : (on : OnStream) (session : Session F) → session.checked.now ≡ on → session.begun ≡ false
+      → follows session.follower [] → IsAfter follows on [] session
+  after_none on session same fresh none = at on.layout.has_header refl
     where
-      at : (b : Bool) → on.layout.has_header ≡ b → IsBehind follows on [] session
+      at : (b : Bool) → on.layout.has_header ≡ b → IsAfter follows on [] session
       at b is = let no_items : [] ≡ items_of on.layout [] = sym (ap (λ (h : Bool). flat_map (λ l. item_in (read_of on.layout.columns l)) (body_of h [])) is ∙ empty b) in
           record {
             same = same;
@@ -116,16 +116,16 @@ module _ {F : Type 0} (follows : F → Word → Type 0) (query : F → Qre) wher
           empty true = refl
           empty false = refl
 
-  module _ (on : OnStream) (before : List Shown) (line : Shown) (old new : Session F) (behind : IsBehind follows on before old) where
+  module _ (on : OnStream) (before : List Shown) (line : Shown) (old new : Session F) (holds_after : IsAfter follows on before old) where
     -- what the session reads is what the line gives behind these
-    pub read_is : read_by old line ≡ read_behind on.layout before line
+    pub read_is : read_by old line ≡ read_after on.layout before line
     read_is =
-        ap (λ (o : OnStream). cond (o.layout.has_header && not old.begun) None (read_of o.layout.columns line)) behind.same
-        ∙ ap (λ (b : Bool). cond (on.layout.has_header && not b) None (read_of on.layout.columns line)) behind.begun_is
+        ap (λ (o : OnStream). cond (o.layout.has_header && not old.begun) None (read_of o.layout.columns line)) holds_after.same
+        ∙ ap (λ (b : Bool). cond (on.layout.has_header && not b) None (read_of on.layout.columns line)) holds_after.begun_is
         ∙ ap (λ (b : Bool). cond b None (read_of on.layout.columns line)) (header_next on.layout before)
 
     -- it follows the items of these and of the line
-    pub follows_more : (read : Option (Result (List Field) Skip)) → read_behind on.layout before line ≡ read
+    pub follows_more : (read : Option (Result (List Field) Skip)) → read_after on.layout before line ≡ read
         → FollowsOn follows on.layout.columns read old.follower new.follower
         → IsWordOf on.layout.columns (items_of on.layout (before ++ line ∷ []))
         × follows new.follower (items_of on.layout (before ++ line ∷ []))
@@ -139,8 +139,8 @@ module _ {F : Type 0} (follows : F → Word → Type 0) (query : F → Qre) wher
             → IsWordOf on.layout.columns (items_of on.layout before ++ []) × follows new.follower (items_of on.layout before ++ [])
         unread same =
             let none = sym (append-nil (items_of on.layout before)) in (
-              subst (IsWordOf on.layout.columns) none behind.is_word,
-              subst (follows new.follower) none (subst (λ (f : F). follows f (items_of on.layout before)) (sym same) behind.follows_items),
+              subst (IsWordOf on.layout.columns) none holds_after.is_word,
+              subst (follows new.follower) none (subst (λ (f : F). follows f (items_of on.layout before)) (sym same) holds_after.follows_items),
             )
 
         at : (r : Option (Result (List Field) Skip)) → FollowsOn follows on.layout.columns r old.follower new.follower
@@ -148,7 +148,7 @@ module _ {F : Type 0} (follows : F → Word → Type 0) (query : F → Qre) wher
         at None same = unread same
         at (Some (Err why)) same = unread same
         at (Some (Ok item)) (is_item, carries) =
-            (word_more on.layout.columns (items_of on.layout before) item behind.is_word is_item, carries (items_of on.layout before) behind.follows_items)
+            (word_more on.layout.columns (items_of on.layout before) item holds_after.is_word is_item, carries (items_of on.layout before) holds_after.follows_items)
 
   -- a text by the reply to a line is what is written for it, where the answer to an item is the query's
   pub replies : (line : Shown) (reply : Reply) (answered : Option Value) (old new : Session F)
@@ -158,26 +158,26 @@ module _ {F : Type 0} (follows : F → Word → Type 0) (query : F → Qre) wher
       × (query new.follower ≡ plain_of new.checked.now.main.shape)
       × ((word : Word) → follows new.follower word → IsAnswer (query new.follower) word answered))
       → RepliesTo follows line (text_of reply answered) old new
-  replies line reply answered old new same begun replied follows_on answers on before behind =
+  replies line reply answered old new same begun replied follows_on answers on before holds_after =
       let lines = before ++ line ∷ [] in
       let items = items_of on.layout lines in
-      let read = read_behind on.layout before line in
-      let is : read_by old line ≡ read = read_is on before line old new behind in
-      let here : new.checked.now ≡ on = ap (λ c. c.now) same ∙ behind.same in
-      let after = follows_more on before line old new behind read refl
-      (subst (λ (o : OnStream). FollowsOn follows o.layout.columns read old.follower new.follower) behind.same
+      let read = read_after on.layout before line in
+      let is : read_by old line ≡ read = read_is on before line old new holds_after in
+      let here : new.checked.now ≡ on = ap (λ c. c.now) same ∙ holds_after.same in
+      let after = follows_more on before line old new holds_after read refl
+      (subst (λ (o : OnStream). FollowsOn follows o.layout.columns read old.follower new.follower) holds_after.same
       (subst (λ (r : Option (Result (List Field) Skip)). FollowsOn follows old.checked.now.layout.columns r old.follower new.follower) is follows_on)) in (
         λ meaning means.
             reply-text read reply answered (meaning.value items)
             (subst (λ (r : Option (Result (List Field) Skip)). IsReplyTo r reply) is replied)
             (λ item found.
             let given = answers item (is ∙ found) in
-            let checked : IsChecked on = subst IsChecked behind.same given.0 in
+            let checked : IsChecked on = subst IsChecked holds_after.same given.0 in
             let query_is : query new.follower ≡ plain_of on.main.shape = given.1 ∙ ap (λ (o : OnStream). plain_of o.main.shape) here in
             one_answer free on.layout.columns (plain_of on.main.shape) items answered (meaning.value items) checked.clear after.0
             (subst (λ (q : Qre). IsAnswer q items answered) query_is (given.2 items after.1)) (means.value items after.0))
             ∙ sym (answer-is meaning before line
-            ∙ ap (λ (l : Layout). reply_to (read_behind l before line) (meaning.value (items_of l lines))) means.layout),
+            ∙ ap (λ (l : Layout). reply_to (read_after l before line) (meaning.value (items_of l lines))) means.layout),
         record { same = here; is_word = after.0; follows_items = after.1; begun_is = begun ∙ sym (is_begun-push before line) },
       )
 

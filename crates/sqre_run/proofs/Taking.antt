@@ -18,10 +18,10 @@ use Rattle.query_model.specs.Rules.{free}
 use Rattle.sqre_run.specs.Drilling.{Takes, drilled_lines}
 use Rattle.sqre_run.specs.Meanings.{IsMeaning, Meaning}
 use Rattle.sqre_run.specs.Output.{body_of, item_in, items_of, read_of, value_after}
-use Rattle.sqre_run.specs.Sessions.{FollowsOn, IsBehind, read_by}
+use Rattle.sqre_run.specs.Sessions.{FollowsOn, IsAfter, read_by}
 use Rattle.sqre_run.specs.declared.session.Session.{Session}
 use Rattle.sqre_run.proofs.OneAnswer.{one_answer}
-use Rattle.sqre_run.proofs.Sessions.{follows_more, is_begun-push, read_behind, read_is}
+use Rattle.sqre_run.proofs.Sessions.{follows_more, is_begun-push, read_after, read_is}
 
 -- the bytes of one line, without its LF
 pub without_lf : (line shown : List ℕ) → line ≡ bytes_of (shown ∷ []) → (0 < length line) × (take (length line - 1) line ≡ shown)
@@ -38,12 +38,12 @@ module _ {F : Type 0} (follows : F → Word → Type 0) (query : F → Qre) wher
   -- a session that reads a line and follows on is behind it
   pub takes : (line : Shown) (old new : Session F) → new.checked ≡ old.checked → new.begun ≡ true
       → FollowsOn follows old.checked.now.layout.columns (read_by old line) old.follower new.follower → Takes follows line old new
-  takes line old new same begun follows_on on before behind =
-      let read = read_behind on.layout before line in
-      let is : read_by old line ≡ read = read_is follows query on before line old new behind in
-      let here : new.checked.now ≡ on = ap (λ c. c.now) same ∙ behind.same in
-      let after = follows_more follows query on before line old new behind read refl
-      (subst (λ (o : OnStream). FollowsOn follows o.layout.columns read old.follower new.follower) behind.same
+  takes line old new same begun follows_on on before holds_after =
+      let read = read_after on.layout before line in
+      let is : read_by old line ≡ read = read_is follows query on before line old new holds_after in
+      let here : new.checked.now ≡ on = ap (λ c. c.now) same ∙ holds_after.same in
+      let after = follows_more follows query on before line old new holds_after read refl
+      (subst (λ (o : OnStream). FollowsOn follows o.layout.columns read old.follower new.follower) holds_after.same
       (subst (λ (r : Option (Result (List Field) Skip)). FollowsOn follows old.checked.now.layout.columns r old.follower new.follower) is follows_on)) in
       record { same = here; is_word = after.0; follows_items = after.1; begun_is = begun ∙ sym (is_begun-push before line) }
 
@@ -58,15 +58,15 @@ module _ {F : Type 0} (follows : F → Word → Type 0) (on : OnStream) (session
   no_item line is =
       ap (λ (h : Bool). flat_map (λ l. item_in (read_of on.layout.columns l)) (body_of h (line ∷ []))) is
 
-  pub other_header : (line other : Shown) → on.layout.has_header ≡ true → IsBehind follows on (line ∷ []) session
-      → IsBehind follows on (other ∷ []) session
-  other_header line other is behind =
+  pub other_header : (line other : Shown) → on.layout.has_header ≡ true → IsAfter follows on (line ∷ []) session
+      → IsAfter follows on (other ∷ []) session
+  other_header line other is holds_after =
       let same : items_of on.layout (line ∷ []) ≡ items_of on.layout (other ∷ []) = no_item line is ∙ sym (no_item other is) in
       record {
-        same = behind.same;
-        is_word = subst (IsWordOf on.layout.columns) same behind.is_word;
-        follows_items = subst (follows session.follower) same behind.follows_items;
-        begun_is = behind.begun_is;
+        same = holds_after.same;
+        is_word = subst (IsWordOf on.layout.columns) same holds_after.is_word;
+        follows_items = subst (follows session.follower) same holds_after.follows_items;
+        begun_is = holds_after.begun_is;
       }
 
   -- the lines of a drill begin with the header
@@ -83,11 +83,11 @@ pub header_taken : {F : Type 0} (follows : F → Word → Type 0) (on : OnStream
     (layout : Layout) → on.layout.has_header ≡ true → layout ≡ on.layout → bytes ≡ bytes_of (header_of layout)
     → (result : Result (Unit {0}) AllocError)
     → OnOk result ((shown : List ℕ) → bytes ≡ bytes_of (shown ∷ []) → Takes follows (text shown) old new)
-    → OnOk result (IsBehind follows on [] old → IsBehind follows on (drilled_lines on.layout 0 seed) new)
+    → OnOk result (IsAfter follows on [] old → IsAfter follows on (drilled_lines on.layout 0 seed) new)
 header_taken follows on seed old new bytes layout has same are (Err error) took = tt
 header_taken follows on seed old new bytes layout has same are (Ok done) took =
-    λ behind. subst (λ (lines : List Shown). IsBehind follows on lines new) (sym (begins_with_header follows on new seed has))
-    (other_header follows on new seed (text row) (ended_by_lf row) has (took row line on [] behind))
+    λ holds_after. subst (λ (lines : List Shown). IsAfter follows on lines new) (sym (begins_with_header follows on new seed has))
+    (other_header follows on new seed (text row) (ended_by_lf row) has (took row line on [] holds_after))
   where
     row : List ℕ
     row = row_of (names_of on.layout.columns)
@@ -98,10 +98,10 @@ header_taken follows on seed old new bytes layout has same are (Ok done) took =
 
 -- there was none
 pub none_taken : {F : Type 0} (follows : F → Word → Type 0) (on : OnStream) (seed : ℕ) (session : Session F)
-    → on.layout.has_header ≡ false → IsBehind follows on [] session
-    → IsBehind follows on (drilled_lines on.layout 0 seed) session
-none_taken follows on seed session none behind =
-    subst (λ (lines : List Shown). IsBehind follows on lines session) (sym (begins_with_none follows on session seed none)) behind
+    → on.layout.has_header ≡ false → IsAfter follows on [] session
+    → IsAfter follows on (drilled_lines on.layout 0 seed) session
+none_taken follows on seed session none holds_after =
+    subst (λ (lines : List Shown). IsAfter follows on lines session) (sym (begins_with_none follows on session seed none)) holds_after
 
 -- the next line was taken
 pub next_taken : {F : Type 0} (follows : F → Word → Type 0) (old new : Session F) (bytes shown : List ℕ) → bytes ≡ bytes_of (shown ∷ [])
@@ -113,16 +113,16 @@ next_taken follows old new bytes shown are (Err error) took = tt
 
 -- the answer behind lines is the value after them
 pub answer_after : {F : Type 0} (follows : F → Word → Type 0) (query : F → Qre) (on : OnStream) (shown : List Shown) (session : Session F)
-    (answer : Option Value) → IsChecked on → IsBehind follows on shown session
+    (answer : Option Value) → IsChecked on → IsAfter follows on shown session
     → query session.follower ≡ plain_of session.checked.now.main.shape
     → ((word : Word) → follows session.follower word → IsAnswer (query session.follower) word answer)
     → (meaning : Meaning) → IsMeaning (monitor_of on) meaning → answer ≡ value_after meaning shown
-answer_after follows query on shown session answer checked behind query_is answers meaning means =
+answer_after follows query on shown session answer checked holds_after query_is answers meaning means =
     let items = items_of on.layout shown in
     let asked : query session.follower ≡ plain_of on.main.shape =
-    query_is ∙ ap (λ (o : OnStream). plain_of o.main.shape) behind.same
+    query_is ∙ ap (λ (o : OnStream). plain_of o.main.shape) holds_after.same
     in
-    one_answer free on.layout.columns (plain_of on.main.shape) items answer (meaning.value items) checked.clear behind.is_word
-    (subst (λ (q : Qre). IsAnswer q items answer) asked (answers items behind.follows_items))
-    (means.value items behind.is_word)
+    one_answer free on.layout.columns (plain_of on.main.shape) items answer (meaning.value items) checked.clear holds_after.is_word
+    (subst (λ (q : Qre). IsAnswer q items answer) asked (answers items holds_after.follows_items))
+    (means.value items holds_after.is_word)
     ∙ ap (λ (l : Layout). meaning.value (items_of l shown)) (sym means.layout)

@@ -19,7 +19,7 @@ use Rattle.rate_expr.specs.Words.{Word}
 use Rattle.query_model.specs.Checked.{OnStream}
 use Rattle.query_model.specs.Monitors.{monitor_of}
 use Rattle.sqre_run.specs.Meanings.{IsMeaning, Meaning}
-use Rattle.sqre_run.specs.Sessions.{IsBehind, RepliesTo}
+use Rattle.sqre_run.specs.Sessions.{IsAfter, RepliesTo}
 use Rattle.sqre_run.specs.declared.session.Session.{Session}
 use Rattle.sqre_run.specs.Outside.{Ended, Outside, Wrote}
 use Rattle.sqre_run.specs.Running.{Showed, Running}
@@ -78,7 +78,7 @@ module _ {F : Type 0} (follows : F → Word → Type 0) (on : OnStream) (old now
       → RepliesTo follows line reply kept kept' → Appends now.taken new.taken reply
       → Running follows on old now reading kept → Running follows on old new next kept'
   Running-line kept' line reply takes replies appends run =
-      let said = replies on run.shown run.behind in
+      let said = replies on run.shown run.after in
       record {
         got = run.got ++ takes.got;
         shown = run.shown ++ line ∷ [];
@@ -89,7 +89,7 @@ module _ {F : Type 0} (follows : F → Word → Type 0) (on : OnStream) (old now
               subst (Appends old.taken new.taken) (replied meaning run.shown line reply (said.0 meaning means))
               (Appends-trans _ _ _ _ _ (run.wrote.wrote meaning means) appends);
         };
-        behind = said.1;
+        after = said.1;
         no_end = ends_kept takes.end takes.going run;
         at_end = λ met. (ends_met takes.end takes.going run met, (takes.end.at_end (takes.going, met)).1);
       }
@@ -105,7 +105,7 @@ module _ {F : Type 0} (follows : F → Word → Type 0) (on : OnStream) (old now
       let showed : Showed got shown next =
       Answers-lines run.got takes.got run.shown line reading next run.showed takes.going takes.answers in
       let met = ends_met takes.end takes.going run in
-      let said = replies on run.shown run.behind in
+      let said = replies on run.shown run.after in
       ended_part on old new got shown
       (one_at_most old.ends new.ends next met (ends_kept takes.end takes.going run))
       (Consumes-trans _ _ _ _ _ run.wrote.read takes.consumed)
@@ -320,14 +320,14 @@ module _ {F : Type 0} (follows : F → Word → Type 0) (now new : Outside) (rea
 -- before the first line nothing was read and nothing was written
 pub Running-begins : {F : Type 0} (follows : F → Word → Type 0) (on : OnStream) (here : Outside) (reading : Reading)
     (session : Session F) → reading ≡ record { start = []; unread = []; answered = 0; met = false; shown = [] }
-    → IsBehind follows on [] session → Running follows on here here reading session
-Running-begins follows on here reading session fresh behind =
+    → IsAfter follows on [] session → Running follows on here here reading session
+Running-begins follows on here reading session fresh after =
     subst (λ (r : Reading). Running follows on here here r session) (sym fresh) (record {
       got = [];
       shown = [];
       showed = record { goes_on = λ _ more ended. refl; at_end = λ met. absurd (cc); count = refl };
       wrote = record { read = Consumes-nil _; wrote = λ meaning means. Appends-nil _ };
-      behind = behind;
+      after = after;
       no_end = λ going. refl;
       at_end = λ met. absurd (cc);
     })

@@ -7,7 +7,7 @@ use Rattle.item_schema.specs.Layout.{Layout}
 use Rattle.item_drill.specs.Lines.{are_read, header_of, lines_from, names_of}
 use Rattle.rate_expr.specs.Words.{Word}
 use Rattle.query_model.specs.Checked.{OnStream}
-use Rattle.sqre_run.specs.Sessions.{IsBehind}
+use Rattle.sqre_run.specs.Sessions.{IsAfter}
 use Rattle.sqre_run.specs.declared.session.Session.{Session}
 
 -- the columns are as a query text can declare them: at least one, few, read from lines, and with
@@ -26,4 +26,4 @@ drilled_lines layout count seed =
 -- after whichever lines the old session stands, the new one stands after these and the line
 abbrev pub Takes : {F : Type 0} → (F → Word → Type 0) → Shown → Session F → Session F → Type 0
 Takes follows line old new = (on : OnStream) (before : List Shown)
-    → IsBehind follows on before old → IsBehind follows on (before ++ line ∷ []) new
+    → IsAfter follows on before old → IsAfter follows on (before ++ line ∷ []) new

@@ -9,7 +9,7 @@ use Rattle.query_model.specs.Checked.{OnStream}
 use Rattle.query_model.specs.Monitors.{monitor_of}
 use Rattle.sqre_run.specs.Output.{answers}
 use Rattle.sqre_run.specs.Outside.{Outside, Wrote}
-use Rattle.sqre_run.specs.Sessions.{IsBehind}
+use Rattle.sqre_run.specs.Sessions.{IsAfter}
 use Rattle.sqre_run.specs.declared.session.Session.{Session}
 
 -- the bytes taken have given these lines: the lines of all bytes are these and then those to come
@@ -27,6 +27,6 @@ pub record Running {F : Type 0} (follows : F → Word → Type 0) (on : OnStream
   pub shown : List Shown
   pub showed : Showed got shown reading
   pub wrote : Wrote (monitor_of on) old now got (λ meaning. answers meaning shown)
-  pub behind : IsBehind follows on shown session
+  pub after : IsAfter follows on shown session
   pub no_end : reading.met ≡ false → now.ends ≡ old.ends
   pub at_end : reading.met ≡ true → (now.ends ≡ next_count old.ends) × IsAtEnd now.left

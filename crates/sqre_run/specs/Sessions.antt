@@ -58,7 +58,7 @@ pub record IsReady {F : Type 0} (query : F → Qre) (columns : F → List Column
   pub is_sound : sound session.follower
 
 -- the state after these lines, of a session for this query: its follower has followed their items
-pub record IsBehind {F : Type 0} (follows : F → Word → Type 0) (on : OnStream) (lines : List Shown)
+pub record IsAfter {F : Type 0} (follows : F → Word → Type 0) (on : OnStream) (lines : List Shown)
     (session : Session F) : Type 0 where
   pub same : session.checked.now ≡ on
   pub is_word : IsWordOf on.layout.columns (items_of on.layout lines)
@@ -71,8 +71,8 @@ pub record IsBehind {F : Type 0} (follows : F → Word → Type 0) (on : OnStrea
 abbrev pub RepliesTo : {F : Type 0} → (F → Word → Type 0) → Shown → List ℕ → Session F → Session F
     → Type 0
 RepliesTo follows line written old new = (on : OnStream) (before : List Shown)
-    → IsBehind follows on before old → ((meaning : Meaning) → IsMeaning (monitor_of on) meaning
-    → written ≡ answer meaning before line) × IsBehind follows on (before ++ line ∷ []) new
+    → IsAfter follows on before old → ((meaning : Meaning) → IsMeaning (monitor_of on) meaning
+    → written ≡ answer meaning before line) × IsAfter follows on (before ++ line ∷ []) new
 
 -- what is written for a reply, where the value on all items so far is this
 abbrev pub text_of : Reply → Option Value → List ℕ

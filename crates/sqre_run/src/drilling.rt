@@ -8,7 +8,7 @@ ghost use Rattle.query_model.specs.Queries.{plain_of};
 ghost use Rattle.sqre_run.specs.Drilled.{drilled};
 ghost use Rattle.sqre_run.specs.Drilling.{IsDrillable, Takes, drilled_lines};
 ghost use Rattle.sqre_run.specs.Meanings.{IsMeaning, Meaning};
-ghost use Rattle.sqre_run.specs.Sessions.{IsBehind, IsReady};
+ghost use Rattle.sqre_run.specs.Sessions.{IsAfter, IsReady};
 
 use crate::session::Session;
 use item_drill::Drill;
@@ -53,7 +53,7 @@ fn begin<'c, F: Follower + Drop>(
     requires query { F.query follower ≡ plain_of checked.now.main.shape }
     requires columns { F.columns follower ≡ checked.now.layout.columns }
     requires layout { drill.now.layout ≡ checked.now.layout }
-    ensures behind { IfOk result (IsBehind F.follows checked.now
+    ensures after { IfOk result (IsAfter F.follows checked.now
         (drilled_lines checked.now.layout 0 drill.now.state)) }
     ensures ready { IfOk result (IsReady F.query F.columns F.lost F.sound) }
     ensures position { IfOk result (λ session. F.position session.follower ≤ 1) }
@@ -73,8 +73,8 @@ fn take_header<F: Follower>(
     requires layout { drill.now.layout ≡ checked.now.layout }
     requires ready { IsReady F.query F.columns F.lost F.sound session.old }
     requires room { F.position session.old.follower < 2 ^ 63 }
-    ensures behind { OnOk result (IsBehind F.follows checked.now [] session.old
-        → IsBehind F.follows checked.now (drilled_lines checked.now.layout 0 drill.now.state)
+    ensures after { OnOk result (IsAfter F.follows checked.now [] session.old
+        → IsAfter F.follows checked.now (drilled_lines checked.now.layout 0 drill.now.state)
         session.new) }
     ensures ready { OnOk result (IsReady F.query F.columns F.lost F.sound session.new) }
     ensures position { OnOk result

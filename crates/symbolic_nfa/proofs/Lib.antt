@@ -5,4 +5,4 @@ pub mod Lists
 pub mod Meeting
 pub mod StatesOn
 pub mod Usefulness
-pub mod WordsBehind
+pub mod WordsAfter

@@ -10,7 +10,7 @@
 ghost use Rattle.std.specs.Prelude.{◌≡◌, ◌<◌, ◌↔◌, List, IsTrue, IfOk, length};
 ghost use Rattle.value_ops.specs.declared.field.Field.{Field};
 ghost use Rattle.predicate_cells.specs.Cells.{cell_count, IsIn};
-ghost use Rattle.rate_expr.specs.Behind.{IsStateOf};
+ghost use Rattle.rate_expr.specs.After.{IsStateOf};
 ghost use Rattle.rate_expr.specs.Sets.{AreSets};
 ghost use Rattle.rate_expr.specs.declared.state.State.{State};
 ghost use Rattle.symbolic_nfa.specs.Automata.{AreDecided};

@@ -1,6 +1,6 @@
 //! The positions that may be next after a state.
 ghost use Rattle.std.specs.Prelude.{◌<◌, ◌^◌, length};
-ghost use Rattle.rate_expr.specs.Behind.{IsStateOf};
+ghost use Rattle.rate_expr.specs.After.{IsStateOf};
 ghost use Rattle.rate_expr.specs.Sets.{AreSets};
 ghost use Rattle.symbolic_nfa.specs.States.{AreWaysOn};
 
@@ -14,12 +14,12 @@ pub(crate) fn ways_on(positions: &Positions, state: State) -> u128
 {
     match state {
         State::Initial => positions.first(),
-        State::At(mask) => behind(positions, mask),
+        State::At(mask) => after(positions, mask),
     }
 }
 
 // The positions that may follow some position of the mask.
-fn behind(positions: &Positions, mask: u128) -> u128
+fn after(positions: &Positions, mask: u128) -> u128
     requires sets { AreSets positions.now }
     requires state { mask < 2 ^ length positions.now.preds }
     ensures { AreWaysOn positions.now (State.At mask) result }

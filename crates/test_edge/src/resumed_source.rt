@@ -8,15 +8,15 @@ use std::mem;
 #[derive(Drop)]
 pub struct ResumedSource {
     remaining: SteadySource,
-    behind: SteadySource,
+    after: SteadySource,
     pub ends: u64,
 }
 
 impl ResumedSource {
-    pub fn new(alloc: Global, before: &[u8], behind: &[u8]) -> Result<Self, AllocError> {
+    pub fn new(alloc: Global, before: &[u8], after: &[u8]) -> Result<Self, AllocError> {
         Ok(ResumedSource {
             remaining: SteadySource::new(alloc, before)?,
-            behind: SteadySource::new(alloc, behind)?,
+            after: SteadySource::new(alloc, after)?,
             ends: 0,
         })
     }
@@ -36,7 +36,7 @@ impl Source for ResumedSource {
         let given = self.remaining.read(buf)?;
         if given == 0 {
             self.ends = self.ends.saturating_add(1);
-            mem::swap(&mut self.remaining, &mut self.behind);
+            mem::swap(&mut self.remaining, &mut self.after);
         }
         Ok(given)
     }

@@ -27,7 +27,7 @@ fn copy_of<'q>(alloc: Global, runner: &Runner<'q>) -> Result<Box<Runner<'q>>, Al
 struct Apart {
     of_runner: Option<i64>,
     of_copy: Option<i64>,
-    of_copy_behind: Option<i64>,
+    of_copy_after: Option<i64>,
     stored: u64,
     failed: bool,
 }
@@ -40,17 +40,17 @@ fn go_on(alloc: Global, runner: &mut Runner<'_>, copy: &mut Runner<'_>) -> Resul
 {
     let of_runner = value_after(alloc, runner, 4)?;
     let of_copy = value(copy);
-    let of_copy_behind = value_after(alloc, copy, 9)?;
+    let of_copy_after = value_after(alloc, copy, 9)?;
     Ok(Apart {
         of_runner,
         of_copy,
-        of_copy_behind,
+        of_copy_after,
         stored: copy.stored(),
         failed: copy.failed(),
     })
 }
 
-fn copied_behind(alloc: Global, runner: &mut Runner<'_>) -> Result<Apart, AllocError>
+fn copied_after(alloc: Global, runner: &mut Runner<'_>) -> Result<Apart, AllocError>
     requires fed { TakesItems tested.numbers runner.old }
     requires first { position_of runner.old ≡ 0 }
 {
@@ -65,7 +65,7 @@ fn copied(alloc: Global, checked: &Checked) -> Result<Apart, AllocError>
     requires composes { composes_of (plain_of checked.now.main.shape) ≤ 1 }
 {
     let mut runner = begun(alloc, checked)?;
-    copied_behind(alloc, &mut runner)
+    copied_after(alloc, &mut runner)
 }
 
 #[test]
@@ -73,7 +73,7 @@ fn a_copy_follows_words_of_its_own(rt: HostRuntime) -> Result<(), Fail> {
     let checked = checked_difference(rt.alloc())?;
     let apart = copied(rt.alloc(), &checked)?;
     same(&rt, (apart.of_runner, apart.of_copy), (Some(5), None));
-    same(&rt, (apart.of_copy_behind, apart.failed), (Some(0), false));
+    same(&rt, (apart.of_copy_after, apart.failed), (Some(0), false));
     Ok(())
 }
 
@@ -82,7 +82,7 @@ fn a_copy_folds_items_of_its_own(rt: HostRuntime) -> Result<(), Fail> {
     let checked = checked_excess(rt.alloc())?;
     let apart = copied(rt.alloc(), &checked)?;
     same(&rt, (apart.of_runner, apart.of_copy), (Some(11), Some(8)));
-    same(&rt, (apart.of_copy_behind, apart.stored), (Some(16), 10));
+    same(&rt, (apart.of_copy_after, apart.stored), (Some(16), 10));
     Ok(())
 }
 
@@ -91,7 +91,7 @@ fn a_copy_sums_the_sums_of_its_own_prefixes(rt: HostRuntime) -> Result<(), Fail>
     let checked = checked_total(rt.alloc())?;
     let apart = copied(rt.alloc(), &checked)?;
     same(&rt, (apart.of_runner, apart.of_copy), (Some(22), Some(9)));
-    same(&rt, (apart.of_copy_behind, apart.stored), (Some(27), 15));
+    same(&rt, (apart.of_copy_after, apart.stored), (Some(27), 15));
     Ok(())
 }
 
@@ -108,11 +108,11 @@ fn begin_anew(alloc: Global, runner: &mut Runner<'_>) -> Result<(), AllocError>
 struct Anew {
     value: Option<i64>,
     stored: u64,
-    behind: Option<i64>,
+    after: Option<i64>,
     failed: bool,
 }
 
-fn reset_behind(alloc: Global, runner: &mut Runner<'_>) -> Result<Anew, AllocError>
+fn reset_after(alloc: Global, runner: &mut Runner<'_>) -> Result<Anew, AllocError>
     requires fed { TakesItems tested.numbers runner.old }
     requires first { position_of runner.old ≡ 0 }
 {
@@ -124,7 +124,7 @@ fn reset_behind(alloc: Global, runner: &mut Runner<'_>) -> Result<Anew, AllocErr
     Ok(Anew {
         value,
         stored,
-        behind: value_after(alloc, runner, 4)?,
+        after: value_after(alloc, runner, 4)?,
         failed: runner.failed(),
     })
 }
@@ -135,7 +135,7 @@ fn reset(alloc: Global, checked: &Checked) -> Result<Anew, AllocError>
     requires composes { composes_of (plain_of checked.now.main.shape) ≤ 1 }
 {
     let mut runner = begun(alloc, checked)?;
-    reset_behind(alloc, &mut runner)
+    reset_after(alloc, &mut runner)
 }
 
 #[test]
@@ -147,9 +147,9 @@ fn a_runner_that_is_reset_follows_the_empty_word(rt: HostRuntime) -> Result<(), 
 }
 
 #[test]
-fn sums_begin_anew_behind_a_reset(rt: HostRuntime) -> Result<(), Fail> {
+fn sums_begin_anew_after_a_reset(rt: HostRuntime) -> Result<(), Fail> {
     let checked = checked_total(rt.alloc())?;
     let anew = reset(rt.alloc(), &checked)?;
-    same(&rt, (anew.behind, anew.failed), (Some(4), false));
+    same(&rt, (anew.after, anew.failed), (Some(4), false));
     Ok(())
 }

@@ -55,7 +55,7 @@ fn hit_at_first(alloc: Global, query: &Query, node: &mut Node) -> Result<Found, 
 }
 
 // The hit of one more item, after which there are `now`.
-fn hit_behind(
+fn hit_of_step(
     alloc: Global,
     query: &Query,
     node: &mut Node,
@@ -92,7 +92,7 @@ fn hit_after(
         (holding_of node.new.state)) }
 {
     let item = item(alloc, number)?;
-    hit_behind(alloc, query, node, now, &item)
+    hit_of_step(alloc, query, node, now, &item)
 }
 
 // After a start, after a 9, and after a 9 and a 4.

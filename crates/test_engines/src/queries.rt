@@ -121,7 +121,7 @@ fn a_choice_has_the_rate_of_either(rt: HostRuntime) -> Result<(), Fail> {
 }
 
 #[test]
-fn a_split_has_one_rate_behind_the_other(rt: HostRuntime) -> Result<(), Fail> {
+fn a_split_has_one_rate_after_the_other(rt: HostRuntime) -> Result<(), Fail> {
     let (first, second) = two_items(rt.alloc(), 1, 2)?;
     let rate = rate_of_shape(rt.alloc(), Shape::Split(first, second, left_value()))?;
     assert!(rt; matches!(&*rate, Rate::Seq(a, b) if is_item(a, 1) && is_item(b, 2)));

@@ -86,7 +86,7 @@ fn state_after(rt: &impl Abort, nfa: &Nfa, cell: u32) -> State {
 }
 
 #[test]
-fn states_answer_for_the_words_behind_them(rt: HostRuntime) -> Result<(), Fail> {
+fn states_answer_for_the_words_after_them(rt: HostRuntime) -> Result<(), Fail> {
     let nfa = nfa(&rt, rt.alloc())?;
     let cell = cell_of(rt.alloc(), &nfa, 1)?;
     let state = state_after(&rt, &nfa, cell);

@@ -6,7 +6,7 @@ use predicate_cells::Pred;
 use rate_expr::masks::{end_of, has, lowest, only, overlap, without_lowest};
 use rate_expr::{
     MAX_POSITIONS, Positions, Rate, State, each_word_is_in_or_not, one_automaton_of_a_rate,
-    one_state_behind_a_word, sets_spell_their_rate,
+    one_state_after_a_word, sets_spell_their_rate,
 };
 use std::alloc::{AllocError, Global};
 use std::process::Abort;
@@ -150,6 +150,6 @@ fn states_are_compared_by_their_positions(rt: HostRuntime) {
 fn laws_can_be_called() {
     each_word_is_in_or_not();
     one_automaton_of_a_rate();
-    one_state_behind_a_word();
+    one_state_after_a_word();
     sets_spell_their_rate();
 }

@@ -15,7 +15,7 @@ main(iter(split(atom(any, a), atom(any, a), sub(x, y)), 0, add(x, y)))
 ";
 
 // The sum after the last `end`.
-const SUM_BEHIND_END: &[u8] = b"stream(plain, col(k, text), col(a, int))
+const SUM_AFTER_END: &[u8] = b"stream(plain, col(k, text), col(a, int))
 main(split(
     split(iter(atom(any, 0), 0, 0), atom(eq(k, \"end\"), 0), 0),
     iter(atom(ne(k, \"end\"), a), 0, add(x, y)),
@@ -57,7 +57,7 @@ fn slow_answers_as_a_run_does(rt: HostRuntime) -> Result<(), Fail> {
     for words in ["run q -", "slow q -"] {
         let given = Given {
             words,
-            ..run_of(SUM_BEHIND_END, b"x,1\nend,0\nx,4\nx,5\nend,0\nx,2\n")
+            ..run_of(SUM_AFTER_END, b"x,1\nend,0\nx,4\nx,5\nend,0\nx,2\n")
         };
         let (status, bytes) = outcome(rt.alloc(), given)?;
         same_at(&rt, words, status, Status::Done);

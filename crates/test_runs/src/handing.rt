@@ -95,7 +95,7 @@ fn seen_at_reads(alloc: Global, cuts: &[usize]) -> Result<([usize; SEEN], usize)
 
 // The answers are `5`, `12` and `10`, a line each.
 #[test]
-fn each_read_comes_behind_the_answers_to_all_lines_before_it(rt: HostRuntime) -> Result<(), Fail> {
+fn each_read_comes_after_the_answers_to_all_lines_before_it(rt: HostRuntime) -> Result<(), Fail> {
     let table: [(&[usize], [usize; SEEN]); 4] = [
         (&[1; 7], [0, 0, 2, 2, 5, 5, 5, 8]),
         (&[2, 2, 3], [0, 2, 5, 8, 0, 0, 0, 0]),

@@ -75,7 +75,7 @@ fn a_run_that_is_not_begun_reads_nothing(rt: HostRuntime) -> Result<(), Fail> {
 }
 
 #[test]
-fn a_fault_ends_the_run_behind_the_last_answer(rt: HostRuntime) -> Result<(), Fail> {
+fn a_fault_ends_the_run_after_the_last_answer(rt: HostRuntime) -> Result<(), Fail> {
     let table: [(&[u64], usize, &[u64], Status, &[u8]); 5] = [
         (&[2], 4_096, &[], Status::ItemFault, b"5\n"),
         (&[], 4_096, &[2], Status::SinkFault, b"5\n"),

@@ -12,9 +12,9 @@ use std::test::Fail;
 use symbolic_nfa::{Nfa, State};
 use value_ops::{Bytes, Field};
 
-const BEHIND_ONE: State = State::At(0b_01);
+const AFTER_ONE: State = State::At(0b_01);
 
-const BEHIND_BOTH: State = State::At(0b_10);
+const AFTER_BOTH: State = State::At(0b_10);
 
 const NOWHERE: State = State::At(0);
 
@@ -103,8 +103,8 @@ fn none(rt: &impl Abort, alloc: Global) -> Result<Box<Tracks<u64>>, Fail> {
 fn four(rt: &impl Abort, alloc: Global) -> Result<Box<Tracks<u64>>, Fail> {
     let mut tracks = none(rt, alloc)?;
     for (start, state) in [
-        (30, BEHIND_ONE),
-        (20, BEHIND_BOTH),
+        (30, AFTER_ONE),
+        (20, AFTER_BOTH),
         (10, State::Initial),
         (40, NOWHERE),
         (10, NOWHERE),
@@ -169,7 +169,7 @@ fn starts_stand_in_the_order_in_which_they_were_put(rt: HostRuntime) -> Result<(
 fn each_state_becomes_the_one_after_the_item(rt: HostRuntime) -> Result<(), Fail> {
     let mut tracks = four(&rt, rt.alloc())?;
     advance(rt.alloc(), &mut tracks, 2)?;
-    same_states(&rt, &tracks, &[BEHIND_BOTH, NOWHERE, NOWHERE, NOWHERE]);
+    same_states(&rt, &tracks, &[AFTER_BOTH, NOWHERE, NOWHERE, NOWHERE]);
     same_starts(&rt, &tracks, &[30, 20, 10, 40]);
     Ok(())
 }
@@ -192,7 +192,7 @@ fn starts_that_can_go_on_are_kept_in_their_order(rt: HostRuntime) -> Result<(), 
     same(&rt, live, (true, false, false));
     tracks.keep();
     same_starts(&rt, &tracks, &[30, 10]);
-    same_states(&rt, &tracks, &[BEHIND_ONE, State::Initial]);
+    same_states(&rt, &tracks, &[AFTER_ONE, State::Initial]);
     Ok(())
 }
 

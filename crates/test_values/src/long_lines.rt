@@ -9,7 +9,7 @@ use std::alloc::{AllocError, Global};
 use std::test::Fail;
 
 // What is told of a line of zeros and the digits behind them.
-fn told_behind_zeros(alloc: Global, kind: Kind, digits: &[u8]) -> Result<String, AllocError>
+fn told_after_zeros(alloc: Global, kind: Kind, digits: &[u8]) -> Result<String, AllocError>
     requires digits { IsTrue (has_digits kind) }
     requires read { IsTrue (is_read kind) }
 {
@@ -21,9 +21,9 @@ fn told_behind_zeros(alloc: Global, kind: Kind, digits: &[u8]) -> Result<String,
 
 #[test]
 fn zeros_in_front_change_nothing(rt: HostRuntime) -> Result<(), Fail> {
-    let whole = told_behind_zeros(rt.alloc(), Kind::Int, b"42")?;
+    let whole = told_after_zeros(rt.alloc(), Kind::Int, b"42")?;
     same(&rt, whole.as_str(), "|42");
-    let hundredths = told_behind_zeros(rt.alloc(), Kind::Fixed(2), b"42.5")?;
+    let hundredths = told_after_zeros(rt.alloc(), Kind::Fixed(2), b"42.5")?;
     same(&rt, hundredths.as_str(), "|4250");
     Ok(())
 }

@@ -14,7 +14,7 @@ use Rattle.type_checker.specs.Resolved.{Nesting, inside, resolved}
 use Rattle.type_checker.specs.declared.naming.Typed.{Typed}
 use Rattle.type_checker.specs.declared.stop.CheckStop.{CheckStop}
 use Rattle.type_checker.specs.declared.stop.CheckStop.TheVariants.{Refused, Memory}
-use Rattle.type_checker.proofs.Behind.{of_value}
+use Rattle.type_checker.proofs.After.{of_value}
 use Rattle.type_checker.proofs.Nested.{none_inside}
 use Rattle.type_checker.proofs.FromOperands.{made_of, two_places}
 use Rattle.value_ops.specs.declared.value.ValueType.{ValueType}

@@ -8,15 +8,15 @@ use Rattle.query_model.specs.QueryTypes.{derived_columns, type_of}
 use Rattle.query_model.specs.Rates.{rate_of}
 use Rattle.query_model.specs.Rules.{Standing}
 use Rattle.query_model.specs.declared.query.Query.{Query}
-use Rattle.type_checker.specs.Findings.{IsBrokenBy, IsUnfed, nodes_behind, places_in}
+use Rattle.type_checker.specs.Findings.{IsBrokenBy, IsUnfed, nodes_after, places_in}
 use Rattle.type_checker.specs.Nodes.{Node, nodes_in, with_two}
 use Rattle.type_checker.specs.WordRules.{Breaks, BreaksFed, FirstBroken}
 use Rattle.type_checker.specs.declared.word_stop.WordStop.{WordStop}
 use Rattle.type_checker.specs.declared.word_stop.WordStop.TheVariants.{Broken, Ambiguous, Memory}
 use Rattle.type_checker.proofs.FirstNodes.{first_alone, first_after_kept}
-use Rattle.type_checker.proofs.Placed.{broken_behind}
+use Rattle.type_checker.proofs.Placed.{broken_after}
 use Rattle.type_checker.proofs.PlainRules.{fed_plain}
-use Rattle.type_checker.proofs.Walked.{nodes_at, stops_before, stops_behind}
+use Rattle.type_checker.proofs.Walked.{nodes_at, stops_before, stops_after}
 
 -- the second operand, on the stream of these values
 module _ (columns : List Column) (standing : Standing) (f : Qre) (second : Query) (layout : Layout)
@@ -28,12 +28,12 @@ module _ (columns : List Column) (standing : Standing) (f : Qre) (second : Query
   abbrev last : Node
   last = record { columns = columns; standing = standing; query = compose f (plain_of second.shape); place = span }
 
-  abbrev pub behind : List Node
-  behind = nodes_behind columns standing f (plain_of second.shape) (places_in second) span
+  abbrev pub after : List Node
+  after = nodes_after columns standing f (plain_of second.shape) (places_in second) span
 
   -- a node of it breaks a rule
   pub fed_stopped : (stop : WordStop) → IsBrokenBy (nodes_at layout.columns standing second) stop
-      → IsBrokenBy behind stop
+      → IsBrokenBy after stop
   fed_stopped stop broken =
       stops_before (nodes_at values standing second) _ stop
       (subst (λ (l : Layout). IsBrokenBy (nodes_at l.columns standing second) stop) is broken)
@@ -43,14 +43,14 @@ module _ (columns : List Column) (standing : Standing) (f : Qre) (second : Query
     kept_there : FirstBroken (nodes_at values standing second) None
     kept_there = subst (λ (l : Layout). FirstBroken (nodes_at l.columns standing second) None) is kept
 
-    fed_by : BreaksFed standing layout.columns (rate_of (plain_of second.shape)) None → FirstBroken behind None
-    fed_by holds = broken_behind (nodes_at values standing second) _ None kept_there (inr (
+    fed_by : BreaksFed standing layout.columns (rate_of (plain_of second.shape)) None → FirstBroken after None
+    fed_by holds = broken_after (nodes_at values standing second) _ None kept_there (inr (
       subst (λ (l : Layout). BreaksFed standing l.columns (rate_of (plain_of second.shape)) None) is holds,
       refl,
     ))
 
     unfed_by : (stop : WordStop) → IsUnfed standing layout.columns (rate_of (plain_of second.shape)) span stop
-        → IsBrokenBy behind stop
+        → IsBrokenBy after stop
     unfed_by (Broken why) (rule, same, breaks) =
         let here : Breaks last (Some rule) =
         subst (λ (l : Layout). BreaksFed standing l.columns (rate_of (plain_of second.shape)) (Some rule)) is breaks in (
@@ -65,13 +65,13 @@ module _ (columns : List Column) (standing : Standing) (f : Qre) (second : Query
     -- and the composition is asked
     pub fed_kept : (result : Result (Unit {0}) WordStop)
         → OnOk result (BreaksFed standing layout.columns (rate_of (plain_of second.shape)) None)
-        → OnOk result (FirstBroken behind None)
+        → OnOk result (FirstBroken after None)
     fed_kept (Ok done) holds = fed_by holds
     fed_kept (Err stop) holds = tt
 
     pub fed_refused : (result : Result (Unit {0}) WordStop)
         → IfErr result (IsUnfed standing layout.columns (rate_of (plain_of second.shape)) span)
-        → IfErr result (IsBrokenBy behind)
+        → IfErr result (IsBrokenBy after)
     fed_refused (Ok done) broken = tt
     fed_refused (Err stop) broken = unfed_by stop broken
 
@@ -83,7 +83,7 @@ module _ (columns : List Column) (standing : Standing) (first second : Query) (s
       (with_two (places_in first) (places_in second) span)
 
   abbrev others : List Node
-  others = nodes_behind columns standing (plain_of first.shape) (plain_of second.shape) (places_in second) span
+  others = nodes_after columns standing (plain_of first.shape) (plain_of second.shape) (places_in second) span
 
   nodes_are : all ≡ nodes_at columns standing first ++ others
   nodes_are =
@@ -101,9 +101,9 @@ module _ (columns : List Column) (standing : Standing) (first second : Query) (s
     pub composed_second : (stop : WordStop) → IsBrokenBy others stop → IsBrokenBy all stop
     composed_second stop broken =
         subst (λ (nodes : List Node). IsBrokenBy nodes stop) (sym nodes_are)
-        (stops_behind (nodes_at columns standing first) others stop kept broken)
+        (stops_after (nodes_at columns standing first) others stop kept broken)
 
     pub composed_kept : FirstBroken others None → FirstBroken all None
     composed_kept later =
         subst (λ (nodes : List Node). FirstBroken nodes None) (sym nodes_are)
-        (broken_behind (nodes_at columns standing first) others None kept later)
+        (broken_after (nodes_at columns standing first) others None kept later)

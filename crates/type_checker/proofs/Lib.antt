@@ -1,6 +1,6 @@
 pub mod Asked
 mod Atoms
-pub mod Behind
+pub mod After
 pub mod Blaming
 pub mod Clear
 mod Chosen

@@ -15,53 +15,53 @@ use Rattle.type_checker.specs.Rates.{rate_over}
 use Rattle.type_checker.specs.Resolved.{inside, resolved, same_type}
 use Rattle.type_checker.specs.Steps.{found, provided}
 use Rattle.type_checker.specs.Tests.{resolved_over}
-use Rattle.type_checker.proofs.Behind.{behind, behind_any}
+use Rattle.type_checker.proofs.After.{after, after_any}
 
 -- no collection inside
 pub none_inside : (columns : List Column) (tree : Query) → IfOk (resolved inside columns tree) HasNoCollect
 unfolding resolved
 none_inside columns (q.name name) = tt
 none_inside columns (q.atom predicate value span) =
-    behind_any HasNoCollect (found Name span (resolved_over columns predicate)) _ (λ pred.
-    behind_any HasNoCollect (found Name span (expression_over (of_item columns) value)) _ (λ expression.
-    behind_any HasNoCollect (provided Type_ span (fits columns pred)) _ (λ tests.
-    behind_any HasNoCollect (provided Type_ span (is_typed (types.of_columns columns) expression)) _ (λ typed. tt))))
+    after_any HasNoCollect (found Name span (resolved_over columns predicate)) _ (λ pred.
+    after_any HasNoCollect (found Name span (expression_over (of_item columns) value)) _ (λ expression.
+    after_any HasNoCollect (provided Type_ span (fits columns pred)) _ (λ tests.
+    after_any HasNoCollect (provided Type_ span (is_typed (types.of_columns columns) expression)) _ (λ typed. tt))))
 none_inside columns (q.eps number span) = tt
 none_inside columns (q.or left right span) =
-    behind HasNoCollect (resolved inside columns left) _ (none_inside columns left) (λ f in_f.
-    behind HasNoCollect (resolved inside columns right) _ (none_inside columns right) (λ g in_g.
-    behind_any HasNoCollect (provided Type_ span (same_type (type_of columns g) (type_of columns f))) _ (λ typed.
+    after HasNoCollect (resolved inside columns left) _ (none_inside columns left) (λ f in_f.
+    after HasNoCollect (resolved inside columns right) _ (none_inside columns right) (λ g in_g.
+    after_any HasNoCollect (provided Type_ span (same_type (type_of columns g) (type_of columns f))) _ (λ typed.
     (in_f, in_g))))
 none_inside columns (q.split left right value span) =
-    behind HasNoCollect (resolved inside columns left) _ (none_inside columns left) (λ f in_f.
-    behind HasNoCollect (resolved inside columns right) _ (none_inside columns right) (λ g in_g.
-    behind_any HasNoCollect (found Name span (expression_over of_two value)) _ (λ expression.
-    behind_any HasNoCollect
+    after HasNoCollect (resolved inside columns left) _ (none_inside columns left) (λ f in_f.
+    after HasNoCollect (resolved inside columns right) _ (none_inside columns right) (λ g in_g.
+    after_any HasNoCollect (found Name span (expression_over of_two value)) _ (λ expression.
+    after_any HasNoCollect
     (provided Type_ span (is_typed (types.of_two (type_of columns f) (type_of columns g)) expression)) _ (λ typed.
     (in_f, in_g)))))
 none_inside columns (q.iter operand first step span) =
-    behind HasNoCollect (resolved inside columns operand) _ (none_inside columns operand) (λ f in_f.
-    behind_any HasNoCollect (found Name span (expression_over of_two step)) _ (λ expression.
-    behind_any HasNoCollect (provided Type_ span (is_number (types.of_two Number (type_of columns f)) expression)) _
+    after HasNoCollect (resolved inside columns operand) _ (none_inside columns operand) (λ f in_f.
+    after_any HasNoCollect (found Name span (expression_over of_two step)) _ (λ expression.
+    after_any HasNoCollect (provided Type_ span (is_number (types.of_two Number (type_of columns f)) expression)) _
     (λ typed. in_f)))
 none_inside columns (q.combine left right value span) =
-    behind HasNoCollect (resolved inside columns left) _ (none_inside columns left) (λ f in_f.
-    behind HasNoCollect (resolved inside columns right) _ (none_inside columns right) (λ g in_g.
-    behind_any HasNoCollect (found Name span (expression_over of_two value)) _ (λ expression.
-    behind_any HasNoCollect
+    after HasNoCollect (resolved inside columns left) _ (none_inside columns left) (λ f in_f.
+    after HasNoCollect (resolved inside columns right) _ (none_inside columns right) (λ g in_g.
+    after_any HasNoCollect (found Name span (expression_over of_two value)) _ (λ expression.
+    after_any HasNoCollect
     (provided Type_ span (is_typed (types.of_two (type_of columns f) (type_of columns g)) expression)) _ (λ typed.
     (in_f, in_g)))))
 none_inside columns (q.apply operand value span) =
-    behind HasNoCollect (resolved inside columns operand) _ (none_inside columns operand) (λ f in_f.
-    behind_any HasNoCollect (found Name span (expression_over of_one value)) _ (λ expression.
-    behind_any HasNoCollect (provided Type_ span (is_typed (types.of_one (type_of columns f)) expression)) _
+    after HasNoCollect (resolved inside columns operand) _ (none_inside columns operand) (λ f in_f.
+    after_any HasNoCollect (found Name span (expression_over of_one value)) _ (λ expression.
+    after_any HasNoCollect (provided Type_ span (is_typed (types.of_one (type_of columns f)) expression)) _
     (λ typed. in_f)))
 none_inside columns (q.compose left right span) =
-    behind HasNoCollect (resolved inside columns left) _ (none_inside columns left) (λ f in_f.
-    behind HasNoCollect (resolved inside (derived_columns (type_of columns f)) right) _
+    after HasNoCollect (resolved inside columns left) _ (none_inside columns left) (λ f in_f.
+    after HasNoCollect (resolved inside (derived_columns (type_of columns f)) right) _
     (none_inside (derived_columns (type_of columns f)) right) (λ g in_g. (in_f, in_g)))
 none_inside columns (q.collect key sync rate operand span) =
-    behind_any HasNoCollect (resolved inside columns operand) _ (λ f.
-    behind_any HasNoCollect (found Name span (column_named columns key.bytes)) _ (λ column.
-    behind_any HasNoCollect (found Name span (resolved_over columns sync)) _ (λ pred.
-    behind_any HasNoCollect (found Name span (rate_over columns rate)) _ (λ words. tt))))
+    after_any HasNoCollect (resolved inside columns operand) _ (λ f.
+    after_any HasNoCollect (found Name span (column_named columns key.bytes)) _ (λ column.
+    after_any HasNoCollect (found Name span (resolved_over columns sync)) _ (λ pred.
+    after_any HasNoCollect (found Name span (rate_over columns rate)) _ (λ words. tt))))

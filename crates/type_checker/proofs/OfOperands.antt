@@ -7,7 +7,7 @@ use Rattle.query_model.specs.Rules.{Standing}
 use Rattle.query_model.specs.declared.query.Query.{Query}
 use Rattle.type_checker.specs.Findings.{first_in, first_over, first_over_two}
 use Rattle.type_checker.specs.Nodes.{Node}
-use Rattle.type_checker.proofs.Placed.{first_before, first_behind}
+use Rattle.type_checker.proofs.Placed.{first_before, first_after}
 use Rattle.type_checker.proofs.Walked.{nodes_at}
 
 module _ (is_so : Node → Bool) (node : Node) (columns : List Column) (standing : Standing) (f : Query) where
@@ -17,7 +17,7 @@ module _ (is_so : Node → Bool) (node : Node) (columns : List Column) (standing
 
   -- none of the operand's nodes is so
   pub none_inside : first_in is_so columns standing f ≡ None → all ≡ cond (is_so node) (Some node.place) None
-  none_inside none = first_behind is_so (nodes_at columns standing f) (node ∷ []) none
+  none_inside none = first_after is_so (nodes_at columns standing f) (node ∷ []) none
 
   -- one is
   pub one_inside : (found : Span) → first_in is_so columns standing f ≡ Some found → all ≡ Some found
@@ -41,8 +41,8 @@ module _ (is_so : Node → Bool) (node : Node) (columns : List Column) (standing
     pub none_inside_both : first_in is_so columns standing f ≡ None → first_in is_so others other g ≡ None
         → all_of_both ≡ cond (is_so node) (Some node.place) None
     none_inside_both none neither =
-        first_behind is_so both (node ∷ [])
-        (first_behind is_so (nodes_at columns standing f) (nodes_at others other g) none ∙ neither)
+        first_after is_so both (node ∷ [])
+        (first_after is_so (nodes_at columns standing f) (nodes_at others other g) none ∙ neither)
 
     -- one of the first is
     one_inside_first : (found : Span) → first_in is_so columns standing f ≡ Some found
@@ -56,7 +56,7 @@ module _ (is_so : Node → Bool) (node : Node) (columns : List Column) (standing
         → first_in is_so others other g ≡ Some found → all_of_both ≡ Some found
     one_inside_second found none some =
         first_before is_so both (node ∷ []) found
-        (first_behind is_so (nodes_at columns standing f) (nodes_at others other g) none ∙ some)
+        (first_after is_so (nodes_at columns standing f) (nodes_at others other g) none ∙ some)
 
     -- any
     pub first_of_two : (found later : Option Span) → first_in is_so columns standing f ≡ found

@@ -7,10 +7,10 @@ use Rattle.type_checker.specs.WordRules.{FirstBroken}
 
 module _ (is_so : Node → Bool) where
   -- none of the first nodes is so, and the first of the others that is decides
-  pub first_behind : (nodes others : List Node) → first_where is_so nodes ≡ None
+  pub first_after : (nodes others : List Node) → first_where is_so nodes ≡ None
       → first_where is_so (nodes ++ others) ≡ first_where is_so others
-  first_behind [] others none = refl
-  first_behind (node ∷ nodes) others none = by (is_so node) (first_behind nodes others) none
+  first_after [] others none = refl
+  first_after (node ∷ nodes) others none = by (is_so node) (first_after nodes others) none
     where
       by : (b : Bool) → (first_where is_so nodes ≡ None
           → first_where is_so (nodes ++ others) ≡ first_where is_so others)
@@ -32,9 +32,9 @@ module _ (is_so : Node → Bool) where
       by false later some = later some
 
 -- none of the first nodes breaks a rule, and the first of the others that does decides
-pub broken_behind : (nodes others : List Node) (why : Option Refusal) → FirstBroken nodes None
+pub broken_after : (nodes others : List Node) (why : Option Refusal) → FirstBroken nodes None
     → FirstBroken others why → FirstBroken (nodes ++ others) why
-broken_behind [] others why kept later = later
-broken_behind (node ∷ nodes) others why (inl (rule, broken, is)) later = absurd (cc)
-broken_behind (node ∷ nodes) others why (inr (here, kept)) later =
-    inr (here, broken_behind nodes others why kept later)
+broken_after [] others why kept later = later
+broken_after (node ∷ nodes) others why (inl (rule, broken, is)) later = absurd (cc)
+broken_after (node ∷ nodes) others why (inr (here, kept)) later =
+    inr (here, broken_after nodes others why kept later)

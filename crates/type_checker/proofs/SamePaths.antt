@@ -3,7 +3,7 @@ use Rattle.std.proofs.Common.{◌≡◌, ◌+◌, ◌∙◌, ℕ, List, [], ◌�
 use Rattle.item_schema.specs.declared.column.Column.{Column}
 use Rattle.value_ops.specs.declared.field.Field.{Field}
 use Rattle.predicate_cells.specs.Predicates.{Predicate}
-use Rattle.rate_expr.specs.Behind.{IsBehind}
+use Rattle.rate_expr.specs.After.{IsAfter}
 use Rattle.rate_expr.specs.FirstLastFollow.{AreSetsOf}
 use Rattle.rate_expr.specs.Paths.{Follows, Leads, LeadsOn, Meets}
 use Rattle.rate_expr.specs.Rates.{Expression}
@@ -39,13 +39,13 @@ module _ (r : Expression) (one other : Sets) (ones : AreSetsOf one r) (others : 
 
 module _ (r : Expression) (one other : Sets) (ones : AreSetsOf one r) (others : AreSetsOf other r) where
   -- the state behind a word is the same for both
-  behind_too : (word : Word) (state : State) → IsBehind one word state → IsBehind other word state
-  behind_too [] Initial behind = behind
-  behind_too [] (At mask) behind = absurd behind
-  behind_too (item ∷ word) Initial behind = absurd behind
-  behind_too (item ∷ word) (At mask) behind = λ to. (
-    λ has. leads_too r one other ones others (item ∷ word) to ((behind to).0 has),
-    λ leads. (behind to).1 (leads_too r other one others ones (item ∷ word) to leads),
+  after_too : (word : Word) (state : State) → IsAfter one word state → IsAfter other word state
+  after_too [] Initial after = after
+  after_too [] (At mask) after = absurd after
+  after_too (item ∷ word) Initial after = absurd after
+  after_too (item ∷ word) (At mask) after = λ to. (
+    λ has. leads_too r one other ones others (item ∷ word) to ((after to).0 has),
+    λ leads. (after to).1 (leads_too r other one others ones (item ∷ word) to leads),
   )
 
 module _ (columns : List Column) (r s : Expression) (first second : Sets) (firsts : AreSetsOf first r)
@@ -55,8 +55,8 @@ module _ (columns : List Column) (r s : Expression) (first second : Sets) (first
       → LeadToApart first' second' u v → LeadToApart first second u v
   apart_too first' second' firsts' seconds' u v apart = λ s1 s2 t1 t2 a b c d.
       apart s1 s2 t1 t2
-      (behind_too r first first' firsts firsts' u s1 a) (behind_too r first first' firsts firsts' v s2 b)
-      (behind_too s second second' seconds seconds' u t1 c) (behind_too s second second' seconds seconds' v t2 d)
+      (after_too r first first' firsts firsts' u s1 a) (after_too r first first' firsts firsts' v s2 b)
+      (after_too s second second' seconds seconds' u t1 c) (after_too s second second' seconds seconds' v t2 d)
 
   -- many pairs of some sets of the rates are many of these
   pub many_here : ReachManyPairs columns r s → ReachPairs columns first second (max_reach + 1)
@@ -75,7 +75,7 @@ module _ (columns : List Column) (r : Expression) (sets : Sets) (are : AreSetsOf
     words = many.words;
     items = many.items;
     each_two = λ i j d before within. λ s s' a b.
-        many.each_two i j d before within s s' (behind_too r sets others are ares _ s a)
-        (behind_too r sets others are ares _ s' b);
+        many.each_two i j d before within s s' (after_too r sets others are ares _ s a)
+        (after_too r sets others are ares _ s' b);
     so_many = many.so_many;
   }

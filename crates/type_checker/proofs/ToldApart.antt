@@ -9,7 +9,7 @@ use Rattle.query_model.specs.QueryTypes.{derived_columns, type_of}
 use Rattle.query_model.specs.Rules.{Standing, bound}
 use Rattle.query_model.specs.declared.query.Query.{Query}
 use Rattle.query_model.specs.declared.query.Shape.{Shape}
-use Rattle.type_checker.specs.Findings.{KeepsTypes, derives_many, first_behind, first_in, places_at, places_in}
+use Rattle.type_checker.specs.Findings.{KeepsTypes, derives_many, first_after, first_in, places_at, places_in}
 use Rattle.type_checker.specs.Nodes.{Node, Places, first_where, nodes_in, root, with_two}
 use Rattle.query_model.specs.Few.{has_few_cells}
 use Rattle.type_checker.specs.Sizes.{derives_many_cells}
@@ -87,11 +87,11 @@ if_not true span = refl
 if_not false span = refl
 
 -- the first behind an operand, by what is found of each
-pub here_behind : (values : List Column) (standing : Standing) (g : Query) (span : Span) (later here : Option Span)
+pub here_after : (values : List Column) (standing : Standing) (g : Query) (span : Span) (later here : Option Span)
     → first_in derives_many values standing g ≡ later
     → here ≡ cond (not (has_few_cells values (plain_of g.shape))) (Some span) None
-    → option_or later here ≡ first_behind values standing g span
-here_behind values standing g span later here one many =
+    → option_or later here ≡ first_after values standing g span
+here_after values standing g span later here one many =
     ap₂ option_or (sym one) (many ∙ sym (if_not (has_few_cells values (plain_of g.shape)) span))
 
 -- the query is a composition
@@ -118,10 +118,10 @@ module _ (query : Query) (shape : Shape) (f g : Query) (is : query.shape ≡ sha
       (with_two (places_in f) (places_in g) query.span)) columns standing f values standing g found later one other
       ∙ ap (option_or (option_or found later)) (sym many)
 
-  pub compose_behind : (standing : Standing) (found behind : Option Span)
-      → first_in derives_many columns standing f ≡ found → behind ≡ first_behind values standing g query.span
-      → first_in derives_many columns standing query ≡ option_or found behind
-  compose_behind standing found behind one later =
+  pub compose_after : (standing : Standing) (found after : Option Span)
+      → first_in derives_many columns standing f ≡ found → after ≡ first_after values standing g query.span
+      → first_in derives_many columns standing query ≡ option_or found after
+  compose_after standing found after one later =
       compose_first standing found _ _ one refl (if_not (has_few_cells values (plain_of g.shape)) query.span)
       ∙ or_either found _ _ ∙ ap (option_or found) (sym later)
 

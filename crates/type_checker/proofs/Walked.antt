@@ -15,7 +15,7 @@ use Rattle.type_checker.specs.WordRules.{BreaksAt, FirstBroken}
 use Rattle.type_checker.specs.declared.word_stop.WordStop.{WordStop}
 use Rattle.type_checker.specs.declared.word_stop.WordStop.TheVariants.{Broken, Ambiguous, Memory}
 use Rattle.type_checker.proofs.FirstNodes.{first_alone, first_after_kept, first_with_more}
-use Rattle.type_checker.proofs.Placed.{broken_behind}
+use Rattle.type_checker.proofs.Placed.{broken_after}
 
 -- what stops among some nodes stops among them and others
 pub stops_before : (nodes others : List Node) (stop : WordStop) → IsBrokenBy nodes stop
@@ -27,13 +27,13 @@ stops_before nodes others (Ambiguous blame) (node, rule, first, is) =
 stops_before nodes others Memory broken = tt
 
 -- what stops behind nodes that break no rule
-pub stops_behind : (nodes others : List Node) (stop : WordStop) → FirstBroken nodes None → IsBrokenBy others stop
+pub stops_after : (nodes others : List Node) (stop : WordStop) → FirstBroken nodes None → IsBrokenBy others stop
     → IsBrokenBy (nodes ++ others) stop
-stops_behind nodes others (Broken why) kept (node, rule, first, is) =
+stops_after nodes others (Broken why) kept (node, rule, first, is) =
     (node, rule, first_after_kept node rule nodes others kept first, is)
-stops_behind nodes others (Ambiguous blame) kept (node, rule, first, is) =
+stops_after nodes others (Ambiguous blame) kept (node, rule, first, is) =
     (node, rule, first_after_kept node rule nodes others kept first, is)
-stops_behind nodes others Memory kept broken = tt
+stops_after nodes others Memory kept broken = tt
 
 -- the nodes of a query in memory
 abbrev pub nodes_at : List Column → Standing → Query → List Node
@@ -65,7 +65,7 @@ module _ (columns : List Column) (standing : Standing) (query : Qre) (places : P
     -- it breaks no rule
     pub kept_at : BreaksAt columns standing query None → FirstBroken (nodes_in columns standing query places) None
     kept_at here = subst (λ nodes. FirstBroken nodes None) (root_last columns standing query places)
-        (broken_behind _ _ None none (inr (here, refl)))
+        (broken_after _ _ None none (inr (here, refl)))
 
     -- it breaks this rule, and is the first that breaks one
     first_at_root : (rule : Rule) → BreaksAt columns standing query (Some rule)

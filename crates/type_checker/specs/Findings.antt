@@ -81,8 +81,8 @@ derives_many node = derives_many_cells node.columns node.query
 
 -- the place of the first such node in the right operand of a composition, over these columns of
 -- values; if there is none, the place of the composition if it is one itself
-abbrev pub first_behind : List Column → Standing → Query → Span → Option Span
-first_behind values standing second span = option_or (first_in derives_many values standing second)
+abbrev pub first_after : List Column → Standing → Query → Span → Option Span
+first_after values standing second span = option_or (first_in derives_many values standing second)
     (if has_few_cells values (plain_of second.shape) then None else Some span)
 
 -- At each node, tests are of the kinds of their columns, and expressions are well typed with
@@ -169,8 +169,8 @@ IsUnfed standing columns r span (word.Ambiguous blame) = ⊥
 IsUnfed standing columns r span word.Memory = Unit {0}
 
 -- the nodes of the second operand of a composition, and then the composition
-abbrev pub nodes_behind : List Column → Standing → Qre → Qre → Places → Span → List Node
-nodes_behind columns standing f g places span =
+abbrev pub nodes_after : List Column → Standing → Qre → Qre → Places → Span → List Node
+nodes_after columns standing f g places span =
     nodes_in (derived_columns (type_of columns f)) standing g places
     ++ (record { columns = columns; standing = standing; query = compose f g; place = span }) ∷ []
 

@@ -7,7 +7,7 @@ ghost use Rattle.query_model.specs.Queries.{plain_of};
 ghost use Rattle.query_model.specs.QueryTypes.{derived_columns, type_of};
 ghost use Rattle.query_model.specs.Rules.{Standing};
 ghost use Rattle.query_model.specs.Sizes.{predicates_of};
-ghost use Rattle.type_checker.specs.Findings.{KeepsTypes, derives_many, first_behind};
+ghost use Rattle.type_checker.specs.Findings.{KeepsTypes, derives_many, first_after};
 ghost use Rattle.type_checker.specs.Findings.{first_in};
 ghost use Rattle.query_model.specs.Few.{has_few_cells};
 
@@ -77,19 +77,19 @@ fn first_composed(
         (derived_columns (type_of schema.now.columns (plain_of first.now.shape)))
         (plain_of second.now.shape) }
     ensures { IfOk result (λ found. (standing : Standing)
-        → option_or (first_in derives_many schema.now.columns standing first.now) (first_behind
+        → option_or (first_in derives_many schema.now.columns standing first.now) (first_after
         (derived_columns (type_of schema.now.columns (plain_of first.now.shape))) standing
         second.now span) ≡ found) }
 {
     let left = first_apart(alloc, schema, first)?;
-    let behind = first_behind(alloc, schema, first, second, span)?;
-    Ok(left.or(behind))
+    let after = first_after(alloc, schema, first, second, span)?;
+    Ok(left.or(after))
 }
 
 // The same of the right operand of a composition and, if nothing is found there, of the composition
 // itself.
 #[cycle(apart)]
-fn first_behind(
+fn first_after(
     alloc: Global,
     schema: &Schema,
     first: &Query,
@@ -98,7 +98,7 @@ fn first_behind(
 ) -> Result<Option<Span>, AllocError>
     requires { KeepsTypes (derived_columns (type_of schema.now.columns (plain_of first.now.shape)))
         (plain_of second.now.shape) }
-    ensures { IfOk result (λ found. (standing : Standing) → found ≡ first_behind
+    ensures { IfOk result (λ found. (standing : Standing) → found ≡ first_after
         (derived_columns (type_of schema.now.columns (plain_of first.now.shape))) standing
         second.now span) }
 {

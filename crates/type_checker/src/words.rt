@@ -13,7 +13,7 @@ ghost use Rattle.query_model.specs.Rates.{rate_of};
 ghost use Rattle.query_model.specs.Rules as model;
 ghost use Rattle.query_model.specs.Rules.{bound};
 ghost use Rattle.type_checker.specs.Findings.{AreAmong, AreOperands, CanBeAsked, IsBrokenBy};
-ghost use Rattle.type_checker.specs.Findings.{nodes_behind, places_in};
+ghost use Rattle.type_checker.specs.Findings.{nodes_after, places_in};
 ghost use Rattle.type_checker.specs.Nodes.{nodes_in, with_one, with_two};
 ghost use Rattle.type_checker.specs.Standings.{standing_of};
 ghost use Rattle.type_checker.specs.WordRules.{FirstBroken};
@@ -272,11 +272,11 @@ fn keep_fed(
     requires { CanBeAsked cells.now.value
         (compose (plain_of first.now.shape) (plain_of second.now.shape)) }
     ensures kept { OnOk result (FirstBroken
-        (nodes_behind cells.now.value.layout.columns (standing_of standing)
+        (nodes_after cells.now.value.layout.columns (standing_of standing)
         (plain_of first.now.shape) (plain_of second.now.shape) (places_in second.now) span)
         None) }
     ensures refused { IfErr result (IsBrokenBy
-        (nodes_behind cells.now.value.layout.columns (standing_of standing)
+        (nodes_after cells.now.value.layout.columns (standing_of standing)
         (plain_of first.now.shape) (plain_of second.now.shape) (places_in second.now) span)) }
 {
     let values = cells_between(alloc, cells.as_ref(), first, second)?;

@@ -79,8 +79,8 @@ end_at entries i entry within is =
 -- and where a key begins that is not the first
 pub start_at : (entries : List Entry) (i : ℕ) (d : Entry) → 0 < i → i < length entries
     → slice_get (0 ∷ ends_of entries) i ≡ Some (get_or entries (i - 1) d).end
-start_at entries zero d behind within = absurd (omega arith)
-start_at entries (suc i) d behind within =
+start_at entries zero d after within = absurd (omega arith)
+start_at entries (suc i) d after within =
     let before : suc i - 1 ≡ i = omega arith in
     rw before (slice_get-map (λ (e : Entry). e.end) entries i
     ∙ ap (option_map (λ (e : Entry). e.end)) (slice_get-get_or entries i d (omega arith)))
@@ -129,9 +129,9 @@ pub entries_from-push : (start : ℕ) (entries : List Entry) (bytes key : List �
     ≡ entries_from start entries bytes ++ (key, entry.value) ∷ []
 entries_from-push start [] bytes key entry fill ends =
     let size = length-append bytes key in
-    let behind : drop start (bytes ++ key) ≡ key = drop_at bytes key start (sym fill) in
+    let after : drop start (bytes ++ key) ≡ key = drop_at bytes key start (sym fill) in
     let whole : take (entry.end - start) key ≡ key = take_all (entry.end - start) key (omega arith) in
-    rw (behind, whole) refl
+    rw (after, whole) refl
 entries_from-push start (first ∷ entries) bytes key entry fill ends =
     let within = first_within first.end entries (length bytes) fill.1 in
     let same : between start first.end (bytes ++ key) ≡ between start first.end bytes

@@ -10,7 +10,7 @@ use Rattle.eval_nodes.specs.Copies.{AreAlike, IsCopy, IsCopyOf}
 use Rattle.eval_nodes.specs.Plain.{holding_of, seen_of}
 use Rattle.eval_nodes.proofs.Same.{same_query}
 use Rattle.eval_nodes.proofs.Runners.{alike_more, as_many_taken, copied_fresh, copied_many, follower_put, start_put}
-use Rattle.rate_expr.specs.Behind.{IsStateOf}
+use Rattle.rate_expr.specs.After.{IsStateOf}
 use Rattle.symbolic_nfa.specs.Automata.{Automaton}
 use Rattle.map_collect.specs.Keys.{followers_of as keyed_followers, keyed_of, names_of}
 use Rattle.eval_nodes.proofs.CollectCopying.{key_fresh, name_put, runner_put, start_fresh, state_at, track_put}

@@ -1,9 +1,9 @@
 use Rattle.ambiguity_check.specs.Found.{AreFound}
-use Rattle.ambiguity_check.proofs.Phases.{IsBehindBelow}
+use Rattle.ambiguity_check.proofs.Phases.{IsAfterBelow}
 use Rattle.ambiguity_check.proofs.level.mark_phase.Given as goal
 
 -- what is behind the rows of lower places on the left was marked
 abbrev pub invariant-lefts : goal.invariant-lefts
 invariant-lefts g l =
-    AreFound (IsBehindBelow (g.G.Graph.goes_on l.graph) (g.G.Graph.meet l.graph) l.level l.phase l.left)
+    AreFound (IsAfterBelow (g.G.Graph.goes_on l.graph) (g.G.Graph.meet l.graph) l.level l.phase l.left)
     l.initial.seen l.initial.next l.seen l.next

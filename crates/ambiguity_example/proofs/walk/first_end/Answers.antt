@@ -16,8 +16,8 @@ levels-init g c =
       level = c.in_ok-search.ensures;
       known = subst (λ (xs : List Reached). AreKnown begins goes_on meet 1 xs) (sym c.requires)
           (known_none begins goes_on meet);
-      none = λ fewer less behind.
-          let some = walk_some begins goes_on meet fewer behind.0 behind.1 in absurd (omega (arith, less));
+      none = λ fewer less after.
+          let some = walk_some begins goes_on meet fewer after.0 after.1 in absurd (omega (arith, less));
     }
 
 pub returns-in-Some : goal.returns-in-Some

@@ -1,6 +1,6 @@
 use Rattle.std.proofs.Common.{ℕ, ◌+◌, ◌<◌}
 use Rattle.std.specs.Prelude.{sum}
-use Rattle.ambiguity_check.specs.Lengths.{EndsBehind}
+use Rattle.ambiguity_check.specs.Lengths.{EndsAfter}
 use Rattle.ambiguity_check.specs.Levels.{IsLevel}
 use Rattle.ambiguity_check.specs.Marked.{room}
 use Rattle.ambiguity_check.specs.Walks.{IsIn}
@@ -14,7 +14,7 @@ invariant-levels g l = record {
       l.items l.search.value;
   known : AreKnown (g.G.Graph.begins l.graph) (g.G.Graph.goes_on l.graph) (g.G.Graph.meet l.graph)
       l.items l.reached.items;
-  none : (fewer : ℕ) → fewer < l.items → EndsBehind (g.G.Graph.begins l.graph)
+  none : (fewer : ℕ) → fewer < l.items → EndsAfter (g.G.Graph.begins l.graph)
       (g.G.Graph.goes_on l.graph) (g.G.Graph.meet l.graph) (IsIn l.ends) fewer → ⊥;
 }
 

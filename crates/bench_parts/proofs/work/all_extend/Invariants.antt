@@ -1,4 +1,4 @@
-use Rattle.rate_expr.specs.Behind.{IsStateOf}
+use Rattle.rate_expr.specs.After.{IsStateOf}
 use Rattle.bench_parts.proofs.work.all_extend.Given as goal
 
 abbrev pub invariant-items : goal.invariant-items

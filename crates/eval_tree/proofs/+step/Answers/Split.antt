@@ -11,7 +11,7 @@ use Rattle.eval_nodes.specs.declared.node.State.TheViews.{out-State, roll-State}
 use Rattle.eval_tree.specs.declared.hit.Hit.{Hit}
 use Rattle.eval_tree.specs.Lefts.{IsPut}
 use Rattle.eval_tree.specs.Operands.{HasJoined}
-use Rattle.eval_tree.proofs.Allowed.{start_behind, start_right, started_split, step_right, stepped_ended, stepped_joined}
+use Rattle.eval_tree.proofs.Allowed.{start_after, start_right, started_split, step_right, stepped_ended, stepped_joined}
 use Rattle.eval_tree.proofs.Arms.{both_ok, can_start_as, can_step_as, live_as, numbers_start_as, numbers_step_as, soundly_started_as, soundly_stepped_as, start_fails, started_as, started_from, step_fails, stepped_as, stepped_from, when_stepped}
 use Rattle.eval_tree.proofs.Elsewhere.{elsewhere, fresh_elsewhere}
 use Rattle.eval_tree.proofs.NumbersAllowed.{left_starts, left_steps, right_begins, right_starts, right_steps}
@@ -147,7 +147,7 @@ split::step_split-begin_right-requires t c =
       (
         record {
           can = can_start_as _ _ _ _ c.args.now refl (sym same)
-              (start_behind seen_of f g e a b next s.held c.args.now c.args.item.now ended.right can second);
+              (start_after seen_of f g e a b next s.held c.args.now c.args.item.now ended.right can second);
           typed = λ new right third. stepped_joined seen_of f g e a b (holding_of c.step_into.new.node.state) next new
               s.held c.args.now c.args.item.now c.in-Some.left ended.right right can
               (soundly_stepped_as _ _ (holding_of c.deref_mut-in-Split.result.now.state) a _ _ c.args.now

@@ -4,7 +4,7 @@ use Rattle.std.proofs.lemmas.Grind.{common_steps}
 use Rattle.item_schema.proofs.Cuts.{is_found}
 use Rattle.item_schema.proofs.cut.cut_at.Goals as goal
 
-pub returns-in-Some-clause-behind : goal.returns-in-Some-clause-behind
-returns-in-Some-clause-behind c =
+pub returns-in-Some-clause-after : goal.returns-in-Some-clause-after
+returns-in-Some-clause-after c =
     let found = is_found (λ at. at == c.args.byte) c.args.text.now in
     grind (arith, nat_tests, common_steps)

@@ -9,4 +9,4 @@ returns-in_err-push_field-clause-stopped c =
     let p = err_from_is_err_and c.from_residual-in_err-push_field.result c.from_residual-in_err-push_field.ensures.1 in
     rw (p.1, p.2) (stop-same _ _ _
     (rw (c.in-Some.is, c.in_ok-text.ensures, ← c.as_slice.ensures) at c.texts.invariant.read)
-    (c.in_err-push_field.ensures.stopped (texts_of (option_copied c.in_ok-text.behind))))
+    (c.in_err-push_field.ensures.stopped (texts_of (option_copied c.in_ok-text.tail))))

@@ -1,11 +1,11 @@
 use Rattle.std.proofs.Common.{sym, ◌∙◌}
 use Rattle.item_schema.proofs.CutLines.{strip_bom-mark, strip_bom-none}
-use Rattle.item_schema.proofs.FieldTexts.{behind_first}
+use Rattle.item_schema.proofs.FieldTexts.{drop_whole}
 use Rattle.item_schema.proofs.cut_line.without_mark.Goals as goal
 
 pub returns-then-starts_with : goal.returns-then-starts_with
 returns-then-starts_with c =
-    behind_first c.args.line.now 3 ∙ sym (strip_bom-mark c.args.line.now (sym c.starts_with.ensures.value ∙ c.if-starts_with.true)).1
+    drop_whole c.args.line.now 3 ∙ sym (strip_bom-mark c.args.line.now (sym c.starts_with.ensures.value ∙ c.if-starts_with.true)).1
 
 pub returns-else-starts_with : goal.returns-else-starts_with
 returns-else-starts_with c =

@@ -12,12 +12,12 @@ returns c =
     let whole = c.cut_at.result.0.now in
     let fraction = c.in-Some.fraction.now in
     let before : whole ≡ whole_of text = c.cut_at.ensures.before ∙ ap (before_first is_point) c.without_sign.ensures in
-    let behind = ap option_copied (sym c.in-Some.is)
-    ∙ c.cut_at.ensures.behind
+    let after = ap option_copied (sym c.in-Some.is)
+    ∙ c.cut_at.ensures.after
     ∙ ap (λ bytes. if list_any is_point bytes then Some (after_first is_point bytes) else None) c.without_sign.ensures in
-    let parts = decimal_parts text whole fraction before behind c.in_ok-size.ensures.0 c.in_ok-size_behind.ensures.0 in
+    let parts = decimal_parts text whole fraction before after c.in_ok-size.ensures.0 c.in_ok-size_after.ensures.0 in
     let first = c.in_ok-size.ensures.1 0 refl in
-    let second = c.in_ok-size_behind.ensures.1 (digits_value 10 whole) first in (
+    let second = c.in_ok-size_after.ensures.1 (digits_value 10 whole) first in (
       parts.0,
       record {
         size = second

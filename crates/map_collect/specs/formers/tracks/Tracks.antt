@@ -16,7 +16,7 @@ use Rattle.std.specs.declared.alloc.Global.{Global}
 use Rattle.std.specs.contracts.alloc.Global as heap
 use Rattle.std.specs.contracts.impls.GlobalAllocator.TheImpl.{ghosts}
 use Rattle.predicate_cells.specs.Cells.{Partition}
-use Rattle.rate_expr.specs.Behind.{IsStateOf}
+use Rattle.rate_expr.specs.After.{IsStateOf}
 use Rattle.rate_expr.specs.Sets.{Sets}
 use Rattle.rate_expr.specs.declared.state.State.{State}
 use Rattle.rate_expr.specs.declared.state.State.TheVariants.{Initial, At}

@@ -17,8 +17,8 @@ unfit_call-requires c =
 pub returns-then-is_call : goal.returns-then-is_call
 returns-then-is_call c =
     let left = rw c.in-Some.ensures.steps at c.tops.invariant.2 in
-    let behind_it = rw c.as_slice.ensures.value at c.first_place.ensures c.args.text.now in
-    Rest-main _ _ _ _ _ _ _ _ left (λ terms say. sym c.if-is_call.true ∙ c.is_call.ensures terms say) c.unfit_call-unfit.ensures behind_it (c.or.ensures ∙ option_or_is c.unfit_call-unfit.result c.first_place.result)
+    let after_it = rw c.as_slice.ensures.value at c.first_place.ensures c.args.text.now in
+    Rest-main _ _ _ _ _ _ _ _ left (λ terms say. sym c.if-is_call.true ∙ c.is_call.ensures terms say) c.unfit_call-unfit.ensures after_it (c.or.ensures ∙ option_or_is c.unfit_call-unfit.result c.first_place.result)
 
 pub returns-in-Some-unfit_call : goal.returns-in-Some-unfit_call
 returns-in-Some-unfit_call c =

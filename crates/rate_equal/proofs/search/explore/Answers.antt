@@ -1,6 +1,6 @@
 use Rattle.std.proofs.Common.{◌≡◌, ◌∙◌, Some, None, rules, sym, slice_get}
 use Rattle.std.proofs.lemmas.Result.{err_from_is_err_and}
-use Rattle.rate_expr.proofs.StatesBehind.{behind_exists}
+use Rattle.rate_expr.proofs.StatesAfter.{after_exists}
 use Rattle.rate_equal.proofs.Along.{searched_along}
 use Rattle.rate_equal.proofs.Exploring.{too_many_reached}
 use Rattle.rate_equal.proofs.Gone.{none_gone}
@@ -11,13 +11,13 @@ pub ways_on-requires : goal.ways_on-requires
 ways_on-requires c =
     let from = reached_at _ _ _ _ c.in-Some.from c.pairs.invariant.searched
     (sym c.get_index.ensures.key ∙ sym c.copied.ensures ∙ c.in-Some.is) in
-    behind_exists c.args.first.now.sets from.0 _ from.2.0
+    after_exists c.args.first.now.sets from.0 _ from.2.0
 
 pub ways_on-requires-in-Some : goal.ways_on-requires-in-Some
 ways_on-requires-in-Some c =
     let from = reached_at _ _ _ _ c.in-Some.from c.pairs.invariant.searched
     (sym c.get_index.ensures.key ∙ sym c.copied.ensures ∙ c.in-Some.is) in
-    behind_exists c.args.second.now.sets from.0 _ from.2.1
+    after_exists c.args.second.now.sets from.0 _ from.2.1
 
 pub returns-clause-all : goal.returns-clause-all
 returns-clause-all c =

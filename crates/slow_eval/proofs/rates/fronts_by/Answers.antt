@@ -19,9 +19,9 @@ items-preserved c =
     let word = c.args.word.now in
     let at = c.items.item-index in
     let ends = c.met-ends.result in
-    subst (IsStepped sets word (at + 1) c.behind-ways.result) (sym c.in_ok-push-2.ensures.items)
-    (step_more sets word at c.items.ways ends c.behind-ways.result c.items.fronts.items c.item-item.result
-    c.overlap.result c.items.invariant (omega arith) (sym c.item-item.is) c.met-ends.ensures c.behind-ways.ensures
+    subst (IsStepped sets word (at + 1) c.after-ways.result) (sym c.in_ok-push-2.ensures.items)
+    (step_more sets word at c.items.ways ends c.after-ways.result c.items.fronts.items c.item-item.result
+    c.overlap.result c.items.invariant (omega arith) (sym c.item-item.is) c.met-ends.ensures c.after-ways.ensures
     (subst
     (λ l. MatchBool c.overlap.result ((p : ℕ) × Has ends p × Has l p) ((p : ℕ) → Has ends p → Has l p → ⊥))
     c.last.ensures c.overlap.ensures))

@@ -12,7 +12,7 @@ use Rattle.sqre_run.specs.Drilled.{drilled, values_of}
 use Rattle.sqre_run.specs.Drilling.{Takes, drilled_lines}
 use Rattle.sqre_run.specs.Meanings.{IsMeaning, Meaning}
 use Rattle.sqre_run.specs.Output.{value_after}
-use Rattle.sqre_run.specs.Sessions.{IsBehind}
+use Rattle.sqre_run.specs.Sessions.{IsAfter}
 use Rattle.sqre_run.proofs.Drills.{IsTally, drilled_lines-next, goes_on-next, tally_next, told_of_bytes}
 use Rattle.sqre_run.proofs.Taking.{answer_after}
 use Rattle.sqre_run.proofs.drilling.drill.Goals as goal
@@ -45,8 +45,8 @@ items-preserved g c =
     let took = subst (λ (l : Layout). Takes f.follows (text (line_from l.columns state)) c.items.session c.take_next.new.session)
     kept.same c.in_ok-take_next.ensures.takes
     in
-    let behind = subst (λ (lines : List Shown). IsBehind f.follows on lines c.take_next.new.session) (sym next)
-    (took on (drilled_lines layout count seed) kept.behind)
+    let after = subst (λ (lines : List Shown). IsAfter f.follows on lines c.take_next.new.session) (sym next)
+    (took on (drilled_lines layout count seed) kept.after)
     in
     let later : c.take_next.new.drill.state ≡ state_after (length layout.columns) state =
     ap (λ d. d.state) c.in_ok-take_next.ensures.drill ∙ ap (λ (l : Layout). state_after (length l.columns) state) kept.same
@@ -56,7 +56,7 @@ items-preserved g c =
     c.from-defined.ensures ∙ ap from_bool (c.is_some.ensures ∙ some_copied c.answer.result) ∙ counts_one (is_some answer)
     in
     record {
-      behind = behind;
+      after = after;
       ready = c.in_ok-take_next.ensures.ready;
       position = omega (arith, c.in_ok-take_next.ensures.position, kept.position);
       same = ap (λ d. d.layout) c.in_ok-take_next.ensures.drill ∙ kept.same;
@@ -64,7 +64,7 @@ items-preserved g c =
           (λ n. ap (λ (s : ℕ). line_from layout.columns state ∷ lines_from layout.columns n s) (sym later));
       tally = λ meaning means.
           let is = answer_after f.follows f.query on (drilled_lines layout (count + 1) seed) c.take_next.new.session answer
-          c.schema.ensures.checked behind c.in_ok-take_next.ensures.ready.query_is c.answer.ensures.answer meaning means
+          c.schema.ensures.checked after c.in_ok-take_next.ensures.ready.query_is c.answer.ensures.answer meaning means
           in
           let tally = tally_next meaning layout means.layout c.requires.drillable.some c.requires.drillable.read seed count
           c.items.defined state answer next is (kept.tally meaning means)
@@ -94,7 +94,7 @@ returns g c =
     c.drill_text.ensures
     (λ line told meaning means.
     let is = answer_after f.follows f.query on (drilled_lines layout count seed) c.items.session answer c.schema.ensures.checked
-    kept.behind kept.ready.query_is c.answer-2.ensures.answer meaning means
+    kept.after kept.ready.query_is c.answer-2.ensures.answer meaning means
     in
     told_of_bytes meaning layout count seed c.items.defined answer means.layout c.requires.drillable (kept.tally meaning means) is line
     (told ∙ ap (λ (n : ℕ). drill_text n c.items.defined answer) (sym same))

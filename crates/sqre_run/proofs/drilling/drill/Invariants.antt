@@ -5,7 +5,7 @@ use Rattle.sqre_run.specs.Drilled.{values_of}
 use Rattle.sqre_run.specs.Drilling.{drilled_lines}
 use Rattle.sqre_run.specs.Meanings.{IsMeaning, Meaning}
 use Rattle.sqre_run.specs.Output.{value_after}
-use Rattle.sqre_run.specs.Sessions.{IsBehind, IsReady}
+use Rattle.sqre_run.specs.Sessions.{IsAfter, IsReady}
 use Rattle.sqre_run.proofs.Drills.{IsTally}
 use Rattle.sqre_run.proofs.drilling.drill.Given as goal
 
@@ -15,7 +15,7 @@ invariant-items g l =
     let f = g.F.Follower in
     let layout = l.fn.checked.layout in
     record {
-      behind : IsBehind f.follows l.fn.checked (drilled_lines layout l.counter l.fn.seed) l.session;
+      after : IsAfter f.follows l.fn.checked (drilled_lines layout l.counter l.fn.seed) l.session;
       ready : IsReady f.query f.columns f.lost f.sound l.session;
       position : f.position l.session.follower ≤ l.counter + 1;
       same : l.drill.layout ≡ layout;

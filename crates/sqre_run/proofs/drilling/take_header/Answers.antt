@@ -3,8 +3,8 @@ use Rattle.item_schema.specs.Layout.{Layout}
 use Rattle.sqre_run.proofs.Taking.{header_taken}
 use Rattle.sqre_run.proofs.drilling.take_header.Goals as goal
 
-pub returns-clause-behind : goal.returns-clause-behind
-returns-clause-behind g c =
+pub returns-clause-after : goal.returns-clause-after
+returns-clause-after g c =
     let has : c.args.checked.now.layout.has_header ≡ true =
     sym (c.has_header.ensures ∙ ap (λ (l : Layout). l.has_header) c.schema.ensures.schema) ∙ c.if-not-has_header.false
     in

@@ -1,6 +1,6 @@
 use Rattle.std.proofs.Common.{◌≡◌, [], Option, Some, IfSome, inl, refl, ap, sym, subst, ◌∙◌, arith}
 use Rattle.std.proofs.KnownBytes.{Consumes-nil, Appends-nil}
-use Rattle.sqre_run.proofs.Sessions.{behind_none, ready_begins}
+use Rattle.sqre_run.proofs.Sessions.{after_none, ready_begins}
 use Rattle.sqre_run.proofs.Turns.{Ended-held, Running-begins, Running-held}
 use Rattle.sqre_run.specs.Outside.{outside}
 use Rattle.sqre_run.specs.declared.status.Status.TheVariants.{SinkFault}
@@ -29,7 +29,7 @@ lines-init g c =
     let kept = ap (λ s. s.follower) begins in
     record {
       running = Running-begins f.follows _ _ _ _ c.in-Ok.ensures
-          (behind_none f.follows f.query _ _ same (ap (λ s. s.begun) begins) (subst (λ x. f.follows x []) (sym kept) c.requires.word));
+          (after_none f.follows f.query _ _ same (ap (λ s. s.begun) begins) (subst (λ x. f.follows x []) (sym kept) c.requires.word));
       ready = ready_begins f.query f.columns f.lost f.sound _ _ _ same kept c.requires.query c.requires.columns
           (laws.lost_follows _ [] c.requires.word) (laws.follows_sound _ [] c.requires.word);
       count = omega (arith, ap f.position kept, laws.at_end _ [] c.requires.word);

@@ -1,4 +1,4 @@
-use Rattle.symbolic_nfa.proofs.WordsBehind.{is_accepted-in}
+use Rattle.symbolic_nfa.proofs.WordsAfter.{is_accepted-in}
 use Rattle.symbolic_nfa.proofs.laws.acceptance_is_membership.Goals as goal
 
 pub returns : goal.returns

@@ -8,8 +8,8 @@ use Rattle.query_model.specs.Rules.{bound}
 use Rattle.query_model.specs.Sizes.{predicates_of}
 use Rattle.predicate_cells.specs.Cells.{AllFit}
 use Rattle.query_model.specs.declared.query.Shape.TheViews.{the_lemmas}
-use Rattle.type_checker.specs.Findings.{KeepsTypes, first_behind}
-use Rattle.type_checker.proofs.ToldApart.{IsAbove, IsBeside, above, beside, compose_behind, compose_keeps, here_behind, on_stream}
+use Rattle.type_checker.specs.Findings.{KeepsTypes, first_after}
+use Rattle.type_checker.proofs.ToldApart.{IsAbove, IsBeside, above, beside, compose_after, compose_keeps, here_after, on_stream}
 use Rattle.type_checker.proofs.Composing.{on_values}
 use Rattle.type_checker.proofs.Fitting.{all_fit}
 use Rattle.type_checker.proofs.apart.+apart.Goals as goal
@@ -92,7 +92,7 @@ pub first_apart-returns-in-Compose : goal.first_apart-returns-in-Compose
 first_apart-returns-in-Compose t c =
     let f = c.in-Compose.first.value in let g = c.in-Compose.second.value in
     IfOk-weaker c.first_composed.result _ _ (λ found each standing.
-    compose_behind c.args.query.now _ f g c.in-Compose.is refl refl c.args.schema.now.columns standing _ _ refl refl
+    compose_after c.args.query.now _ f g c.in-Compose.is refl refl c.args.schema.now.columns standing _ _ refl refl
     ∙ (rw (c.deref.ensures, c.deref-in-Compose.ensures) at (each standing)))
     c.first_composed.ensures
 
@@ -104,26 +104,26 @@ first_of_two-returns t c = λ standing.
 -- of a composition
 pub first_composed-returns : goal.first_composed-returns
 first_composed-returns t c = λ standing.
-    ap₂ option_or (c.in_ok-left.ensures standing) (sym (c.in_ok-behind.ensures standing)) ∙ sym c.or.ensures
+    ap₂ option_or (c.in_ok-left.ensures standing) (sym (c.in_ok-after.ensures standing)) ∙ sym c.or.ensures
 
 -- behind the first operand of a composition
-pub first_behind-first_apart-requires : goal.first_behind-first_apart-requires
-first_behind-first_apart-requires t c = (
+pub first_after-first_apart-requires : goal.first_after-first_apart-requires
+first_after-first_apart-requires t c = (
   search (rules, the_lemmas),
   on_stream c.in_ok-values.values c.args.schema.now.columns c.args.first.now c.in_ok-values.ensures
       (λ cs. KeepsTypes cs (plain_of c.args.second.now.shape)) c.requires,
 )
 
-pub first_behind-place_of_many-requires : goal.first_behind-place_of_many-requires
-first_behind-place_of_many-requires t c =
+pub first_after-place_of_many-requires : goal.first_after-place_of_many-requires
+first_after-place_of_many-requires t c =
     on_stream c.in_ok-values.values c.args.schema.now.columns c.args.first.now c.in_ok-values.ensures
     (λ cs. AllFit cs (predicates_of (plain_of c.args.second.now.shape)))
     (all_fit _ (plain_of c.args.second.now.shape) c.requires)
 
-pub first_behind-returns : goal.first_behind-returns
-first_behind-returns t c = λ standing.
+pub first_after-returns : goal.first_after-returns
+first_after-returns t c = λ standing.
     on_values c.in_ok-values.values (type_of c.args.schema.now.columns (plain_of c.args.first.now.shape))
     c.in_ok-values.ensures
-    (λ (cs : List Column). c.or.result ≡ first_behind cs standing c.args.second.now c.args.span)
-    (c.or.ensures ∙ here_behind c.in_ok-values.values.columns standing c.args.second.now c.args.span _ _
+    (λ (cs : List Column). c.or.result ≡ first_after cs standing c.args.second.now c.args.span)
+    (c.or.ensures ∙ here_after c.in_ok-values.values.columns standing c.args.second.now c.args.span _ _
     (c.in_ok-right.ensures standing) c.in_ok-here.ensures)

@@ -11,5 +11,5 @@ decreases-first_of_two l = 3 * max (size-Query l.first.now) (size-Query l.second
 abbrev pub decreases-first_composed : goal.decreases-first_composed
 decreases-first_composed l = 3 * max (size-Query l.first.now) (size-Query l.second.now) + 2
 
-abbrev pub decreases-first_behind : goal.decreases-first_behind
-decreases-first_behind l = 3 * size-Query l.second.now + 1
+abbrev pub decreases-first_after : goal.decreases-first_after
+decreases-first_after l = 3 * size-Query l.second.now + 1

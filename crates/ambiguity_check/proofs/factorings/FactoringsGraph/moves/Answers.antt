@@ -18,9 +18,9 @@ returns-in-Together c = λ node.
     (λ (right : ℕ). Has sets.last c.args.left × (node.phase ≡ Parted) × Has sets.first node.left
     × Follows sets right node.right)
     (from_some c.args.rights (λ (right : ℕ). Follows sets right node.right)
-    (c.behind.ensures node.left) (c.all_behind.ensures node.right))
+    (c.after.ensures node.left) (c.all_after.ensures node.right))
     (turn_from_some c.args.rights (λ (right : ℕ). Follows sets right node.right)
-    (rw (c.last.ensures, c.first.ensures) at says) (c.all_behind-in-Together.ensures node.right)))
+    (rw (c.last.ensures, c.first.ensures) at says) (c.all_after-in-Together.ensures node.right)))
 
 pub returns-in-Parted : goal.returns-in-Parted
 returns-in-Parted c = λ node.

@@ -10,4 +10,4 @@ returns-in-Together c = λ node.
     c.has.ensures in
     rw c.in-Together.is (turn_from_some c.args.rights
     (λ (right : ℕ). Follows c.args.self.now.first.now right node.right)
-    (rw (c.last.ensures, c.first.ensures) at says) (c.all_behind.ensures node.right))
+    (rw (c.last.ensures, c.first.ensures) at says) (c.all_after.ensures node.right))

@@ -14,6 +14,6 @@ returns c = λ node.
     (λ (right : ℕ). TurnsTo first second c.args.phase c.args.left right node)
     (from_some c.args.rights
     (λ (right : ℕ). Follows (right_of first second c.args.phase) right node.right)
-    (rw c.left.ensures at c.behind.ensures node.left)
-    (rw c.right.ensures at c.all_behind.ensures node.right))
+    (rw c.left.ensures at c.after.ensures node.left)
+    (rw c.right.ensures at c.all_after.ensures node.right))
     (c.turn.ensures node)

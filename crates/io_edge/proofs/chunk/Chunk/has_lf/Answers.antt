@@ -12,5 +12,5 @@ returns-clause-some c is =
 pub returns-clause-none : goal.returns-clause-none
 returns-clause-none c is =
     let chunk = c.self.inside in
-    let behind : chunk.lines_end ≤ chunk.from = grind (arith, nat_tests, is) in
-    rw (← c.self.view_is) (part_no_lf chunk.bytes.items chunk.lines_end chunk.from chunk.to c.self.invariant.2 c.self.invariant.5 behind)
+    let after : chunk.lines_end ≤ chunk.from = grind (arith, nat_tests, is) in
+    rw (← c.self.view_is) (part_no_lf chunk.bytes.items chunk.lines_end chunk.from chunk.to c.self.invariant.2 c.self.invariant.5 after)

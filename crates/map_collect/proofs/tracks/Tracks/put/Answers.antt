@@ -1,6 +1,6 @@
 use Rattle.std.proofs.Common.{sym, subst}
 use Rattle.std.specs.List.{Contains}
-use Rattle.rate_expr.specs.Behind.{IsStateOf}
+use Rattle.rate_expr.specs.After.{IsStateOf}
 use Rattle.map_collect.specs.Tracks.{starts_of}
 use Rattle.map_collect.proofs.Starts.{AreTracks-more}
 use Rattle.map_collect.proofs.tracks.Tracks.put.Goals as goal

@@ -4,9 +4,9 @@ use Rattle.std.proofs.lemmas.Result.{err_from_is_err_and}
 use Rattle.query_model.specs.Queries.{plain_of}
 use Rattle.symbolic_nfa.specs.Automata.{Automaton}
 use Rattle.type_checker.proofs.Asked.{positions_decided}
-use Rattle.type_checker.proofs.Placed.{broken_behind}
+use Rattle.type_checker.proofs.Placed.{broken_after}
 use Rattle.type_checker.proofs.Ruled.{automaton_of}
-use Rattle.type_checker.proofs.Walked.{stops_before, stops_behind}
+use Rattle.type_checker.proofs.Walked.{stops_before, stops_after}
 use Rattle.type_checker.proofs.words.+words.Goals as goal
 
 pub keep_both-new-requires : goal.keep_both-new-requires
@@ -27,11 +27,11 @@ keep_both-returns-in_err-left-clause-refused t c =
 pub keep_both-returns-in_err-right-clause-refused : goal.keep_both-returns-in_err-right-clause-refused
 keep_both-returns-in_err-right-clause-refused t c =
     let err = err_from_is_err_and c.from_residual-in_err-right.result c.from_residual-in_err-right.ensures.1 in
-    rw (err.1, err.2) (stops_behind _ _ _ c.in_ok-left.ensures.kept c.in_err-right.ensures.refused)
+    rw (err.1, err.2) (stops_after _ _ _ c.in_ok-left.ensures.kept c.in_err-right.ensures.refused)
 
 pub keep_both-returns-clause-kept : goal.keep_both-returns-clause-kept
 keep_both-returns-clause-kept t c =
-    broken_behind _ _ None c.in_ok-left.ensures.kept c.in_ok-right.ensures.kept
+    broken_after _ _ None c.in_ok-left.ensures.kept c.in_ok-right.ensures.kept
 
 pub keep_both-returns-clause-automata : goal.keep_both-returns-clause-automata
 keep_both-returns-clause-automata t c = record {

@@ -13,9 +13,9 @@ IsStateOf sets (At mask) = mask < 2 ^ length sets.preds
 
 -- the state after a word: after the empty word the initial state, and after any other the set of
 -- the positions at which some path that the word spells ends
-abbrev pub IsBehind : Sets → Word → State → Type 0
-IsBehind sets [] Initial = Unit {0}
-IsBehind sets [] (At mask) = ⊥
-IsBehind sets (item ∷ word) Initial = ⊥
-IsBehind sets (item ∷ word) (At mask) =
+abbrev pub IsAfter : Sets → Word → State → Type 0
+IsAfter sets [] Initial = Unit {0}
+IsAfter sets [] (At mask) = ⊥
+IsAfter sets (item ∷ word) Initial = ⊥
+IsAfter sets (item ∷ word) (At mask) =
     (to : ℕ) → (Has mask to → Leads sets (item ∷ word) to) × (Leads sets (item ∷ word) to → Has mask to)

@@ -2,8 +2,8 @@ use Rattle.std.proofs.Common.{◌≡◌, length, Some, None, option_copied, refl
 use Rattle.std.proofs.lemmas.Option.{slice_get_read}
 use Rattle.query_syntax.specs.Plain.{plain_query}
 use Rattle.query_lets.proofs.Building.{place_of}
-use Rattle.query_lets.proofs.Leading.{leads, no_place, place_behind}
-use Rattle.query_lets.proofs.scope.Scope.behind_name.Goals as goal
+use Rattle.query_lets.proofs.Leading.{leads, no_place, place_after}
+use Rattle.query_lets.proofs.scope.Scope.after_name.Goals as goal
 
 pub returns-in_err-place-clause-root : goal.returns-in_err-place-clause-root
 returns-in_err-place-clause-root c =
@@ -20,7 +20,7 @@ returns-in_err-one-clause-root c =
     sym (c.get.ensures.value ∙ ap (place_of c.args.self.places.now) c.as_slice.ensures)
     ∙ ap option_copied c.in_ok-place.was in
     rw c.from_residual-in_err-one.ensures
-    (place_behind c.args.self.places.now c.args.self c.requires c.in-Name.name (ap plain_query c.in-Name.is) place found
+    (place_after c.args.self.places.now c.args.self c.requires c.in-Name.name (ap plain_query c.in-Name.is) place found
     c.in_err-one.ensures.lookup.3)
 
 pub returns-clause-leads : goal.returns-clause-leads

@@ -2,7 +2,7 @@ use Rattle.std.proofs.Common.{◌≡◌, true, get_or, sym, ◌∙◌, arith}
 use Rattle.std.specs.Char.{is_ascii_digit}
 use Rattle.std.proofs.lemmas.Grind.{common_steps}
 use Rattle.item_schema.proofs.Sizes.{digits_value_after-more}
-use Rattle.item_schema.proofs.number.size_behind.Goals as goal
+use Rattle.item_schema.proofs.number.size_after.Goals as goal
 
 pub loop-digit-preserved : goal.loop-digit-preserved
 loop-digit-preserved c =
@@ -12,5 +12,5 @@ loop-digit-preserved c =
     record {
       digits = grind (arith, common_steps);
       kept = λ exact is.
-          omega (arith, c.loop-digit.invariant.kept exact is, digits_value_after-more exact digits i c.loop-digit-test.true digit, c.saturating_add-behind.ensures, c.saturating_mul.ensures, c.from.ensures);
+          omega (arith, c.loop-digit.invariant.kept exact is, digits_value_after-more exact digits i c.loop-digit-test.true digit, c.saturating_add-after.ensures, c.saturating_mul.ensures, c.from.ensures);
     }

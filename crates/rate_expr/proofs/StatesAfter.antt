@@ -5,7 +5,7 @@ use Rattle.std.proofs.lemmas.Bool.Decides.{eqb_tells}
 use Rattle.value_ops.specs.declared.field.Field.{Field}
 use Rattle.predicate_cells.specs.Predicates.{Predicate}
 use Rattle.predicate_cells.specs.Truth.{holds}
-use Rattle.rate_expr.specs.Behind.{IsStateOf, IsBehind}
+use Rattle.rate_expr.specs.After.{IsStateOf, IsAfter}
 use Rattle.rate_expr.specs.Paths.{Follows, Meets, LeadsOn, Leads}
 use Rattle.rate_expr.specs.Sets.{Sets, Has}
 use Rattle.rate_expr.specs.Words.{Word}
@@ -123,9 +123,9 @@ decided_leads sets (item ∷ word) to =
     (decided_same _ 1) (decided_meets sets.preds begin item) (decided_on sets begin word to)))
 
 -- there is a state behind each word
-pub some_behind : (sets : Sets) (word : Word) → (state : State) × IsBehind sets word state
-some_behind sets [] = (Initial, tt)
-some_behind sets (item ∷ word) =
+pub some_after : (sets : Sets) (word : Word) → (state : State) × IsAfter sets word state
+some_after sets [] = (Initial, tt)
+some_after sets (item ∷ word) =
     let made = mask_of (length sets.preds) (λ to. Leads sets (item ∷ word) to) (decided_leads sets (item ∷ word)) in (
       At made.0,
       λ to. (
@@ -135,20 +135,20 @@ some_behind sets (item ∷ word) =
     )
 
 -- whose positions exist
-pub behind_exists : (sets : Sets) (word : Word) (state : State) → IsBehind sets word state → IsStateOf sets state
-behind_exists sets word Initial behind = tt
-behind_exists sets [] (At mask) behind = absurd behind
-behind_exists sets (item ∷ word) (At mask) behind =
-    below-has mask (length sets.preds) (λ to has. leads_below sets (item ∷ word) to ((behind to).0 has))
+pub after_exists : (sets : Sets) (word : Word) (state : State) → IsAfter sets word state → IsStateOf sets state
+after_exists sets word Initial after = tt
+after_exists sets [] (At mask) after = absurd after
+after_exists sets (item ∷ word) (At mask) after =
+    below-has mask (length sets.preds) (λ to has. leads_below sets (item ∷ word) to ((after to).0 has))
 
 -- and no other
-pub one_behind : (sets : Sets) (word : Word) (state other : State) → IsBehind sets word state → IsBehind sets word other → other ≡ state
-one_behind sets [] Initial Initial behind also = refl
-one_behind sets [] Initial (At mask) behind also = absurd also
-one_behind sets [] (At mask) other behind also = absurd behind
-one_behind sets (item ∷ word) Initial other behind also = absurd behind
-one_behind sets (item ∷ word) (At mask) Initial behind also = absurd also
-one_behind sets (item ∷ word) (At mask) (At other) behind also = ap At (same-has other mask (λ to. (
-  λ has. (behind to).1 ((also to).0 has),
-  λ has. (also to).1 ((behind to).0 has),
+pub one_after : (sets : Sets) (word : Word) (state other : State) → IsAfter sets word state → IsAfter sets word other → other ≡ state
+one_after sets [] Initial Initial after also = refl
+one_after sets [] Initial (At mask) after also = absurd also
+one_after sets [] (At mask) other after also = absurd after
+one_after sets (item ∷ word) Initial other after also = absurd after
+one_after sets (item ∷ word) (At mask) Initial after also = absurd also
+one_after sets (item ∷ word) (At mask) (At other) after also = ap At (same-has other mask (λ to. (
+  λ has. (after to).1 ((also to).0 has),
+  λ has. (also to).1 ((after to).0 has),
 )))

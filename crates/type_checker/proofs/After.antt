@@ -3,22 +3,22 @@ use Rattle.std.proofs.Common.{◌≡◌, Result, Ok, Err, IfOk, subst}
 use Rattle.type_checker.specs.Steps.{◌>>=◌}
 
 -- where it holds behind each value of the first step
-pub behind_any : {A B E : Type 0} (P : B → Type 0) (first : Result A E) (next : A → Result B E)
+pub after_any : {A B E : Type 0} (P : B → Type 0) (first : Result A E) (next : A → Result B E)
     → ((value : A) → IfOk (next value) P) → IfOk (first >>= next) P
-behind_any P (Ok value) next each = each value
-behind_any P (Err why) next each = tt
+after_any P (Ok value) next each = each value
+after_any P (Err why) next each = tt
 
 -- where it holds behind each value of the first step of which it holds
-pub behind : {A E : Type 0} (P : A → Type 0) (first : Result A E) (next : A → Result A E) → IfOk first P
+pub after : {A E : Type 0} (P : A → Type 0) (first : Result A E) (next : A → Result A E) → IfOk first P
     → ((value : A) → P value → IfOk (next value) P) → IfOk (first >>= next) P
-behind P (Ok value) next holds each = each value holds
-behind P (Err why) next holds each = tt
+after P (Ok value) next holds each = each value holds
+after P (Err why) next holds each = tt
 
 -- where it holds behind each value of the first step of which something else holds
-pub behind_such : {A B E : Type 0} (P : A → Type 0) (Q : B → Type 0) (first : Result A E) (next : A → Result B E)
+pub after_such : {A B E : Type 0} (P : A → Type 0) (Q : B → Type 0) (first : Result A E) (next : A → Result B E)
     → IfOk first P → ((value : A) → P value → IfOk (next value) Q) → IfOk (first >>= next) Q
-behind_such P Q (Ok value) next holds each = each value holds
-behind_such P Q (Err why) next holds each = tt
+after_such P Q (Ok value) next holds each = each value holds
+after_such P Q (Err why) next holds each = tt
 
 -- it holds of a value that is there
 pub of_value : {A E : Type 0} (P : A → Type 0) (found : Result A E) (value : A) → found ≡ Ok value → IfOk found P

@@ -1,5 +1,5 @@
 use Rattle.ambiguity_check.proofs.Searches.{level_over}
-use Rattle.ambiguity_check.proofs.laws.all_are_seen_behind_an_empty_level.Goals as goal
+use Rattle.ambiguity_check.proofs.laws.all_are_seen_after_an_empty_level.Goals as goal
 
 pub returns : goal.returns
 returns g c = λ items search level none.

@@ -1,5 +1,5 @@
 use Rattle.symbolic_nfa.proofs.Gathering.{gathered-step, lowest-below}
-use Rattle.symbolic_nfa.proofs.ways_on.behind.Goals as goal
+use Rattle.symbolic_nfa.proofs.ways_on.after.Goals as goal
 
 pub follow-found-requires : goal.follow-found-requires
 follow-found-requires c =

@@ -1,6 +1,6 @@
 use Rattle.rate_expr.specs.Paths.{Follows}
 use Rattle.ambiguity_check.proofs.Gathering.{AreGathered}
-use Rattle.ambiguity_check.proofs.readings.all_behind.Given as goal
+use Rattle.ambiguity_check.proofs.readings.all_after.Given as goal
 
 abbrev pub invariant-positions : goal.invariant-positions
 invariant-positions l = AreGathered (Follows l.positions) l.mask l.rest l.found

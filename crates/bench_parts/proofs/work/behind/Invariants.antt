@@ -1,5 +1,0 @@
-use Rattle.rate_expr.specs.Behind.{IsStateOf}
-use Rattle.bench_parts.proofs.work.behind.Given as goal
-
-abbrev pub invariant-items : goal.invariant-items
-invariant-items l = IsStateOf l.nfa.sets l.state
