@@ -6,8 +6,8 @@ use Rattle.std.specs.Str.{bytes_eq}
 
 -- a test of a fact decides another one that is the same
 pub decides : (test : Bool) (A B : Type 0) → IsTrue test ↔ A → A ↔ B → MatchBool test B (B → ⊥)
-decides true A B tells same = same.0 (tells.0 refl)
-decides false A B tells same = λ b. let never : false ≡ true = tells.1 (same.1 b) in cc
+decides true A B decided same = same.0 (decided.0 refl)
+decides false A B decided same = λ b. let never : false ≡ true = decided.1 (same.1 b) in cc
 
 -- a test that decides a fact decides another one that follows from it, and from which it follows
 pub decides_too : (test : Bool) (A B : Type 0) → MatchBool test A (A → ⊥) → (A → B) → (B → A)

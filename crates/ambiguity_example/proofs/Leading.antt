@@ -29,27 +29,27 @@ module _ (goes_on : Node → Node → Type 0) (before node : Node) (moves : Move
   -- the node is one that the moves without an end lead to
   pub stays_there : (test : Bool) → IsTrue test ↔ IsOf moves.stay node → test ≡ true
       → IsTrue true ↔ goes_on before node
-  stays_there test tells is = (λ t. lead_there (inl (tells.0 is)), λ goes. refl)
+  stays_there test decided is = (λ t. lead_there (inl (decided.0 is)), λ goes. refl)
 
   -- it is not, and the others decide
   pub turns_there : (test other : Bool) (turn : Move) → IsTrue test ↔ IsOf moves.stay node
       → test ≡ false → moves.turn ≡ Some turn → IsTrue other ↔ IsOf turn node
       → IsTrue other ↔ goes_on before node
-  turns_there test other turn tells not_stay is tells' = (
-    λ t. lead_there (inr (subst (λ o. IsSomeAnd o (λ move. IsOf move node)) (sym is) (tells'.0 t))),
+  turns_there test other turn decided not_stay is decided' = (
+    λ t. lead_there (inr (subst (λ o. IsSomeAnd o (λ move. IsOf move node)) (sym is) (decided'.0 t))),
     λ goes. elim (there_leads goes) [
-      | inl stays ↦ absurd (not_both test (tells.1 stays) not_stay)
-      | inr turns ↦ tells'.1 (subst (λ o. IsSomeAnd o (λ move. IsOf move node)) is turns)
+      | inl stays ↦ absurd (not_both test (decided.1 stays) not_stay)
+      | inr turns ↦ decided'.1 (subst (λ o. IsSomeAnd o (λ move. IsOf move node)) is turns)
     ],
   )
 
   -- it is not, and there are no others
   pub leads_nowhere : (test : Bool) → IsTrue test ↔ IsOf moves.stay node → test ≡ false
       → moves.turn ≡ None → IsTrue false ↔ goes_on before node
-  leads_nowhere test tells not_stay is = (
+  leads_nowhere test decided not_stay is = (
     λ t. absurd (not_both false t refl),
     λ goes. elim (there_leads goes) [
-      | inl stays ↦ absurd (not_both test (tells.1 stays) not_stay)
+      | inl stays ↦ absurd (not_both test (decided.1 stays) not_stay)
       | inr turns ↦ absurd (subst (λ o. IsSomeAnd o (λ move. IsOf move node)) is turns)
     ],
   )

@@ -58,8 +58,8 @@ pub read_all : (nfa : Automaton) (items : Word) (at : ℕ) (state : State) (acce
     → at ≤ length items → length items ≤ at → IsAfter nfa.sets (take at items) state
     → AreOf nfa.sets rate → IsTrue accepted ↔ IsAccepted nfa.sets state
     → MatchBool accepted (In rate items) (In rate items → ⊥)
-read_all nfa items at state accepted rate le ge after are tells =
+read_all nfa items at state accepted rate le ge after are decided =
     let end : at ≡ length items = omega arith in
     let all : take at items ≡ items = ap (λ (n : ℕ). take n items) end ∙ take-length items in
-    decides accepted (IsAccepted nfa.sets state) (In rate items) tells
+    decides accepted (IsAccepted nfa.sets state) (In rate items) decided
     (is_accepted-in nfa.sets rate items state are (subst (λ w. IsAfter nfa.sets w state) all after))

@@ -98,4 +98,4 @@ left_ends sets before node together apart =
 pub left_goes : (sets : Sets) (before node : Node) (test : Bool)
     → (before.phase ≡ Together → node.phase ≡ Together)
     → IsTrue test ↔ Follows sets before.left node.left → IsTrue test ↔ Stays sets Left before node
-left_goes sets before node test kept tells = (λ t. (tells.0 t, kept), λ stays. tells.1 stays.0)
+left_goes sets before node test kept decided = (λ t. (decided.0 t, kept), λ stays. decided.1 stays.0)

@@ -7,18 +7,18 @@ use std::io;
 /// The word is the file, or `-` for standard input.
 pub(crate) fn count_lines(rt: HostRuntime, words: &[String]) -> io::Result<()> {
     let file = words.get(0).map_or("-", |word| word.as_str());
-    let told = told_of(rt, file)?;
-    println!(rt; "{told}")
+    let reported = report_of(rt, file)?;
+    println!(rt; "{reported}")
 }
 
 /// How many lines the file has, or why they cannot be counted.
-fn told_of(rt: HostRuntime, file: &str) -> Result<String, AllocError> {
+fn report_of(rt: HostRuntime, file: &str) -> Result<String, AllocError> {
     let alloc = rt.alloc();
     let mut source = LazyFile::new(rt, alloc, file)?;
-    told_of_source(alloc, &mut source)
+    reported_of_source(alloc, &mut source)
 }
 
-fn told_of_source<S: Source>(alloc: Global, source: &mut S) -> Result<String, AllocError> {
+fn reported_of_source<S: Source>(alloc: Global, source: &mut S) -> Result<String, AllocError> {
     let mut lines = Lines::new(alloc)?;
     match line_count(&mut lines, source) {
         Ok(count) => format!(in alloc; "{count}"),

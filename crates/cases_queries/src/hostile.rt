@@ -45,15 +45,15 @@ fn judge_drawn(rt: HostRuntime, grammar: &Grammar, count: u64, first: u64) -> io
     let mut tally = Tally::new();
     for number in 0..count {
         let seed = first.wrapping_add(number);
-        let told = told_of(rt.alloc(), grammar, seed, &mut tally)?;
-        print!(rt; "{told}")?;
+        let report = report_of(rt.alloc(), grammar, seed, &mut tally)?;
+        print!(rt; "{report}")?;
     }
     let summary = tally.summary(rt.alloc())?;
     print!(rt; "{summary}")
 }
 
 /// What was found in the case of the seed, if anything.
-fn told_of(
+fn report_of(
     alloc: Global,
     grammar: &Grammar,
     seed: u64,

@@ -9,14 +9,14 @@ mod tables;
 mod why;
 
 use crate::hostile::judge_cases;
-use crate::tables::tell_of_tables;
-use crate::why::tell_of_examples;
+use crate::tables::report_tables;
+use crate::why::report_examples;
 use std::{env, io};
 
 fn main(rt: HostRuntime) -> io::Result<()> {
-    tell_of_tables(rt)?;
+    report_tables(rt)?;
     println!(rt; "why")?;
-    tell_of_examples(rt)?;
+    report_examples(rt)?;
     println!(rt; "hostile")?;
     judge_by_words(rt)
 }

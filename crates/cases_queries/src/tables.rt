@@ -33,7 +33,7 @@ enum Question {
 }
 
 /// Reports each case of each table.
-pub(crate) fn tell_of_tables(rt: HostRuntime) -> io::Result<()> {
+pub(crate) fn report_tables(rt: HostRuntime) -> io::Result<()> {
     for (name, question) in [
         ("constructors", Question::Constructors),
         ("files", Question::Constructors),
@@ -47,20 +47,20 @@ pub(crate) fn tell_of_tables(rt: HostRuntime) -> io::Result<()> {
         ("limits", Question::Verdict),
         ("runs", Question::Run),
     ] {
-        tell(rt, name, question)?;
+        print_report(rt, name, question)?;
     }
-    tell_of_trees(rt)?;
+    report_trees(rt)?;
     read_lines(rt, "lines.csv")
 }
 
-fn tell(rt: HostRuntime, name: &str, question: Question) -> io::Result<()> {
+fn print_report(rt: HostRuntime, name: &str, question: Question) -> io::Result<()> {
     let table = fs::read_to_string(&rt, name)?;
     let text = report(rt.alloc(), question, table.as_str())?;
     println!(rt; "{name}")?;
     print!(rt; "{text}")
 }
 
-fn tell_of_trees(rt: HostRuntime) -> io::Result<()> {
+fn report_trees(rt: HostRuntime) -> io::Result<()> {
     let table = fs::read_to_string(&rt, "trees")?;
     match trees::report(rt.alloc(), table.as_str()) {
         Ok(text) => print!(rt; "{text}"),

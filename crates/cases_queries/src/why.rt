@@ -19,7 +19,7 @@ use std::{fs, io};
 const LINES: u32 = 1_000;
 
 /// Reports each case of the table.
-pub(crate) fn tell_of_examples(rt: HostRuntime) -> io::Result<()> {
+pub(crate) fn report_examples(rt: HostRuntime) -> io::Result<()> {
     let table = fs::read_to_string(&rt, "why")?;
     let mut text = String::new(rt.alloc());
     match push_report(rt.alloc(), table.as_str(), &mut text) {

@@ -38,15 +38,22 @@ impl<'t> Case<'t> {
     pub(crate) fn answer(&self, alloc: Global) -> Result<String, Stop> {
         let test = self.test.as_ref();
         let cells = cells_of(alloc, &self.stream.scope.schema, test)?;
-        let mut told = String::new(alloc);
-        push_cells(alloc, &mut told, &cells, test)?;
-        self.push_items(alloc, &mut told, &cells)?;
-        Ok(told)
+        let mut reported = String::new(alloc);
+        push_cells(alloc, &mut reported, &cells, test)?;
+        self.push_items(alloc, &mut reported, &cells)?;
+        Ok(reported)
     }
 
-    fn push_items(&self, alloc: Global, told: &mut String, cells: &Cells) -> Result<(), Stop> {
+    fn push_items(&self, alloc: Global, reported: &mut String, cells: &Cells) -> Result<(), Stop> {
         for word in self.items.split(' ').skip(1) {
-            push_item(alloc, told, cells, self.test.as_ref(), &self.stream, word)?;
+            push_item(
+                alloc,
+                reported,
+                cells,
+                self.test.as_ref(),
+                &self.stream,
+                word,
+            )?;
         }
         Ok(())
     }
@@ -77,21 +84,21 @@ fn cells_of(alloc: Global, schema: &Schema, test: &Pred) -> Result<Cells, Stop> 
 
 fn push_cells(
     alloc: Global,
-    told: &mut String,
+    reported: &mut String,
     cells: &Cells,
     test: &Pred,
 ) -> Result<(), AllocError> {
-    write!(told, "{} cells", cells.count())?;
-    push_strays(alloc, told, cells)?;
-    told.push_str(", met by")?;
-    push_met(told, cells, test)
+    write!(reported, "{} cells", cells.count())?;
+    push_strays(alloc, reported, cells)?;
+    reported.push_str(", met by")?;
+    push_met(reported, cells, test)
 }
 
 /// Appends the cells whose samples lie in other cells.
-fn push_strays(alloc: Global, told: &mut String, cells: &Cells) -> Result<(), AllocError> {
+fn push_strays(alloc: Global, reported: &mut String, cells: &Cells) -> Result<(), AllocError> {
     for cell in 0..cells.count() {
         if !has_its_sample(alloc, cells, cell)? {
-            write!(told, ", the sample of {cell} in another")?;
+            write!(reported, ", the sample of {cell} in another")?;
         }
     }
     Ok(())
@@ -105,25 +112,25 @@ fn has_its_sample(alloc: Global, cells: &Cells, cell: u32) -> Result<bool, Alloc
 }
 
 /// Appends the cells that meet the test, as ranges.
-fn push_met(told: &mut String, cells: &Cells, test: &Pred) -> Result<(), AllocError> {
+fn push_met(reported: &mut String, cells: &Cells, test: &Pred) -> Result<(), AllocError> {
     if !cells.decides(test) {
-        return told.push_str(" no test");
+        return reported.push_str(" no test");
     }
     let met = cells.mask(test);
     if met.is_empty() {
-        return told.push_str(" none");
+        return reported.push_str(" none");
     }
-    push_ranges(told, met, cells.count())
+    push_ranges(reported, met, cells.count())
 }
 
-fn push_ranges(told: &mut String, met: &CellSet, count: u32) -> Result<(), AllocError> {
+fn push_ranges(reported: &mut String, met: &CellSet, count: u32) -> Result<(), AllocError> {
     for cell in 0..count {
         let begins = cell == 0 || !met.has(cell - 1);
         if met.has(cell) && begins {
-            write!(told, " {cell}")?;
+            write!(reported, " {cell}")?;
         }
         if met.has(cell) && !begins && !met.has(cell + 1) {
-            write!(told, "-{cell}")?;
+            write!(reported, "-{cell}")?;
         }
     }
     Ok(())
@@ -131,7 +138,7 @@ fn push_ranges(told: &mut String, met: &CellSet, count: u32) -> Result<(), Alloc
 
 fn push_item(
     alloc: Global,
-    told: &mut String,
+    reported: &mut String,
     cells: &Cells,
     test: &Pred,
     stream: &Stream,
@@ -140,5 +147,5 @@ fn push_item(
     let item = stream.item(alloc, word)?;
     let cell = cells.of(&item);
     let sign = if holds(test, &item) { '+' } else { '-' };
-    Ok(write!(told, "; {word} in {cell}{sign}")?)
+    Ok(write!(reported, "; {word} in {cell}{sign}")?)
 }

@@ -26,7 +26,7 @@ fn add_case(alloc: Global, text: &mut String, stream: &str, line: &str) -> Resul
 
 fn add_answer(alloc: Global, text: &mut String, line: &str, case: &Case<'_>) -> Result<(), Stop> {
     match case.answer(alloc) {
-        Ok(told) => Ok(writeln!(text, "{line}: {told}")?),
+        Ok(reported) => Ok(writeln!(text, "{line}: {reported}")?),
         Err(Stop::Size) => Ok(writeln!(text, "{line}: too many cells")?),
         Err(stop) => Err(stop),
     }

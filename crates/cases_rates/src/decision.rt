@@ -49,7 +49,7 @@ impl Decision {
     }
 
     /// The decision as a word.
-    pub(crate) fn told(
+    pub(crate) fn reported(
         self,
         alloc: Global,
         cells: &Rc<Cells>,

@@ -45,14 +45,14 @@ pub(crate) fn levels_of_splits(
 
 fn levels<G: Graph>(alloc: Global, graph: &G) -> Result<String, AllocError> {
     let mut search = Search::begin(alloc, graph)?;
-    let mut told = String::new(alloc);
-    push_levels(&mut told, &mut search, graph)?;
-    Ok(told)
+    let mut reported = String::new(alloc);
+    push_levels(&mut reported, &mut search, graph)?;
+    Ok(reported)
 }
 
 /// Appends each level, up to the last one with a node.
 fn push_levels<G: Graph>(
-    told: &mut String,
+    reported: &mut String,
     search: &mut Search,
     graph: &G,
 ) -> Result<(), AllocError> {
@@ -61,29 +61,34 @@ fn push_levels<G: Graph>(
             return Ok(());
         }
         if level > 1 {
-            told.push_str(" /")?;
+            reported.push_str(" /")?;
         }
-        push_nodes(told, search.latest())?;
+        push_nodes(reported, search.latest())?;
         search.advance(graph);
     }
     Ok(())
 }
 
-fn push_nodes(told: &mut String, nodes: &Marks) -> Result<(), AllocError> {
+fn push_nodes(reported: &mut String, nodes: &Marks) -> Result<(), AllocError> {
     for (phase, letter) in PHASES {
         for left in 0..MAX_POSITIONS {
-            push_row(told, letter, left, nodes.row(phase, left))?;
+            push_row(reported, letter, left, nodes.row(phase, left))?;
         }
     }
     Ok(())
 }
 
 /// Appends the nodes of one place on the left.
-fn push_row(told: &mut String, letter: char, left: u32, rights: u128) -> Result<(), AllocError> {
+fn push_row(
+    reported: &mut String,
+    letter: char,
+    left: u32,
+    rights: u128,
+) -> Result<(), AllocError> {
     for right in 0..MAX_POSITIONS {
         if has(rights, right) {
-            let space = if told.is_empty() { "" } else { " " };
-            write!(told, "{space}{letter}{left}-{right}")?;
+            let space = if reported.is_empty() { "" } else { " " };
+            write!(reported, "{space}{letter}{left}-{right}")?;
         }
     }
     Ok(())

@@ -52,7 +52,7 @@ fn add_rate(
     first: &Rate,
     rates: &[Box<Rate>],
 ) -> Result<(), Stop> {
-    let factors = Decision::OneFactoring.told(alloc, cells, first, first)?;
+    let factors = Decision::OneFactoring.reported(alloc, cells, first, first)?;
     write!(text, "{factors:<3} ")?;
     for second in rates {
         text.push(letter(alloc, cells, first, second)?)?;

@@ -68,8 +68,8 @@ impl OfTwo {
             OfTwo::LevelsOfPairs => levels_of_pairs(alloc, cells, first, second),
             OfTwo::LevelsOfSplits => levels_of_splits(alloc, cells, first, second),
             OfTwo::Decide(decision) => {
-                let told = decision.told(alloc, cells, first, second)?;
-                Ok(String::from_str(alloc, told)?)
+                let reported = decision.reported(alloc, cells, first, second)?;
+                Ok(String::from_str(alloc, reported)?)
             }
         }
     }

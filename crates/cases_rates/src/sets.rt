@@ -9,9 +9,9 @@ use std::alloc::{AllocError, Global};
 /// The sets of the rate, printed from a copy.
 pub(crate) fn sets_of(alloc: Global, rate: &Rate) -> Result<String, Stop> {
     let sets = copied_sets(alloc, rate)?;
-    let mut told = String::new(alloc);
-    push_sets(&mut told, &sets)?;
-    Ok(told)
+    let mut reported = String::new(alloc);
+    push_sets(&mut reported, &sets)?;
+    Ok(reported)
 }
 
 fn copied_sets(alloc: Global, rate: &Rate) -> Result<Positions, Stop> {
@@ -19,36 +19,36 @@ fn copied_sets(alloc: Global, rate: &Rate) -> Result<Positions, Stop> {
     Ok(sets.try_copy(alloc)?)
 }
 
-fn push_sets(told: &mut String, sets: &Positions) -> Result<(), AllocError> {
+fn push_sets(reported: &mut String, sets: &Positions) -> Result<(), AllocError> {
     if sets.nullable() {
-        told.push_str("nullable, ")?;
+        reported.push_str("nullable, ")?;
     }
-    told.push_str("first ")?;
-    push_set(told, sets.first())?;
-    told.push_str(", last ")?;
-    push_set(told, sets.last())?;
-    told.push_str(", follow")?;
-    push_follows(told, sets)
+    reported.push_str("first ")?;
+    push_set(reported, sets.first())?;
+    reported.push_str(", last ")?;
+    push_set(reported, sets.last())?;
+    reported.push_str(", follow")?;
+    push_follows(reported, sets)
 }
 
 /// Appends the follow set of each position.
-fn push_follows(told: &mut String, sets: &Positions) -> Result<(), AllocError> {
+fn push_follows(reported: &mut String, sets: &Positions) -> Result<(), AllocError> {
     for position in 0..sets.count() {
-        told.push_str(" ")?;
-        push_set(told, sets.follow(position))?;
+        reported.push_str(" ")?;
+        push_set(reported, sets.follow(position))?;
     }
     Ok(())
 }
 
 /// Appends the positions of the mask.
-fn push_set(told: &mut String, mask: u128) -> Result<(), AllocError> {
+fn push_set(reported: &mut String, mask: u128) -> Result<(), AllocError> {
     if mask == 0 {
-        return told.push_str("-");
+        return reported.push_str("-");
     }
     let mut sign = "";
     for position in 0..MAX_POSITIONS {
         if has(mask, position) {
-            write!(told, "{sign}{position}")?;
+            write!(reported, "{sign}{position}")?;
             sign = "+";
         }
     }

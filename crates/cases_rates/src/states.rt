@@ -20,13 +20,13 @@ pub(crate) fn states(
 ) -> Result<String, Stop> {
     let nfa = nfa_of(alloc, cells, rate)?;
     let mut state = State::Initial;
-    let mut told = String::new(alloc);
-    told.push(answer(&nfa, state))?;
+    let mut reported = String::new(alloc);
+    reported.push(answer(&nfa, state))?;
     for digit in word.as_bytes() {
         state = stepped(alloc, &nfa, state, *digit)?;
-        told.push(answer(&nfa, state))?;
+        reported.push(answer(&nfa, state))?;
     }
-    Ok(told)
+    Ok(reported)
 }
 
 fn stepped(alloc: Global, nfa: &Nfa, state: State, digit: u8) -> Result<State, Stop> {

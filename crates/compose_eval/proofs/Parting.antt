@@ -19,7 +19,7 @@ module _ {R : Type 0} where
     pub turned : turns ≡ length seen
     pub placed : place ≡ length kept
     pub living : live ≡ kept ++ rest
-    pub told : (is_live : ℕ → Bool) → AnswersAs post test is_live
+    pub decided : (is_live : ℕ → Bool) → AnswersAs post test is_live
         → (kept ≡ live_instances is_live seen) × (idle ≡ rested ++ retired is_live seen)
 
   module _ {F : Type 0} (post : F → ℕ → Bool → Type 0) (test : F) where
@@ -34,7 +34,7 @@ module _ {R : Type 0} where
       turned = refl;
       placed = refl;
       living = same_live;
-      told = λ is_live answers. (refl, same_idle ∙ sym (append-nil rested));
+      decided = λ is_live answers. (refl, same_idle ∙ sym (append-nil rested));
     }
 
   module _ (is_live : ℕ → Bool) where
@@ -156,8 +156,8 @@ module _ {R : Type 0} where
           placed = omega (arith, placed, kept_count);
           living = parted.living ∙ ap (λ (xs : List (Instance R)). kept ++ xs) at.first
               ∙ sym (append_assoc kept (x ∷ []) rest);
-          told = λ is_live answers.
-              let before = parted.told is_live answers in
+          decided = λ is_live answers.
+              let before = parted.decided is_live answers in
               let live : is_live x.outer ≡ true = sym (answers x.outer true said) in
               let one = live_one is_live seen x live in
               let none = retired_first is_live seen x true live ∙ append-nil (retired is_live seen) in (
@@ -189,8 +189,8 @@ module _ {R : Type 0} where
           placed = parted.placed;
           living = removed ∙ ap (λ (xs : List (Instance R)). remove xs place) living
               ∙ ap (λ (i : ℕ). remove (kept ++ x ∷ rest) i) parted.placed ∙ left_at kept x rest;
-          told = λ is_live answers.
-              let before = parted.told is_live answers in
+          decided = λ is_live answers.
+              let before = parted.decided is_live answers in
               let live : is_live x.outer ≡ false = sym (answers x.outer false said) in
               let one = retired_first is_live seen x false live in (
                 before.0 ∙ sym (live_other is_live seen x live),

@@ -216,18 +216,18 @@ module _ {R : Type 0} where
   all_written P (y ∷ live) (suc i) new all is = (all.0, all_written P live i new all.1 is)
 
   -- the follower that is put at an index is there
-  pub told_member : (live : List (Instance R)) (i outer : ℕ) (old new : R)
+  pub delivered_member : (live : List (Instance R)) (i outer : ℕ) (old new : R)
       → slice_get live i ≡ Some (record { outer = outer; follower = old })
       → Contains (with_follower live i new) (record { outer = outer; follower = new })
-  told_member [] i outer old new at = absurd (none-some (record { outer = outer; follower = old }) at)
-  told_member (y ∷ live) zero outer old new at =
+  delivered_member [] i outer old new at = absurd (none-some (record { outer = outer; follower = old }) at)
+  delivered_member (y ∷ live) zero outer old new at =
       subst (λ (start : ℕ). Contains (record { outer = y.outer; follower = new } ∷ live)
       (record { outer = start; follower = new }))
       (ap (λ (z : Instance R). z.outer) (same_Some y (record { outer = outer; follower = old }) at))
       (first_member (record { outer = y.outer; follower = new }) live)
-  told_member (y ∷ live) (suc i) outer old new at =
+  delivered_member (y ∷ live) (suc i) outer old new at =
       later_member y (record { outer = outer; follower = new }) (with_follower live i new)
-      (told_member live i outer old new at)
+      (delivered_member live i outer old new at)
 
   -- what is said of all is said of those that stay
   pub all_kept : (P : Instance R → Type 0) (p : ℕ → Bool) (live : List (Instance R)) → AllByRecursion P live

@@ -42,14 +42,14 @@ module _ {R : Type 0} (seen : R → Seen R) (standing : Standing) (columns : Lis
     ([], inr (first, refl), renewed.word standing (derived_columns (type_of columns f)) clear_right),
     subst (IsFirstHit (Den (compose f g)) at) (sym none) (none_composed_first standing columns f g clear at first),
   )
-  begun_sees at (Some found) runner next hit first (between, renewed, told) =
+  begun_sees at (Some found) runner next hit first (between, renewed, delivered) =
       let out : Word = item_of found.value ∷ [] in
       let outputs : Outputs (Den f) [] [] out = inl (found.value, first.1, refl) in
-      let follows = told.carried.word standing (derived_columns (type_of columns f)) [] clear_right
+      let follows = delivered.carried.word standing (derived_columns (type_of columns f)) [] clear_right
       (out_word standing columns f clear [] out tt outputs)
       (renewed.word standing (derived_columns (type_of columns f)) clear_right) in (
         (out, outputs, follows),
-        subst (IsFirstHit (Den (compose f g)) at) (sym told.answers)
+        subst (IsFirstHit (Den (compose f g)) at) (sym delivered.answers)
             (composed_first standing columns f g clear at found out (seen next).answer first outputs follows.answer),
       )
 

@@ -13,7 +13,7 @@ use Rattle.compose_eval.specs.declared.instance.Instance.{Instance}
 use Rattle.eval_nodes.specs.Holdings.{Holding, compose_held, Seen}
 use Rattle.eval_nodes.specs.Live.{live_of}
 use Rattle.eval_nodes.specs.Starts.{AreApart, ArePositions, IsLive}
-use Rattle.eval_nodes.proofs.Instances.{told_member}
+use Rattle.eval_nodes.proofs.Instances.{delivered_member}
 use Rattle.eval_nodes.proofs.Living.{living}
 use Rattle.eval_tree.specs.declared.hit.Hit.{Hit}
 use Rattle.eval_tree.specs.Feeds.{PassesOn}
@@ -43,12 +43,12 @@ module _ {R : Type 0} (seen : R → Seen R) where
         | inl one ↦
             let longer = fed_on seen standing columns f g clear clear_right word item starts is positions held passed
             (Some found) hit row apart left (inl one) in
-            let x : Instance R = record { outer = found.start; follower = one.told } in
-            let (out, outputs, follows) = longer.each found.start one.told
+            let x : Instance R = record { outer = found.start; follower = one.delivered } in
+            let (out, outputs, follows) = longer.each found.start one.delivered
             (subst (λ (s : Contents R). Contains s.live x) (sym one.is)
-            (told_member held.live one.place found.start one.runner one.told one.at)) in
-            subst (IsHit (Den (compose f g)) (word ++ item ∷ []) starts) (sym one.tells.answers)
-            (composed standing columns f g clear (word ++ item ∷ []) is starts found out (seen one.told).answer apart left
+            (delivered_member held.live one.place found.start one.runner one.delivered one.at)) in
+            subst (IsHit (Den (compose f g)) (word ++ item ∷ []) starts) (sym one.delivers.answers)
+            (composed standing columns f g clear (word ++ item ∷ []) is starts found out (seen one.delivered).answer apart left
             outputs follows.answer)
         | inr (none, same, no_hit) ↦ absurd
             (hit_feeds seen standing columns f g clear clear_right word item starts is positions held found row left none)

@@ -27,7 +27,7 @@ use Rattle.eval_nodes.specs.Starts.{AreApart, AreDifferent, ArePositions, IsLive
 use Rattle.eval_nodes.proofs.Instances.{kept_count, kept_different, kept_member, member_kept, member_outer, outer_member, read_member, some_fed, written_member}
 use Rattle.eval_nodes.proofs.Pieces.{drop_more, word_after}
 use Rattle.eval_tree.specs.declared.hit.Hit.{Hit}
-use Rattle.eval_tree.specs.Feeds.{IsPassed, IsTold, PassesOn, item_of}
+use Rattle.eval_tree.specs.Feeds.{IsPassed, IsDelivered, PassesOn, item_of}
 use Rattle.eval_tree.specs.Steps.{IsHit}
 use Rattle.eval_tree.proofs.Outputs.{none_comes, one_comes, out_word}
 use Rattle.eval_tree.proofs.Quiet.{extension_before, quiet}
@@ -64,17 +64,17 @@ module _ {R : Type 0} (seen : R → Seen R) (standing : Standing) (columns : Lis
     )
 
     -- a value: it comes out, and the runner takes it
-    sees_one : (left : Hit) (runner told : R) (hit : Option Hit) → left.start ≤ length word
+    sees_one : (left : Hit) (runner delivered : R) (hit : Option Hit) → left.start ≤ length word
         → Den f (drop left.start (word ++ item ∷ [])) left.value → Sees word left.start runner
-        → IsTold seen g runner left told hit → Sees (word ++ item ∷ []) left.start told
-    sees_one left runner told hit inside den (out, outputs, follows) tells =
+        → IsDelivered seen g runner left delivered hit → Sees (word ++ item ∷ []) left.start delivered
+    sees_one left runner delivered hit inside den (out, outputs, follows) delivers =
         let after = drop_more word item left.start inside in
         let longer = subst (λ (u : Word). Outputs (Den f) [] u (out ++ item_of left.value ∷ [])) (sym after)
         (one_comes (Den f) (drop left.start word) item out left.value outputs
         (subst (λ (u : Word). Den f u left.value) after den)) in (
           out ++ item_of left.value ∷ [],
           longer,
-          tells.carried.word standing (derived_columns (type_of columns f)) out clear_right
+          delivers.carried.word standing (derived_columns (type_of columns f)) out clear_right
               (out_word standing columns f clear (drop left.start (word ++ item ∷ [])) (out ++ item_of left.value ∷ [])
               (word_after columns (word ++ item ∷ []) left.start is) longer)
               follows,
@@ -100,11 +100,11 @@ module _ {R : Type 0} (seen : R → Seen R) (standing : Standing) (columns : Lis
         → Row (IsLive columns f word starts) (word ++ item ∷ []) passed
     one_fed_on held passed found hit row apart left passes =
         let fed : Instance R = record { outer = found.start; follower = passes.runner } in
-        let outers : outers_of (with_follower held.live passes.place passes.told) ≡ outers_of held.live =
-        same_outers held.live passes.place passes.told in
+        let outers : outers_of (with_follower held.live passes.place passes.delivered) ≡ outers_of held.live =
+        same_outers held.live passes.place passes.delivered in
         let among : Contains held.live fed = read_member held.live passes.place fed passes.at in
         let inside = positions found.start (started held row found.start passes.runner among) in
-        let many = as_many held.live passes.place passes.told in
+        let many = as_many held.live passes.place passes.delivered in
         let full = row.full in
         subst (Row (IsLive columns f word starts) (word ++ item ∷ [])) (sym passes.is) (record {
           distinct = subst AreDifferent (sym outers) row.distinct;
@@ -112,11 +112,11 @@ module _ {R : Type 0} (seen : R → Seen R) (standing : Standing) (columns : Lis
             λ there. (row.there start).0 (subst (λ (xs : List ℕ). Contains xs start) outers there),
             λ live. subst (λ (xs : List ℕ). Contains xs start) (sym outers) ((row.there start).1 live),
           );
-          each = λ start runner there. elim (written_member held.live passes.place found.start passes.runner passes.told
+          each = λ start runner there. elim (written_member held.live passes.place found.start passes.runner passes.delivered
               (record { outer = start; follower = runner }) passes.at row.distinct there) [
                 | inl same ↦ subst (λ (x : Instance R). Sees (word ++ item ∷ []) x.outer x.follower) (sym same)
-                    (sees_one found passes.runner passes.told hit inside left.sound.1
-                    (row.each found.start passes.runner among) passes.tells)
+                    (sees_one found passes.runner passes.delivered hit inside left.sound.1
+                    (row.each found.start passes.runner among) passes.delivers)
                 | inr (old, differs) ↦
                     let from = started held row start runner old in
                     sees_none start runner (positions start from) (row.each start runner old)

@@ -59,22 +59,22 @@ module _ {R : Type 0} (seen : R → Seen R) where
         let x : Instance R = record { outer = found.start; follower = one.runner } in
         let old = all_member (λ (one : Instance R). IsSoundWithin seen (IsSoundOf seen columns g) most one.follower)
         held.live x soundly.live (read_member held.live one.place x one.at) in
-        let told = one.tells.carried.sound standing columns clear is_item old.sound in
+        let delivered = one.delivers.carried.sound standing columns clear is_item old.sound in
         let within = old.within in
-        let position = one.tells.carried.position in
-        let many = as_many held.live one.place one.told in
+        let position = one.delivers.carried.position in
+        let many = as_many held.live one.place one.delivered in
         let full = soundly.full in
         let more = more_allowed count most held soundly in (
           subst (AreSoundly columns g count (most + 1)) (sym one.is) (record {
-            distinct = subst AreDifferent (sym (same_outers held.live one.place one.told)) soundly.distinct;
+            distinct = subst AreDifferent (sym (same_outers held.live one.place one.delivered)) soundly.distinct;
             full = omega (arith, many, full);
-            live = all_written (IsSoundWithin seen (IsSoundOf seen columns g) (most + 1)) held.live one.place one.told
-                more.live (record { within = omega (arith, within, position); sound = told });
+            live = all_written (IsSoundWithin seen (IsSoundOf seen columns g) (most + 1)) held.live one.place one.delivered
+                more.live (record { within = omega (arith, within, position); sound = delivered });
             idle = soundly.idle;
           }),
-          subst (IsHitOf (type_of columns g)) (sym one.tells.answers)
-              (hit_of (type_of columns g) found.start (hit_at found.start (seen one.told).answer)
-              (answer_at (type_of columns g) found.start (seen one.told).answer told.answer)),
+          subst (IsHitOf (type_of columns g)) (sym one.delivers.answers)
+              (hit_of (type_of columns g) found.start (hit_at found.start (seen one.delivered).answer)
+              (answer_at (type_of columns g) found.start (seen one.delivered).answer delivered.answer)),
         )
 
     pub passed_soundly : (count most : ℕ) (held passed : Contents R) (left hit : Option Hit) → IsHitIn columns left
@@ -125,13 +125,13 @@ module _ {R : Type 0} (seen : R → Seen R) where
           record { within = omega (arith, position, some); sound = renewed.sound standing columns clear sound },
           subst (IsHitAt (type_of columns g) at) (sym none) tt,
         )
-    begun_soundly type at most (Some found) runner next hit is_item is_at some sound (between, renewed, told) =
+    begun_soundly type at most (Some found) runner next hit is_item is_at some sound (between, renewed, delivered) =
         let first = renewed.position in
-        let second = told.carried.position in
-        let after = told.carried.sound standing columns clear is_item (renewed.sound standing columns clear sound) in (
+        let second = delivered.carried.position in
+        let after = delivered.carried.sound standing columns clear is_item (renewed.sound standing columns clear sound) in (
           record { within = omega (arith, first, second, some); sound = after },
           subst (λ (start : ℕ). IsHitAt (type_of columns g) start hit) is_at.0
-              (subst (IsHitAt (type_of columns g) found.start) (sym told.answers)
+              (subst (IsHitAt (type_of columns g) found.start) (sym delivered.answers)
               (answer_at (type_of columns g) found.start (seen next).answer after.answer)),
         )
 

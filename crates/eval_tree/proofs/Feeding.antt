@@ -12,7 +12,7 @@ use Rattle.eval_nodes.specs.Sound.{IsSoundWithin}
 use Rattle.eval_nodes.proofs.Alike.{all_followers}
 use Rattle.eval_nodes.proofs.Instances.{outer_member, read_member, some_fed, all_read}
 use Rattle.eval_tree.specs.declared.hit.Hit.{Hit}
-use Rattle.eval_tree.specs.Feeds.{CanBegin, CanCarry, CanFeed, CanPassOn, Feeds, HasIdle, IsBegun, IsFedFrom, IsPassed, IsTold, item_of}
+use Rattle.eval_tree.specs.Feeds.{CanBegin, CanCarry, CanFeed, CanPassOn, Feeds, HasIdle, IsBegun, IsFedFrom, IsPassed, IsDelivered, item_of}
 
 -- the last of a list
 record IsLastOf {A : Type 0} (xs : List A) (last : A) : Type 0 where
@@ -66,28 +66,28 @@ fed_already live place at (follower, read) =
 
 module _ {R : Type 0} (seen : R → Seen R) (g : Qre) where
   -- the runner at the place that is found
-  pub passed_one : (old : Contents R) (found : Hit) (place : ℕ) (runner told : R) (hit : Option Hit)
+  pub passed_one : (old : Contents R) (found : Hit) (place : ℕ) (runner delivered : R) (hit : Option Hit)
       → IsAt old.live place found.start → slice_get (followers_of old.live) place ≡ Some runner
-      → IsTold seen g runner found told hit
+      → IsDelivered seen g runner found delivered hit
       → IsPassed seen g old found
-      (record { live = with_follower old.live place told; idle = old.idle; room = old.room }) hit
-  passed_one old found place runner told hit (follower, at) read tells =
+      (record { live = with_follower old.live place delivered; idle = old.idle; room = old.room }) hit
+  passed_one old found place runner delivered hit (follower, at) read delivers =
       let same : follower ≡ runner = same_Some follower runner (sym
       (slice_get-map (λ (x : Instance R). x.follower) old.live place
       ∙ ap (λ (x : Option (Instance R)). option_map (λ (y : Instance R). y.follower) x) at) ∙ read) in
       record {
         place = place;
         runner = runner;
-        told = told;
+        delivered = delivered;
         at = subst (λ (r : R). slice_get old.live place ≡ Some (record { outer = found.start; follower = r })) same at;
         is = refl;
-        tells = tells;
+        delivers = delivers;
       }
 
-  unfoldable pub tell_allowed : (old : Contents R) (found : Hit) (place : ℕ) (runner : R)
+  unfoldable pub deliver_allowed : (old : Contents R) (found : Hit) (place : ℕ) (runner : R)
       → CanPassOn seen g old (Some found)
       → slice_get (followers_of old.live) place ≡ Some runner → CanCarry seen g runner (item_of found.value)
-  tell_allowed old found place runner can read =
+  deliver_allowed old found place runner can read =
       let is = all_read (IsSoundWithin seen (IsSoundOf seen can.columns g) can.most)
       (followers_of old.live) place runner
       (all_followers (IsSoundWithin seen (IsSoundOf seen can.columns g) can.most) old.live can.live) read in

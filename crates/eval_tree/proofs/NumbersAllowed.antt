@@ -15,7 +15,7 @@ use Rattle.eval_tree.specs.Numbers.{BeginsNumbers, CarriesNumbers, FeedsNumbers,
 use Rattle.eval_tree.specs.Steps.{StartsSoundly, StepsSoundly}
 use Rattle.eval_tree.proofs.Allowed.{start_after, start_first, start_left, start_operand, start_right, start_second, step_first, step_left, step_operand, step_right, step_second}
 use Rattle.eval_tree.proofs.ComposeAllowed.{carry_begun, feeds_allowed, passes_allowed, start_cleared, start_fed, step_carried, step_fed}
-use Rattle.eval_tree.proofs.Feeding.{begin_last, renew_allowed, tell_allowed}
+use Rattle.eval_tree.proofs.Feeding.{begin_last, renew_allowed, deliver_allowed}
 use Rattle.eval_tree.proofs.FoldsAllowed.{start_next, start_one, start_other, start_piece, step_one, step_other, step_piece}
 use Rattle.eval_tree.proofs.NumberQueries.{out_numbers}
 
@@ -216,11 +216,11 @@ module _ {R : Type 0} (seen : R → Seen R) where
   unfolding carry_begun
   begun_carries g runner between found free renewed = (carry_begun seen g runner between found free.0 renewed, free.1)
 
-  pub place_tells : (g : Qre) (old : Contents R) (found : Hit) (place : ℕ) (runner : R)
+  pub place_decides : (g : Qre) (old : Contents R) (found : Hit) (place : ℕ) (runner : R)
       → PassesNumbers seen g old (Some found) → slice_get (followers_of old.live) place ≡ Some runner
       → CarriesNumbers seen g runner (item_of found.value)
-  unfolding tell_allowed
-  place_tells g old found place runner free read = (tell_allowed seen g old found place runner free.0 read, free.1)
+  unfolding deliver_allowed
+  place_decides g old found place runner free read = (deliver_allowed seen g old found place runner free.0 read, free.1)
 
   pub runner_steps : (q : Qre) (runner : R) (item : List Field) → CarriesNumbers seen q runner item
       → StepsNumbers seen q (seen runner).node ((seen runner).position + 1) item

@@ -97,28 +97,28 @@ module _ {R : Type 0} (seen : R → Seen R) where
     pub position : (seen new).position ≡ 0
 
   -- the runner takes the value of a hit, and its answer is a hit of the same start
-  pub record IsTold (query : Qre) (old : R) (left : Hit) (new : R) (hit : Option Hit) : Type 0 where
+  pub record IsDelivered (query : Qre) (old : R) (left : Hit) (new : R) (hit : Option Hit) : Type 0 where
     pub carried : IsCarried query old (item_of left.value) new
     pub answers : hit ≡ hit_at left.start (seen new).answer
 
   -- the runner is put back before the first item, and takes the value of a hit if there is one
   abbrev pub IsBegun : Qre → R → Option Hit → R → Option Hit → Type 0
   IsBegun query old left new hit = MatchOption left (IsRenewed query old new × (hit ≡ None))
-      (λ found. (between : R) × IsRenewed query old between × IsTold query between found new hit)
+      (λ found. (between : R) × IsRenewed query old between × IsDelivered query between found new hit)
 
   -- the runner that is fed from the start of the hit takes its value
   pub record IsPassed (query : Qre) (old : Contents R) (left : Hit) (new : Contents R)
       (hit : Option Hit) : Type 0 where
     pub place : ℕ
     pub runner : R
-    pub told : R
+    pub delivered : R
     pub at : slice_get old.live place ≡ Some (record { outer = left.start; follower = runner })
     pub is : new ≡ record {
-      live = with_follower old.live place told;
+      live = with_follower old.live place delivered;
       idle = old.idle;
       room = old.room;
     }
-    pub tells : IsTold query runner left told hit
+    pub delivers : IsDelivered query runner left delivered hit
 
   -- if no runner is fed from the start, nothing changes
   abbrev pub PassesOn : Qre → Contents R → Option Hit → Contents R → Option Hit → Type 0

@@ -3,7 +3,7 @@
 ghost use Rattle.std.specs.Prelude.{◌≡◌, IfOk, None, IsOk};
 ghost use Rattle.query_model.specs.Queries.{plain_of};
 ghost use Rattle.eval_nodes.specs.Plain.{seen_of};
-ghost use Rattle.eval_tree.specs.Feeds.{CanBegin, CanCarry, CanFeed, CanPassOn, Feeds, IsBegun, IsCarried, IsRenewed, IsTold, PassesOn, item_of};
+ghost use Rattle.eval_tree.specs.Feeds.{CanBegin, CanCarry, CanFeed, CanPassOn, Feeds, IsBegun, IsCarried, IsRenewed, IsDelivered, PassesOn, item_of};
 ghost use Rattle.eval_tree.specs.Numbers.{BeginsNumbers, CarriesNumbers, FeedsNumbers, PassesNumbers};
 
 use crate::Hit;
@@ -65,7 +65,7 @@ pub(crate) fn pass_on(
 {
     match left {
         Some(left) => match runners.place(left.start) {
-            Some(place) => tell(query, runners.follower_mut(place), alloc, left, hit),
+            Some(place) => deliver(query, runners.follower_mut(place), alloc, left, hit),
             None => Ok(()),
         },
         None => Ok(()),
@@ -89,13 +89,13 @@ fn begin(
 {
     renew(query, runner, alloc)?;
     match left {
-        Some(left) => tell(query, runner, alloc, left, hit),
+        Some(left) => deliver(query, runner, alloc, left, hit),
         None => Ok(()),
     }
 }
 
 #[cycle(step)]
-fn tell(
+fn deliver(
     query: &Query,
     runner: &mut Progress,
     alloc: Global,
@@ -104,7 +104,7 @@ fn tell(
 ) -> Result<(), AllocError>
     requires none { hit.old ≡ None }
     requires can { CanCarry seen_of (plain_of query.now.shape) runner.old (item_of left.value) }
-    ensures told { IfOk result (λ done. IsTold seen_of (plain_of query.now.shape) runner.old left
+    ensures delivered { IfOk result (λ done. IsDelivered seen_of (plain_of query.now.shape) runner.old left
         runner.new hit.new) }
     ensures no_memory { CarriesNumbers seen_of (plain_of query.now.shape) runner.old
         (item_of left.value) → IsOk result }

@@ -10,13 +10,13 @@ use Rattle.explain_run.specs.declared.status.Status.TheVariants.{Accepted, Expla
 
 -- What was written about the text that was read, which is called by this name: its explanation,
 -- whole or in part, and nothing if the query is accepted.
-abbrev pub Told : List ℕ → List ℕ → Option (List ℕ) → Option (List ℕ) → Status → Type 0
-Told name text old new Accepted = IsAccepted text × (new ≡ old)
-Told name text old new Explained = (shown : List ℕ) × Explains name text shown × Appends old new shown
-Told name text old new SinkFault =
+abbrev pub Reported : List ℕ → List ℕ → Option (List ℕ) → Option (List ℕ) → Status → Type 0
+Reported name text old new Accepted = IsAccepted text × (new ≡ old)
+Reported name text old new Explained = (shown : List ℕ) × Explains name text shown × Appends old new shown
+Reported name text old new SinkFault =
     (shown : List ℕ) × Explains name text shown × AppendsSome old new shown
-Told name text old new Memory = new ≡ old
-Told name text old new QueryFault = ⊥
+Reported name text old new Memory = new ≡ old
+Reported name text old new QueryFault = ⊥
 
 -- What was read of the query, to its first end or until there were too many bytes, and what was
 -- written about it: `left`, `ends` and `old` before the call, `left'`, `ends'` and `new` after it.
@@ -24,7 +24,7 @@ module _ (name : List ℕ) (left left' : Option (List ℕ)) (ends ends' : ℕ)
     (old new : Option (List ℕ)) where
   abbrev pub ReadsText : Status → Type 0
   ReadsText status = (text : List ℕ) × TakesFirst max_read left left' ends ends' text
-      × Told name text old new status
+      × Reported name text old new status
 
   abbrev pub Outcome : Status → Type 0
   Outcome QueryFault = TakesFewer max_read left left' ends ends' × (new ≡ old)

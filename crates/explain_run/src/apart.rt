@@ -16,7 +16,7 @@ use language_base::{Refusal, Rule, Span};
 use query_model::Checked;
 use query_parser::ReadStop;
 use query_syntax::{Program, Query, read_syntax};
-use separating_word::{Separation, tell_apart};
+use separating_word::{Separation, distinguish};
 use std::alloc::{AllocError, Global};
 use type_checker::{CheckStop, check};
 
@@ -103,7 +103,7 @@ fn apart_from(alloc: Global, left: &Checked, right: &[u8]) -> Result<Option<Sepa
         IfSome found (SeparatesFrom (monitor_of left.now) right.now)) }
 {
     match compiled(alloc, right)? {
-        Some(query) => tell_apart(alloc, left, &query),
+        Some(query) => distinguish(alloc, left, &query),
         None => Ok(None),
     }
 }

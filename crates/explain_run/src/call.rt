@@ -3,7 +3,7 @@ ghost use Rattle.std.specs.Prelude.{◌≡◌, ◌≢◌, OnOk, MatchResult};
 ghost use Rattle.std.specs.Io.KnownBytes.{Appends};
 ghost use Rattle.io_edge.specs.Counts.{FailsBy, FailsByFault};
 ghost use Rattle.io_edge.specs.Written.{AppendsSome};
-ghost use Rattle.explain_run.specs.Call.{Outcome, Told};
+ghost use Rattle.explain_run.specs.Call.{Outcome, Reported};
 
 use crate::Status;
 use crate::query::explanation_of;
@@ -34,7 +34,7 @@ pub fn explain<Q: Source, W: Sink>(alloc: Global, name: &str, query: &mut Q, out
 
 // Writes and flushes the explanation of the refusal of a text, if it is refused.
 fn explain_text<W: Sink>(alloc: Global, name: &str, text: &[u8], out: &mut W) -> Status
-    ensures told { Told name.now text.now (W.taken out.old) (W.taken out.new) result }
+    ensures reported { Reported name.now text.now (W.taken out.old) (W.taken out.new) result }
     ensures faults { FailsBy (W.faults out.old) (W.faults out.new) (result ≡ Status.SinkFault) }
     ensures read { result ≢ Status.QueryFault }
     ensures handed_on { W.held out.old ≡ 0 → (result ≡ Status.SinkFault → ⊥)

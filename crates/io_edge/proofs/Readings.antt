@@ -12,7 +12,7 @@ use Rattle.io_edge.specs.Lines.{Shown, text, NoLf, ended_by_lf, lines_from}
 use Rattle.io_edge.specs.Started.{StandsFor}
 use Rattle.io_edge.specs.Reading.{Reading, count_of, lines_after, Shows, Ends, CutAt, Answers}
 use Rattle.io_edge.specs.Answered.{shown_by}
-use Rattle.io_edge.specs.Told.{IsQuiet}
+use Rattle.io_edge.specs.Reported.{IsQuiet}
 use Rattle.io_edge.specs.Limits.{max_count, max_line}
 use Rattle.io_edge.specs.Steps.{Cuts, Joins, Reaches, Refills}
 use Rattle.io_edge.specs.declared.under_way.Answer.{Answer}

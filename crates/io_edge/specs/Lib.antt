@@ -14,5 +14,5 @@ pub mod Started
 pub mod Steady
 pub mod Steps
 pub mod Taken
-pub mod Told
+pub mod Reported
 pub mod Written

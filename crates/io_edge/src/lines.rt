@@ -84,7 +84,7 @@ impl Lines {
     ghost use Rattle.std.specs.Borrow.{sem};
     ghost use Rattle.std.specs.Io.BufRead.{Rests};
     ghost use Rattle.io_edge.specs.contracts.lines.Lines.{the_row};
-    ghost use Rattle.io_edge.specs.Told.{Told, IsQuiet};
+    ghost use Rattle.io_edge.specs.Reported.{Reported, IsQuiet};
     ghost use Rattle.io_edge.specs.Limits.{max_count};
     ghost use Rattle.io_edge.specs.Steps.{ComesAgain, Cuts, Joins, Reaches, Refills};
 
@@ -105,8 +105,8 @@ impl Lines {
 
     /// The next line. The source is read only while the bytes taken hold no whole line.
     pub fn next<S: Source>(&mut self, source: &mut S) -> Result<Line<'_>, LineStop>
-        ensures* told { sem 𝓛 (Rests the_row self.entry (λ new.
-            Told (S.left source.old) (S.left source.new) (S.ends source.old) (S.ends source.new)
+        ensures* reported { sem 𝓛 (Rests the_row self.entry (λ new.
+            Reported (S.left source.old) (S.left source.new) (S.ends source.old) (S.ends source.new)
             self.old new result)) }
         ensures quiet { IsQuiet self.old → (source.new ≡ source.old)
             × (IsErrOf result LineStop.Failed → ⊥) }

@@ -5,11 +5,11 @@ use std::io::{Printer, Write};
 
 /// A writer whose contents are either known at all times or never.
 pub trait Output: Write {
-    ghost tells_alike: { (one other : Self) → Self.contents one ≡ None
+    ghost reports_alike: { (one other : Self) → Self.contents one ≡ None
         → Self.contents other ≡ None };
 }
 
 /// The contents of standard output are never known.
 impl<P: Print> Output for Printer<'_, P> {
-    ghost tells_alike = { λ one other none. refl };
+    ghost reports_alike = { λ one other none. refl };
 }

@@ -16,11 +16,11 @@ use Rattle.item_schema.specs.Written.{IsFraction, Sign, sign_bytes, with_sign}
 use Rattle.item_schema.specs.Written.Sign.{Absent, Plus, Minus}
 
 -- the test of all bytes finds the digits
-tells_digits : IsDigitsTest (λ digits. list_all is_ascii_digit digits ≡ true)
-tells_digits = search rules
+decides_digits : IsDigitsTest (λ digits. list_all is_ascii_digit digits ≡ true)
+decides_digits = search rules
 
 digits_are : IsNumeralModel (λ digits. list_all is_ascii_digit digits ≡ true) (digits_value 10)
-digits_are = numerals_by_value _ tells_digits
+digits_are = numerals_by_value _ decides_digits
 
 -- what passes the test is a numeral
 pub numeral_from_test : (digits : List ℕ) → is_numeral digits ≡ true → IsNumeral 10 digits

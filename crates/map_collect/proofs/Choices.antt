@@ -82,12 +82,12 @@ module _ {R : Type 0} where
         }
 
     -- what a search for a live one tells
-    pub told_live : (told : Bool) (tracks : List (Track R)) (start : ℕ)
-        → MatchBool told ((k : ℕ) × (k < length tracks) × HoldsAt (IsLiveAt nfa start) tracks k)
+    pub decided_live : (decided : Bool) (tracks : List (Track R)) (start : ℕ)
+        → MatchBool decided ((k : ℕ) × (k < length tracks) × HoldsAt (IsLiveAt nfa start) tracks k)
         (AllWithin (λ track. IsLiveAt nfa start track → ⊥) tracks 0 (length tracks))
-        → IsTrue told ↔ IsLiveAmong nfa tracks start
-    told_live true tracks start found = (λ yes. live_at tracks start found.0 found.1 found.2, λ live. refl)
-    told_live false tracks start none = (
+        → IsTrue decided ↔ IsLiveAmong nfa tracks start
+    decided_live true tracks start found = (λ yes. live_at tracks start found.0 found.1 found.2, λ live. refl)
+    decided_live false tracks start none = (
       λ yes. absurd (false≢true yes),
       λ live.
           let at = live.there in
@@ -107,13 +107,13 @@ module _ {R : Type 0} where
       kept_where : (bs : List Bool) (tracks : List (Track R)) (last : F) → length bs ≡ length tracks
           → ReturnsInTurn post test bs tracks last
           → KeepsExtending nfa tracks (items_where_true bs tracks)
-      kept_where [] [] last many told = refl
-      kept_where [] (x ∷ tracks) last many told = absurd (omega (arith, many))
-      kept_where (b ∷ bs) [] last many told = absurd told
-      kept_where (b ∷ bs) (x ∷ tracks) last many told =
-          let one = says x b told.0 told.1 in
+      kept_where [] [] last many decided = refl
+      kept_where [] (x ∷ tracks) last many decided = absurd (omega (arith, many))
+      kept_where (b ∷ bs) [] last many decided = absurd decided
+      kept_where (b ∷ bs) (x ∷ tracks) last many decided =
+          let one = says x b decided.0 decided.1 in
           kept_first b x bs tracks one.0 (kept_where bs tracks last (omega (arith, many))
-          (subst (λ (f : F). ReturnsInTurn post f bs tracks last) one.1 told.2))
+          (subst (λ (f : F). ReturnsInTurn post f bs tracks last) one.1 decided.2))
 
       -- what a test of the states keeps
       pub kept_by : (tracks kept : List (Track R)) → IsFiltered post test tracks kept

@@ -84,17 +84,17 @@ module _ (start : List ℕ) (mask : ℕ) (wants : ℕ → ℕ → Type 0) where
   ]
 
 -- a place is in a row or is not
-row_tells : (rows : List ℕ) (position place : ℕ)
+row_decides : (rows : List ℕ) (position place : ℕ)
     → HasRow rows position place ⊎ (HasRow rows position place → ⊥)
-row_tells rows position place =
+row_decides rows position place =
     elim (eqb_tells (bit_at (slice_index rows (position * block_count + place / 128)) (place % 128)) 1) [
       | inl (test, one) ↦ inl (record { bit = one })
       | inr (test, none) ↦ inr (λ row. none row.bit)
     ]
 
 -- and in a set or is not
-pub place_tells : (places : List ℕ) (place : ℕ) → HasPlace places place ⊎ (HasPlace places place → ⊥)
-place_tells places place = elim (eqb_tells (bit_at (slice_index places (place / 128)) (place % 128)) 1) [
+pub place_decides : (places : List ℕ) (place : ℕ) → HasPlace places place ⊎ (HasPlace places place → ⊥)
+place_decides places place = elim (eqb_tells (bit_at (slice_index places (place / 128)) (place % 128)) 1) [
   | inl (test, one) ↦ inl (record { bit = one })
   | inr (test, none) ↦ inr (λ has. none has.bit)
 ]
@@ -112,11 +112,11 @@ pub unlike_there : (rows : List ℕ) (ways mask apart : ℕ) (places places' : L
     → HasPlace places' place ⊎ (Has mask position ↔ HasRow rows position place)
 unlike_there rows ways mask apart places places' exact holds keeps lacks position place on lt =
     elim (eqb_tells (bit_at mask position) 1) [
-      | inl (test, one) ↦ elim (row_tells rows position place) [
+      | inl (test, one) ↦ elim (row_decides rows position place) [
         | inl row ↦ inr (λ is. row, λ is. one)
         | inr none ↦ inl (lacks position place (has-and_both ways mask position on one) lt none)
       ]
-      | inr (test, none) ↦ elim (row_tells rows position place) [
+      | inr (test, none) ↦ elim (row_decides rows position place) [
         | inl row ↦ inl (keeps place (holds position place ((exact position).1 (on, none)) lt row))
         | inr missed ↦ inr (λ is. absurd (none is), λ row. absurd (missed row))
       ]

@@ -12,7 +12,7 @@ use Rattle.rate_equal.specs.PlaceSets.{HasPlace, KeepsBlock, block_count}
 use Rattle.rate_equal.specs.Reach.{max_reach}
 use Rattle.rate_equal.specs.Targets.{target}
 use Rattle.rate_equal.specs.declared.letters.Letter.{Letter}
-use Rattle.rate_equal.proofs.Filling.{place_tells}
+use Rattle.rate_equal.proofs.Filling.{place_decides}
 use Rattle.rate_equal.proofs.PlaceSets.{zero_there}
 
 -- what a list without the letter would give
@@ -82,7 +82,7 @@ pub same_target : (first second : List ℕ) (letters : List Letter) (ways : ℕ 
     → HasPlace places place ⊎ (Has letter.second position ↔ HasRow second position place))
     → HasPlace places place ⊎ (target ways other ≡ target ways letter)
 same_target first second letters ways letter other places place in_first in_second few found alike alike' =
-    elim (place_tells places place) [
+    elim (place_decides places place) [
       | inl has ↦ inl has
       | inr none ↦ inr (λ j. record {
         first = ap At (same_on ways.0 other.first letter.first (λ position on. elim (alike position on below) [

@@ -59,15 +59,15 @@ has_either m n k P Q of_m of_n = (λ has. there (has_or m n k has), back)
 -- a mask with another under a test has what that has where the test holds
 has_with : (m : ℕ) (test : Bool) (n k : ℕ) (P Q N : Type 0) → (test ≡ true) ↔ N
     → Has m k ↔ P → Has n k ↔ Q → Has (with_if m test n) k ↔ (P ⊎ (N × Q))
-has_with m test n k P Q N tells of_m of_n = (λ has. there (has_no_more m test n k has), back)
+has_with m test n k P Q N decided of_m of_n = (λ has. there (has_no_more m test n k has), back)
   where
     there : Has m k ⊎ (test ≡ true) × Has n k → P ⊎ (N × Q)
     there (inl has) = inl (of_m.0 has)
-    there (inr (holds, has)) = inr (tells.0 holds, of_n.0 has)
+    there (inr (holds, has)) = inr (decided.0 holds, of_n.0 has)
 
     back : P ⊎ (N × Q) → Has (with_if m test n) k
     back (inl holds) = has_kept m test n k (of_m.1 holds)
-    back (inr (is, holds)) = has_more m test n k (tells.1 is) (of_n.1 holds)
+    back (inr (is, holds)) = has_more m test n k (decided.1 is) (of_n.1 holds)
 
 -- the same said the other way round
 turned : (X P Q N : Type 0) → X ↔ (P ⊎ (N × Q)) → X ↔ ((Q × N) ⊎ P)

@@ -120,9 +120,9 @@ and-meeting a b fits = (
 )
 
 -- the same where an answer says which of both
-pub overlap_tells : (first second : ℕ) (test : Bool) → MatchBool test (AreMeeting first second) ((position : ℕ) → Has first position → Has second position → ⊥) → IsTrue test ↔ AreMeeting first second
-overlap_tells first second true some = (λ is. some, λ meeting. refl)
-overlap_tells first second false none = (λ is. cc, λ meeting. absurd (none meeting.0 meeting.1 meeting.2))
+pub overlap_decides : (first second : ℕ) (test : Bool) → MatchBool test (AreMeeting first second) ((position : ℕ) → Has first position → Has second position → ⊥) → IsTrue test ↔ AreMeeting first second
+overlap_decides first second true some = (λ is. some, λ meeting. refl)
+overlap_decides first second false none = (λ is. cc, λ meeting. absurd (none meeting.0 meeting.1 meeting.2))
 
 -- the test of these bits says so
 pub overlap_says : (first second : ℕ) → first < 2 ^ 128

@@ -24,6 +24,6 @@ Finds monitor lines finding.NoValue = HasNoneOn monitor lines
 Finds monitor lines finding.NoItem = Unit {0}
 
 -- there is a value on this side alone
-abbrev pub TellsSide : Finding → Finding → Side → Type 0
-TellsSide left right Left = (left ≡ finding.Value) × (right ≡ finding.NoValue)
-TellsSide left right Right = (left ≡ finding.NoValue) × (right ≡ finding.Value)
+abbrev pub HasValueAlone : Finding → Finding → Side → Type 0
+HasValueAlone left right Left = (left ≡ finding.Value) × (right ≡ finding.NoValue)
+HasValueAlone left right Right = (left ≡ finding.NoValue) × (right ≡ finding.Value)

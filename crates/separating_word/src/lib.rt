@@ -10,5 +10,5 @@ mod search;
 mod separation;
 mod telling;
 
-pub use separation::{Separation, Side, tell_apart};
+pub use separation::{Separation, Side, distinguish};
 pub use telling::push_separation;

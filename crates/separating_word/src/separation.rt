@@ -3,7 +3,7 @@ ghost use Rattle.std.specs.Prelude.{◌≡◌, IfOk, IfSome, IsTrue};
 ghost use Rattle.std.specs.List.{list_all};
 ghost use Rattle.item_lines.specs.Lines.{is_shown};
 ghost use Rattle.query_model.specs.Monitors.{Monitor, monitor_of};
-ghost use Rattle.separating_word.specs.Findings.{TellsSide};
+ghost use Rattle.separating_word.specs.Findings.{HasValueAlone};
 ghost use Rattle.separating_word.specs.Separations.{IsShortest, Separates};
 
 use crate::line::lines_apart;
@@ -30,7 +30,7 @@ pub struct Separation {
 /// one has a value on it. None is found if each such word has more than eight items, or the search
 /// takes more than about 262,144 steps; if the rates have too many positions or their predicates
 /// too many cells; or if the line of an item is too long or cannot be shown.
-pub fn tell_apart(
+pub fn distinguish(
     alloc: Global,
     left: &Checked,
     right: &Checked,
@@ -43,11 +43,11 @@ pub fn tell_apart(
     let Some(lines) = lines_apart(alloc, left, right)? else {
         return Ok(None);
     };
-    told_apart(alloc, left, right, lines)
+    distinguished(alloc, left, right, lines)
 }
 
 // The same for these lines. Both queries are asked for their values on them.
-fn told_apart(
+fn distinguished(
     alloc: Global,
     left: &Checked,
     right: &Checked,
@@ -68,7 +68,7 @@ fn told_apart(
 
 // The side on which there is a value, if there is none on the other.
 fn side_of(left: Finding, right: Finding) -> Option<Side>
-    ensures { IfSome result (TellsSide left right) }
+    ensures { IfSome result (HasValueAlone left right) }
 {
     match (left, right) {
         (Finding::Value, Finding::NoValue) => Some(Side::Left),

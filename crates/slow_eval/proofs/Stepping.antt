@@ -8,7 +8,7 @@ use Rattle.rate_expr.specs.Rates.{Expression}
 use Rattle.rate_expr.specs.Sets.{AreSets, Has, Sets}
 use Rattle.rate_expr.specs.Words.{Word}
 use Rattle.rate_expr.proofs.MaskMembers.{has_added, has_added_same, has_first, has_or, has_second, has_zero}
-use Rattle.rate_expr.proofs.MaskSets.{AreMeeting, below-more, overlap_tells}
+use Rattle.rate_expr.proofs.MaskSets.{AreMeeting, below-more, overlap_decides}
 use Rattle.rate_expr.proofs.PathSteps.{follows_below, leads_less, leads_more, leads_one, leads_only_one, meets_below}
 use Rattle.slow_eval.specs.Fronts.{AreAfter, AreInRate, AreMet, AreSpelled}
 
@@ -206,7 +206,7 @@ step_more sets word at ways ends after fronts item test so_far inside read met r
             (subst (λ b. IsTrue b ↔ Spells sets (take (at + 1) word))
             (sym (get_or_push fronts test false (at + 1) long))
             (subst (λ w. IsTrue test ↔ Spells sets w) (sym more)
-            (spells_more sets (take at word) item ends test are (overlap_tells ends sets.last test overlaps))))
+            (spells_more sets (take at word) item ends test are (overlap_decides ends sets.last test overlaps))))
         | inr before ↦
             subst (λ b. IsTrue b ↔ Spells sets (take place word))
             (sym (get_or_append_left fronts (test ∷ []) false place (omega arith)))

@@ -19,7 +19,7 @@ use Rattle.sqre_run.specs.Call.{CompletesOf, OutcomeOf}
 use Rattle.sqre_run.specs.Carried.{Carried, LineCarried}
 use Rattle.sqre_run.specs.Compiled.{Compiles}
 use Rattle.sqre_run.specs.Drilled.{drilled}
-use Rattle.sqre_run.specs.Handed.{Refuses, Told}
+use Rattle.sqre_run.specs.Handed.{Refuses, Reported}
 use Rattle.sqre_run.specs.Meanings.{IsMeaning, KeepsRules, Meaning}
 use Rattle.sqre_run.specs.OneLine.{CompletesLine, HoldsOfLine, WritesLine}
 use Rattle.sqre_run.specs.Outside.{Outside}
@@ -40,21 +40,21 @@ none_appended old new line same =
     ([], line, refl, subst (λ (taken : Option (List ℕ)). Appends old taken []) (sym same) (Appends-nil old))
 
 -- a line that was told is carried, where what holds of it holds of the command's line
-pub told_line : (command : Command) (monitor : Monitor) (reply : Result (List ℕ) AllocError)
+pub reported_line : (command : Command) (monitor : Monitor) (reply : Result (List ℕ) AllocError)
     → ((P : List ℕ → Type 0) → ((line : List ℕ) → P line) → HoldsOfLine command monitor P)
     → ((line : List ℕ) → reply ≡ Ok line → (P : List ℕ → Type 0) → P line → HoldsOfLine command monitor P)
-    → (status : Status) (old new : Option (List ℕ)) → Told status reply old new → LineCarried command monitor status old new
-told_line command monitor (Ok line) each given Done old new told = given line refl (λ l. Appends old new l) told
-told_line command monitor (Ok line) each given SinkFault old new told = given line refl (λ l. AppendsSome old new l) told
-told_line command monitor (Err error) each given SinkFault old new told =
-    each (λ l. AppendsSome old new l) (λ l. none_appended old new l told)
-told_line command monitor (Err error) each given Memory old new told = told
-told_line command monitor reply each given status old new told = absurd told
+    → (status : Status) (old new : Option (List ℕ)) → Reported status reply old new → LineCarried command monitor status old new
+reported_line command monitor (Ok line) each given Done old new reported = given line refl (λ l. Appends old new l) reported
+reported_line command monitor (Ok line) each given SinkFault old new reported = given line refl (λ l. AppendsSome old new l) reported
+reported_line command monitor (Err error) each given SinkFault old new reported =
+    each (λ l. AppendsSome old new l) (λ l. none_appended old new l reported)
+reported_line command monitor (Err error) each given Memory old new reported = reported
+reported_line command monitor reply each given status old new reported = absurd reported
 
 -- so that of a check
-pub told_check : (monitor : Monitor) (reply : Result (List ℕ) AllocError) → IfOk reply (λ line. line ≡ check_text)
-    → (status : Status) (old new : Option (List ℕ)) → Told status reply old new → LineCarried Check monitor status old new
-told_check monitor reply is = told_line Check monitor reply (λ P each. each check_text) (given reply is)
+pub reported_check : (monitor : Monitor) (reply : Result (List ℕ) AllocError) → IfOk reply (λ line. line ≡ check_text)
+    → (status : Status) (old new : Option (List ℕ)) → Reported status reply old new → LineCarried Check monitor status old new
+reported_check monitor reply is = reported_line Check monitor reply (λ P each. each check_text) (given reply is)
   where
     given : (reply : Result (List ℕ) AllocError) → IfOk reply (λ line. line ≡ check_text) → (line : List ℕ) → reply ≡ Ok line
         → (P : List ℕ → Type 0) → P line → P check_text
@@ -62,18 +62,18 @@ told_check monitor reply is = told_line Check monitor reply (λ P each. each che
     given (Err error) is line same P holds = absurd (cc)
 
 -- which `why` writes, too
-pub told_why : (monitor : Monitor) (status : Status) (old new : Option (List ℕ)) → LineCarried Check monitor status old new
+pub reported_why : (monitor : Monitor) (status : Status) (old new : Option (List ℕ)) → LineCarried Check monitor status old new
     → LineCarried Why monitor status old new
-told_why monitor Done old new carried = carried
-told_why monitor SinkFault old new carried = carried
-told_why monitor Memory old new carried = carried
-told_why monitor status old new carried = absurd carried
+reported_why monitor Done old new carried = carried
+reported_why monitor SinkFault old new carried = carried
+reported_why monitor Memory old new carried = carried
+reported_why monitor status old new carried = absurd carried
 
 -- that of a bound
-pub told_bound : (monitor : Monitor) (reply : Result (List ℕ) AllocError)
+pub reported_bound : (monitor : Monitor) (reply : Result (List ℕ) AllocError)
     → IfOk reply (λ line. line ≡ bound_text (places_of monitor.query) (slots_of monitor.query))
-    → (status : Status) (old new : Option (List ℕ)) → Told status reply old new → LineCarried Bound monitor status old new
-told_bound monitor reply is = told_line Bound monitor reply (λ P each. each text) (given reply is)
+    → (status : Status) (old new : Option (List ℕ)) → Reported status reply old new → LineCarried Bound monitor status old new
+reported_bound monitor reply is = reported_line Bound monitor reply (λ P each. each text) (given reply is)
   where
     text : List ℕ
     text = bound_text (places_of monitor.query) (slots_of monitor.query)
@@ -84,12 +84,12 @@ told_bound monitor reply is = told_line Bound monitor reply (λ P each. each tex
     given (Err error) is line same P holds = absurd (cc)
 
 -- and that of a drill
-pub told_drill : (count seed : ℕ) (monitor : Monitor) (reply : Result (List ℕ) AllocError)
+pub reported_drill : (count seed : ℕ) (monitor : Monitor) (reply : Result (List ℕ) AllocError)
     → IfOk reply (λ line. (meaning : Meaning) → IsMeaning monitor meaning → line ≡ drilled meaning count seed)
-    → (status : Status) (old new : Option (List ℕ)) → Told status reply old new
+    → (status : Status) (old new : Option (List ℕ)) → Reported status reply old new
     → LineCarried (Drill count seed) monitor status old new
-told_drill count seed monitor reply is =
-    told_line (Drill count seed) monitor reply (λ P each meaning means. each (drilled meaning count seed)) (given reply is)
+reported_drill count seed monitor reply is =
+    reported_line (Drill count seed) monitor reply (λ P each meaning means. each (drilled meaning count seed)) (given reply is)
   where
     given : (reply : Result (List ℕ) AllocError)
         → IfOk reply (λ line. (meaning : Meaning) → IsMeaning monitor meaning → line ≡ drilled meaning count seed)
@@ -172,37 +172,37 @@ module _ (command : Command) (asked : Option Command) (is : Some command ≡ ask
   completes_asked : (query : Verdict) (status : Status) → CompletesOf (Some command) query status → CompletesOf asked query status
   completes_asked query status completes = subst (λ (a : Option Command). CompletesOf a query status) is completes
 
-  pub told_outcome : (monitor : Monitor) (status : Status) (old new : Outside) → Carried command monitor status old new
+  pub reported_outcome : (monitor : Monitor) (status : Status) (old new : Outside) → Carried command monitor status old new
       → KeepsRules monitor → (query : Option (List ℕ)) → IfSome query (λ text. Compiles text (accepted monitor))
       → IfSome query (λ text. OutcomeOf asked text status old new)
-  told_outcome monitor status old new carried keeps None compiles = tt
-  told_outcome monitor status old new carried keeps (Some text) compiles =
+  reported_outcome monitor status old new carried keeps None compiles = tt
+  reported_outcome monitor status old new carried keeps (Some text) compiles =
       outcome_asked text status old new (outcome_carried command text monitor compiles keeps status old new carried)
 
-  pub told_complete : (monitor : Monitor) (status : Status) (old new : Outside) → Carried command monitor status old new
+  pub reported_complete : (monitor : Monitor) (status : Status) (old new : Outside) → Carried command monitor status old new
       → (query : Option (List ℕ)) → IfSome query (λ text. Compiles text (accepted monitor))
       → (status ≡ ItemFault → ⊥) → (status ≡ SinkFault → ⊥)
       → IfSome query (λ text. (compiled : Verdict) → Compiles text compiled → CompletesOf asked compiled status)
-  told_complete monitor status old new carried None compiles no_items no_sink = tt
-  told_complete monitor status old new carried (Some text) compiles no_items no_sink = λ other compiles'.
+  reported_complete monitor status old new carried None compiles no_items no_sink = tt
+  reported_complete monitor status old new carried (Some text) compiles no_items no_sink = λ other compiles'.
       completes_asked other status (only_query command text (accepted monitor) status compiles
       (completes_carried command monitor status old new carried no_items no_sink) other compiles')
 
   -- the same for a refusal
   module _ (status : Status) (lines : Result (List ℕ) AllocError) (old : Outside) (taken : Option (List ℕ))
       (refuses : Refuses status lines old.taken taken) where
-    pub told_refused : (query : Option (List ℕ)) (why : Refusal) → IsStopOf query (Refusing why)
+    pub reported_refused : (query : Option (List ℕ)) (why : Refusal) → IsStopOf query (Refusing why)
         → IfOk lines (λ l. l ≡ refusal_text why)
         → IfSome query (λ text. OutcomeOf asked text status old (record old { taken = taken }))
-    told_refused None why stop are = tt
-    told_refused (Some text) why stop are =
+    reported_refused None why stop are = tt
+    reported_refused (Some text) why stop are =
         outcome_asked text status old (record old { taken = taken })
         (outcome_refused command text status lines old taken refuses why stop are)
 
-    pub told_blamed : (query : Option (List ℕ)) (blame : Blame) → IsBlamedIn query blame → IfOk lines (AreLinesOf command blame)
+    pub reported_blamed : (query : Option (List ℕ)) (blame : Blame) → IsBlamedIn query blame → IfOk lines (AreLinesOf command blame)
         → IfSome query (λ text. OutcomeOf asked text status old (record old { taken = taken }))
-    told_blamed None blame stop are = tt
-    told_blamed (Some text) blame (program, is, file) are =
+    reported_blamed None blame stop are = tt
+    reported_blamed (Some text) blame (program, is, file) are =
         outcome_asked text status old (record old { taken = taken })
         (outcome_blamed command text status lines old taken refuses program blame file is are)
 
@@ -214,15 +214,15 @@ module _ (command : Command) (asked : Option Command) (is : Some command ≡ ask
         completes_asked other status (only_query command text (refused why) status compiles
         (completes_refused command why status lines old new refuses no_sink) other compiles')
 
-    pub told_refused_complete : (query : Option (List ℕ)) (why : Refusal) → IsStopOf query (Refusing why)
+    pub reported_refused_complete : (query : Option (List ℕ)) (why : Refusal) → IsStopOf query (Refusing why)
         → IfSome query (λ text. (compiled : Verdict) → Compiles text compiled → CompletesOf asked compiled status)
-    told_refused_complete None why stop = tt
-    told_refused_complete (Some text) why (compiles, no_word) = complete_at text why compiles
+    reported_refused_complete None why stop = tt
+    reported_refused_complete (Some text) why (compiles, no_word) = complete_at text why compiles
 
-    pub told_blamed_complete : (query : Option (List ℕ)) (blame : Blame) → IsBlamedIn query blame
+    pub reported_blamed_complete : (query : Option (List ℕ)) (blame : Blame) → IsBlamedIn query blame
         → IfSome query (λ text. (compiled : Verdict) → Compiles text compiled → CompletesOf asked compiled status)
-    told_blamed_complete None blame stop = tt
-    told_blamed_complete (Some text) blame (program, is, file) =
+    reported_blamed_complete None blame stop = tt
+    reported_blamed_complete (Some text) blame (program, is, file) =
         complete_at text (refusal_of blame) (blame_compiles text program blame file is)
 
 -- a factor of one or more

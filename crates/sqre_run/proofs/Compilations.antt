@@ -51,12 +51,12 @@ too_long text bytes _ beyond more (unread why refuses) =
     (unread (refusal rule.Long 65536 65537) (long beyond))
 
 -- the whole text is compiled to what the bytes read are, if these are all of it or too many
-pub told_query : (left left' : Option (List ℕ)) (bytes : List ℕ) (verdict : Verdict)
+pub reported_query : (left left' : Option (List ℕ)) (bytes : List ℕ) (verdict : Verdict)
     → Consumes left left' bytes → (length bytes ≤ max_text → IsAtEnd left') → Compiles bytes verdict
     → IfSome left (λ text. Compiles text verdict)
-told_query None left' bytes verdict read whole compiles = tt
-told_query (Some text) None bytes verdict read whole compiles = absurd read
-told_query (Some text) (Some rest) bytes verdict read whole compiles = at (le_or_lt (length bytes) 65536)
+reported_query None left' bytes verdict read whole compiles = tt
+reported_query (Some text) None bytes verdict read whole compiles = absurd read
+reported_query (Some text) (Some rest) bytes verdict read whole compiles = at (le_or_lt (length bytes) 65536)
   where
     at : (length bytes ≤ max_text) ⊎ (max_text < length bytes) → Compiles text verdict
     at (inl h) =
@@ -67,27 +67,27 @@ told_query (Some text) (Some rest) bytes verdict read whole compiles = at (le_or
         too_long text bytes verdict longer h compiles
 
 -- so by a refusal
-pub told_refusal : (left left' : Option (List ℕ)) (bytes : List ℕ) (why : Refusal)
+pub reported_refusal : (left left' : Option (List ℕ)) (bytes : List ℕ) (why : Refusal)
     → Consumes left left' bytes → (length bytes ≤ max_text → IsAtEnd left') → IsRefusedBy why bytes → IfSome left (IsRefusedBy why)
-told_refusal None left' bytes why read whole is = tt
-told_refusal (Some text) left' bytes why read whole (compiles, no_word) =
-    (told_query (Some text) left' bytes (refused why) read whole compiles, no_word)
+reported_refusal None left' bytes why read whole is = tt
+reported_refusal (Some text) left' bytes why read whole (compiles, no_word) =
+    (reported_query (Some text) left' bytes (refused why) read whole compiles, no_word)
 
 -- and it writes what the bytes read do, where these are a file
-told_file : (left left' : Option (List ℕ)) (bytes : List ℕ) (terms : Terms)
+reported_file : (left left' : Option (List ℕ)) (bytes : List ℕ) (terms : Terms)
     → Consumes left left' bytes → (length bytes ≤ max_text → IsAtEnd left') → IsFileOf bytes terms
     → IfSome left (λ text. IsFileOf text terms)
-told_file None left' bytes terms read whole file = tt
-told_file (Some text) None bytes terms read whole file = absurd read
-told_file (Some text) (Some rest) bytes terms read whole file =
+reported_file None left' bytes terms read whole file = tt
+reported_file (Some text) None bytes terms read whole file = absurd read
+reported_file (Some text) (Some rest) bytes terms read whole file =
     let same : bytes ≡ text =
     sym (read ∙ ap (λ (l : List ℕ). bytes ++ l) (whole (file_short bytes terms file)) ∙ append-nil bytes)
     in
     subst (λ (t : List ℕ). IsFileOf t terms) same file
 
 -- so it is blamed as they are
-pub told_blame : (left left' : Option (List ℕ)) (bytes : List ℕ) (blame : Box Blame Global)
+pub reported_blame : (left left' : Option (List ℕ)) (bytes : List ℕ) (blame : Box Blame Global)
     → Consumes left left' bytes → (length bytes ≤ max_text → IsAtEnd left') → IsJudgmentAt bytes (Ambiguous blame)
     → IsBlamedIn left blame.value
-told_blame left left' bytes blame read whole (program, is, file) =
-    (program, is, told_file left left' bytes (program_terms program) read whole file)
+reported_blame left left' bytes blame read whole (program, is, file) =
+    (program, is, reported_file left left' bytes (program_terms program) read whole file)

@@ -191,14 +191,14 @@ tally_text count defined values value tally =
     same (suc count) defined one other is = ap (drill_text (suc count) defined) (sym (is (omega arith)))
 
 -- what was told of the lines of a drill is told of its bytes
-pub told_of_bytes : (meaning : Meaning) (layout : Layout) (count seed defined : ℕ)
+pub reported_of_bytes : (meaning : Meaning) (layout : Layout) (count seed defined : ℕ)
     (answer : Option Value) → meaning.layout ≡ layout → IsDrillable layout
     → IsTally count defined (values_of meaning (drilled_lines layout count seed))
     (value_after meaning (drilled_lines layout count seed))
     → answer ≡ value_after meaning (drilled_lines layout count seed)
     → (line : List ℕ) → line ≡ drill_text count defined answer → line ≡ drilled meaning count seed
-told_of_bytes meaning layout count seed defined answer is can tally same line told =
-    told ∙ ap (drill_text count defined) same
+reported_of_bytes meaning layout count seed defined answer is can tally same line reported =
+    reported ∙ ap (drill_text count defined) same
     ∙ tally_text count defined (values_of meaning (drilled_lines layout count seed)) (value_after meaning (drilled_lines layout count seed)) tally
     ∙ ap (λ (shown : List Shown). summary (values_of meaning shown)) (sym (bytes_have_lines layout count seed can.few can.read can.names))
     ∙ ap (λ (l : Layout). summary (values_of meaning (lines (drill_bytes l count seed) true))) (sym is)

@@ -10,7 +10,7 @@ use Rattle.sqre_run.specs.Compiled.{Compiles}
 use Rattle.query_model.specs.Monitors.{Monitor}
 use Rattle.type_checker.specs.Judged.{accepted, refused}
 use Rattle.sqre_run.specs.Meanings.{KeepsRules}
-use Rattle.sqre_run.specs.Output.{Spoken, Tells, answering, output, refusing, whole_output}
+use Rattle.sqre_run.specs.Output.{Spoken, Reports, answering, output, refusing, whole_output}
 use Rattle.sqre_run.specs.Outside.{Ended, Outside, WrotePart}
 use Rattle.sqre_run.specs.Call.{Completes, Outcome}
 use Rattle.sqre_run.specs.Carried.{RefusalCarried}
@@ -26,12 +26,12 @@ Outcome-ended text monitor compiles keeps Done old new (ends, ended) =
 Outcome-ended text monitor compiles keeps ItemFault old new (ends, got, wrote) =
     (monitor, compiles, keeps, (got, wrote))
 Outcome-ended text monitor compiles keeps SinkFault old new (ends, got, read, some) =
-    (accepted monitor, got, compiles, keeps, read, told_some)
+    (accepted monitor, got, compiles, keeps, read, reported_some)
   where
-    told_some : (spoken : Spoken) → Tells (accepted monitor) spoken
+    reported_some : (spoken : Spoken) → Reports (accepted monitor) spoken
         → WrotePart old new (output spoken got) (whole_output spoken got)
-    told_some (answering meaning) means = some meaning means
-    told_some (refusing refusal) means = absurd means
+    reported_some (answering meaning) means = some meaning means
+    reported_some (refusing refusal) means = absurd means
 Outcome-ended text monitor compiles keeps Memory old new (ends, got, wrote) =
     inr (monitor, compiles, keeps, (got, wrote))
 Outcome-ended text monitor compiles keeps Limit old new (ends, got, most, wrote) =
@@ -46,12 +46,12 @@ pub Outcome-refused : (text : List ℕ) (refusal : Refusal) → Compiles text (r
 Outcome-refused text refusal compiles Refused old taken (lines, are, all) =
     (refusal, compiles, refl, subst (λ (l : List ℕ). Appends old.taken taken l) are all)
 Outcome-refused text refusal compiles SinkFault old taken (lines, are, some) =
-    (refused refusal, [], compiles, tt, Consumes-nil old.left, told_some)
+    (refused refusal, [], compiles, tt, Consumes-nil old.left, reported_some)
   where
-    told_some : (spoken : Spoken) → Tells (refused refusal) spoken
+    reported_some : (spoken : Spoken) → Reports (refused refusal) spoken
         → WrotePart old (record old { taken = taken }) (output spoken []) (whole_output spoken [])
-    told_some (answering meaning) means = absurd means
-    told_some (refusing other) same =
+    reported_some (answering meaning) means = absurd means
+    reported_some (refusing other) same =
         let part : AppendsSome old.taken taken (refusal_text other) =
         subst (λ (l : List ℕ). AppendsSome old.taken taken l) (are ∙ ap refusal_text (sym same)) some in
         record { part = part; no_end = λ none. part }

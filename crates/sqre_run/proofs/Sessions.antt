@@ -199,12 +199,12 @@ module _ {F : Type 0} (follows : F → Word → Type 0) (query : F → Qre) wher
       no_item false item found = cc
 
 -- what was made of a line is the text that replies to it
-pub told : {F : Type 0} (follows : F → Word → Type 0) (result : Result (Bor (List ℕ)) AllocError) (said : List ℕ) (line : Shown)
+pub reported : {F : Type 0} (follows : F → Word → Type 0) (result : Result (Bor (List ℕ)) AllocError) (said : List ℕ) (line : Shown)
     (old new : Session F) → IfOk result (λ t. t.now ≡ said) → RepliesTo follows line said old new
     → IfOk result (λ reply. RepliesTo follows line reply.now old new)
-told follows (Ok reply) said line old new is said_so =
+reported follows (Ok reply) said line old new is said_so =
     subst (λ (t : List ℕ). RepliesTo follows line t old new) (sym is) said_so
-told follows (Err error) said line old new is said_so = tt
+reported follows (Err error) said line old new is said_so = tt
 
 -- a line that is not empty gives what is read of it, behind the header
 pub read_line : {F : Type 0} (session : Session F) (line : List ℕ) → awaits_header session ≡ false

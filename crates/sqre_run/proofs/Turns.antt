@@ -8,7 +8,7 @@ use Rattle.io_edge.specs.Counts.{next_count}
 use Rattle.io_edge.specs.Ended.{MeetsEnd}
 use Rattle.io_edge.specs.Lines.{Shown, lines}
 use Rattle.io_edge.specs.Reading.{Reading, Ends, Waits, count_of}
-use Rattle.io_edge.specs.Told.{Gives, Told}
+use Rattle.io_edge.specs.Reported.{Gives, Reported}
 use Rattle.io_edge.specs.Written.{AppendsSome}
 use Rattle.io_edge.specs.declared.lines.Line.{Line}
 use Rattle.io_edge.specs.declared.lines.Line.TheVariants.{End}
@@ -28,7 +28,7 @@ use Rattle.sqre_run.specs.declared.status.Status.{Status}
 use Rattle.sqre_run.specs.declared.status.Status.TheVariants.{Done, ItemFault, SinkFault, Memory, Limit as AtLimit}
 use Rattle.sqre_run.proofs.EndedPart.{all_part, cut_short, ended_part, one_at_most, one_more, replied, showed_begin}
 use Rattle.sqre_run.proofs.Showing.{Showed-ends, Showed-shows, Showed-split, Answers-lines, Answers-whole, Waits-lines, true_or_false}
-use Rattle.sqre_run.proofs.Takes.{TakesLine, Told-gives, Told-going}
+use Rattle.sqre_run.proofs.Takes.{TakesLine, Reported-gives, Reported-going}
 
 -- a run ends by that fault where the sink does not hand on what it holds
 pub Ended-held : {F : Type 0} (follows : F → Word → Type 0) (on : OnStream) (old now : Outside) (reading : Reading)
@@ -183,16 +183,16 @@ module _ {F : Type 0} (follows : F → Word → Type 0) (on : OnStream) (old now
 
   module _
       {result : Result Line LineStop}
-      (told : Told now.left new.left now.ends new.ends reading next result)
+      (reported : Reported now.left new.left now.ends new.ends reading next result)
       (same : new.taken ≡ now.taken)
       (run : Running follows on old now reading kept)
     where
       -- the source failed
       pub Ended-failed : result ≡ Err Failed → Ended (monitor_of on) ItemFault old new
       Ended-failed is =
-          let taken = Told-gives told (Err Failed) is in
-          let going = Told-going told (λ e. cc (is, e)) in (
-            ends_kept told.end going run taken.2.shows.not_met,
+          let taken = Reported-gives reported (Err Failed) is in
+          let going = Reported-going reported (λ e. cc (is, e)) in (
+            ends_kept reported.end going run taken.2.shows.not_met,
             run.got ++ taken.0,
             (Wrote-waiting taken.0 taken.1 taken.2 going same run).1,
           )
@@ -200,24 +200,24 @@ module _ {F : Type 0} (follows : F → Word → Type 0) (on : OnStream) (old now
       -- the greatest number of bytes was taken
       pub Ended-at_limit : result ≡ Err Limit → Ended (monitor_of on) AtLimit old new
       Ended-at_limit is =
-          let taken = Told-gives told (Err Limit) is in
-          let going = Told-going told (λ e. cc (is, e)) in
+          let taken = Reported-gives reported (Err Limit) is in
+          let going = Reported-going reported (λ e. cc (is, e)) in
           let wrote = Wrote-waiting taken.0 taken.1 taken.2.0 going same run in
-          (ends_kept told.end going run taken.2.0.shows.not_met, run.got ++ taken.0, sym wrote.0 ∙ taken.2.1, wrote.1)
+          (ends_kept reported.end going run taken.2.0.shows.not_met, run.got ++ taken.0, sym wrote.0 ∙ taken.2.1, wrote.1)
 
       -- or there the sink does not hand on the answers
       pub Ended-at_limit_held : result ≡ Err Limit → Ended (monitor_of on) SinkFault old new
       Ended-at_limit_held is =
-          let taken = Told-gives told (Err Limit) is in
+          let taken = Reported-gives reported (Err Limit) is in
           let got = run.got ++ taken.0 in
-          let going = Told-going told (λ e. cc (is, e)) in
+          let going = Reported-going reported (λ e. cc (is, e)) in
           let showed : Showed got run.shown next =
           subst (λ (l : List Shown). Showed got l next) (append-nil run.shown)
           (Showed-shows run.got taken.0 run.shown [] reading next run.showed going taken.2.0.shows)
           in
-          ended_part on old new got run.shown (inl (ends_kept told.end going run taken.2.0.shows.not_met))
+          ended_part on old new got run.shown (inl (ends_kept reported.end going run taken.2.0.shows.not_met))
           (Consumes-trans _ _ _ _ _ run.wrote.read taken.1)
-          (showed_begin old new got run.shown next showed (ends_met told.end going run)) (wrote_some same run)
+          (showed_begin old new got run.shown next showed (ends_met reported.end going run)) (wrote_some same run)
 
       -- all lines were shown where the end was told
       lines_at_end : (got : List ℕ) → Ends reading got [] next → lines (run.got ++ got) true ≡ run.shown
@@ -225,7 +225,7 @@ module _ {F : Type 0} (follows : F → Word → Type 0) (on : OnStream) (old now
         where
           at : (reading.met ≡ true) ⊎ (reading.met ≡ false) → lines (run.got ++ got) true ≡ run.shown
           at (inl met) =
-              let again = (told.again met).1 in
+              let again = (reported.again met).1 in
               let none : got ≡ [] = nil_from_length got (omega (arith, ends.count, ap count_of again)) in
               ap (λ (l : List ℕ). lines (run.got ++ l) true) none
               ∙ ap (λ (l : List ℕ). lines l true) (append-nil run.got)
@@ -239,8 +239,8 @@ module _ {F : Type 0} (follows : F → Word → Type 0) (on : OnStream) (old now
       end_met got ends = at (true_or_false reading.met)
         where
           at : (reading.met ≡ true) ⊎ (reading.met ≡ false) → new.ends ≡ next_count old.ends
-          at (inl met) = told.end.else_same (λ both. cc (both.0, met)) ∙ (run.at_end met).0
-          at (inr going) = ends_met told.end going run ends.done.met
+          at (inl met) = reported.end.else_same (λ both. cc (both.0, met)) ∙ (run.at_end met).0
+          at (inr going) = ends_met reported.end going run ends.done.met
 
       -- all items were answered
       pub Ended-done : result ≡ Ok End → Ended (monitor_of on) Done old new
@@ -250,7 +250,7 @@ module _ {F : Type 0} (follows : F → Word → Type 0) (on : OnStream) (old now
       )
         where
           taken : (got : List ℕ) × Consumes now.left new.left got × Gives reading got (Ok End) next
-          taken = Told-gives told (Ok End) is
+          taken = Reported-gives reported (Ok End) is
 
           all : (meaning : Meaning) → IsMeaning (monitor_of on) meaning
               → Appends old.taken new.taken (answers meaning (lines (run.got ++ taken.0) true))
@@ -274,12 +274,12 @@ module _ {F : Type 0} (follows : F → Word → Type 0) (on : OnStream) (old now
               Consumes-whole old.left new.left (run.got ++ taken.0)
               (λ bytes. Appends old.taken new.taken (answers meaning (lines bytes true)))
               (Consumes-trans _ _ _ _ _ run.wrote.read taken.1)
-              (told.end.at_end (going, taken.2.0.done.met)).1 (all meaning means)
+              (reported.end.at_end (going, taken.2.0.done.met)).1 (all meaning means)
 
       -- or there the sink does not hand on the answers
       pub Ended-done_held : result ≡ Ok End → Ended (monitor_of on) SinkFault old new
       Ended-done_held is =
-          let taken = Told-gives told (Ok End) is in
+          let taken = Reported-gives reported (Ok End) is in
           let met : new.ends ≡ next_count old.ends = end_met taken.0 taken.2.0 in
           ended_part on old new (run.got ++ taken.0) run.shown (inr met) (Consumes-trans _ _ _ _ _ run.wrote.read taken.1)
           (record {

@@ -49,11 +49,11 @@ other_words f (a ∷ b ∷ c ∷ d ∷ []) two three four = absurd (four refl)
 other_words f (a ∷ b ∷ c ∷ d ∷ e ∷ words) two three four = refl
 
 -- the digits of a word, and their number
-tells_digits : IsDigitsTest (λ digits. list_all is_ascii_digit digits ≡ true)
-tells_digits = search rules
+decides_digits : IsDigitsTest (λ digits. list_all is_ascii_digit digits ≡ true)
+decides_digits = search rules
 
 digits_are : IsNumeralModel (λ digits. list_all is_ascii_digit digits ≡ true) (digits_value 10)
-digits_are = numerals_by_value _ tells_digits
+digits_are = numerals_by_value _ decides_digits
 
 -- a number that is read
 pub number_read : {E : Type 0} (digits greatest number : ℕ) (word : List ℕ) (result : Result ℕ E) → length word ≤ digits

@@ -8,7 +8,7 @@ use Rattle.sqre_run.specs.Compiled.{Compiles, KeepsRulesIfAccepted}
 use Rattle.type_checker.specs.Judged.{Verdict, accepted, refused}
 use Rattle.query_model.specs.Monitors.{Monitor}
 use Rattle.sqre_run.specs.Meanings.{IsMeaning, KeepsRules, Meaning}
-use Rattle.sqre_run.specs.Output.{Spoken, Tells, answering, output, refusing, whole_output}
+use Rattle.sqre_run.specs.Output.{Spoken, Reports, answering, output, refusing, whole_output}
 use Rattle.sqre_run.specs.OneLine.{CompletesLine, WritesLine}
 use Rattle.sqre_run.specs.Outside.{MeetsOneAtMost, Outside, Wrote, WroteLines, WrotePart}
 use Rattle.sqre_run.specs.Reasons.{WritesReason}
@@ -52,7 +52,7 @@ Outcome text ItemFault old new = Runs text (λ monitor.
     (got : List ℕ) × Wrote monitor old new got (λ meaning. whole_output (answering meaning) got))
 Outcome text SinkFault old new = (query : Verdict) × (got : List ℕ) × Compiles text query
     × KeepsRulesIfAccepted query × Consumes old.left new.left got
-    × ((spoken : Spoken) → Tells query spoken
+    × ((spoken : Spoken) → Reports query spoken
     → WrotePart old new (output spoken got) (whole_output spoken got))
 Outcome text Memory old new = (new ≡ old)
     ⊎ Runs text (λ monitor. (got : List ℕ) × WroteLines monitor old new got)

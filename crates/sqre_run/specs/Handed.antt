@@ -19,12 +19,12 @@ HandedOver _ _ old new = ⊥
 
 -- the one line of a call was written whole and flushed, or only a part of it; out of memory for the
 -- line, nothing was written
-abbrev pub Told : Status → Result (List ℕ) AllocError → Option (List ℕ) → Option (List ℕ) → Type 0
-Told Done (Ok line) old new = Appends old new line
-Told SinkFault (Ok line) old new = AppendsSome old new line
-Told Memory (Err error) old new = new ≡ old
-Told SinkFault (Err error) old new = new ≡ old
-Told _ _ old new = ⊥
+abbrev pub Reported : Status → Result (List ℕ) AllocError → Option (List ℕ) → Option (List ℕ) → Type 0
+Reported Done (Ok line) old new = Appends old new line
+Reported SinkFault (Ok line) old new = AppendsSome old new line
+Reported Memory (Err error) old new = new ≡ old
+Reported SinkFault (Err error) old new = new ≡ old
+Reported _ _ old new = ⊥
 
 -- the lines of a refusal were written whole and flushed, or only a part of them; out of memory for
 -- them, nothing was written

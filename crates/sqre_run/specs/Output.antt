@@ -74,10 +74,10 @@ pub data Spoken : Type 0 where
   refusing : Refusal → Spoken
 
 -- it follows the verdict: any function that gives the values of the query, or the refusal
-abbrev pub Tells : Verdict → Spoken → Type 0
-Tells (accepted monitor) (answering meaning) = IsMeaning monitor meaning
-Tells (refused why) (refusing refusal) = refusal ≡ why
-Tells _ _ = ⊥
+abbrev pub Reports : Verdict → Spoken → Type 0
+Reports (accepted monitor) (answering meaning) = IsMeaning monitor meaning
+Reports (refused why) (refusing refusal) = refusal ≡ why
+Reports _ _ = ⊥
 
 -- what is written for a query and these lines
 abbrev pub output_lines : Spoken → List Shown → List ℕ

@@ -13,7 +13,7 @@ ghost use Rattle.sqre_run.specs.Outside.{outside};
 use crate::Status;
 use crate::command::Command;
 use crate::drill_engine::drill_query;
-use crate::handing::tell;
+use crate::handing::report;
 use crate::run_engine::run_query;
 use io_edge::{Sink, Source};
 use language_base::Bytes;
@@ -43,9 +43,9 @@ pub fn carry_out<S: Source, W: Sink>(
 {
     match command {
         Command::Run(engine) => run_query(alloc, engine, checked, items, out),
-        Command::Check | Command::Why => tell(check_text(alloc), out),
-        Command::Bound => tell(bound_line(alloc, checked), out),
-        Command::Drill { count, seed } => tell(drill_query(alloc, checked, count, seed), out),
+        Command::Check | Command::Why => report(check_text(alloc), out),
+        Command::Bound => report(bound_line(alloc, checked), out),
+        Command::Drill { count, seed } => report(drill_query(alloc, checked, count, seed), out),
     }
 }
 

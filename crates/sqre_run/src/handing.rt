@@ -1,8 +1,8 @@
 //! Texts are written to the sink, and the sink is flushed.
 ghost use Rattle.std.specs.Prelude.{◌≡◌, ◌⊎◌, IfSome, OnOk};
 ghost use Rattle.io_edge.specs.Counts.{FailsBy, FailsByFault};
-ghost use Rattle.io_edge.specs.Told.{IsQuiet};
-ghost use Rattle.sqre_run.specs.Handed.{HandedOver, Told};
+ghost use Rattle.io_edge.specs.Reported.{IsQuiet};
+ghost use Rattle.sqre_run.specs.Handed.{HandedOver, Reported};
 
 use crate::Status;
 use io_edge::{Failed, Lines, Sink, write_all};
@@ -28,8 +28,8 @@ pub fn hand_over<W: Sink>(reply: Result<&[u8], AllocError>, out: &mut W) -> Opti
 }
 
 /// Writes the one line of a call and flushes it, or reports why it cannot.
-pub fn tell<W: Sink>(line: Result<Bytes, AllocError>, out: &mut W) -> Status
-    ensures told { Told result line (W.taken out.old) (W.taken out.new) }
+pub fn report<W: Sink>(line: Result<Bytes, AllocError>, out: &mut W) -> Status
+    ensures reported { Reported result line (W.taken out.old) (W.taken out.new) }
     ensures handed_on { (result ≡ Status.SinkFault → ⊥) → W.held out.new ≡ 0 }
     ensures sink_faults { FailsBy (W.faults out.old) (W.faults out.new)
         (result ≡ Status.SinkFault) }

@@ -2,7 +2,7 @@
 ghost use Rattle.std.specs.Prelude.{◌≡◌, ◌⊎◌, ◌<◌, ◌≤◌, [], IfNone, IfSome};
 ghost use Rattle.io_edge.specs.Counts.{FailsBy};
 ghost use Rattle.io_edge.specs.Limits.{max_count};
-ghost use Rattle.io_edge.specs.Told.{IsQuiet};
+ghost use Rattle.io_edge.specs.Reported.{IsQuiet};
 ghost use Rattle.query_model.specs.Checked.{OnStream};
 ghost use Rattle.query_model.specs.Monitors.{monitor_of};
 ghost use Rattle.query_model.specs.Queries.{plain_of};

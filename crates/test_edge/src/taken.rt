@@ -32,7 +32,7 @@ fn the_first_bytes_are_read_up_to_the_limit(rt: HostRuntime) -> Result<(), Fail>
 }
 
 #[test]
-fn a_failed_read_is_told(rt: HostRuntime) -> Result<(), Fail> {
+fn a_failed_read_is_reported(rt: HostRuntime) -> Result<(), Fail> {
     for fail_at in 1..4 {
         let mut source = MemorySource::new(rt.alloc(), b"12345", &[3], &[fail_at])?;
         let read = read_to_limit(rt.alloc(), &mut source, 6);

@@ -255,7 +255,7 @@ fn explained(alloc: Global, rule: Rule, text: &str, (from, to): (u32, u32)) -> R
 }
 
 // Whether it ends with these lines.
-fn tells(
+fn reports(
     alloc: Global,
     rule: Rule,
     text: &str,
@@ -356,10 +356,10 @@ const NAMES: &[(Rule, &str, (u32, u32), &str)] = &[
 ];
 
 #[test]
-fn a_name_that_is_not_right_is_told(rt: HostRuntime) -> Result<(), Fail> {
+fn a_name_that_is_not_right_is_reported(rt: HostRuntime) -> Result<(), Fail> {
     for &(rule, text, place, wanted) in NAMES {
-        let told = tells(rt.alloc(), rule, text, place, wanted)?;
-        same_at(&rt, text, told, true);
+        let reported = reports(rt.alloc(), rule, text, place, wanted)?;
+        same_at(&rt, text, reported, true);
     }
     Ok(())
 }
@@ -431,8 +431,8 @@ const SECOND_PLACES: &[(Rule, &str, (u32, u32), &str)] = &[
 #[test]
 fn a_second_place_is_shown(rt: HostRuntime) -> Result<(), Fail> {
     for &(rule, text, place, wanted) in SECOND_PLACES {
-        let told = tells(rt.alloc(), rule, text, place, wanted)?;
-        same_at(&rt, text, told, true);
+        let reported = reports(rt.alloc(), rule, text, place, wanted)?;
+        same_at(&rt, text, reported, true);
     }
     Ok(())
 }

@@ -49,22 +49,22 @@ fn a_refusal_is_explained(rt: HostRuntime) -> Result<(), Fail> {
 }
 
 #[test]
-fn a_name_that_is_not_known_is_told(rt: HostRuntime) -> Result<(), Fail> {
+fn a_name_that_is_not_known_is_reported(rt: HostRuntime) -> Result<(), Fail> {
     let shown = explanation_of(rt.alloc(), "q", MISSPELLED)?.ok_or("accepted")?;
     assert!(rt; shown.as_slice().ends_with(b"\nNot known here: a\n"));
     Ok(())
 }
 
-const TOLD: &str =
+const REPORTED: &str =
     "Give both operands the same predicates in the same places; expressions may differ.";
 
 // Whether this comes after the rule if these operands are combined.
-fn tells(alloc: Global, left: &str, right: &str, wanted: &str) -> Result<bool, Fail> {
+fn reports(alloc: Global, left: &str, right: &str, wanted: &str) -> Result<bool, Fail> {
     let text = format!(in alloc;
         "stream(plain, col(t, text), col(n, fixed(2)))\nmain(combine({left}, {right}, x))\n"
     )?;
     let shown = explanation_of(alloc, "q", text.as_bytes())?.ok_or("accepted")?;
-    let wanted = format!(in alloc; "\n{TOLD}\n{wanted}")?;
+    let wanted = format!(in alloc; "\n{REPORTED}\n{wanted}")?;
     Ok(shown.as_slice().ends_with(wanted.as_bytes()))
 }
 
@@ -105,7 +105,7 @@ fn a_word_of_one_operand_is_shown(rt: HostRuntime) -> Result<(), Fail> {
         ("atom(any, 0)", "atom(ne(t, \"\\x1B\"), 0)", ""),
     ] {
         assert!(rt;
-            tells(rt.alloc(), left, right, wanted)?,
+            reports(rt.alloc(), left, right, wanted)?,
             "of {left} and {right}"
         );
     }
@@ -126,7 +126,7 @@ fn a_word_of_more_than_eight_items_is_not_shown(rt: HostRuntime) -> Result<(), F
     let eight = items(rt.alloc(), 8)?;
     let nine = items(rt.alloc(), 9)?;
     let ten = items(rt.alloc(), 10)?;
-    assert!(rt; !tells(rt.alloc(), eight.as_str(), nine.as_str(), "")?);
-    assert!(rt; tells(rt.alloc(), nine.as_str(), ten.as_str(), "")?);
+    assert!(rt; !reports(rt.alloc(), eight.as_str(), nine.as_str(), "")?);
+    assert!(rt; reports(rt.alloc(), nine.as_str(), ten.as_str(), "")?);
     Ok(())
 }

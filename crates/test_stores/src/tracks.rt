@@ -175,7 +175,7 @@ fn each_state_becomes_the_one_after_the_item(rt: HostRuntime) -> Result<(), Fail
 }
 
 #[test]
-fn the_first_accepted_start_is_told(rt: HostRuntime) -> Result<(), Fail> {
+fn the_first_accepted_start_is_reported(rt: HostRuntime) -> Result<(), Fail> {
     let mut tracks = four(&rt, rt.alloc())?;
     same(&rt, tracks.accepted(), Some(1));
     advance(rt.alloc(), &mut tracks, 1)?;

@@ -27,7 +27,7 @@ fn wrong_in(alloc: Global, after: &[u8]) -> Result<Option<Span>, Fail> {
 }
 
 #[test]
-fn the_first_wrong_name_is_told(rt: HostRuntime) -> Result<(), Fail> {
+fn the_first_wrong_name_is_reported(rt: HostRuntime) -> Result<(), Fail> {
     let alloc = rt.alloc();
     let right = wrong_in(alloc, b"let(f, eps(1))main(apply(f, x))")?;
     same(&rt, right, None);

@@ -125,7 +125,7 @@ const NO_LISTS: &[(&str, u32, u32)] = &[
 ];
 
 #[test]
-fn the_first_misplaced_token_is_told(rt: HostRuntime) -> Result<(), Fail> {
+fn the_first_misplaced_token_is_reported(rt: HostRuntime) -> Result<(), Fail> {
     for &(text, from, to) in NO_LISTS {
         let place = no_list_in(rt.alloc(), text)?;
         same_at(&rt, text, place, Some((from, to)));

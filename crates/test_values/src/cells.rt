@@ -130,7 +130,7 @@ fn copies_of_predicates_are_equal(rt: HostRuntime) -> Result<(), Fail> {
 }
 
 #[test]
-fn a_list_tells_where_an_equal_predicate_stands(rt: HostRuntime) -> Result<(), Fail> {
+fn a_list_reports_where_an_equal_predicate_stands(rt: HostRuntime) -> Result<(), Fail> {
     let alloc = rt.alloc();
     let mut preds = Preds::new(alloc);
     let (any, five) = (boxed(alloc, Pred::Any)?, boxed(alloc, Pred::Eq(A, 5))?);

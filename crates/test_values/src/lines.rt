@@ -55,7 +55,7 @@ fn push_field(text: &mut String, field: &Field) -> Result<(), AllocError> {
 }
 
 // A bar and what it holds for each field.
-fn told_of(alloc: Global, item: &Item) -> Result<String, AllocError> {
+fn report_of(alloc: Global, item: &Item) -> Result<String, AllocError> {
     let mut text = String::new(alloc);
     for field in item.fields() {
         push_field(&mut text, field)?;
@@ -64,9 +64,9 @@ fn told_of(alloc: Global, item: &Item) -> Result<String, AllocError> {
 }
 
 // The same of the line's item, or the cause and column of its skip.
-pub(crate) fn told(alloc: Global, schema: &Schema, line: &[u8]) -> Result<String, AllocError> {
+pub(crate) fn reported(alloc: Global, schema: &Schema, line: &[u8]) -> Result<String, AllocError> {
     match read_item(alloc, schema, line) {
-        Ok(item) => told_of(alloc, &item),
+        Ok(item) => report_of(alloc, &item),
         Err(ItemStop::Skip(skip)) => format!(in alloc; "{:?} {}", skip.cause, skip.column),
         Err(ItemStop::Memory) => Err(AllocError),
     }
@@ -79,7 +79,7 @@ fn misread<'a>(
     cases: &[(&'a [u8], &str)],
 ) -> Result<Option<&'a [u8]>, AllocError> {
     for (line, want) in cases {
-        if told(alloc, schema, line)?.as_str() != *want {
+        if reported(alloc, schema, line)?.as_str() != *want {
             return Ok(Some(*line));
         }
     }
@@ -195,7 +195,7 @@ const CAUSES: &[(&[u8], &str)] = &[
 ];
 
 #[test]
-fn the_first_cause_is_told(rt: HostRuntime) -> Result<(), Fail> {
+fn the_first_cause_is_reported(rt: HostRuntime) -> Result<(), Fail> {
     let schema = two_columns(rt.alloc(), Kind::Int, Kind::Fixed(2))?;
     are_read(&rt, rt.alloc(), &schema, CAUSES)?;
     Ok(())

@@ -3,27 +3,27 @@ ghost use Rattle.std.specs.Prelude.{◌<◌, IsTrue};
 ghost use Rattle.item_schema.specs.Layout.{has_digits, is_read};
 
 use crate::assertions::same;
-use crate::lines::{column, one_column, told};
+use crate::lines::{column, one_column, reported};
 use item_schema::{Column, Item, Kind, Schema, are_columns, read_item};
 use std::alloc::{AllocError, Global};
 use std::test::Fail;
 
 // What is told of a line of zeros and the digits behind them.
-fn told_after_zeros(alloc: Global, kind: Kind, digits: &[u8]) -> Result<String, AllocError>
+fn reported_after_zeros(alloc: Global, kind: Kind, digits: &[u8]) -> Result<String, AllocError>
     requires digits { IsTrue (has_digits kind) }
     requires read { IsTrue (is_read kind) }
 {
     let schema = one_column(alloc, kind)?;
     let mut line = vec![in alloc; b'0'; 3_000]?;
     line.extend_from_slice(digits)?;
-    told(alloc, &schema, &line)
+    reported(alloc, &schema, &line)
 }
 
 #[test]
 fn zeros_in_front_change_nothing(rt: HostRuntime) -> Result<(), Fail> {
-    let whole = told_after_zeros(rt.alloc(), Kind::Int, b"42")?;
+    let whole = reported_after_zeros(rt.alloc(), Kind::Int, b"42")?;
     same(&rt, whole.as_str(), "|42");
-    let hundredths = told_after_zeros(rt.alloc(), Kind::Fixed(2), b"42.5")?;
+    let hundredths = reported_after_zeros(rt.alloc(), Kind::Fixed(2), b"42.5")?;
     same(&rt, hundredths.as_str(), "|4250");
     Ok(())
 }

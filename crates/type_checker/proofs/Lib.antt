@@ -32,8 +32,8 @@ mod Shaping
 pub mod SomeItem
 pub mod SomeMet
 pub mod SomeVerdict
-pub mod Told
-pub mod ToldApart
+pub mod Answered
+pub mod Distinguished
 mod Valued
 pub mod Verdicts
 pub mod Walked

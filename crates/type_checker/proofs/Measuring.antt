@@ -28,7 +28,7 @@ use Rattle.type_checker.specs.Findings.{IsUnresolved, KeepsTypes, derives_many, 
 use Rattle.type_checker.specs.Judged.{limited, measured, parted}
 use Rattle.type_checker.specs.Layouts.{column_of, kind_of, layout_of}
 use Rattle.type_checker.specs.Nodes.{Places, first_where, nodes_in, places_of}
-use Rattle.type_checker.specs.Passes.{IsBeyond, IsCounted, IsLimited, IsMeasured, IsNamed, counted, told_apart, values_apart}
+use Rattle.type_checker.specs.Passes.{IsBeyond, IsCounted, IsLimited, IsMeasured, IsNamed, counted, distinguished, values_apart}
 use Rattle.type_checker.specs.Resolved.{outside, resolved}
 use Rattle.query_model.specs.Few.{has_few_cells}
 use Rattle.type_checker.specs.Sizes.{derives_many_cells, first_node, has_few_nodes, has_few_slots, has_many_positions}
@@ -109,10 +109,10 @@ module _ (stream : Stream) (tree : Query) (query : Qre) where
   many_values why few is = rw few is
 
   -- too many
-  pub many_cells : (why : Refusal) → told_apart (layout_of stream).columns stream.span query ≡ Err why
+  pub many_cells : (why : Refusal) → distinguished (layout_of stream).columns stream.span query ≡ Err why
       → parted stream tree query ≡ Err why
   unfolding parted
-  many_cells why is = stops (told_apart (layout_of stream).columns stream.span query) _ why is
+  many_cells why is = stops (distinguished (layout_of stream).columns stream.span query) _ why is
 
 module _ (program : Program) where
   -- a wrong name of a column or of a let
@@ -235,21 +235,21 @@ module _ (program : Program) (count : IsCounted program) (schema : Layout)
       small = limits.limited (layout_of program.stream) (unfolded program) (sym named.places)
 
       pub cells_refused : (stop : CheckStop)
-          → IsUnresolved (told_apart schema.columns program.stream.span (plain_of query.shape)) stop
+          → IsUnresolved (distinguished schema.columns program.stream.span (plain_of query.shape)) stop
           → IsUnresolved (measured program) stop
-      cells_refused = unresolved_as (told_apart schema.columns program.stream.span (plain_of query.shape))
+      cells_refused = unresolved_as (distinguished schema.columns program.stream.span (plain_of query.shape))
           (measured program) (λ (why : Refusal). λ is.
           cells_stop program counts (plain_of query.shape) over small why
           (many_cells program.stream (unfolded program) (plain_of query.shape) why
-          (subst (λ (layout : Layout). told_apart layout.columns program.stream.span (plain_of query.shape) ≡ Err why)
+          (subst (λ (layout : Layout). distinguished layout.columns program.stream.span (plain_of query.shape) ≡ Err why)
           same is)))
 
-      module _ (few : told_apart schema.columns program.stream.span (plain_of query.shape) ≡ Ok tt) where
+      module _ (few : distinguished schema.columns program.stream.span (plain_of query.shape) ≡ Ok tt) where
         few_there : has_few_cells (layout_of program.stream).columns (plain_of query.shape) ≡ true
         few_there = passed Cells program.stream.span
             (has_few_cells (layout_of program.stream).columns (plain_of query.shape))
             (subst (λ (layout : Layout).
-            told_apart layout.columns program.stream.span (plain_of query.shape) ≡ Ok tt) same few)
+            distinguished layout.columns program.stream.span (plain_of query.shape) ≡ Ok tt) same few)
 
         pub values_refused : (stop : CheckStop) → IsUnresolved (values_apart schema.columns query) stop
             → IsUnresolved (measured program) stop
@@ -280,7 +280,7 @@ few_nodes program query there few =
 pub measured_by : (program : Program) (made : Measured) → IsCounted program
     → made.schema ≡ layout_of program.stream → IsNamed made.schema.columns (unfolded program) made.query.value
     → IsLimited made.query.value → made.cells.layout ≡ made.schema
-    → told_apart made.schema.columns program.stream.span (plain_of made.query.value.shape) ≡ Ok tt
+    → distinguished made.schema.columns program.stream.span (plain_of made.query.value.shape) ≡ Ok tt
     → ((pred : Predicate) → Contains (predicates_of (plain_of made.query.value.shape)) pred → Contains made.cells.preds pred)
     → values_apart made.schema.columns made.query.value ≡ Ok tt → IsMeasured program made
 measured_by program made count layout named limits cells few members values =
@@ -293,7 +293,7 @@ measured_by program made count layout named limits cells few members values =
     let nodes : nodes_of query ≤ max_nodes = few_nodes program made.query.value there count.few in
     let little : has_few_cells columns query ≡ true =
     passed Cells program.stream.span (has_few_cells columns query)
-    (subst (λ (c : List schema.Column). told_apart c program.stream.span query ≡ Ok tt) same few) in
+    (subst (λ (c : List schema.Column). distinguished c program.stream.span query ≡ Ok tt) same few) in
     let none : first_where derives_many (nodes_in columns free query (places_of (unfolded program))) ≡ None =
     subst (λ (places : Places). first_where derives_many (nodes_in columns free query places) ≡ None) there
     (none_found Cells (first_in derives_many columns free made.query.value)

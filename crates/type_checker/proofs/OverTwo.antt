@@ -9,31 +9,31 @@ use Rattle.type_checker.specs.Nodes.{Places, nodes_in, own_place}
 use Rattle.type_checker.specs.WordRules.{FirstBroken}
 use Rattle.type_checker.specs.declared.blame.Operands.{Operands}
 use Rattle.type_checker.specs.declared.word_stop.WordStop.{WordStop}
-use Rattle.type_checker.proofs.Told.{told_err, told_ok}
+use Rattle.type_checker.proofs.Answered.{answered_err, answered_ok}
 use Rattle.type_checker.proofs.Walked.{root_kept, root_refused}
 
 module _ (node : Qre → Qre → Qre) (f g : Qre) (places : Places) (cells : Partition) (operands : Operands)
     (are : AreOperands cells f g operands) (result : Result Sets WordStop) where
   -- what is told of the root where there are sets
-  abbrev pub AreTold : Type 0
-  AreTold = IfOk result (λ sets. (c : Partition) (a b : Qre) → AreOperands c a b operands
+  abbrev pub AreAnswered : Type 0
+  AreAnswered = IfOk result (λ sets. (c : Partition) (a b : Qre) → AreOperands c a b operands
       → IsKept c.layout.columns (node a b) sets)
 
-  kept_here : AreTold → IfOk result (IsKept cells.layout.columns (node f g))
-  kept_here told =
-      told_ok result _ (IsKept cells.layout.columns (node f g)) told (λ sets given. given cells f g are)
+  kept_here : AreAnswered → IfOk result (IsKept cells.layout.columns (node f g))
+  kept_here answered =
+      answered_ok result _ (IsKept cells.layout.columns (node f g)) answered (λ sets given. given cells f g are)
 
   module _ (standing : Standing)
       (none : FirstBroken (operand_nodes cells.layout.columns standing (node f g) places) None) where
-    pub two_kept : AreTold
+    pub two_kept : AreAnswered
         → OnOk result (FirstBroken (nodes_in cells.layout.columns standing (node f g) places) None)
-    two_kept told = root_kept cells.layout.columns standing (node f g) places none result (kept_here told)
+    two_kept answered = root_kept cells.layout.columns standing (node f g) places none result (kept_here answered)
 
     -- and where it is refused
     pub two_refused : IfErr result (λ stop. (c : Partition) (a b : Qre) → AreOperands c a b operands
         → IsBrokenAt c.layout.columns (node a b) (own_place places) stop)
         → IfErr result (IsBrokenBy (nodes_in cells.layout.columns standing (node f g) places))
-    two_refused told =
+    two_refused answered =
         root_refused cells.layout.columns standing (node f g) places none result
-        (told_err result _ (IsBrokenAt cells.layout.columns (node f g) (own_place places)) told
+        (answered_err result _ (IsBrokenAt cells.layout.columns (node f g) (own_place places)) answered
         (λ stop given. given cells f g are))

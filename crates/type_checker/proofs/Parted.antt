@@ -28,8 +28,8 @@ none_derives (node ∷ nodes) none = by (derives_many node) refl (none_derives n
     by false is later none = (is, later none)
 
 -- a test that says that they are few
-few_told : (columns : List Column) (query : Qre) → not (has_few_cells columns query) ≡ false → HasFewCells columns query
-few_told columns query few = grind (arith, nat_tests, few)
+few_decided : (columns : List Column) (query : Qre) → not (has_few_cells columns query) ≡ false → HasFewCells columns query
+few_decided columns query few = grind (arith, nat_tests, few)
 
 module _ (nodes others : List Node) (node : Node) (few : AllByRecursion DerivesFew (nodes ++ others ++ node ∷ [])) where
   operands_few : AllByRecursion DerivesFew (nodes ++ others)
@@ -81,7 +81,7 @@ few_inside columns standing (compose f g) places few =
     let gs = nodes_in values standing g (second_places places) in
     let last = root columns standing (compose f g) places in (
       few_inside columns standing f (first_places places) (left_few fs gs last few),
-      few_told values g (root_few fs gs last few),
+      few_decided values g (root_few fs gs last few),
       few_inside values standing g (second_places places) (right_few fs gs last few),
     )
 few_inside columns standing (collect column sync rate f) places few =

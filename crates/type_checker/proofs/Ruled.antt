@@ -77,6 +77,6 @@ pub on_values : (sets : Sets) (cells : Partition) (nfa : Automaton) → nfa ≡ 
     → (broken : Option Rule)
     → ((r : Expression) → AreSetsOf nfa.sets r → BreaksFed bound nfa.cells.layout.columns r broken)
     → (r : Expression) → AreSetsOf sets r → BreaksFed bound cells.layout.columns r broken
-on_values sets cells nfa is broken told r are =
+on_values sets cells nfa is broken answered r are =
     subst (λ (n : Automaton). BreaksFed bound n.cells.layout.columns r broken) is
-    (told r (subst (λ (n : Automaton). AreSetsOf n.sets r) (sym is) are))
+    (answered r (subst (λ (n : Automaton). AreSetsOf n.sets r) (sym is) are))

@@ -53,12 +53,12 @@ same_pieces (u ∷ us) (v ∷ vs) long is =
     let others : us ≡ vs = same_pieces us vs later parts.1 in cc
 
 -- a rule is broken at the root, or none is
-abbrev Told : (Option Rule → Type 0) → Type 0
-Told Broken = ((rule : Rule) × Broken (Some rule)) ⊎ Broken None
+abbrev Decision : (Option Rule → Type 0) → Type 0
+Decision Broken = ((rule : Rule) × Broken (Some rule)) ⊎ Broken None
 
 -- it cannot be that neither holds
-abbrev IsTold : (Option Rule → Type 0) → Type 0
-IsTold Broken = (Told Broken → ⊥) → ⊥
+abbrev IsDecided : (Option Rule → Type 0) → Type 0
+IsDecided Broken = (Decision Broken → ⊥) → ⊥
 
 -- a word that is in one rate alone if it is in one of them
 same_words : (columns : List Column) (r s : Expression) → (HaveDifference columns r s → ⊥) → AreEqual columns r s
@@ -78,8 +78,8 @@ same_words columns r s alike word is = (there, back)
         by (inl also) = also
         by (inr none) = absurd (alike (word, is, inr (here, none)))
 
-equal_told : (columns : List Column) (r s : Expression) → IsTold (BreaksEqual columns r s)
-equal_told columns r s never =
+equal_decided : (columns : List Column) (r s : Expression) → IsDecided (BreaksEqual columns r s)
+equal_decided columns r s never =
     never (inr (
       λ many. never (inl (Reach, many)),
       same_words columns r s (λ apart. never (inl (Rates, (λ many. never (inl (Reach, many)), apart)))),
@@ -93,9 +93,9 @@ all_words columns r lacks item more is = by (in_or_not r (item ∷ more))
     by (inl here) = here
     by (inr none) = absurd (lacks (item, more, is, none))
 
-fed_told : (standing : Standing) (columns : List Column) (r : Expression) → IsTold (BreaksFed standing columns r)
-fed_told free columns r never = never (inr tt)
-fed_told bound columns r never =
+fed_decided : (standing : Standing) (columns : List Column) (r : Expression) → IsDecided (BreaksFed standing columns r)
+fed_decided free columns r never = never (inr tt)
+fed_decided bound columns r never =
     never (inr (
       λ many. never (inl (Reach, many)),
       all_words columns r (λ lacks. never (inl (Compose, (λ many. never (inl (Reach, many)), lacks)))),
@@ -115,23 +115,23 @@ met_each columns (pred ∷ preds) = by (met_or_not columns pred) (met_each colum
     by (inl met) (inr others) = inr (met, others)
     by (inr unmet) others = inl (pred, (0, omega arith, refl), unmet)
 
-met_told : (columns : List Column) (preds : List Predicate) → IsTold (BreaksMet columns preds)
-met_told columns preds never = by (met_each columns preds)
+met_decided : (columns : List Column) (preds : List Predicate) → IsDecided (BreaksMet columns preds)
+met_decided columns preds never = by (met_each columns preds)
   where
     by : ((pred : Predicate) × Contains preds pred × IsUnmet columns pred) ⊎ AllByRecursion (IsMet columns) preds → ⊥
     by (inl unmet) = never (inl (Empty, unmet))
     by (inr met) = never (inr met)
 
 module _ (columns : List Column) (standing : Standing) where
-  atom_told : (pred : Predicate) (e : _) → IsTold (BreaksAt columns standing (atom pred e))
-  atom_told pred e never = by (met_or_not columns pred)
+  atom_decided : (pred : Predicate) (e : _) → IsDecided (BreaksAt columns standing (atom pred e))
+  atom_decided pred e never = by (met_or_not columns pred)
     where
       by : IsMet columns pred ⊎ IsUnmet columns pred → ⊥
       by (inl met) = never (inr met)
       by (inr unmet) = never (inl (Empty, unmet))
 
-  split_told : (f g : Qre) (e : _) → IsTold (BreaksAt columns standing (split f g e))
-  split_told f g e never =
+  split_decided : (f g : Qre) (e : _) → IsDecided (BreaksAt columns standing (split f g e))
+  split_decided f g e never =
       never (inr (λ u v u' v' is first second first' second' same.
       one u v u' v' is (first, second) (first', second') same (nat_eq (length u) (length u')) refl))
     where
@@ -155,8 +155,8 @@ module _ (columns : List Column) (standing : Standing) where
         },
       )))
 
-  iter_told : (f : Qre) (n : _) (e : _) → IsTold (BreaksAt columns standing (iter f n e))
-  iter_told f n e never =
+  iter_decided : (f : Qre) (n : _) (e : _) → IsDecided (BreaksAt columns standing (iter f n e))
+  iter_decided f n e never =
       never (inr (λ us vs is first second same.
       one us vs is first second same (bytes_eq (map length us) (map length vs)) refl))
     where
@@ -181,27 +181,27 @@ module _ (columns : List Column) (standing : Standing) where
         },
       )))
 
-  told_at : (query : Qre) → IsTold (BreaksAt columns standing query)
-  told_at (atom pred e) never = atom_told pred e never
-  told_at (eps number) never = never (inr tt)
-  told_at (choice f g) never =
+  decided_at : (query : Qre) → IsDecided (BreaksAt columns standing query)
+  decided_at (atom pred e) never = atom_decided pred e never
+  decided_at (eps number) never = never (inr tt)
+  decided_at (choice f g) never =
       never (inr (λ word is left right. never (inl (Choice, (word, is, left, right)))))
-  told_at (split f g e) never = split_told f g e never
-  told_at (iter f n e) never = iter_told f n e never
-  told_at (combine f g e) never = equal_told columns (rate_of f) (rate_of g) never
-  told_at (apply f e) never = never (inr tt)
-  told_at (compose f g) never = fed_told standing (derived_columns (type_of columns f)) (rate_of g) never
-  told_at (collect column sync rate f) never = met_told columns (preds_of rate) never
+  decided_at (split f g e) never = split_decided f g e never
+  decided_at (iter f n e) never = iter_decided f n e never
+  decided_at (combine f g e) never = equal_decided columns (rate_of f) (rate_of g) never
+  decided_at (apply f e) never = never (inr tt)
+  decided_at (compose f g) never = fed_decided standing (derived_columns (type_of columns f)) (rate_of g) never
+  decided_at (collect column sync rate f) never = met_decided columns (preds_of rate) never
 
 -- the first node that breaks a rule is refused, or none is
 some_refusal : (nodes : List Node) → ((why : Option Refusal) → FirstBroken nodes why → ⊥) → ⊥
 some_refusal [] never = never None refl
 some_refusal (node ∷ nodes) never =
-    told_at node.columns node.standing node.query
+    decided_at node.columns node.standing node.query
     (by (λ kept. some_refusal nodes (λ why rest. never why (inr (kept, rest)))))
   where
     by : (BreaksAt node.columns node.standing node.query None → ⊥)
-        → Told (BreaksAt node.columns node.standing node.query) → ⊥
+        → Decision (BreaksAt node.columns node.standing node.query) → ⊥
     by none (inl (rule, broken)) = never (Some (refusal rule node.place)) (inl (rule, broken, refl))
     by none (inr kept) = none kept
 

@@ -39,8 +39,8 @@ pub record IsCounted (program : Program) : Type 0 where
   pub few : has_few_nodes (unfolded program) ≡ true
 
 -- the pass over the cells of a stream's items
-abbrev pub told_apart : List Column → Span → Qre → Result (Unit {0}) Refusal
-told_apart columns span query = provided Cells span (has_few_cells columns query)
+abbrev pub distinguished : List Column → Span → Qre → Result (Unit {0}) Refusal
+distinguished columns span query = provided Cells span (has_few_cells columns query)
 
 -- the pass over the cells of the values that compositions pass on
 abbrev pub values_apart : List Column → memory.Query → Result (Unit {0}) Refusal
@@ -65,8 +65,8 @@ abbrev pub IsBeyond : List Column → Span → memory.Query → CheckStop → Ty
 IsBeyond columns span query stop =
     ((layout : Layout) (tree : Query) → places_of tree ≡ places_in query
     → IsUnresolved (limited layout tree (plain_of query.shape)) stop)
-    ⊎ (IsLimited query × (IsUnresolved (told_apart columns span (plain_of query.shape)) stop
-    ⊎ ((told_apart columns span (plain_of query.shape) ≡ Ok tt)
+    ⊎ (IsLimited query × (IsUnresolved (distinguished columns span (plain_of query.shape)) stop
+    ⊎ ((distinguished columns span (plain_of query.shape) ≡ Ok tt)
     × IsUnresolved (values_apart columns query) stop)))
 
 -- the result of all passes but the last over the program

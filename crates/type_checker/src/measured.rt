@@ -16,7 +16,7 @@ ghost use Rattle.type_checker.specs.Judged.{limited, measured};
 ghost use Rattle.type_checker.specs.Nestings.{MayStand};
 ghost use Rattle.type_checker.specs.Nodes.{places_of};
 ghost use Rattle.type_checker.specs.Passes.{IsBeyond, IsLimited, IsMeasured, IsNamed};
-ghost use Rattle.type_checker.specs.Passes.{told_apart, values_apart};
+ghost use Rattle.type_checker.specs.Passes.{distinguished, values_apart};
 ghost use Rattle.type_checker.specs.Resolved.{outside, resolved};
 
 use crate::CheckStop;
@@ -91,7 +91,7 @@ fn cells_within(
     ensures members { IfOk result (λ cells. (pred : Predicate)
         → Contains (predicates_of (plain_of query.now.shape)) pred → Contains cells.preds pred) }
     ensures few { OnOk result
-        (told_apart schema.now.columns stream (plain_of query.now.shape) ≡ Ok tt) }
+        (distinguished schema.now.columns stream (plain_of query.now.shape) ≡ Ok tt) }
     ensures values { OnOk result (values_apart schema.now.columns query.now ≡ Ok tt) }
     ensures refused { IfErr result (IsBeyond schema.now.columns stream query.now) }
 {
@@ -126,9 +126,9 @@ fn cells_in(alloc: Global, schema: &Schema, query: &Query, stream: Span) -> Resu
     ensures members { IfOk result (λ cells. (pred : Predicate)
         → Contains (predicates_of (plain_of query.now.shape)) pred → Contains cells.preds pred) }
     ensures few { OnOk result
-        (told_apart schema.now.columns stream (plain_of query.now.shape) ≡ Ok tt) }
+        (distinguished schema.now.columns stream (plain_of query.now.shape) ≡ Ok tt) }
     ensures refused { IfErr result (IsUnresolved
-        (told_apart schema.now.columns stream (plain_of query.now.shape))) }
+        (distinguished schema.now.columns stream (plain_of query.now.shape))) }
 {
     match cells_of(alloc, schema, query) {
         Ok(cells) => Ok(cells),

@@ -7,7 +7,7 @@ use crate::hostile::answers::Answers;
 use crate::hostile::bound::bound_of;
 use crate::hostile::kept::Bound;
 use crate::hostile::stop::{Finding, Stop};
-use crate::hostile::transcripts::{Told, told_by};
+use crate::hostile::transcripts::{Transcript, transcript_of};
 use eval_runner::Runner;
 use query_model::Checked;
 use slow_eval::Slow;
@@ -28,64 +28,69 @@ pub(crate) fn ask_engines(
 }
 
 /// What the engine that searches all readings answers.
-fn wanted(alloc: Global, checked: &Checked, items: &[u8]) -> Result<Told, Stop> {
+fn wanted(alloc: Global, checked: &Checked, items: &[u8]) -> Result<Transcript, Stop> {
     let slow = Slow::new(alloc, checked)?;
-    let wanted = told_by(alloc, checked, slow, items)?;
+    let wanted = transcript_of(alloc, checked, slow, items)?;
     ask_alone(&wanted)?;
     Ok(wanted)
 }
 
 /// Checks that the runner answers as wanted.
-fn ask_runner(alloc: Global, checked: &Checked, items: &[u8], wanted: &Told) -> Result<(), Stop> {
+fn ask_runner(
+    alloc: Global,
+    checked: &Checked,
+    items: &[u8],
+    wanted: &Transcript,
+) -> Result<(), Stop> {
     let runner = Runner::new(alloc, checked)?;
-    let told = told_by(alloc, checked, runner, items)?;
-    ask_alone(&told)?;
-    ask_both(&told, wanted)?;
-    ask_bound(bound_of(checked.main()), &told)
+    let transcript = transcript_of(alloc, checked, runner, items)?;
+    ask_alone(&transcript)?;
+    ask_both(&transcript, wanted)?;
+    ask_bound(bound_of(checked.main()), &transcript)
 }
 
 /// Checks that copies of an engine answer as it does, and that it can be reset.
-fn ask_alone(told: &Told) -> Result<(), Stop>
-    ensures { IsOk result ↔ ((told.now.back.items ≡ told.now.begun.items)
-        × (told.now.copies.items ≡ told.now.answers.items)) }
+fn ask_alone(transcript: &Transcript) -> Result<(), Stop>
+    ensures { IsOk result ↔ ((transcript.now.back.items ≡ transcript.now.begun.items)
+        × (transcript.now.copies.items ≡ transcript.now.answers.items)) }
 {
-    if told.back != told.begun {
+    if transcript.back != transcript.begun {
         return Err(Stop::Found(Finding::Reset));
     }
-    if told.copies != told.answers {
+    if transcript.copies != transcript.answers {
         return Err(Stop::Found(Finding::Copy));
     }
     Ok(())
 }
 
 /// Checks that one engine answers as the other.
-fn ask_both(told: &Told, wanted: &Told) -> Result<(), Stop>
-    ensures { IsOk result ↔ ((told.now.begun.items ≡ wanted.now.begun.items)
-        × (told.now.answers.items ≡ wanted.now.answers.items)) }
+fn ask_both(transcript: &Transcript, wanted: &Transcript) -> Result<(), Stop>
+    ensures { IsOk result ↔ ((transcript.now.begun.items ≡ wanted.now.begun.items)
+        × (transcript.now.answers.items ≡ wanted.now.answers.items)) }
 {
-    if told.begun != wanted.begun || told.answers != wanted.answers {
+    if transcript.begun != wanted.begun || transcript.answers != wanted.answers {
         return Err(Stop::Found(Finding::Engines));
     }
     Ok(())
 }
 
 /// Checks that no more than the bound is kept after any item.
-fn ask_bound(bound: Bound, told: &Told) -> Result<(), Stop>
-    ensures { IsOk result ↔ IsTrue (list_all (is_within bound) told.now.kept.items) }
+fn ask_bound(bound: Bound, transcript: &Transcript) -> Result<(), Stop>
+    ensures { IsOk result ↔ IsTrue (list_all (is_within bound) transcript.now.kept.items) }
 {
-    if !bound.holds(told.kept.as_slice()) {
+    if !bound.holds(transcript.kept.as_slice()) {
         return Err(Stop::Found(Finding::Bound));
     }
     Ok(())
 }
 
 /// Checks that a run writes these answers first.
-fn ask_run(told: &Told, answers: &Answers) -> Result<(), Stop>
+fn ask_run(transcript: &Transcript, answers: &Answers) -> Result<(), Stop>
     ensures { IsOk result ↔ IsTrue (starts_with nat_eq
-        (string_bytes answers.now.answered) told.now.answers.items) }
+        (string_bytes answers.now.answered) transcript.now.answers.items) }
 {
     let run = answers.answered.as_bytes();
-    if !run.starts_with(told.answers.as_slice()) {
+    if !run.starts_with(transcript.answers.as_slice()) {
         return Err(Stop::Found(Finding::Answers));
     }
     Ok(())

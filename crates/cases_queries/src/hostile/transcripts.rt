@@ -18,7 +18,7 @@ const LINES: u32 = 1_000;
 
 /// What an engine answered, a line for each answer.
 #[derive(Drop)]
-pub(crate) struct Told {
+pub(crate) struct Transcript {
     /// The answer to the empty word.
     pub(crate) begun: Vec<u8>,
     /// The answers after each item.
@@ -32,39 +32,39 @@ pub(crate) struct Told {
 }
 
 /// The answers of an engine to the first items.
-pub(crate) fn told_by<F: Follower + Drop>(
+pub(crate) fn transcript_of<F: Follower + Drop>(
     alloc: Global,
     checked: &Checked,
     follower: F,
     items: &[u8],
-) -> Result<Told, AllocError>
+) -> Result<Transcript, AllocError>
     requires word { F.follows follower [] }
     requires query { F.query follower ≡ plain_of checked.now.main.shape }
     requires columns { F.columns follower ≡ checked.now.layout.columns }
 {
-    let mut told = Told {
+    let mut transcript = Transcript {
         begun: Vec::new(alloc),
         answers: Vec::new(alloc),
         copies: Vec::new(alloc),
         back: Vec::new(alloc),
         kept: Vec::new(alloc),
     };
-    push_answer(follower.answer(), &mut told.begun)?;
+    push_answer(follower.answer(), &mut transcript.begun)?;
     let mut texts = Texts::new(alloc, checked.schema());
     let mut session = Session::begin(checked, follower);
     let mut source = SteadySource::new(alloc, items)?;
     let mut lines = Lines::new(alloc)?;
     let mut left = LINES;
-    'lines: while left > 0 && told.kept.len() < ITEMS {
+    'lines: while left > 0 && transcript.kept.len() < ITEMS {
         left -= 1;
         match take(alloc, &mut session, &mut lines, &mut source, &mut texts)? {
-            Some(Reply::Answered) => tell(alloc, &session, texts.count(), &mut told)?,
+            Some(Reply::Answered) => add_answers(alloc, &session, texts.count(), &mut transcript)?,
             Some(_) => {}
             None => break,
         }
     }
-    tell_of_reset(alloc, &session, &mut told)?;
-    Ok(told)
+    add_reset(alloc, &session, &mut transcript)?;
+    Ok(transcript)
 }
 
 // Takes one line, if there is one.
@@ -95,31 +95,31 @@ fn take<F: Follower>(
 }
 
 // Adds the answer and that of a copy, and the greater of what both keep.
-fn tell<F: Follower + Drop>(
+fn add_answers<F: Follower + Drop>(
     alloc: Global,
     session: &Session<'_, F>,
     texts: u32,
-    told: &mut Told,
+    transcript: &mut Transcript,
 ) -> Result<(), AllocError>
     requires { IsReady F.query F.columns F.lost F.sound session.now }
 {
     let follower = session.follower();
     let copy = follower.try_copy(alloc)?;
-    push_answer(follower.answer(), &mut told.answers)?;
-    push_answer(copy.answer(), &mut told.copies)?;
+    push_answer(follower.answer(), &mut transcript.answers)?;
+    push_answer(copy.answer(), &mut transcript.copies)?;
     let stored = follower.stored().max(copy.stored());
-    Ok(told.kept.push(Kept { stored, texts })?)
+    Ok(transcript.kept.push(Kept { stored, texts })?)
 }
 
 // Adds the answer of a copy that is reset to the empty word.
-fn tell_of_reset<F: Follower + Drop>(
+fn add_reset<F: Follower + Drop>(
     alloc: Global,
     session: &Session<'_, F>,
-    told: &mut Told,
+    transcript: &mut Transcript,
 ) -> Result<(), AllocError>
     requires { IsReady F.query F.columns F.lost F.sound session.now }
 {
     let mut copy = session.follower().try_copy(alloc)?;
     copy.reset(alloc)?;
-    push_answer(copy.answer(), &mut told.back)
+    push_answer(copy.answer(), &mut transcript.back)
 }

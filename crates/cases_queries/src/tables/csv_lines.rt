@@ -30,19 +30,19 @@ fn read_each<S: Source>(rt: HostRuntime, lines: &mut Lines, source: &mut S) -> i
         let Ok(Line::Whole(line)) = lines.next(source) else {
             return Ok(());
         };
-        tell(rt, number, line)?;
+        print_report(rt, number, line)?;
     }
     Ok(())
 }
 
-fn tell(rt: HostRuntime, number: u32, line: &[u8]) -> io::Result<()> {
-    let text = told(rt.alloc(), line)?;
+fn print_report(rt: HostRuntime, number: u32, line: &[u8]) -> io::Result<()> {
+    let text = report(rt.alloc(), line)?;
     println!(rt; "{number}: {text}")
 }
 
-fn told(alloc: Global, line: &[u8]) -> Result<String, AllocError> {
+fn report(alloc: Global, line: &[u8]) -> Result<String, AllocError> {
     match csv_row(alloc, line) {
-        Ok(row) => told_of(alloc, &row, line),
+        Ok(row) => report_of(alloc, &row, line),
         Err(_) => Err(AllocError),
     }
 }
@@ -59,7 +59,7 @@ fn csv_row(alloc: Global, line: &[u8]) -> Result<ByteRecord, Error> {
 }
 
 /// The fields of the row, and whether the item of the line has the same.
-fn told_of(alloc: Global, row: &ByteRecord, line: &[u8]) -> Result<String, AllocError> {
+fn report_of(alloc: Global, row: &ByteRecord, line: &[u8]) -> Result<String, AllocError> {
     let mut text = String::new(alloc);
     push_fields(&mut text, row)?;
     text.push_str(verdict(alloc, row, line)?)?;

@@ -1,7 +1,7 @@
 //! Both engines on one word.
 
 use crate::tables::stop::Stop;
-use crate::tables::transcripts::{Told, told_by};
+use crate::tables::transcripts::{Transcript, transcript_of};
 use eval_runner::Runner;
 use memory_bound::slots;
 use query_model::Checked;
@@ -26,27 +26,27 @@ pub(crate) fn side_by_side(
     keys: u32,
 ) -> Result<Seen, Stop> {
     let slow = Slow::new(alloc, checked)?;
-    let wanted = told_by(alloc, checked, slow, items)?;
+    let wanted = transcript_of(alloc, checked, slow, items)?;
     let runner = Runner::new(alloc, checked)?;
-    let told = told_by(alloc, checked, runner, items)?;
-    let mut seen = compared(&told, &wanted);
+    let transcript = transcript_of(alloc, checked, runner, items)?;
+    let mut seen = compared(&transcript, &wanted);
     let bound = u64::from(slots(checked.main())).saturating_mul(u64::from(keys).saturating_add(1));
-    if told.kept > bound {
+    if transcript.kept > bound {
         seen.faults = seen.faults.saturating_add(1);
     }
     Ok(seen)
 }
 
-fn compared(told: &Told, wanted: &Told) -> Seen {
+fn compared(transcript: &Transcript, wanted: &Transcript) -> Seen {
     let mut seen = Seen {
         answers: 0,
         values: 0,
         faults: 0,
     };
-    if told.answers.len() != wanted.answers.len() {
+    if transcript.answers.len() != wanted.answers.len() {
         seen.faults = 1;
     }
-    'answers: for (i, answer) in told.answers.iter().enumerate() {
+    'answers: for (i, answer) in transcript.answers.iter().enumerate() {
         seen.answers = seen.answers.saturating_add(1);
         if answer.as_slice() != b"undefined\n".as_slice() {
             seen.values = seen.values.saturating_add(1);

@@ -14,18 +14,18 @@ const MOST: u32 = 1_000;
 
 /// The texts of what an engine answered, and the most that it kept.
 #[derive(Drop)]
-pub(crate) struct Told {
+pub(crate) struct Transcript {
     pub(crate) answers: Vec<Vec<u8>>,
     pub(crate) kept: u64,
 }
 
-impl Told {
-    fn new(alloc: Global) -> Result<Box<Told>, AllocError> {
-        let told = Told {
+impl Transcript {
+    fn new(alloc: Global) -> Result<Box<Transcript>, AllocError> {
+        let transcript = Transcript {
             answers: Vec::new(alloc),
             kept: 0,
         };
-        Ok(Box::new(alloc, told)?)
+        Ok(Box::new(alloc, transcript)?)
     }
 
     fn add<F: Follower>(&mut self, alloc: Global, follower: &F) -> Result<(), AllocError> {
@@ -39,19 +39,19 @@ impl Told {
 
 /// The answer to the empty word; then after each item the answer and that of a copy; at the end the
 /// answer of a copy that is reset to the empty word.
-pub(crate) fn told_by<F: Follower + Drop>(
+pub(crate) fn transcript_of<F: Follower + Drop>(
     alloc: Global,
     checked: &Checked,
     follower: F,
     items: &str,
-) -> Result<Box<Told>, Stop>
+) -> Result<Box<Transcript>, Stop>
     requires word { F.follows follower [] }
     requires query { F.query follower ≡ plain_of checked.now.main.shape }
     requires columns { F.columns follower ≡ checked.now.layout.columns }
 {
-    let mut told = Told::new(alloc)?;
+    let mut transcript = Transcript::new(alloc)?;
     let mut session = Session::begin(checked, follower);
-    told.add(alloc, session.follower())?;
+    transcript.add(alloc, session.follower())?;
     let mut left = MOST;
     'items: for item in items.split_whitespace() {
         if left == 0 {
@@ -59,10 +59,10 @@ pub(crate) fn told_by<F: Follower + Drop>(
         }
         left -= 1;
         take(alloc, &mut session, item)?;
-        tell(alloc, &session, &mut told)?;
+        add_answers(alloc, &session, &mut transcript)?;
     }
-    tell_of_reset(alloc, &session, &mut told)?;
-    Ok(told)
+    add_reset(alloc, &session, &mut transcript)?;
+    Ok(transcript)
 }
 
 // Takes one item.
@@ -81,27 +81,27 @@ fn take<F: Follower>(alloc: Global, session: &mut Session<'_, F>, item: &str) ->
 }
 
 // Adds the answer, and that of a copy.
-fn tell<F: Follower + Drop>(
+fn add_answers<F: Follower + Drop>(
     alloc: Global,
     session: &Session<'_, F>,
-    told: &mut Told,
+    transcript: &mut Transcript,
 ) -> Result<(), AllocError>
     requires { IsReady F.query F.columns F.lost F.sound session.now }
 {
-    told.add(alloc, session.follower())?;
+    transcript.add(alloc, session.follower())?;
     let copy = session.follower().try_copy(alloc)?;
-    told.add(alloc, &copy)
+    transcript.add(alloc, &copy)
 }
 
 // Adds the answer of a copy that is reset to the empty word.
-fn tell_of_reset<F: Follower + Drop>(
+fn add_reset<F: Follower + Drop>(
     alloc: Global,
     session: &Session<'_, F>,
-    told: &mut Told,
+    transcript: &mut Transcript,
 ) -> Result<(), AllocError>
     requires { IsReady F.query F.columns F.lost F.sound session.now }
 {
     let mut copy = session.follower().try_copy(alloc)?;
     copy.reset(alloc)?;
-    told.add(alloc, &copy)
+    transcript.add(alloc, &copy)
 }

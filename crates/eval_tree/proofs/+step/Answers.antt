@@ -405,20 +405,20 @@ feeds::carry-step_into-requires = Runner.feeds::carry-step_into-requires
 pub feeds::carry-returns-clause-carried : goal.feeds::carry-returns-clause-carried
 feeds::carry-returns-clause-carried = Runner.feeds::carry-returns-clause-carried
 
-pub feeds::tell-carry-requires : goal.feeds::tell-carry-requires
-feeds::tell-carry-requires = Runner.feeds::tell-carry-requires
+pub feeds::deliver-carry-requires : goal.feeds::deliver-carry-requires
+feeds::deliver-carry-requires = Runner.feeds::deliver-carry-requires
 
-pub feeds::tell-returns-in_ok-value-in-Some-clause-told : goal.feeds::tell-returns-in_ok-value-in-Some-clause-told
-feeds::tell-returns-in_ok-value-in-Some-clause-told = Runner.feeds::tell-returns-in_ok-value-in-Some-clause-told
+pub feeds::deliver-returns-in_ok-value-in-Some-clause-delivered : goal.feeds::deliver-returns-in_ok-value-in-Some-clause-delivered
+feeds::deliver-returns-in_ok-value-in-Some-clause-delivered = Runner.feeds::deliver-returns-in_ok-value-in-Some-clause-delivered
 
-pub feeds::tell-returns-in-None-clause-told : goal.feeds::tell-returns-in-None-clause-told
-feeds::tell-returns-in-None-clause-told = Runner.feeds::tell-returns-in-None-clause-told
+pub feeds::deliver-returns-in-None-clause-delivered : goal.feeds::deliver-returns-in-None-clause-delivered
+feeds::deliver-returns-in-None-clause-delivered = Runner.feeds::deliver-returns-in-None-clause-delivered
 
 pub feeds::begin-renew-requires : goal.feeds::begin-renew-requires
 feeds::begin-renew-requires = Runner.feeds::begin-renew-requires
 
-pub feeds::begin-tell-requires : goal.feeds::begin-tell-requires
-feeds::begin-tell-requires = Runner.feeds::begin-tell-requires
+pub feeds::begin-deliver-requires : goal.feeds::begin-deliver-requires
+feeds::begin-deliver-requires = Runner.feeds::begin-deliver-requires
 
 pub feeds::begin-returns-in-Some-clause-begun : goal.feeds::begin-returns-in-Some-clause-begun
 feeds::begin-returns-in-Some-clause-begun = Runner.feeds::begin-returns-in-Some-clause-begun
@@ -426,8 +426,8 @@ feeds::begin-returns-in-Some-clause-begun = Runner.feeds::begin-returns-in-Some-
 pub feeds::begin-returns-in-None-clause-begun : goal.feeds::begin-returns-in-None-clause-begun
 feeds::begin-returns-in-None-clause-begun = Runner.feeds::begin-returns-in-None-clause-begun
 
-pub feeds::pass_on-tell-requires : goal.feeds::pass_on-tell-requires
-feeds::pass_on-tell-requires = Runner.feeds::pass_on-tell-requires
+pub feeds::pass_on-deliver-requires : goal.feeds::pass_on-deliver-requires
+feeds::pass_on-deliver-requires = Runner.feeds::pass_on-deliver-requires
 
 pub feeds::pass_on-returns-in-Some-place-clause-passed : goal.feeds::pass_on-returns-in-Some-place-clause-passed
 feeds::pass_on-returns-in-Some-place-clause-passed = Runner.feeds::pass_on-returns-in-Some-place-clause-passed
@@ -451,13 +451,13 @@ feeds::renew-returns-in_err-start_into-clause-no_memory = Runner.feeds::renew-re
 pub feeds::carry-returns-in_err-step_into-clause-no_memory : goal.feeds::carry-returns-in_err-step_into-clause-no_memory
 feeds::carry-returns-in_err-step_into-clause-no_memory = Runner.feeds::carry-returns-in_err-step_into-clause-no_memory
 
-pub feeds::tell-returns-in_err-carry-clause-no_memory : goal.feeds::tell-returns-in_err-carry-clause-no_memory
-feeds::tell-returns-in_err-carry-clause-no_memory = Runner.feeds::tell-returns-in_err-carry-clause-no_memory
+pub feeds::deliver-returns-in_err-carry-clause-no_memory : goal.feeds::deliver-returns-in_err-carry-clause-no_memory
+feeds::deliver-returns-in_err-carry-clause-no_memory = Runner.feeds::deliver-returns-in_err-carry-clause-no_memory
 
-pub feeds::tell-returns-in_err-value-in-Some-clause-no_memory :
-    goal.feeds::tell-returns-in_err-value-in-Some-clause-no_memory
-feeds::tell-returns-in_err-value-in-Some-clause-no_memory =
-    Runner.feeds::tell-returns-in_err-value-in-Some-clause-no_memory
+pub feeds::deliver-returns-in_err-value-in-Some-clause-no_memory :
+    goal.feeds::deliver-returns-in_err-value-in-Some-clause-no_memory
+feeds::deliver-returns-in_err-value-in-Some-clause-no_memory =
+    Runner.feeds::deliver-returns-in_err-value-in-Some-clause-no_memory
 
 pub feeds::begin-returns-in_err-renew-clause-no_memory : goal.feeds::begin-returns-in_err-renew-clause-no_memory
 feeds::begin-returns-in_err-renew-clause-no_memory = Runner.feeds::begin-returns-in_err-renew-clause-no_memory

@@ -46,8 +46,8 @@ decreases-feeds::carry l = 8 * size-Query l.query.now + 1
 abbrev pub decreases-feeds::renew : goal.decreases-feeds::renew
 decreases-feeds::renew l = 8 * size-Query l.query.now + 1
 
-abbrev pub decreases-feeds::tell : goal.decreases-feeds::tell
-decreases-feeds::tell l = 8 * size-Query l.query.now + 2
+abbrev pub decreases-feeds::deliver : goal.decreases-feeds::deliver
+decreases-feeds::deliver l = 8 * size-Query l.query.now + 2
 
 abbrev pub decreases-feeds::begin : goal.decreases-feeds::begin
 decreases-feeds::begin l = 8 * size-Query l.query.now + 3

@@ -13,9 +13,9 @@ use Rattle.compose_eval.specs.Followers.{instance_at, with_follower, IsAt}
 use Rattle.eval_tree.specs.Feeds.{CanBegin, CanCarry, CanPassOn, Feeds, HasIdle, IsBegun, IsCarried, PassesOn, hit_at, item_of}
 use Rattle.eval_tree.proofs.ComposeAllowed.{carry_begun, start_cleared, step_carried}
 use Rattle.eval_tree.proofs.Carried.{begun_anew, carried_on}
-use Rattle.eval_tree.proofs.Feeding.{begin_last, fed_already, feeds_at_rest, feeds_awake, feeds_none, passed_one, renew_allowed, tell_allowed}
+use Rattle.eval_tree.proofs.Feeding.{begin_last, fed_already, feeds_at_rest, feeds_awake, feeds_none, passed_one, renew_allowed, deliver_allowed}
 use Rattle.eval_tree.specs.Numbers.{BeginsNumbers, CarriesNumbers, PassesNumbers}
-use Rattle.eval_tree.proofs.NumbersAllowed.{begun_carries, cleared_starts, last_begins, place_tells, runner_renews, runner_steps}
+use Rattle.eval_tree.proofs.NumbersAllowed.{begun_carries, cleared_starts, last_begins, place_decides, runner_renews, runner_steps}
 use Rattle.eval_tree.proofs.NumbersTyped.{answer_no_table}
 use Rattle.eval_tree.proofs.+step.Goals as goal
 use Rattle.eval_tree.proofs.+step.Goals.{feeds::feed-then-idle-eq0-via-then-idle-eq0, feeds::feed-then-idle-eq0-via-else-idle-eq0+then-is_some}
@@ -56,15 +56,15 @@ feeds::carry-returns-clause-carried t c =
     carried_on seen_of (plain_of c.args.query.now.shape) c.args.runner.now _ c.args.item.now c.step_into.new.hit
     c.in_ok-step_into.ensures.word c.in_ok-step_into.ensures.sound refl c.value_of.ensures
 
-pub feeds::tell-carry-requires : goal.feeds::tell-carry-requires
-feeds::tell-carry-requires t c = (
+pub feeds::deliver-carry-requires : goal.feeds::deliver-carry-requires
+feeds::deliver-carry-requires t c = (
   search rules,
   subst (CanCarry seen_of (plain_of c.args.query.now.shape) c.args.runner.now)
       (sym (c.from_value.ensures ∙ ap item_of c.into_parts-start.ensures.value)) c.requires.can,
 )
 
-pub feeds::tell-returns-in_ok-value-in-Some-clause-told : goal.feeds::tell-returns-in_ok-value-in-Some-clause-told
-feeds::tell-returns-in_ok-value-in-Some-clause-told t c = record {
+pub feeds::deliver-returns-in_ok-value-in-Some-clause-delivered : goal.feeds::deliver-returns-in_ok-value-in-Some-clause-delivered
+feeds::deliver-returns-in_ok-value-in-Some-clause-delivered t c = record {
   carried = subst (λ (item : List Field). IsCarried seen_of (plain_of c.args.query.now.shape) c.args.runner.now item
       c.carry-2.new.runner) (c.from_value.ensures ∙ ap item_of c.into_parts-start.ensures.value)
       c.in_ok-carry.ensures.carried;
@@ -74,8 +74,8 @@ feeds::tell-returns-in_ok-value-in-Some-clause-told t c = record {
       ∙ ap (λ (start : ℕ). hit_at start c.carry-2.new.runner.answer) c.into_parts-start.ensures.start;
 }
 
-pub feeds::tell-returns-in-None-clause-told : goal.feeds::tell-returns-in-None-clause-told
-feeds::tell-returns-in-None-clause-told t c = record {
+pub feeds::deliver-returns-in-None-clause-delivered : goal.feeds::deliver-returns-in-None-clause-delivered
+feeds::deliver-returns-in-None-clause-delivered t c = record {
   carried = subst (λ (item : List Field). IsCarried seen_of (plain_of c.args.query.now.shape) c.args.runner.now item
       c.carry-2.new.runner) (c.from_value.ensures ∙ ap item_of c.into_parts-start.ensures.value)
       c.in_ok-carry.ensures.carried;
@@ -88,8 +88,8 @@ feeds::begin-renew-requires t c = (
   renew_allowed seen_of (plain_of c.args.query.now.shape) c.args.runner.now c.args.left c.requires.can,
 )
 
-pub feeds::begin-tell-requires : goal.feeds::begin-tell-requires
-feeds::begin-tell-requires t c = (
+pub feeds::begin-deliver-requires : goal.feeds::begin-deliver-requires
+feeds::begin-deliver-requires t c = (
   search rules,
   (
     c.requires.none,
@@ -101,22 +101,22 @@ feeds::begin-tell-requires t c = (
 
 pub feeds::begin-returns-in-Some-clause-begun : goal.feeds::begin-returns-in-Some-clause-begun
 feeds::begin-returns-in-Some-clause-begun t c =
-    where_ok c.tell.result _ _ (λ done told. subst (λ (left : Option Hit).
-    IsBegun seen_of (plain_of c.args.query.now.shape) c.args.runner.now left c.tell.new.runner c.tell.new.hit)
+    where_ok c.deliver.result _ _ (λ done delivered. subst (λ (left : Option Hit).
+    IsBegun seen_of (plain_of c.args.query.now.shape) c.args.runner.now left c.deliver.new.runner c.deliver.new.hit)
     (sym c.in-Some.is)
-    (c.renew.new.runner, c.in_ok-renew.ensures.renewed, told)) c.tell.ensures.told
+    (c.renew.new.runner, c.in_ok-renew.ensures.renewed, delivered)) c.deliver.ensures.delivered
 
 pub feeds::begin-returns-in-None-clause-begun : goal.feeds::begin-returns-in-None-clause-begun
 feeds::begin-returns-in-None-clause-begun t c =
     subst (λ (left : Option Hit). IsBegun seen_of (plain_of c.args.query.now.shape) c.args.runner.now left
     c.renew.new.runner c.args.hit.now) (sym c.in-None.is) (c.in_ok-renew.ensures.renewed, c.requires.none)
 
-pub feeds::pass_on-tell-requires : goal.feeds::pass_on-tell-requires
-feeds::pass_on-tell-requires t c = (
+pub feeds::pass_on-deliver-requires : goal.feeds::pass_on-deliver-requires
+feeds::pass_on-deliver-requires t c = (
   search rules,
   (
     c.requires.none,
-    tell_allowed seen_of (plain_of c.args.query.now.shape) c.args.runners.now c.in-Some.left c.in-Some-place.place
+    deliver_allowed seen_of (plain_of c.args.query.now.shape) c.args.runners.now c.in-Some.left c.in-Some-place.place
         c.follower_mut.result.now
         (subst (CanPassOn seen_of (plain_of c.args.query.now.shape) c.args.runners.now) c.in-Some.is c.requires.can)
         c.follower_mut.ensures.value,
@@ -125,15 +125,15 @@ feeds::pass_on-tell-requires t c = (
 
 pub feeds::pass_on-returns-in-Some-place-clause-passed : goal.feeds::pass_on-returns-in-Some-place-clause-passed
 feeds::pass_on-returns-in-Some-place-clause-passed t c =
-    where_ok c.tell.result _ _ (λ done tells. subst (λ (left : Option Hit).
+    where_ok c.deliver.result _ _ (λ done delivers. subst (λ (left : Option Hit).
     PassesOn seen_of (plain_of c.args.query.now.shape) c.args.runners.now left (record {
-      live = with_follower c.args.runners.now.live c.in-Some-place.place c.tell.new.runner;
+      live = with_follower c.args.runners.now.live c.in-Some-place.place c.deliver.new.runner;
       idle = c.args.runners.now.idle;
       room = c.args.runners.now.room;
-    }) c.tell.new.hit) (sym c.in-Some.is)
+    }) c.deliver.new.hit) (sym c.in-Some.is)
     (inl (passed_one seen_of (plain_of c.args.query.now.shape) c.args.runners.now c.in-Some.left c.in-Some-place.place
-    c.follower_mut.result.now c.tell.new.runner c.tell.new.hit c.in-Some-place.ensures.there c.follower_mut.ensures.value tells)))
-    c.tell.ensures.told
+    c.follower_mut.result.now c.deliver.new.runner c.deliver.new.hit c.in-Some-place.ensures.there c.follower_mut.ensures.value delivers)))
+    c.deliver.ensures.delivered
 
 pub feeds::feed-begin-requires : goal.feeds::feed-begin-requires
 feeds::feed-begin-requires t c = (
@@ -204,16 +204,16 @@ feeds::carry-returns-in_err-step_into-clause-no_memory t c = λ free.
     absurd (false≢true (c.in_err-step_into.ensures.no_memory
     (runner_steps seen_of (plain_of c.args.query.now.shape) c.args.runner.now c.args.item.now free)))
 
-pub feeds::tell-returns-in_err-carry-clause-no_memory :
-    goal.feeds::tell-returns-in_err-carry-clause-no_memory
-feeds::tell-returns-in_err-carry-clause-no_memory t c = λ free.
+pub feeds::deliver-returns-in_err-carry-clause-no_memory :
+    goal.feeds::deliver-returns-in_err-carry-clause-no_memory
+feeds::deliver-returns-in_err-carry-clause-no_memory t c = λ free.
     absurd (false≢true (c.in_err-carry.ensures.no_memory
     (subst (CarriesNumbers seen_of (plain_of c.args.query.now.shape) c.args.runner.now)
     (sym (c.from_value.ensures ∙ ap item_of c.into_parts-start.ensures.value)) free)))
 
-pub feeds::tell-returns-in_err-value-in-Some-clause-no_memory :
-    goal.feeds::tell-returns-in_err-value-in-Some-clause-no_memory
-feeds::tell-returns-in_err-value-in-Some-clause-no_memory t c = λ free.
+pub feeds::deliver-returns-in_err-value-in-Some-clause-no_memory :
+    goal.feeds::deliver-returns-in_err-value-in-Some-clause-no_memory
+feeds::deliver-returns-in_err-value-in-Some-clause-no_memory t c = λ free.
     absurd (false≢true (c.in_err-value-in-Some.ensures.no_memory
     (answer_no_table seen_of (plain_of c.args.query.now.shape) c.args.runner.now c.carry-2.new.runner
     (item_of c.args.left.value) _ free
@@ -230,7 +230,7 @@ feeds::begin-returns-in_err-renew-clause-no_memory t c = λ free.
 pub feeds::begin-returns-in-Some-clause-no_memory :
     goal.feeds::begin-returns-in-Some-clause-no_memory
 feeds::begin-returns-in-Some-clause-no_memory t c = λ free.
-    c.tell.ensures.no_memory
+    c.deliver.ensures.no_memory
     (begun_carries seen_of (plain_of c.args.query.now.shape) c.args.runner.now c.renew.new.runner c.in-Some.left
     (subst (BeginsNumbers seen_of (plain_of c.args.query.now.shape) c.args.runner.now) c.in-Some.is free)
     c.in_ok-renew.ensures.renewed)
@@ -238,8 +238,8 @@ feeds::begin-returns-in-Some-clause-no_memory t c = λ free.
 pub feeds::pass_on-returns-in-Some-place-clause-no_memory :
     goal.feeds::pass_on-returns-in-Some-place-clause-no_memory
 feeds::pass_on-returns-in-Some-place-clause-no_memory t c = λ free.
-    c.tell.ensures.no_memory
-    (place_tells seen_of (plain_of c.args.query.now.shape) c.args.runners.now c.in-Some.left c.in-Some-place.place
+    c.deliver.ensures.no_memory
+    (place_decides seen_of (plain_of c.args.query.now.shape) c.args.runners.now c.in-Some.left c.in-Some-place.place
     c.follower_mut.result.now
     (subst (PassesNumbers seen_of (plain_of c.args.query.now.shape) c.args.runners.now) c.in-Some.is free)
     c.follower_mut.ensures.value)

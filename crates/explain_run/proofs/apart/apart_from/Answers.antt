@@ -4,5 +4,5 @@ use Rattle.explain_run.proofs.apart.apart_from.Goals as goal
 
 pub returns-in-Some : goal.returns-in-Some
 returns-in-Some c = from_taken (monitor_of c.args.left.now) (monitor_of c.in-Some.query) c.args.right.now
-    c.tell_apart.result (rw c.in-Some.is at c.in_ok-query.ensures) c.tell_apart.ensures.found
-    c.tell_apart.ensures.shortest
+    c.distinguish.result (rw c.in-Some.is at c.in_ok-query.ensures) c.distinguish.ensures.found
+    c.distinguish.ensures.shortest

@@ -1,7 +1,7 @@
 use Rattle.std.proofs.Common.{ℕ, IsTrue, arith, inl, inr, subst, sym}
 use Rattle.rate_expr.specs.Sets.{Has}
 use Rattle.rate_expr.proofs.MaskMembers.{has_first, has_one, has_second}
-use Rattle.rate_expr.proofs.MaskSets.{has-below, overlap_tells}
+use Rattle.rate_expr.proofs.MaskSets.{has-below, overlap_decides}
 use Rattle.rate_equal.proofs.SameRows.{sorting_next}
 use Rattle.rate_equal.proofs.twins.without_twins.Goals as goal
 use Rattle.rate_equal.proofs.twins.without_twins.Goals.{then-not-overlap, else-not-overlap}
@@ -26,7 +26,7 @@ positions-preserved c = elim c.if-not-overlap.branch [
       (has_one c.lowest-position.result)))))
   | else-not-overlap w ↦
       let meets : IsTrue c.overlap.result = cc in
-      let (twin, has, on) = (overlap_tells _ _ c.overlap.result c.overlap.ensures).0 meets in
+      let (twin, has, on) = (overlap_decides _ _ c.overlap.result c.overlap.ensures).0 meets in
       rw w.found-is (sorting_next _ _ _ _ _ c.positions.found _ c.lowest-position.result
       c.positions.invariant c.lowest-position.ensures c.without_lowest-rest.ensures.exact (λ position has. has)
       (inr (twin, on, has)))

@@ -1,7 +1,7 @@
 use Rattle.std.proofs.Common.{sym, ◌∙◌}
 use Rattle.query_model.specs.Monitors.{monitor_of}
 use Rattle.sqre_run.specs.Outside.{outside}
-use Rattle.sqre_run.proofs.Commands.{told_blamed, told_blamed_complete, told_complete, told_outcome, told_refused, told_refused_complete}
+use Rattle.sqre_run.proofs.Commands.{reported_blamed, reported_blamed_complete, reported_complete, reported_outcome, reported_refused, reported_refused_complete}
 use Rattle.sqre_run.proofs.EndedPart.{one_more}
 use Rattle.sqre_run.proofs.FirstEnds.{reads_asked}
 use Rattle.sqre_run.proofs.QueryReads.{reads_carried, reads_refusal}
@@ -31,38 +31,38 @@ blame_text-requires g c =
 
 pub returns-in-Ok-clause-outcome : goal.returns-in-Ok-clause-outcome
 returns-in-Ok-clause-outcome g c =
-    told_outcome c.in-Some.command _ (sym c.in-Some.is ∙ c.command_of.ensures) _ _ _ _
+    reported_outcome c.in-Some.command _ (sym c.in-Some.is ∙ c.command_of.ensures) _ _ _ _
     (rw c.deref.ensures at c.carry_out.ensures.carried) c.in-Ok.ensures.kept _ c.in-Ok.ensures.accepted
 
 pub returns-in-Err-Refused-clause-outcome : goal.returns-in-Err-Refused-clause-outcome
 returns-in-Err-Refused-clause-outcome g c =
-    told_refused c.in-Some.command _ (sym c.in-Some.is ∙ c.command_of.ensures) _ _ _ _ c.refuse.ensures.refuses _ _
+    reported_refused c.in-Some.command _ (sym c.in-Some.is ∙ c.command_of.ensures) _ _ _ _ c.refuse.ensures.refuses _ _
     (rw c.in-Err-Refused.field-0-is at c.in-Err-Refused.ensures.refused)
     (rw c.in-Err-Refused.refusal-is at c.refusal_text.ensures)
 
 pub returns-in-Err-Ambiguous-clause-outcome : goal.returns-in-Err-Ambiguous-clause-outcome
 returns-in-Err-Ambiguous-clause-outcome g c =
-    told_blamed c.in-Some.command _ (sym c.in-Some.is ∙ c.command_of.ensures) _ _ _ _
+    reported_blamed c.in-Some.command _ (sym c.in-Some.is ∙ c.command_of.ensures) _ _ _ _
     c.refuse-in-Err-Ambiguous.ensures.refuses _ _
     (rw c.in-Err-Ambiguous.field-0-is at c.in-Err-Ambiguous.ensures.refused)
     (rw c.deref-in-Err-Ambiguous.ensures at c.blame_text.ensures)
 
 pub returns-in-Ok-clause-complete : goal.returns-in-Ok-clause-complete
 returns-in-Ok-clause-complete g c no_query no_items no_sink =
-    told_complete c.in-Some.command _ (sym c.in-Some.is ∙ c.command_of.ensures) _ _ _ _
+    reported_complete c.in-Some.command _ (sym c.in-Some.is ∙ c.command_of.ensures) _ _ _ _
     (rw c.deref.ensures at c.carry_out.ensures.carried) _ c.in-Ok.ensures.accepted
     (λ e. no_items (one_more _ _ (c.carry_out.ensures.item_faults.by_one e)))
     (λ e. no_sink (one_more _ _ (c.carry_out.ensures.sink_faults.by_one e)))
 
 pub returns-in-Err-Refused-clause-complete : goal.returns-in-Err-Refused-clause-complete
 returns-in-Err-Refused-clause-complete g c no_query no_items no_sink =
-    told_refused_complete c.in-Some.command _ (sym c.in-Some.is ∙ c.command_of.ensures) _ _ _ _ c.refuse.ensures.refuses
+    reported_refused_complete c.in-Some.command _ (sym c.in-Some.is ∙ c.command_of.ensures) _ _ _ _ c.refuse.ensures.refuses
     (λ e. no_sink (one_more _ _ (c.refuse.ensures.cause.by_one e))) _ _
     (rw c.in-Err-Refused.field-0-is at c.in-Err-Refused.ensures.refused)
 
 pub returns-in-Err-Ambiguous-clause-complete : goal.returns-in-Err-Ambiguous-clause-complete
 returns-in-Err-Ambiguous-clause-complete g c no_query no_items no_sink =
-    told_blamed_complete c.in-Some.command _ (sym c.in-Some.is ∙ c.command_of.ensures) _ _ _ _
+    reported_blamed_complete c.in-Some.command _ (sym c.in-Some.is ∙ c.command_of.ensures) _ _ _ _
     c.refuse-in-Err-Ambiguous.ensures.refuses
     (λ e. no_sink (one_more _ _ (c.refuse-in-Err-Ambiguous.ensures.cause.by_one e))) _ _
     (rw c.in-Err-Ambiguous.field-0-is at c.in-Err-Ambiguous.ensures.refused)

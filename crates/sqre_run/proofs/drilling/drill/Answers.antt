@@ -13,7 +13,7 @@ use Rattle.sqre_run.specs.Drilling.{Takes, drilled_lines}
 use Rattle.sqre_run.specs.Meanings.{IsMeaning, Meaning}
 use Rattle.sqre_run.specs.Output.{value_after}
 use Rattle.sqre_run.specs.Sessions.{IsAfter}
-use Rattle.sqre_run.proofs.Drills.{IsTally, drilled_lines-next, goes_on-next, tally_next, told_of_bytes}
+use Rattle.sqre_run.proofs.Drills.{IsTally, drilled_lines-next, goes_on-next, tally_next, reported_of_bytes}
 use Rattle.sqre_run.proofs.Taking.{answer_after}
 use Rattle.sqre_run.proofs.drilling.drill.Goals as goal
 
@@ -75,10 +75,10 @@ items-preserved g c =
     }
 
 -- what holds of a text that was made
-made_so : (made : Result (List ℕ) AllocError) (told : List ℕ) (Q : List ℕ → Type 0) → IfOk made (λ line. line ≡ told)
-    → ((line : List ℕ) → line ≡ told → Q line) → IfOk made Q
-made_so (Ok line) told Q is holds = holds line is
-made_so (Err error) told Q is holds = tt
+made_so : (made : Result (List ℕ) AllocError) (reported : List ℕ) (Q : List ℕ → Type 0) → IfOk made (λ line. line ≡ reported)
+    → ((line : List ℕ) → line ≡ reported → Q line) → IfOk made Q
+made_so (Ok line) reported Q is holds = holds line is
+made_so (Err error) reported Q is holds = tt
 
 pub returns : goal.returns
 returns g c =
@@ -92,10 +92,10 @@ returns g c =
     let same : count ≡ c.args.count = omega arith in
     made_so c.drill_text.result _ (λ line. (meaning : Meaning) → IsMeaning (monitor_of on) meaning → line ≡ drilled meaning c.args.count seed)
     c.drill_text.ensures
-    (λ line told meaning means.
+    (λ line reported meaning means.
     let is = answer_after f.follows f.query on (drilled_lines layout count seed) c.items.session answer c.schema.ensures.checked
     kept.after kept.ready.query_is c.answer-2.ensures.answer meaning means
     in
-    told_of_bytes meaning layout count seed c.items.defined answer means.layout c.requires.drillable (kept.tally meaning means) is line
-    (told ∙ ap (λ (n : ℕ). drill_text n c.items.defined answer) (sym same))
+    reported_of_bytes meaning layout count seed c.items.defined answer means.layout c.requires.drillable (kept.tally meaning means) is line
+    (reported ∙ ap (λ (n : ℕ). drill_text n c.items.defined answer) (sym same))
     ∙ ap (λ (n : ℕ). drilled meaning n seed) same)

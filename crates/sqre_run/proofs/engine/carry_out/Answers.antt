@@ -1,19 +1,19 @@
 use Rattle.std.proofs.Common.{inl, inr}
 use Rattle.query_model.specs.Monitors.{monitor_of}
-use Rattle.sqre_run.proofs.Commands.{told_bound, told_check, told_drill, told_why}
+use Rattle.sqre_run.proofs.Commands.{reported_bound, reported_check, reported_drill, reported_why}
 use Rattle.sqre_run.proofs.engine.carry_out.Goals as goal
 
 pub returns-in-Check-clause-carried : goal.returns-in-Check-clause-carried
 returns-in-Check-clause-carried g c =
     let monitor = monitor_of c.args.checked.now in
-    let carried = told_check monitor _ c.check_text.ensures _ _ _ c.tell.ensures.told in
-    elim c.in-Check.is [ inl is ↦ rw is carried | inr is ↦ rw is (told_why monitor _ _ _ carried) ]
+    let carried = reported_check monitor _ c.check_text.ensures _ _ _ c.report.ensures.reported in
+    elim c.in-Check.is [ inl is ↦ rw is carried | inr is ↦ rw is (reported_why monitor _ _ _ carried) ]
 
 pub returns-in-Bound-clause-carried : goal.returns-in-Bound-clause-carried
 returns-in-Bound-clause-carried g c =
-    rw c.in-Bound.is (told_bound (monitor_of c.args.checked.now) _ c.bound_line.ensures _ _ _ c.tell-in-Bound.ensures.told)
+    rw c.in-Bound.is (reported_bound (monitor_of c.args.checked.now) _ c.bound_line.ensures _ _ _ c.report-in-Bound.ensures.reported)
 
 pub returns-in-Drill-clause-carried : goal.returns-in-Drill-clause-carried
 returns-in-Drill-clause-carried g c =
     rw c.in-Drill.is
-    (told_drill c.in-Drill.count c.in-Drill.seed (monitor_of c.args.checked.now) _ c.drill_query.ensures _ _ _ c.tell-in-Drill.ensures.told)
+    (reported_drill c.in-Drill.count c.in-Drill.seed (monitor_of c.args.checked.now) _ c.drill_query.ensures _ _ _ c.report-in-Drill.ensures.reported)

@@ -1,5 +1,5 @@
 use Rattle.std.proofs.Common.{rules, ap, inl}
-use Rattle.sqre_run.proofs.Compilations.{told_blame, told_query, told_refusal}
+use Rattle.sqre_run.proofs.Compilations.{reported_blame, reported_query, reported_refusal}
 use Rattle.sqre_run.proofs.QueryReads.{text_at_end}
 use Rattle.sqre_run.proofs.query.compile.Goals as goal
 
@@ -11,7 +11,7 @@ returns-in-Err-Memory-clause-read g c =
 pub returns-in-Ok-Accepted-clause-accepted : goal.returns-in-Ok-Accepted-clause-accepted
 returns-in-Ok-Accepted-clause-accepted g c =
     let judged = rw c.as_slice.ensures.value at (rw c.in-Ok-Accepted.field-0-is at c.in-Ok-Accepted.ensures) in
-    told_query _ _ _ _ c.in-Ok.ensures.taken.consumed (text_at_end _ _ _ _ _ c.in-Ok.ensures.taken) judged.0
+    reported_query _ _ _ _ c.in-Ok.ensures.taken.consumed (text_at_end _ _ _ _ _ c.in-Ok.ensures.taken) judged.0
 
 pub returns-in-Ok-Accepted-clause-drillable : goal.returns-in-Ok-Accepted-clause-drillable
 returns-in-Ok-Accepted-clause-drillable g c =
@@ -19,10 +19,10 @@ returns-in-Ok-Accepted-clause-drillable g c =
 
 pub returns-in-Ok-Refused-clause-refused : goal.returns-in-Ok-Refused-clause-refused
 returns-in-Ok-Refused-clause-refused g c =
-    told_refusal _ _ _ _ c.in-Ok.ensures.taken.consumed (text_at_end _ _ _ _ _ c.in-Ok.ensures.taken)
+    reported_refusal _ _ _ _ c.in-Ok.ensures.taken.consumed (text_at_end _ _ _ _ _ c.in-Ok.ensures.taken)
     (rw c.as_slice.ensures.value at (rw c.in-Ok-Refused.field-0-is at c.in-Ok-Refused.ensures))
 
 pub returns-in-Ok-Ambiguous-clause-refused : goal.returns-in-Ok-Ambiguous-clause-refused
 returns-in-Ok-Ambiguous-clause-refused g c =
-    told_blame _ _ _ c.in-Ok-Ambiguous.blame c.in-Ok.ensures.taken.consumed (text_at_end _ _ _ _ _ c.in-Ok.ensures.taken)
+    reported_blame _ _ _ c.in-Ok-Ambiguous.blame c.in-Ok.ensures.taken.consumed (text_at_end _ _ _ _ _ c.in-Ok.ensures.taken)
     (rw c.as_slice.ensures.value at (rw c.in-Ok-Ambiguous.field-0-is at c.in-Ok-Ambiguous.ensures))

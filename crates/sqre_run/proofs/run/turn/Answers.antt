@@ -35,16 +35,16 @@ returns-in-Err-Failed-clause-stops g c first before run =
 pub returns-in-Ok-End-clause-stops : goal.returns-in-Ok-End-clause-stops
 returns-in-Ok-End-clause-stops g c first before run =
     let is = c.in-Ok-End.is ∙ ap Ok c.in-Ok-End.field-0-is in
-    let told = c.next.follows.holds-at-none in
+    let reported = c.next.follows.holds-at-none in
     let same = c.end.ensures.taken in
-    Ended-or_held first before _ _ _ c.end.ensures.ends (Ended-done _ first before _ _ _ _ _ told same run is)
-    (Ended-done_held _ first before _ _ _ _ _ told same run is)
+    Ended-or_held first before _ _ _ c.end.ensures.ends (Ended-done _ first before _ _ _ _ _ reported same run is)
+    (Ended-done_held _ first before _ _ _ _ _ reported same run is)
 
 pub returns-in-Err-Limit-clause-stops : goal.returns-in-Err-Limit-clause-stops
 returns-in-Err-Limit-clause-stops g c first before run =
     let is = c.in-Err-Limit.is ∙ ap Err c.in-Err-Limit.field-0-is in
-    let told = c.next.follows.holds-at-none in
+    let reported = c.next.follows.holds-at-none in
     let same = c.end-in-Err-Limit.ensures.taken in
     Ended-or_held first before _ _ _ c.end-in-Err-Limit.ensures.ends
-    (Ended-at_limit _ first before _ _ _ _ _ told same run is)
-    (Ended-at_limit_held _ first before _ _ _ _ _ told same run is)
+    (Ended-at_limit _ first before _ _ _ _ _ reported same run is)
+    (Ended-at_limit_held _ first before _ _ _ _ _ reported same run is)

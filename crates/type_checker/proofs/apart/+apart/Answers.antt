@@ -9,7 +9,7 @@ use Rattle.query_model.specs.Sizes.{predicates_of}
 use Rattle.predicate_cells.specs.Cells.{AllFit}
 use Rattle.query_model.specs.declared.query.Shape.TheViews.{the_lemmas}
 use Rattle.type_checker.specs.Findings.{KeepsTypes, first_after}
-use Rattle.type_checker.proofs.ToldApart.{IsAbove, IsBeside, above, beside, compose_after, compose_keeps, here_after, on_stream}
+use Rattle.type_checker.proofs.Distinguished.{IsAbove, IsBeside, above, beside, compose_after, compose_keeps, here_after, on_stream}
 use Rattle.type_checker.proofs.Composing.{on_values}
 use Rattle.type_checker.proofs.Fitting.{all_fit}
 use Rattle.type_checker.proofs.apart.+apart.Goals as goal

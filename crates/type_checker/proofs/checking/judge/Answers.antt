@@ -1,6 +1,6 @@
 use Rattle.query_syntax.specs.Plain.{plain_program}
 use Rattle.type_checker.proofs.Judging.{unmeasured_refused}
-use Rattle.type_checker.proofs.Told.{told_ok}
+use Rattle.type_checker.proofs.Answered.{answered_ok}
 use Rattle.type_checker.proofs.checking.judge.Goals as goal
 
 pub judge_words-requires : goal.judge_words-requires
@@ -8,12 +8,12 @@ judge_words-requires c = (plain_program c.args.program.now, c.in-Ok.ensures.meas
 
 pub returns-in-Ok-clause-judged : goal.returns-in-Ok-clause-judged
 returns-in-Ok-clause-judged c =
-    told_ok c.judge_words.result _ _ c.judge_words.ensures.judged
+    answered_ok c.judge_words.result _ _ c.judge_words.ensures.judged
     (λ judgment each. each (plain_program c.args.program.now) c.in-Ok.ensures.measured)
 
 pub returns-in-Ok-clause-places : goal.returns-in-Ok-clause-places
 returns-in-Ok-clause-places c =
-    told_ok c.judge_words.result _ _ c.judge_words.ensures.places
+    answered_ok c.judge_words.result _ _ c.judge_words.ensures.places
     (λ judgment each. each (plain_program c.args.program.now) c.in-Ok.ensures.measured)
 
 pub returns-in-Err-Refused-clause-judged : goal.returns-in-Err-Refused-clause-judged

@@ -1,7 +1,7 @@
 use Rattle.query_model.specs.Rates.{rate_of}
-use Rattle.type_checker.proofs.Told.{told_true}
+use Rattle.type_checker.proofs.Answered.{answered_true}
 use Rattle.type_checker.proofs.word_rules.iter_rule.Goals as goal
 
 pub returns-then-branch : goal.returns-then-branch
 returns-then-branch c = λ standing f number step inner.
-    told_true _ _ _ c.if-branch.true (c.in_ok-one_factoring.ensures (rate_of f) inner.spells)
+    answered_true _ _ _ c.if-branch.true (c.in_ok-one_factoring.ensures (rate_of f) inner.spells)

@@ -1,7 +1,7 @@
 use Rattle.std.proofs.Common.{◌≡◌, ◌≤◌, ◌-◌}
 use Rattle.io_edge.specs.Limits.{max_count}
 use Rattle.io_edge.specs.Reading.{count_of}
-use Rattle.io_edge.specs.Told.{IsQuiet}
+use Rattle.io_edge.specs.Reported.{IsQuiet}
 use Rattle.io_edge.proofs.Readings.{Takes}
 use Rattle.io_edge.proofs.lines.Lines.advance.Given as goal
 

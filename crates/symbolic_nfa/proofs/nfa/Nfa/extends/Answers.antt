@@ -1,4 +1,4 @@
-use Rattle.rate_expr.proofs.MaskSets.{overlap_tells}
+use Rattle.rate_expr.proofs.MaskSets.{overlap_decides}
 use Rattle.symbolic_nfa.proofs.StatesOn.{extends-begins, extends-growing}
 use Rattle.symbolic_nfa.proofs.nfa.Nfa.extends.Goals as goal
 
@@ -9,4 +9,4 @@ returns-in-Initial c =
 pub returns-in-At : goal.returns-in-At
 returns-in-At c =
     rw (c.in-At.is, ← c.self.view_is)
-    (extends-growing _ _ _ _ _ c.self.invariant _ (rw c.deref-in-At.ensures at (overlap_tells _ _ _ c.overlap.ensures)))
+    (extends-growing _ _ _ _ _ c.self.invariant _ (rw c.deref-in-At.ensures at (overlap_decides _ _ _ c.overlap.ensures)))

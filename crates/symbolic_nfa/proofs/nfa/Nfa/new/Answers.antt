@@ -1,5 +1,5 @@
 use Rattle.std.proofs.Common.{◌≡◌}
-use Rattle.rate_expr.proofs.MaskSets.{overlap_tells}
+use Rattle.rate_expr.proofs.MaskSets.{overlap_decides}
 use Rattle.symbolic_nfa.proofs.Usefulness.{tables-shared}
 use Rattle.symbolic_nfa.proofs.nfa.Nfa.new.Goals as goal
 
@@ -10,4 +10,4 @@ invariant_of-result c =
     c.in_ok-met.ensures.sets c.requires c.in_ok-met.ensures.met
     (rw (← c.deref.ensures.value, ← c.union_of.ensures) c.ending_through-useful.ensures)
     c.before-growing.ensures.within c.before-growing.ensures.exact
-    (rw (← c.first.ensures) (overlap_tells _ _ _ c.overlap-begins.ensures)))
+    (rw (← c.first.ensures) (overlap_decides _ _ _ c.overlap-begins.ensures)))

@@ -9,7 +9,7 @@ use Rattle.type_checker.specs.Findings.{places_in}
 use Rattle.type_checker.specs.Nodes.{with_one}
 use Rattle.type_checker.specs.Standings.{standing_of}
 use Rattle.type_checker.proofs.Asked.{asked_apply, asked_as, asked_of}
-use Rattle.type_checker.proofs.Told.{told_err}
+use Rattle.type_checker.proofs.Answered.{answered_err}
 use Rattle.type_checker.proofs.Walked.{kept_at, stopped_in}
 use Rattle.type_checker.proofs.words.+words.Goals as goal
 
@@ -37,6 +37,6 @@ keep_words-returns-in-Apply-clause-refused t c =
     let inner = c.in-Apply.inner.value in
     let node = q.apply (plain_of inner.shape) (values.plain_of c.in-Apply.field-1) in
     let refused = rw c.deref-in-Apply.ensures at c.keep_words.ensures.refused in
-    rw c.in-Apply.is (told_err _ _ _ refused
+    rw c.in-Apply.is (answered_err _ _ _ refused
     (stopped_in c.args.cells.now.value.layout.columns (standing_of c.args.standing) node
     (with_one (places_in inner) c.args.query.now.span)))

@@ -9,7 +9,7 @@ use Rattle.type_checker.specs.Nodes.{with_two}
 use Rattle.type_checker.specs.Standings.{standing_of}
 use Rattle.type_checker.proofs.Asked.{asked_as, asked_choice, asked_of, few_together}
 use Rattle.type_checker.proofs.OverTwo.{two_kept, two_refused}
-use Rattle.type_checker.proofs.Told.{told_ok}
+use Rattle.type_checker.proofs.Answered.{answered_ok}
 use Rattle.type_checker.proofs.Walked.{stopped_in}
 use Rattle.type_checker.proofs.words.+words.Goals as goal
 
@@ -67,7 +67,7 @@ keep_choice-returns-clause-kept t c = λ standing.
 
 pub keep_choice-returns-clause-positions : goal.keep_choice-returns-clause-positions
 keep_choice-returns-clause-positions t c =
-    told_ok c.choice.result _ _ c.choice.ensures.kept (λ sets given.
+    answered_ok c.choice.result _ _ c.choice.ensures.kept (λ sets given.
     (given c.args.cells.now.value (plain_of c.args.first.now.shape) (plain_of c.args.second.now.shape)
     c.in_ok-operands.ensures.automata).sets)
 

@@ -11,7 +11,7 @@ use Rattle.type_checker.specs.Findings.{IsBrokenAt, IsKept, places_in}
 use Rattle.type_checker.specs.Nodes.{with_one}
 use Rattle.type_checker.specs.Standings.{standing_of}
 use Rattle.type_checker.proofs.Asked.{asked_as, asked_collect, asked_of, asked_rate}
-use Rattle.type_checker.proofs.Told.{told_err, told_ok}
+use Rattle.type_checker.proofs.Answered.{answered_err, answered_ok}
 use Rattle.type_checker.proofs.Walked.{root_kept, root_refused, stopped_in}
 use Rattle.type_checker.proofs.words.+words.Goals as goal
 
@@ -57,12 +57,12 @@ keep_collection-returns-clause-kept t c = λ standing key sync.
     let node = q.collect key sync (rates.plain_of c.args.rate.now) (plain_of c.args.operand.now.shape) in
     root_kept c.args.cells.now.value.layout.columns standing node (with_one (places_in c.args.operand.now) c.args.span)
     c.in_ok-keep_words.ensures.kept c.collected.result
-    (told_ok _ _ (IsKept c.args.cells.now.value.layout.columns node) c.collected.ensures.kept
+    (answered_ok _ _ (IsKept c.args.cells.now.value.layout.columns node) c.collected.ensures.kept
     (λ sets given. given key sync (plain_of c.args.operand.now.shape)))
 
 pub keep_collection-returns-clause-positions : goal.keep_collection-returns-clause-positions
 keep_collection-returns-clause-positions t c =
-    told_ok c.collected.result _ _ c.collected.ensures.kept
+    answered_ok c.collected.result _ _ c.collected.ensures.kept
     (λ sets given. (given 0 any (plain_of c.args.operand.now.shape)).sets)
 
 pub keep_collection-returns-clause-refused : goal.keep_collection-returns-clause-refused
@@ -71,5 +71,5 @@ keep_collection-returns-clause-refused t c = λ standing key sync.
     root_refused c.args.cells.now.value.layout.columns standing node
     (with_one (places_in c.args.operand.now) c.args.span)
     c.in_ok-keep_words.ensures.kept c.collected.result
-    (told_err _ _ (IsBrokenAt c.args.cells.now.value.layout.columns node c.args.span) c.collected.ensures.refused
+    (answered_err _ _ (IsBrokenAt c.args.cells.now.value.layout.columns node c.args.span) c.collected.ensures.refused
     (λ stop given. given key sync (plain_of c.args.operand.now.shape)))

@@ -12,7 +12,7 @@ use Rattle.type_checker.specs.Standings.{standing_of}
 use Rattle.type_checker.proofs.Asked.{asked_as, asked_iter, asked_of, positions_decided}
 use Rattle.type_checker.proofs.OverOne.{iter_kept, iter_refused}
 use Rattle.type_checker.proofs.Ruled.{automaton_of}
-use Rattle.type_checker.proofs.Told.{told_ok}
+use Rattle.type_checker.proofs.Answered.{answered_ok}
 use Rattle.type_checker.proofs.Walked.{root_kept, root_refused, stopped_in}
 use Rattle.type_checker.proofs.words.+words.Goals as goal
 
@@ -63,7 +63,7 @@ pub keep_iteration-returns-clause-positions : goal.keep_iteration-returns-clause
 keep_iteration-returns-clause-positions t c = λ number step.
     let of_it = automaton_of c.args.cells.now.value (plain_of c.args.operand.now.shape) _ _ c.in_ok-inner.ensures
     c.in_ok-positions.ensures.positions in
-    told_ok c.iterated.result _ _ c.iterated.ensures.kept
+    answered_ok c.iterated.result _ _ c.iterated.ensures.kept
     (λ sets given. (given (plain_of c.args.operand.now.shape) number step of_it).sets)
 
 pub keep_iteration-returns-clause-refused : goal.keep_iteration-returns-clause-refused

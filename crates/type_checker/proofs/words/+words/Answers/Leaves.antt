@@ -8,7 +8,7 @@ use Rattle.value_ops.specs.Expressions as values
 use Rattle.type_checker.specs.Findings.{IsBrokenAt, IsKept}
 use Rattle.type_checker.specs.Nodes.{alone}
 use Rattle.type_checker.specs.Standings.{standing_of}
-use Rattle.type_checker.proofs.Told.{told_err, told_ok}
+use Rattle.type_checker.proofs.Answered.{answered_err, answered_ok}
 use Rattle.type_checker.proofs.Walked.{kept_at, root_kept, root_refused}
 use Rattle.type_checker.proofs.words.+words.Goals as goal
 
@@ -18,14 +18,14 @@ keep_words-returns-in-Atom-clause-kept t c =
     let node = q.atom (predicates.plain_of c.in-Atom.pred) value in
     rw c.in-Atom.is (root_kept c.args.cells.now.value.layout.columns (standing_of c.args.standing) node
     (alone c.args.query.now.span) refl c.one_item.result
-    (told_ok _ _ (IsKept c.args.cells.now.value.layout.columns node) c.one_item.ensures.kept
+    (answered_ok _ _ (IsKept c.args.cells.now.value.layout.columns node) c.one_item.ensures.kept
     (λ sets given. given value)))
 
 pub keep_words-returns-in-Atom-clause-positions : goal.keep_words-returns-in-Atom-clause-positions
 keep_words-returns-in-Atom-clause-positions t c =
     let value = values.plain_of c.in-Atom.field-1 in
     let node = q.atom (predicates.plain_of c.in-Atom.pred) value in
-    rw c.in-Atom.is (told_ok _ _ (λ sets. AreSetsOf sets (rate_of node)) c.one_item.ensures.kept
+    rw c.in-Atom.is (answered_ok _ _ (λ sets. AreSetsOf sets (rate_of node)) c.one_item.ensures.kept
     (λ sets given. (given value).sets))
 
 pub keep_words-returns-in-Atom-clause-refused : goal.keep_words-returns-in-Atom-clause-refused
@@ -34,7 +34,7 @@ keep_words-returns-in-Atom-clause-refused t c =
     let node = q.atom (predicates.plain_of c.in-Atom.pred) value in
     rw c.in-Atom.is (root_refused c.args.cells.now.value.layout.columns (standing_of c.args.standing) node
     (alone c.args.query.now.span) refl c.one_item.result
-    (told_err _ _ (IsBrokenAt c.args.cells.now.value.layout.columns node c.args.query.now.span)
+    (answered_err _ _ (IsBrokenAt c.args.cells.now.value.layout.columns node c.args.query.now.span)
     c.one_item.ensures.refused (λ stop given. given value)))
 
 pub keep_words-returns-in-Eps-clause-kept : goal.keep_words-returns-in-Eps-clause-kept

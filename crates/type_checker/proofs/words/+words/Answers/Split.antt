@@ -10,7 +10,7 @@ use Rattle.type_checker.specs.Nodes.{with_two}
 use Rattle.type_checker.specs.Standings.{standing_of}
 use Rattle.type_checker.proofs.Asked.{asked_as, asked_of, asked_split, few_together}
 use Rattle.type_checker.proofs.OverTwo.{two_kept, two_refused}
-use Rattle.type_checker.proofs.Told.{told_err, told_ok}
+use Rattle.type_checker.proofs.Answered.{answered_err, answered_ok}
 use Rattle.type_checker.proofs.Walked.{stopped_in}
 use Rattle.type_checker.proofs.words.+words.Goals as goal
 
@@ -64,12 +64,12 @@ keep_split-returns-clause-kept t c = λ standing value.
     two_kept (λ f g. q.split f g value) (plain_of c.args.first.now.shape) (plain_of c.args.second.now.shape)
     (with_two (places_in c.args.first.now) (places_in c.args.second.now) c.args.span)
     c.args.cells.now.value _ c.in_ok-operands.ensures.automata c.split.result standing
-    c.in_ok-operands.ensures.kept (told_ok c.split.result _ _ c.split.ensures.kept
+    c.in_ok-operands.ensures.kept (answered_ok c.split.result _ _ c.split.ensures.kept
     (λ made given cells f g. given cells f g value))
 
 pub keep_split-returns-clause-positions : goal.keep_split-returns-clause-positions
 keep_split-returns-clause-positions t c = λ value.
-    told_ok c.split.result _ _ c.split.ensures.kept (λ sets given.
+    answered_ok c.split.result _ _ c.split.ensures.kept (λ sets given.
     (given c.args.cells.now.value (plain_of c.args.first.now.shape) (plain_of c.args.second.now.shape) value
     c.in_ok-operands.ensures.automata).sets)
 
@@ -78,5 +78,5 @@ keep_split-returns-clause-refused t c = λ standing value.
     two_refused (λ f g. q.split f g value) (plain_of c.args.first.now.shape) (plain_of c.args.second.now.shape)
     (with_two (places_in c.args.first.now) (places_in c.args.second.now) c.args.span)
     c.args.cells.now.value _ c.in_ok-operands.ensures.automata c.split.result standing
-    c.in_ok-operands.ensures.kept (told_err c.split.result _ _ c.split.ensures.refused
+    c.in_ok-operands.ensures.kept (answered_err c.split.result _ _ c.split.ensures.refused
     (λ made given cells f g. given cells f g value))

@@ -1,6 +1,6 @@
 use Rattle.std.proofs.Common.{◌≤◌, ◌+◌}
 use Rattle.sqre_run.specs.Sessions.{IsReady}
-use Rattle.cases_queries.proofs.tables.transcripts.told_by.Given as goal
+use Rattle.cases_queries.proofs.tables.transcripts.transcript_of.Given as goal
 
 -- the engine can go on, and has taken no more items than are counted
 abbrev pub invariant-items : goal.invariant-items

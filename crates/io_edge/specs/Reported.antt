@@ -26,7 +26,7 @@ Gives old got (Err Limit) new = Waits old got new × (count_of new ≡ max_count
 -- One call: `left` and `left'` are the bytes that the source still held before and after it, if
 -- they are known, and `ends` and `ends'` its counts of ends. The first end that the source reports
 -- is the end of the input.
-pub record Told (left left' : Option (List ℕ)) (ends ends' : ℕ) (old new : Reading)
+pub record Reported (left left' : Option (List ℕ)) (ends ends' : ℕ) (old new : Reading)
     (result : Result Line LineStop) : Type 0 where
   pub line : (got : List ℕ) × Consumes left left' got × Gives old got result new
   pub end : MeetsEnd ends ends' left' ((old.met ≡ false) × (new.met ≡ true))
