@@ -15,7 +15,7 @@ use Rattle.ambiguity_check.proofs.Finding.{found_none, found_as, found_both}
 use Rattle.ambiguity_check.proofs.Marking.{node_at, same_parts, row_at}
 use Rattle.ambiguity_check.proofs.Moving.{row_says}
 
-module _ (goes_on : Node → Node → Type 0) (meet : Node → Type 0) (level : List ℕ) where
+module _ (continues : Node → Node → Type 0) (meet : Node → Type 0) (level : List ℕ) where
   module _ (in_phase : Phase) where
     -- behind a node of this phase with a lower place on the left
     pub record IsAfterBelow (left : ℕ) (node : Node) : Type 0 where
@@ -23,7 +23,7 @@ module _ (goes_on : Node → Node → Type 0) (meet : Node → Type 0) (level : 
       pub below : before.left < left
       pub phase : before.phase ≡ in_phase
       pub marked : IsMarked level before
-      pub goes : goes_on before node
+      pub goes : continues before node
       pub met : meet node
 
     module _ (seen next : List ℕ) where
@@ -36,9 +36,9 @@ module _ (goes_on : Node → Node → Type 0) (meet : Node → Type 0) (level : 
       pub rows_all : (end : ℕ) (seen' next' : List ℕ)
           → ((node : Node) → IsMarked level node → node.left < end)
           → AreFound (IsAfterBelow end) seen next seen' next'
-          → AreFound (IsAfterPhase goes_on meet level in_phase) seen next seen' next'
+          → AreFound (IsAfterPhase continues meet level in_phase) seen next seen' next'
       rows_all end seen' next' all =
-          found_as (IsAfterBelow end) (IsAfterPhase goes_on meet level in_phase) _ _ _ _
+          found_as (IsAfterBelow end) (IsAfterPhase continues meet level in_phase) _ _ _ _
           (λ node after. (after.before, after.phase, after.marked, after.goes, after.met))
           (λ node after. inl (record {
             before = after.0;
@@ -63,7 +63,7 @@ module _ (goes_on : Node → Node → Type 0) (meet : Node → Type 0) (level : 
 
         -- a node below one place more is below the place or in the row
         in_row : (node : Node) → IsAfterBelow (left + 1) node → IsAfterBelow left node
-            ⊎ (((right : ℕ) × Has rights right × goes_on (node_at in_phase left right) node) × meet node)
+            ⊎ (((right : ℕ) × Has rights right × continues (node_at in_phase left right) node) × meet node)
         in_row node after = elim (cases_lt (after.before).left left) [
           | inl below ↦ inl (record {
             before = after.before;
@@ -83,7 +83,7 @@ module _ (goes_on : Node → Node → Type 0) (meet : Node → Type 0) (level : 
                   (after.before).right,
                   (row_says level in_phase left rights row_is after.before after.phase lefts).0
                       after.marked,
-                  subst (λ n. goes_on n node) same after.goes,
+                  subst (λ n. continues n node) same after.goes,
                 ),
                 after.met,
               )
@@ -101,7 +101,7 @@ module _ (goes_on : Node → Node → Type 0) (meet : Node → Type 0) (level : 
         -- the moves of one more row were followed
         pub rows_next : (moves : Moves) (seen1 next1 seen2 next2 : List ℕ)
             → ((node : Node) → IsIn moves node
-            ↔ ((right : ℕ) × Has rights right × goes_on (node_at in_phase left right) node))
+            ↔ ((right : ℕ) × Has rights right × continues (node_at in_phase left right) node))
             → AreFound (IsAfterBelow left) seen next seen1 next1
             → AreFound (λ node. IsIn moves node × meet node) seen1 next1 seen2 next2
             → AreFound (IsAfterBelow (left + 1)) seen next seen2 next2
@@ -132,37 +132,37 @@ module _ (goes_on : Node → Node → Type 0) (meet : Node → Type 0) (level : 
 
   -- behind a node of one of the first two phases
   abbrev IsAfterTwo : Node → Type 0
-  IsAfterTwo node = IsAfterPhase goes_on meet level Together node
-      ⊎ IsAfterPhase goes_on meet level Parted node
+  IsAfterTwo node = IsAfterPhase continues meet level Together node
+      ⊎ IsAfterPhase continues meet level Parted node
 
   -- behind a node of any phase
-  in_a_phase : (node : Node) → IsAfter goes_on meet level node
-      → IsAfterTwo node ⊎ IsAfterPhase goes_on meet level Rejoined node
+  in_a_phase : (node : Node) → IsAfter continues meet level node
+      → IsAfterTwo node ⊎ IsAfterPhase continues meet level Rejoined node
   in_a_phase node (before, marked, goes, met) = which before.phase refl
     where
       which : (phase : Phase) → before.phase ≡ phase
-          → IsAfterTwo node ⊎ IsAfterPhase goes_on meet level Rejoined node
+          → IsAfterTwo node ⊎ IsAfterPhase continues meet level Rejoined node
       which Together is = inl (inl (before, is, marked, goes, met))
       which Parted is = inl (inr (before, is, marked, goes, met))
       which Rejoined is = inr (before, is, marked, goes, met)
 
   -- a node of a phase is one of the level's
-  any_phase : (phase : Phase) (node : Node) → IsAfterPhase goes_on meet level phase node
-      → IsAfter goes_on meet level node
+  any_phase : (phase : Phase) (node : Node) → IsAfterPhase continues meet level phase node
+      → IsAfter continues meet level node
   any_phase phase node after = (after.0, after.2, after.3, after.4)
 
   -- all three phases
   pub phases_all : (seen next seen1 next1 seen2 next2 seen3 next3 : List ℕ)
-      → AreFound (IsAfterPhase goes_on meet level Together) seen next seen1 next1
-      → AreFound (IsAfterPhase goes_on meet level Parted) seen1 next1 seen2 next2
-      → AreFound (IsAfterPhase goes_on meet level Rejoined) seen2 next2 seen3 next3
-      → AreFound (IsAfter goes_on meet level) seen next seen3 next3
+      → AreFound (IsAfterPhase continues meet level Together) seen next seen1 next1
+      → AreFound (IsAfterPhase continues meet level Parted) seen1 next1 seen2 next2
+      → AreFound (IsAfterPhase continues meet level Rejoined) seen2 next2 seen3 next3
+      → AreFound (IsAfter continues meet level) seen next seen3 next3
   phases_all seen next seen1 next1 seen2 next2 seen3 next3 one two three =
-      found_as (λ node. IsAfterTwo node ⊎ IsAfterPhase goes_on meet level Rejoined node)
-      (IsAfter goes_on meet level) _ _ _ _
+      found_as (λ node. IsAfterTwo node ⊎ IsAfterPhase continues meet level Rejoined node)
+      (IsAfter continues meet level) _ _ _ _
       (λ node. ⊎_elim (λ e. ⊎_elim (any_phase Together node) (any_phase Parted node) e)
       (any_phase Rejoined node))
       (λ node after. inl (in_a_phase node after))
-      (found_both IsAfterTwo (IsAfterPhase goes_on meet level Rejoined) _ _ _ _ _ _
-      (found_both (IsAfterPhase goes_on meet level Together)
-      (IsAfterPhase goes_on meet level Parted) _ _ _ _ _ _ one two) three)
+      (found_both IsAfterTwo (IsAfterPhase continues meet level Rejoined) _ _ _ _ _ _
+      (found_both (IsAfterPhase continues meet level Together)
+      (IsAfterPhase continues meet level Parted) _ _ _ _ _ _ one two) three)

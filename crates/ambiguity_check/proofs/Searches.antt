@@ -16,21 +16,21 @@ use Rattle.ambiguity_check.proofs.Walking.{walk_some, walk_cases}
 in_or_not : (rows : List ℕ) (node : Node) → IsMarked rows node ⊎ (IsMarked rows node → ⊥)
 in_or_not rows node = cases_eq (bit_at (slice_index rows (row_of node)) node.right) 1
 
-module _ (begins : Node → Type 0) (goes_on : Node → Node → Type 0) (meet : Node → Type 0) where
+module _ (begins : Node → Type 0) (continues : Node → Node → Type 0) (meet : Node → Type 0) where
   -- a walk of so many items
   abbrev Walk : ℕ → Node → Type 0
-  Walk items node = IsWalk begins goes_on meet items node
+  Walk items node = IsWalk begins continues meet items node
 
   -- a search behind so many items
   abbrev Level : ℕ → Searched → Type 0
-  Level items search = IsLevel begins goes_on meet items search
+  Level items search = IsLevel begins continues meet items search
 
   -- a walk of one item is to one of the first nodes
   one_item : (items : ℕ) (node : Node) → items ≤ 1 → Walk items node → begins node × meet node
   one_item items node one walk = ⊎_elim (λ first. (first.1, first.2))
-      (λ more. let some = walk_some begins goes_on meet more.0 more.1 more.3 in
+      (λ more. let some = walk_some begins continues meet more.0 more.1 more.3 in
       absurd (omega (arith, more.2)))
-      (walk_cases begins goes_on meet items node walk)
+      (walk_cases begins continues meet items node walk)
 
   -- behind the first item
   pub level_begins : (starts : Moves) (none none' seen latest : List ℕ)
@@ -50,7 +50,7 @@ module _ (begins : Node → Type 0) (goes_on : Node → Node → Type 0) (meet :
       λ is. ⊎_elim (λ was. absurd (empty' node was))
           (λ new. record {
             walk = at_once node ((firsts node).0 new.0.0) new.0.1;
-            none = λ fewer less walk. let some = walk_some begins goes_on meet fewer node walk in
+            none = λ fewer less walk. let some = walk_some begins continues meet fewer node walk in
                 omega arith;
           }) (found.new node is),
       λ shortest. let first = one_item 1 node (omega arith) shortest.walk in
@@ -61,16 +61,16 @@ module _ (begins : Node → Type 0) (goes_on : Node → Node → Type 0) (meet :
 
   module _ (items : ℕ) (old : Searched) (level : Level items old) where
     -- a node that is not seen and is behind the level has a shortest walk of one item more
-    new_walk : (node : Node) → IsAfter goes_on meet old.latest node → (IsMarked old.seen node → ⊥)
-        → IsShortest begins goes_on meet (items + 1) node
+    new_walk : (node : Node) → IsAfter continues meet old.latest node → (IsMarked old.seen node → ⊥)
+        → IsShortest begins continues meet (items + 1) node
     new_walk node (before, marked, goes, met) new = record {
       walk = later items before node ((level.latest before).0 marked).walk goes met;
       none = λ fewer less walk. new ((level.seen node).1 (fewer, omega arith, walk));
     }
 
     -- and each node with such a walk is behind the level
-    after_level : (node : Node) → IsShortest begins goes_on meet (items + 1) node
-        → IsAfter goes_on meet old.latest node
+    after_level : (node : Node) → IsShortest begins continues meet (items + 1) node
+        → IsAfter continues meet old.latest node
     after_level node shortest = ⊎_elim
         (λ first. let begun = level.begun in absurd (omega (arith, first.0)))
         (λ more.
@@ -85,11 +85,11 @@ module _ (begins : Node → Type 0) (goes_on : Node → Node → Type 0) (meet :
           more.4,
           more.5,
         ))
-        (walk_cases begins goes_on meet (items + 1) node shortest.walk)
+        (walk_cases begins continues meet (items + 1) node shortest.walk)
 
     -- behind one more item
     pub level_advances : (clear seen latest : List ℕ) → sum clear ≡ 0
-        → AreFound (IsAfter goes_on meet old.latest) old.seen clear seen latest
+        → AreFound (IsAfter continues meet old.latest) old.seen clear seen latest
         → Level (items + 1) (record { seen = seen; latest = latest })
     level_advances clear seen latest none found = record {
       begun = omega arith;
@@ -124,7 +124,7 @@ module _ (begins : Node → Type 0) (goes_on : Node → Node → Type 0) (meet :
         between : (n : ℕ) → n ≤ items + 1 → items + 1 ≤ n → n ≡ items + 1
         between n le ge = omega arith
 
-        new_level : (node : Node) → IsAfter goes_on meet old.latest node → Walk (items + 1) node
+        new_level : (node : Node) → IsAfter continues meet old.latest node → Walk (items + 1) node
         new_level node (before, marked, goes, met) =
             later items before node ((level.latest before).0 marked).walk goes met
 
@@ -139,7 +139,7 @@ module _ (begins : Node → Type 0) (goes_on : Node → Node → Type 0) (meet :
 
     module _ (none : (node : Node) → IsMarked old.latest node → ⊥) where
       -- the nodes behind those that are seen are seen
-      seen_on : (before node : Node) → IsMarked old.seen before → goes_on before node → meet node
+      seen_on : (before node : Node) → IsMarked old.seen before → continues before node → meet node
           → IsMarked old.seen node
       seen_on before node was goes met = elim (in_or_not old.seen node) [
         | inl is ↦ is
@@ -173,7 +173,7 @@ module _ (begins : Node → Type 0) (goes_on : Node → Node → Type 0) (meet :
           seen_on before node (all_seen some before walk) goes met
 
       -- where no node is latest
-      pub level_over : AreReached begins goes_on meet old.seen
+      pub level_over : AreReached begins continues meet old.seen
       level_over node = (
         λ is. let some = (level.seen node).0 is in (some.0, some.2),
         λ walk. all_seen walk.0 node walk.1,

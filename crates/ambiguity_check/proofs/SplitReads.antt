@@ -14,7 +14,7 @@ use Rattle.ambiguity_check.specs.declared.graph.Phase.{Phase}
 use Rattle.ambiguity_check.specs.declared.graph.Phase.TheVariants.{Together, Parted, Rejoined}
 use Rattle.ambiguity_check.specs.Lengths.{TwoSplitsOf}
 use Rattle.ambiguity_check.specs.Meetings.{MeetOne, AreMeetings}
-use Rattle.ambiguity_check.specs.Splits.{left_of, right_of, BeginsSplits, TurnsTo, GoesOn, EndsSplits, MeetIn, rows_in}
+use Rattle.ambiguity_check.specs.Splits.{left_of, right_of, BeginsSplits, TurnsTo, Continues, EndsSplits, MeetIn, rows_in}
 use Rattle.ambiguity_check.specs.Walks.{IsWalk, at_once, later}
 use Rattle.ambiguity_check.proofs.Marking.{node_at}
 use Rattle.ambiguity_check.proofs.Walking.{one_longer}
@@ -35,7 +35,7 @@ module _ (columns : List Column) (first second : Sets) (together parted rejoined
     (rows_in together parted rejoined phase)) where
   -- a walk of so many items leads to the node
   abbrev pub Walk : ℕ → Node → Type 0
-  Walk items node = IsWalk (BeginsSplits first second) (GoesOn first second)
+  Walk items node = IsWalk (BeginsSplits first second) (Continues first second)
       (MeetIn together parted rejoined) items node
 
   -- what was read in so many items: one word in the first part by both; a word and then a part of a second word by the

@@ -17,7 +17,7 @@ use Rattle.ambiguity_check.specs.declared.graph.Phase.TheVariants.{Together, Par
 use Rattle.ambiguity_check.specs.Lengths.{TwoSplitsOf, EndsAfter}
 use Rattle.ambiguity_check.specs.Marked.{IsMarked, AreReached}
 use Rattle.ambiguity_check.specs.Meetings.{AreMeetings}
-use Rattle.ambiguity_check.specs.Splits.{left_of, right_of, BeginsSplits, GoesOn, EndsSplits, MeetIn, rows_in}
+use Rattle.ambiguity_check.specs.Splits.{left_of, right_of, BeginsSplits, Continues, EndsSplits, MeetIn, rows_in}
 use Rattle.ambiguity_check.specs.Walks.{IsWalk, at_once, later}
 use Rattle.ambiguity_check.proofs.Marking.{node_at}
 use Rattle.ambiguity_check.proofs.SplitReads.{walk_reads, two_splits}
@@ -29,16 +29,16 @@ module _ (columns : List Column) (first second : Sets) (together parted rejoined
     (rows_in together parted rejoined phase)) where
   -- a walk of so many items leads to the node
   abbrev Walk : ℕ → Node → Type 0
-  Walk items node = IsWalk (BeginsSplits first second) (GoesOn first second)
+  Walk items node = IsWalk (BeginsSplits first second) (Continues first second)
       (MeetIn together parted rejoined) items node
 
   -- the number of items may be said in another way
   as_many : (items items' : ℕ) (node : Node) → items ≡ items' → Walk items node → Walk items' node
-  as_many = walk_as (BeginsSplits first second) (GoesOn first second) (MeetIn together parted rejoined)
+  as_many = walk_as (BeginsSplits first second) (Continues first second) (MeetIn together parted rejoined)
 
   -- a walk of so many items leads to an end
   abbrev EndWalk : ℕ → Type 0
-  EndWalk items = EndsAfter (BeginsSplits first second) (GoesOn first second)
+  EndWalk items = EndsAfter (BeginsSplits first second) (Continues first second)
       (MeetIn together parted rejoined) (EndsSplits first second) items
 
   -- a walk goes on in a phase along a word
@@ -172,7 +172,7 @@ module _ (columns : List Column) (first second : Sets) (together parted rejoined
 
     -- the answer of a search
     pub one_split_says : (marks : List ℕ) (two : Bool)
-        → AreReached (BeginsSplits first second) (GoesOn first second)
+        → AreReached (BeginsSplits first second) (Continues first second)
         (MeetIn together parted rejoined) marks
         → MatchBool two ((node : Node) × IsMarked marks node × EndsSplits first second node)
         ((node : Node) → IsMarked marks node → EndsSplits first second node → ⊥)

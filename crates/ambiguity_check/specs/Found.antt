@@ -17,10 +17,10 @@ pub record AreFound (nodes : Node → Type 0) (seen next seen' next' : List ℕ)
 
 -- one more item may lead to the node from some node of the level
 abbrev pub IsAfter : (Node → Node → Type 0) → (Node → Type 0) → List ℕ → Node → Type 0
-IsAfter goes_on meet level node =
-    (before : Node) × IsMarked level before × goes_on before node × meet node
+IsAfter continues meet level node =
+    (before : Node) × IsMarked level before × continues before node × meet node
 
 -- the same from some node of the level in this phase
 abbrev pub IsAfterPhase : (Node → Node → Type 0) → (Node → Type 0) → List ℕ → Phase → Node → Type 0
-IsAfterPhase goes_on meet level phase node =
-    (before : Node) × (before.phase ≡ phase) × IsMarked level before × goes_on before node × meet node
+IsAfterPhase continues meet level phase node =
+    (before : Node) × (before.phase ≡ phase) × IsMarked level before × continues before node × meet node

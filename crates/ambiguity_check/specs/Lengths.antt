@@ -22,5 +22,5 @@ TwoFactoringsOf columns r items = (two : HasTwoFactorings columns r) × (length 
 -- a walk of `items` items leads to an end
 abbrev pub EndsAfter : (Node → Type 0) → (Node → Node → Type 0) → (Node → Type 0)
     → (Node → Type 0) → ℕ → Type 0
-EndsAfter begins goes_on meet ends items =
-    (node : Node) × IsWalk begins goes_on meet items node × ends node
+EndsAfter begins continues meet ends items =
+    (node : Node) × IsWalk begins continues meet items node × ends node

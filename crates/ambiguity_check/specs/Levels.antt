@@ -11,17 +11,17 @@ pub record Searched : Type 0 where
   pub latest : List ℕ
 
 -- a walk of `items` items leads to the node, and no shorter one does
-pub record IsShortest (begins : Node → Type 0) (goes_on : Node → Node → Type 0)
+pub record IsShortest (begins : Node → Type 0) (continues : Node → Node → Type 0)
     (meet : Node → Type 0) (items : ℕ) (node : Node) : Type 0 where
-  pub walk : IsWalk begins goes_on meet items node
-  pub none : (fewer : ℕ) → fewer < items → IsWalk begins goes_on meet fewer node → ⊥
+  pub walk : IsWalk begins continues meet items node
+  pub none : (fewer : ℕ) → fewer < items → IsWalk begins continues meet fewer node → ⊥
 
 -- after `items` items, exactly the nodes are seen to which walks of at most that many lead, and the
 -- latest are those of them to which no shorter walk leads
-pub record IsLevel (begins : Node → Type 0) (goes_on : Node → Node → Type 0)
+pub record IsLevel (begins : Node → Type 0) (continues : Node → Node → Type 0)
     (meet : Node → Type 0) (items : ℕ) (search : Searched) : Type 0 where
   pub begun : 0 < items
   pub seen : (node : Node) → IsMarked search.seen node
-      ↔ ((some : ℕ) × (some ≤ items) × IsWalk begins goes_on meet some node)
+      ↔ ((some : ℕ) × (some ≤ items) × IsWalk begins continues meet some node)
   pub latest : (node : Node) → IsMarked search.latest node
-      ↔ IsShortest begins goes_on meet items node
+      ↔ IsShortest begins continues meet items node

@@ -34,6 +34,6 @@ pub record AreMarkedToo (old : List ℕ) (phase : Phase) (left mask : ℕ) (new 
 
 -- the set has exactly the nodes that walks lead to
 abbrev pub AreReached : (Node → Type 0) → (Node → Node → Type 0) → (Node → Type 0) → List ℕ → Type 0
-AreReached begins goes_on meet rows =
-    (node : Node) → (IsMarked rows node → IsReached begins goes_on meet node)
-    × (IsReached begins goes_on meet node → IsMarked rows node)
+AreReached begins continues meet rows =
+    (node : Node) → (IsMarked rows node → IsReached begins continues meet node)
+    × (IsReached begins continues meet node → IsMarked rows node)

@@ -43,8 +43,8 @@ TurnsTo first second Parted left right node = Has first.last right
 TurnsTo first second Rejoined left right node = ⊥
 
 -- one more item may lead from the first node to the second
-abbrev pub GoesOn : Sets → Sets → Node → Node → Type 0
-GoesOn first second before node = StaysIn first second before node
+abbrev pub Continues : Sets → Sets → Node → Node → Type 0
+Continues first second before node = StaysIn first second before node
     ⊎ TurnsTo first second before.phase before.left before.right node
 
 -- the rows of a phase

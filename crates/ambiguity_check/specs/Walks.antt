@@ -27,12 +27,12 @@ IsIn moves node = IsOf moves.stay node ⊎ IsSomeAnd moves.turn (λ move. IsOf m
 
 -- a walk of the given number of items leads to the node: it begins at a first node and follows
 -- edges, and some item meets both positions of each of its nodes
-pub data IsWalk (begins : Node → Type 0) (goes_on : Node → Node → Type 0) (meet : Node → Type 0)
+pub data IsWalk (begins : Node → Type 0) (continues : Node → Node → Type 0) (meet : Node → Type 0)
     : ℕ → Node → Type 0 where
-  at_once : (node : Node) → begins node → meet node → IsWalk begins goes_on meet 1 node
-  later : (items : ℕ) (before node : Node) → IsWalk begins goes_on meet items before
-      → goes_on before node → meet node → IsWalk begins goes_on meet (items + 1) node
+  at_once : (node : Node) → begins node → meet node → IsWalk begins continues meet 1 node
+  later : (items : ℕ) (before node : Node) → IsWalk begins continues meet items before
+      → continues before node → meet node → IsWalk begins continues meet (items + 1) node
 
 -- some walk leads to the node
 abbrev pub IsReached : (Node → Type 0) → (Node → Node → Type 0) → (Node → Type 0) → Node → Type 0
-IsReached begins goes_on meet node = (items : ℕ) × IsWalk begins goes_on meet items node
+IsReached begins continues meet node = (items : ℕ) × IsWalk begins continues meet items node

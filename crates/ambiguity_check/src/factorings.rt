@@ -63,7 +63,7 @@ impl Graph for Factorings<'_> {
 
     ghost begins = { λ f. BeginsFactors f.positions.now };
 
-    ghost goes_on = { λ f. Factors f.positions.now };
+    ghost continues = { λ f. Factors f.positions.now };
 
     ghost meet = { λ f. IsInRows f.rows.items };
 

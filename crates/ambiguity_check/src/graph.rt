@@ -71,7 +71,7 @@ pub trait Graph {
     ghost begins: { Self → Node → Type 0 };
 
     // One more item may lead from the first node to the second.
-    ghost goes_on: { Self → Node → Node → Type 0 };
+    ghost continues: { Self → Node → Node → Type 0 };
 
     // Some item meets both positions of the node.
     ghost meet: { Self → Node → Type 0 };
@@ -83,7 +83,7 @@ pub trait Graph {
     /// Where one more item may lead from the nodes of a row.
     fn moves(&self, phase: Phase, left: u32, rights: u128) -> Moves
         ensures { (node : Node) → IsIn result node ↔ ((right : ℕ) × Has rights right
-            × goes_on self.now (record { phase = phase; left = left; right = right }) node) };
+            × continues self.now (record { phase = phase; left = left; right = right }) node) };
 
     /// The right positions that some item meets together with the left one.
     fn meets(&self, phase: Phase, left: u32) -> u128

@@ -11,16 +11,16 @@ ghost use Rattle.ambiguity_check.specs.Levels.{Searched, IsLevel};
 ghost use Rattle.ambiguity_check.specs.Marked.{IsMarked, AreReached};
 ghost use Rattle.ambiguity_check.specs.Meetings.{AreMeetings};
 ghost use Rattle.ambiguity_check.specs.Overlaps.{BeginsBoth, FollowsBoth, IsInRows, EndsBoth};
-ghost use Rattle.ambiguity_check.specs.Splits.{AreRows, BeginsSplits, GoesOn, MeetIn, EndsSplits};
+ghost use Rattle.ambiguity_check.specs.Splits.{AreRows, BeginsSplits, Continues, MeetIn, EndsSplits};
 
 use crate::graph::Graph;
 
 /// Once a level is empty, all nodes to which walks lead are seen.
 pub fn all_are_seen_after_an_empty_level<G: Graph>(graph: &G)
     ensures { (items : ℕ) (search : Searched)
-        → IsLevel (G.begins graph.now) (G.goes_on graph.now) (G.meet graph.now) items search
+        → IsLevel (G.begins graph.now) (G.continues graph.now) (G.meet graph.now) items search
         → ((node : Node) → IsMarked search.latest node → ⊥)
-        → AreReached (G.begins graph.now) (G.goes_on graph.now) (G.meet graph.now) search.seen }
+        → AreReached (G.begins graph.now) (G.continues graph.now) (G.meet graph.now) search.seen }
 {
     let _ = graph;
 }
@@ -45,14 +45,14 @@ pub fn two_splits_are_walks()
     ensures sound { (columns : List Column) (first second : Sets) (together parted rejoined : List ℕ)
         → AreRows columns first second together parted rejoined
         → (r s : Expression) → AreOf first r → AreOf second s → (items : ℕ)
-        → EndsAfter (BeginsSplits first second) (GoesOn first second)
+        → EndsAfter (BeginsSplits first second) (Continues first second)
         (MeetIn together parted rejoined) (EndsSplits first second) items
         → TwoSplitsOf columns r s items }
     ensures whole { (columns : List Column) (first second : Sets) (together parted rejoined : List ℕ)
         → AreRows columns first second together parted rejoined
         → (r s : Expression) → AreOf first r → AreOf second s → (items : ℕ)
         → TwoSplitsOf columns r s items
-        → EndsAfter (BeginsSplits first second) (GoesOn first second)
+        → EndsAfter (BeginsSplits first second) (Continues first second)
         (MeetIn together parted rejoined) (EndsSplits first second) items }
 {}
 

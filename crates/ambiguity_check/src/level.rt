@@ -8,7 +8,7 @@ use rate_expr::masks::{lowest, without_lowest};
 
 /// Marks the nodes to which one more item leads from the level.
 pub(crate) fn mark_level<G: Graph>(graph: &G, level: &Marks, seen: &mut Marks, next: &mut Marks)
-    ensures { AreFound (IsAfter (G.goes_on graph.now) (G.meet graph.now) level.now)
+    ensures { AreFound (IsAfter (G.continues graph.now) (G.meet graph.now) level.now)
         seen.old next.old seen.new next.new }
 {
     mark_phase(graph, Phase::Together, level, seen, next);
@@ -20,7 +20,7 @@ pub(crate) fn mark_level<G: Graph>(graph: &G, level: &Marks, seen: &mut Marks, n
 // at most n^2 steps. Each node is new in one level only, so that a row of n nodes is in at most n
 // levels. In the worst case each row has one new node in each of n levels, which costs n^3 steps.
 fn mark_phase<G: Graph>(graph: &G, phase: Phase, level: &Marks, seen: &mut Marks, next: &mut Marks)
-    ensures { AreFound (IsAfterPhase (G.goes_on graph.now) (G.meet graph.now) level.now phase)
+    ensures { AreFound (IsAfterPhase (G.continues graph.now) (G.meet graph.now) level.now phase)
         seen.old next.old seen.new next.new }
 {
     'lefts: for left in 0..level.end() {

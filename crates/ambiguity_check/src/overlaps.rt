@@ -67,7 +67,7 @@ impl Graph for Pairs<'_> {
 
     ghost begins = { λ p. BeginsBoth p.first.now p.second.now };
 
-    ghost goes_on = { λ p. FollowsBoth p.first.now p.second.now };
+    ghost continues = { λ p. FollowsBoth p.first.now p.second.now };
 
     ghost meet = { λ p. IsInRows p.rows.items };
 

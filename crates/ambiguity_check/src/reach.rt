@@ -9,7 +9,7 @@ use std::alloc::{AllocError, Global};
 
 pub(crate) fn reach<G: Graph>(alloc: Global, graph: &G) -> Result<Marks, AllocError>
     ensures { IfOk result
-        (AreReached (G.begins graph.now) (G.goes_on graph.now) (G.meet graph.now)) }
+        (AreReached (G.begins graph.now) (G.continues graph.now) (G.meet graph.now)) }
 {
     let mut search = Search::begin(alloc, graph)?;
     'levels: while !search.is_over() {

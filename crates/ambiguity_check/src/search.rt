@@ -33,7 +33,7 @@ impl Search {
     /// The search after one item.
     pub fn begin<G: Graph>(alloc: Global, graph: &G) -> Result<Search, AllocError>
         ensures { IfOk result
-            (IsLevel (G.begins graph.now) (G.goes_on graph.now) (G.meet graph.now) 1) }
+            (IsLevel (G.begins graph.now) (G.continues graph.now) (G.meet graph.now) 1) }
     {
         let mut seen = Marks::new(alloc)?;
         let mut latest = Marks::new(alloc)?;
@@ -48,8 +48,8 @@ impl Search {
     /// Searches one item further.
     pub fn advance<G: Graph>(&mut self, graph: &G)
         ensures level { (items : ℕ)
-            → IsLevel (G.begins graph.now) (G.goes_on graph.now) (G.meet graph.now) items self.old
-            → IsLevel (G.begins graph.now) (G.goes_on graph.now) (G.meet graph.now)
+            → IsLevel (G.begins graph.now) (G.continues graph.now) (G.meet graph.now) items self.old
+            → IsLevel (G.begins graph.now) (G.continues graph.now) (G.meet graph.now)
             (items + 1) self.new }
         ensures fewer { room self.new.seen + sum self.new.latest ≤ room self.old.seen }
     {

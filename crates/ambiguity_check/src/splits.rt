@@ -129,11 +129,11 @@ impl Splits<'_> {
 }
 
 impl Graph for Splits<'_> {
-    ghost use Rattle.ambiguity_check.specs.Splits.{BeginsSplits, GoesOn, MeetIn};
+    ghost use Rattle.ambiguity_check.specs.Splits.{BeginsSplits, Continues, MeetIn};
 
     ghost begins = { λ s. BeginsSplits s.first.now s.second.now };
 
-    ghost goes_on = { λ s. GoesOn s.first.now s.second.now };
+    ghost continues = { λ s. Continues s.first.now s.second.now };
 
     ghost meet = { λ s. MeetIn s.together.items s.parted.items s.rejoined.items };
 

@@ -16,7 +16,7 @@ use Rattle.ambiguity_check.specs.declared.graph.Node.{Node}
 use Rattle.ambiguity_check.specs.declared.graph.Phase.{Phase}
 use Rattle.ambiguity_check.specs.declared.graph.Phase.TheVariants.{Together, Parted, Rejoined}
 use Rattle.ambiguity_check.specs.Lengths.{EndsAfter}
-use Rattle.ambiguity_check.specs.Splits.{left_of, right_of, BeginsSplits, GoesOn, EndsSplits, MeetIn, AreRows}
+use Rattle.ambiguity_check.specs.Splits.{left_of, right_of, BeginsSplits, Continues, EndsSplits, MeetIn, AreRows}
 use Rattle.ambiguity_example.proofs.Halves.{InBoth, splits_shown}
 use Rattle.ambiguity_example.proofs.MetItems.{all_meet_long, all_meet_word}
 use Rattle.ambiguity_example.specs.Counts.{is_same, count_in}
@@ -28,7 +28,7 @@ module _ (columns : List Column) (first second : Sets) (together parted rejoined
     (ends : Node → Type 0) (exact : (node : Node) → ends node ↔ EndsSplits first second node) where
   -- the walk leads from a node along others
   abbrev Along : Node → List Node → Type 0
-  Along node nodes = GoesAlong (GoesOn first second) (MeetIn together parted rejoined) ends node nodes
+  Along node nodes = GoesAlong (Continues first second) (MeetIn together parted rejoined) ends node nodes
 
   -- the items meet the places of the nodes
   abbrev Meet : List Node → Word → Type 0
@@ -251,7 +251,7 @@ module _ (columns : List Column) (first second : Sets) (together parted rejoined
     pub spells' : Spells first (u ++ t) × Spells second v
 
   walk_split : (nodes : List Node) (word : Word)
-      → IsWalkOf (BeginsSplits first second) (GoesOn first second) (MeetIn together parted rejoined) ends nodes
+      → IsWalkOf (BeginsSplits first second) (Continues first second) (MeetIn together parted rejoined) ends nodes
       → Meet nodes word → AreSplit nodes word
   walk_split [] word walk meet = absurd walk
   walk_split (node ∷ nodes) [] walk meet = absurd meet
@@ -324,7 +324,7 @@ module _ (columns : List Column) (first second : Sets) (together parted rejoined
 
     -- a walk of so many items leads to an end
     abbrev pub EndWalk : ℕ → Type 0
-    EndWalk items = EndsAfter (BeginsSplits first second) (GoesOn first second)
+    EndWalk items = EndsAfter (BeginsSplits first second) (Continues first second)
         (MeetIn together parted rejoined) ends items
 
     module _ (are : AreRows columns first second together parted rejoined) where
@@ -372,7 +372,7 @@ module _ (columns : List Column) (first second : Sets) (together parted rejoined
 
       -- a shortest walk is a shortest word
       pub walk_halved : (nodes : List Node) (shown : Shown)
-          → IsShortestWalk (BeginsSplits first second) (GoesOn first second)
+          → IsShortestWalk (BeginsSplits first second) (Continues first second)
           (MeetIn together parted rejoined) ends nodes → Meet nodes shown.items
           → shown.first ≡ 0 ∷ count_in Together nodes ∷ length shown.items ∷ []
           → shown.second ≡ 0 ∷ (count_in Together nodes + count_in Parted nodes) ∷ length shown.items ∷ []

@@ -84,19 +84,19 @@ all_meet_word columns left right (n ∷ nodes) (x ∷ word) meet =
     (meet.0.0, all_meet_word columns left right nodes word meet.1)
 
 -- each node of a walk meets
-along_meets : (goes_on : Node → Node → Type 0) (meet ends P : Node → Type 0)
+along_meets : (continues : Node → Node → Type 0) (meet ends P : Node → Type 0)
     → ((node : Node) → meet node → P node) → (node : Node) (nodes : List Node)
-    → GoesAlong goes_on meet ends node nodes → AllByRecursion P nodes
-along_meets goes_on meet ends P is node [] along = tt
-along_meets goes_on meet ends P is node (next ∷ nodes) along =
-    (is next along.1, along_meets goes_on meet ends P is next nodes along.2)
+    → GoesAlong continues meet ends node nodes → AllByRecursion P nodes
+along_meets continues meet ends P is node [] along = tt
+along_meets continues meet ends P is node (next ∷ nodes) along =
+    (is next along.1, along_meets continues meet ends P is next nodes along.2)
 
-pub walk_meet : (begins : Node → Type 0) (goes_on : Node → Node → Type 0) (meet ends P : Node → Type 0)
+pub walk_meet : (begins : Node → Type 0) (continues : Node → Node → Type 0) (meet ends P : Node → Type 0)
     → ((node : Node) → meet node → P node) → (nodes : List Node)
-    → IsWalkOf begins goes_on meet ends nodes → AllByRecursion P nodes
-walk_meet begins goes_on meet ends P is [] walk = absurd walk
-walk_meet begins goes_on meet ends P is (node ∷ nodes) walk =
-    (is node walk.1, along_meets goes_on meet ends P is node nodes walk.2)
+    → IsWalkOf begins continues meet ends nodes → AllByRecursion P nodes
+walk_meet begins continues meet ends P is [] walk = absurd walk
+walk_meet begins continues meet ends P is (node ∷ nodes) walk =
+    (is node walk.1, along_meets continues meet ends P is node nodes walk.2)
 
 -- what holds of all holds of each
 pub all_at : {A : Type 0} (P : A → Type 0) (xs : List A) (at : ℕ) (other : A) → AllByRecursion P xs

@@ -20,8 +20,8 @@ same_at (x ∷ xs) (suc at) a b below = same_at xs at a b (omega arith)
 
 module _ (sets : Sets) (side : Side) (walk : List Node) where
   -- the cuts so far and those from the node in front of a place on are those of the walk
-  abbrev pub GoesOnFrom : ℕ → List ℕ → Type 0
-  GoesOnFrom at cuts = (before other : Node) (rest : List ℕ) → before ≡ get_or walk (at - 1) other
+  abbrev pub ContinuesFrom : ℕ → List ℕ → Type 0
+  ContinuesFrom at cuts = (before other : Node) (rest : List ℕ) → before ≡ get_or walk (at - 1) other
       → EndsFrom sets side at before (drop at walk) rest → AreTurns sets side walk (cuts ++ rest)
 
   -- from a node on to the next
@@ -44,7 +44,7 @@ module _ (sets : Sets) (side : Side) (walk : List Node) where
   -- the reading stays in its piece
   pub turns_stay : (at : ℕ) (cuts : List ℕ) (before node a b : Node) → at < length walk
       → before ≡ get_or walk (at - 1) a → node ≡ get_or walk at b → Stays sets side before node
-      → GoesOnFrom at cuts → GoesOnFrom (at + 1) cuts
+      → ContinuesFrom at cuts → ContinuesFrom (at + 1) cuts
   turns_stay at cuts before node a b below is is' stays so_far = λ before' other rest same ends.
       so_far before a rest is (here at before node b rest below is' (inr (
         stays,
@@ -56,7 +56,7 @@ module _ (sets : Sets) (side : Side) (walk : List Node) where
   pub turns_end : (at : ℕ) (cuts cuts' : List ℕ) (before node a b : Node) → at < length walk
       → before ≡ get_or walk (at - 1) a → node ≡ get_or walk at b
       → (Stays sets side before node → ⊥) → cuts' ≡ cuts ++ at ∷ []
-      → GoesOnFrom at cuts → GoesOnFrom (at + 1) cuts'
+      → ContinuesFrom at cuts → ContinuesFrom (at + 1) cuts'
   turns_end at cuts cuts' before node a b below is is' ended more so_far =
       λ before' other rest same ends.
       subst (AreTurns sets side walk) (sym (ap (λ c. c ++ rest) more ∙ append_assoc cuts (at ∷ []) rest))
@@ -70,7 +70,7 @@ module _ (sets : Sets) (side : Side) (walk : List Node) where
 
   -- at the end of the walk the last piece ends
   pub turns_over : (at : ℕ) (cuts cuts' : List ℕ) (other : Node) → at ≤ length walk
-      → length walk ≤ at → cuts' ≡ cuts ++ length walk ∷ [] → GoesOnFrom at cuts
+      → length walk ≤ at → cuts' ≡ cuts ++ length walk ∷ [] → ContinuesFrom at cuts
       → AreTurns sets side walk cuts'
   turns_over at cuts cuts' other le ge more so_far =
       let end : at ≡ length walk = omega arith in
@@ -82,7 +82,7 @@ module _ (sets : Sets) (side : Side) (walk : List Node) where
 
 -- in front of the second node there is the cut at the beginning
 pub turns_begin : (sets : Sets) (side : Side) (walk : List Node) (cuts : List ℕ) → 0 < length walk
-    → cuts ≡ 0 ∷ [] → GoesOnFrom sets side walk 1 cuts
+    → cuts ≡ 0 ∷ [] → ContinuesFrom sets side walk 1 cuts
 turns_begin sets side [] cuts some one = absurd (omega arith)
 turns_begin sets side (node ∷ nodes) cuts some one = λ before other rest is ends.
     subst (λ c. AreTurns sets side (node ∷ nodes) (c ++ rest)) (sym one)

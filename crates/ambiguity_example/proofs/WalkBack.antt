@@ -36,7 +36,7 @@ around xs at one other below is = sym (take-append-drop at xs)
     ∙ ap (λ v. take at xs ++ v) (rw add-one (drop-cons xs at other below)
     ∙ ap (λ r. r ∷ drop (at + 1) xs) (sym is))
 
-module _ (begins : Node → Type 0) (goes_on : Node → Node → Type 0) (meet : Node → Type 0)
+module _ (begins : Node → Type 0) (continues : Node → Node → Type 0) (meet : Node → Type 0)
     (ends : Node → Type 0) where
   -- the walk leads from a node to the end, and each node of a shortest walk that leads to it is among
   -- those in front
@@ -44,23 +44,23 @@ module _ (begins : Node → Type 0) (goes_on : Node → Node → Type 0) (meet :
       : Type 0 where
     pub rest : List Node
     pub begun : walk ≡ first.node ∷ rest
-    pub goes : GoesAlong goes_on meet ends first.node rest
+    pub goes : GoesAlong continues meet ends first.node rest
     pub long : first.items + length rest ≡ items
-    pub shortest : IsShortest begins goes_on meet first.items first.node
+    pub shortest : IsShortest begins continues meet first.items first.node
     pub before : (node : Node) (fewer : ℕ) → fewer + 1 ≡ first.items
-        → IsShortest begins goes_on meet fewer node → goes_on node first.node
+        → IsShortest begins continues meet fewer node → continues node first.node
         → Contains front (at_level node fewer)
 
   -- the last node of a walk meets
-  walk_meets : (items : ℕ) (node : Node) → IsWalk begins goes_on meet items node → meet node
+  walk_meets : (items : ℕ) (node : Node) → IsWalk begins continues meet items node → meet node
   walk_meets items node walk = ⊎_elim (λ first. first.2) (λ more. more.5)
-      (walk_cases begins goes_on meet items node walk)
+      (walk_cases begins continues meet items node walk)
 
   -- a node of a shortest walk is one of the first, or another one of a shortest walk leads to it
-  shortest_cases : (items : ℕ) (node : Node) → IsShortest begins goes_on meet items node
+  shortest_cases : (items : ℕ) (node : Node) → IsShortest begins continues meet items node
       → ((items ≡ 1) × begins node)
       ⊎ ((fewer : ℕ) × (before : Node) × (fewer + 1 ≡ items)
-      × IsShortest begins goes_on meet fewer before × goes_on before node)
+      × IsShortest begins continues meet fewer before × continues before node)
   shortest_cases items node shortest = ⊎_elim (λ first. inl (first.0, first.1))
       (λ more. inr (
         more.0,
@@ -73,11 +73,11 @@ module _ (begins : Node → Type 0) (goes_on : Node → Node → Type 0) (meet :
         },
         more.4,
       ))
-      (walk_cases begins goes_on meet items node shortest.walk)
+      (walk_cases begins continues meet items node shortest.walk)
 
   -- at first the walk is the end alone
   pub back_begins : (items : ℕ) (reached front : List Reached) (end : Node) (walk : List Node)
-      → AreKnown begins goes_on meet items reached → IsShortest begins goes_on meet items end
+      → AreKnown begins continues meet items reached → IsShortest begins continues meet items end
       → ends end → front ≡ reached → walk ≡ end ∷ []
       → IsBack items front (at_level end items) walk
   back_begins items reached front end walk known shortest ended all one = record {
@@ -93,15 +93,15 @@ module _ (begins : Node → Type 0) (goes_on : Node → Node → Type 0) (meet :
   -- a node that leads to the first one is the first
   pub back_found : (items : ℕ) (reached : List Reached) (count at : ℕ) (before other first : Reached)
       (walk walk' : List Node)
-      → AreKnown begins goes_on meet items reached → count ≡ at + 1 → at < length reached
+      → AreKnown begins continues meet items reached → count ≡ at + 1 → at < length reached
       → before ≡ get_or reached at other
       → IsBack items (take count reached) first (reverse walk) → before.items + 1 ≡ first.items
-      → goes_on before.node first.node → walk' ≡ walk ++ before.node ∷ []
+      → continues before.node first.node → walk' ≡ walk ++ before.node ∷ []
       → IsBack items (take at reached) before (reverse walk')
   back_found items reached count at before other first walk walk' known next below is back same goes more = record {
     rest = reverse walk;
     begun = ap reverse more ∙ reverse-append walk (before.node ∷ []);
-    goes = subst (λ nodes. GoesAlong goes_on meet ends before.node nodes) (sym back.begun)
+    goes = subst (λ nodes. GoesAlong continues meet ends before.node nodes) (sym back.begun)
         (goes, walk_meets first.items first.node back.shortest.walk, back.goes);
     long = let long = back.long in omega (arith, ap length back.begun);
     shortest = here.0;
@@ -115,7 +115,7 @@ module _ (begins : Node → Type 0) (goes_on : Node → Node → Type 0) (meet :
       whole : reached ≡ take at reached ++ before ∷ drop (at + 1) reached
       whole = around reached at before other below is
 
-      here : IsShortest begins goes_on meet before.items before.node × (before.items < items)
+      here : IsShortest begins continues meet before.items before.node × (before.items < items)
           × (before.node.right < 128)
       here = known.only before (subst (Contains reached) (sym is)
           (Contains-get_or reached at other below))
@@ -125,7 +125,7 @@ module _ (begins : Node → Type 0) (goes_on : Node → Node → Type 0) (meet :
       (walk : List Node)
       → count ≡ at + 1 → at < length reached → before ≡ get_or reached at other
       → IsBack items (take count reached) first walk
-      → (before.items + 1 ≡ first.items → goes_on before.node first.node → ⊥)
+      → (before.items + 1 ≡ first.items → continues before.node first.node → ⊥)
       → IsBack items (take at reached) first walk
   back_passed items reached count at before other first walk next below is back none = record {
     rest = back.rest;
@@ -141,7 +141,7 @@ module _ (begins : Node → Type 0) (goes_on : Node → Node → Type 0) (meet :
           | inr here ↦
               let same = only_in before (at_level node fewer) here in
               absurd (none (let few = ap (λ r. r.items) same in omega arith)
-              (subst (λ n. goes_on n first.node) (sym (ap (λ r. r.node) same)) leads))
+              (subst (λ n. continues n first.node) (sym (ap (λ r. r.node) same)) leads))
         ];
   }
     where
@@ -150,7 +150,7 @@ module _ (begins : Node → Type 0) (goes_on : Node → Node → Type 0) (meet :
 
   -- what is known of one of them
   pub known_at : (items : ℕ) (reached : List Reached) (at : ℕ) (other : Reached)
-      → AreKnown begins goes_on meet items reached → at < length reached
+      → AreKnown begins continues meet items reached → at < length reached
       → ((get_or reached at other).items < items) × ((get_or reached at other).node.right < 128)
   known_at items reached at other known below =
       let is = known.only (get_or reached at other) (Contains-get_or reached at other below) in
@@ -158,17 +158,17 @@ module _ (begins : Node → Type 0) (goes_on : Node → Node → Type 0) (meet :
 
   -- its number of items has room for one more
   pub known_fits : (items : ℕ) (reached : List Reached) (at : ℕ) (other : Reached)
-      → AreKnown begins goes_on meet items reached → at < length reached → items < 2 ^ 32
+      → AreKnown begins continues meet items reached → at < length reached → items < 2 ^ 32
       → Fits w32 ((get_or reached at other).items + 1)
   known_fits items reached at other known below fits =
       let is = (known_at items reached at other known below).0 in omega arith
 
   -- where none is left, the walk is whole
   pub back_ends : (items : ℕ) (front : List Reached) (first : Reached) (walk : List Node)
-      → front ≡ [] → IsBack items front first walk → IsWalkOf begins goes_on meet ends walk × (length walk ≡ items)
+      → front ≡ [] → IsBack items front first walk → IsWalkOf begins continues meet ends walk × (length walk ≡ items)
   back_ends items front first walk empty back = elim (shortest_cases first.items first.node back.shortest) [
     | inl begun ↦ (
-      subst (λ nodes. IsWalkOf begins goes_on meet ends nodes) (sym back.begun)
+      subst (λ nodes. IsWalkOf begins continues meet ends nodes) (sym back.begun)
           (begun.1, walk_meets first.items first.node back.shortest.walk, back.goes),
       (let long = back.long in let one = begun.0 in omega (arith, ap length back.begun)),
     )

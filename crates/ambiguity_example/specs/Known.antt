@@ -21,19 +21,19 @@ Rises (one ∷ others) =
     ((other : Reached) → Contains others other → one.items ≤ other.items) × Rises others
 
 -- these are the nodes of all levels before this one, level by level
-pub record AreKnown (begins : Node → Type 0) (goes_on : Node → Node → Type 0) (meet : Node → Type 0)
+pub record AreKnown (begins : Node → Type 0) (continues : Node → Node → Type 0) (meet : Node → Type 0)
     (level : ℕ) (reached : List Reached) : Type 0 where
-  pub only : (one : Reached) → Contains reached one → IsShortest begins goes_on meet one.items one.node
+  pub only : (one : Reached) → Contains reached one → IsShortest begins continues meet one.items one.node
       × (one.items < level) × (one.node.right < 128)
-  pub each : (node : Node) (fewer : ℕ) → fewer < level → IsShortest begins goes_on meet fewer node
+  pub each : (node : Node) (fewer : ℕ) → fewer < level → IsShortest begins continues meet fewer node
       → Contains reached (record { node = node; items = fewer })
   pub rises : Rises reached
 
 -- the node is an end, no walk of fewer items leads to any end, and the nodes of all levels before
 -- its own are known
-pub record IsFirstEnd (begins : Node → Type 0) (goes_on : Node → Node → Type 0) (meet : Node → Type 0)
+pub record IsFirstEnd (begins : Node → Type 0) (continues : Node → Node → Type 0) (meet : Node → Type 0)
     (ends : Node → Type 0) (reached : List Reached) (end : Reached) : Type 0 where
   pub ended : ends end.node
-  pub shortest : IsShortest begins goes_on meet end.items end.node
-  pub none : (fewer : ℕ) → fewer < end.items → EndsAfter begins goes_on meet ends fewer → ⊥
-  pub known : AreKnown begins goes_on meet end.items reached
+  pub shortest : IsShortest begins continues meet end.items end.node
+  pub none : (fewer : ℕ) → fewer < end.items → EndsAfter begins continues meet ends fewer → ⊥
+  pub known : AreKnown begins continues meet end.items reached

@@ -19,9 +19,9 @@ pub(crate) fn shortest_walk<G: Graph>(
     ends: Moves,
 ) -> Result<Option<Vec<Node>>, AllocError>
     ensures { IfOk result (λ found. MatchOption found
-        ((items : ℕ) → EndsAfter (G.begins graph.now) (G.goes_on graph.now) (G.meet graph.now)
+        ((items : ℕ) → EndsAfter (G.begins graph.now) (G.continues graph.now) (G.meet graph.now)
         (IsIn ends) items → ⊥)
-        (λ walk. IsShortestWalk (G.begins graph.now) (G.goes_on graph.now) (G.meet graph.now)
+        (λ walk. IsShortestWalk (G.begins graph.now) (G.continues graph.now) (G.meet graph.now)
         (IsIn ends) walk.items)) }
 {
     let mut reached = Vec::new(alloc);
@@ -40,9 +40,9 @@ fn first_end<G: Graph>(
 ) -> Result<Option<Reached>, AllocError>
     requires { reached.old.items ≡ [] }
     ensures { IfOk result (λ found. MatchOption found
-        ((items : ℕ) → EndsAfter (G.begins graph.now) (G.goes_on graph.now) (G.meet graph.now)
+        ((items : ℕ) → EndsAfter (G.begins graph.now) (G.continues graph.now) (G.meet graph.now)
         (IsIn ends) items → ⊥)
-        (IsFirstEnd (G.begins graph.now) (G.goes_on graph.now) (G.meet graph.now) (IsIn ends)
+        (IsFirstEnd (G.begins graph.now) (G.continues graph.now) (G.meet graph.now) (IsIn ends)
         reached.new.items)) }
 {
     let mut search = begun(alloc, graph)?;
@@ -58,7 +58,7 @@ fn first_end<G: Graph>(
 }
 
 fn begun<G: Graph>(alloc: Global, graph: &G) -> Result<Box<Search>, AllocError>
-    ensures { IfOk result (λ search. IsLevel (G.begins graph.now) (G.goes_on graph.now)
+    ensures { IfOk result (λ search. IsLevel (G.begins graph.now) (G.continues graph.now)
         (G.meet graph.now) 1 search.value) }
 {
     let search = Search::begin(alloc, graph)?;
@@ -74,11 +74,11 @@ fn walk_to<G: Graph>(
     end: Node,
     items: u32,
 ) -> Result<Vec<Node>, AllocError>
-    requires known { AreKnown (G.begins graph.now) (G.goes_on graph.now) (G.meet graph.now)
+    requires known { AreKnown (G.begins graph.now) (G.continues graph.now) (G.meet graph.now)
         items reached.now }
-    requires end { IsShortest (G.begins graph.now) (G.goes_on graph.now) (G.meet graph.now)
+    requires end { IsShortest (G.begins graph.now) (G.continues graph.now) (G.meet graph.now)
         items end }
-    ensures walk { IfOk result (λ walk. IsWalkOf (G.begins graph.now) (G.goes_on graph.now)
+    ensures walk { IfOk result (λ walk. IsWalkOf (G.begins graph.now) (G.continues graph.now)
         (G.meet graph.now) (λ node. node ≡ end) walk.items) }
     ensures length { IfOk result (λ walk. length walk.items ≡ items) }
     ensures few { IfOk result (λ walk. length walk.items < 2 ^ 32) }
@@ -99,7 +99,7 @@ fn walk_to<G: Graph>(
 
 fn leads<G: Graph>(graph: &G, before: Node, node: Node) -> bool
     requires { before.right < 128 }
-    ensures { IsTrue result ↔ G.goes_on graph.now before node }
+    ensures { IsTrue result ↔ G.continues graph.now before node }
 {
     let moves = graph.moves(before.phase, before.left, only(before.right));
     if is_of(moves.stay, node) {

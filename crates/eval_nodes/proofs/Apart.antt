@@ -9,7 +9,7 @@ use Rattle.query_model.specs.Queries.{Qre, choice, split, combine}
 use Rattle.query_model.specs.Rates.{rate_of}
 use Rattle.query_model.specs.Rules.{bound, IsClear}
 use Rattle.eval_nodes.specs.Starts.{AreApart, IsPiece}
-use Rattle.eval_nodes.proofs.Pieces.{piece_goes_on, word_after, word_join}
+use Rattle.eval_nodes.proofs.Pieces.{piece_continues, word_after, word_join}
 use Rattle.eval_nodes.proofs.SomeWords.{some_word}
 
 -- a piece in the rate of a query, from a start to the position
@@ -53,8 +53,8 @@ pub apart_right : (columns : List Column) (f g : Qre) (e : Expression) (word : W
 apart_right columns f g e word starts ends clear is apart reached = λ j k more more_is first second a b.
     let (i, u, from, piece, in_f) = reached j first in
     let (i', u', from', piece', in_f') = reached k second in
-    let whole = piece_goes_on word i j u more piece in
-    let whole' = piece_goes_on word i' k u' more piece' in
+    let whole = piece_continues word i j u more piece in
+    let whole' = piece_continues word i' k u' more piece' in
     let same : i ≡ i' = apart i i' more more_is from from'
     (u, drop j word ++ more, whole, in_f, a) (u', drop k word ++ more, whole', in_f', b) in
     let both : u ++ (drop j word ++ more) ≡ u' ++ (drop k word ++ more) =

@@ -129,13 +129,13 @@ crossed columns r [] word item more is whole all = absurd (some_item word item m
 crossed columns r (u ∷ pieces) word item more is whole all =
     let later : (t : Word) → word ≡ u ++ t → join pieces ≡ t ++ item ∷ more → IsCrossed columns r word =
     (λ t longer rest.
-    let (first, second, same, (us, us_are, each), goes_on) =
+    let (first, second, same, (us, us_are, each), continues) =
     crossed columns r pieces t item more is (sym rest) all.1 in (
       u ++ first,
       second,
       longer ∙ ap (λ w. u ++ w) same ∙ sym (append_assoc u first second),
       (u ∷ us, ap (λ w. u ++ w) us_are, (all.0, each)),
-      goes_on,
+      continues,
     )) in
     elim (comparable word (item ∷ more) u (join pieces) whole) [
       | inl (t, longer, rest) ↦

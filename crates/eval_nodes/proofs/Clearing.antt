@@ -216,7 +216,7 @@ module _ {R : Type 0} (seen : R → Seen R) where
             distinct = different;
             there = λ start. (
               λ there. absurd (nowhere start there),
-              λ goes_on. absurd (no_member start goes_on.0),
+              λ continues. absurd (no_member start continues.0),
             );
             each = λ start runner there. absurd (no_member (record { outer = start; follower = runner })
                 (subst (λ (xs : List (Instance R)). Contains xs (record { outer = start; follower = runner })) none there));

@@ -13,9 +13,9 @@ use Rattle.eval_nodes.specs.Starts.{AreApart, AreDifferent, ArePositions, IsLive
 use Rattle.eval_nodes.proofs.Apart.{apart_first, apart_second, apart_left, apart_right}
 use Rattle.eval_nodes.proofs.Chains.{chain_apart, chain_clear}
 use Rattle.eval_nodes.proofs.CollectFew.{few_collect}
-use Rattle.eval_nodes.proofs.GoingOn.{GoesOnAt, GoesOnRight, live_iter, live_split}
+use Rattle.eval_nodes.proofs.Continuing.{ContinuesAt, ContinuesRight, live_iter, live_split}
 use Rattle.eval_nodes.proofs.Members.{first_member, later_member, member_cases, no_member}
-use Rattle.eval_nodes.proofs.Pieces.{at_end, none_before, piece_goes_on, some_item}
+use Rattle.eval_nodes.proofs.Pieces.{at_end, none_before, piece_continues, some_item}
 
 -- of different numbers that are each of one kind or another
 pub record AreParted (P Q : ℕ → Type 0) (all : List ℕ) : Type 0 where
@@ -115,11 +115,11 @@ pub record AreThrough (columns : List Column) (f g : Qre) (word : Word) (starts 
   pub count : length all ≡ length ends
   pub different : AreDifferent ends
   pub each : (at : ℕ) → Contains ends at
-      → (start : ℕ) × Contains all start × GoesOnAt columns f g word starts start at
+      → (start : ℕ) × Contains all start × ContinuesAt columns f g word starts start at
 
 through : (columns : List Column) (f g : Qre) (e : Expression) (word : Word) (starts all : List ℕ)
     → IsClear bound columns (split f g e) → IsWordOf columns word → AreApart columns (split f g e) word starts
-    → AreDifferent all → ((i : ℕ) → Contains all i → GoesOnRight columns f g word starts i)
+    → AreDifferent all → ((i : ℕ) → Contains all i → ContinuesRight columns f g word starts i)
     → AreThrough columns f g word starts all
 through columns f g e word starts [] clear is apart different each = record {
   ends = [];
@@ -130,7 +130,7 @@ through columns f g e word starts [] clear is apart different each = record {
 through columns f g e word starts (x ∷ all) clear is apart different each =
     let rest = through columns f g e word starts all clear is apart different.1
     (λ i there. each i (later_member x i all there)) in
-    let (at, goes_on) = each x (first_member x all) in
+    let (at, continues) = each x (first_member x all) in
     let count = rest.count in
     record {
       ends = at ∷ rest.ends;
@@ -138,15 +138,15 @@ through columns f g e word starts (x ∷ all) clear is apart different each =
       different = (
         λ there.
             let (other, among, (piece', from', is', in_f', (item', more', more_is', in_g'))) = rest.each at there in
-            let (piece, from, is_piece, in_f, (item, more, more_is, in_g)) = goes_on in
+            let (piece, from, is_piece, in_f, (item, more, more_is, in_g)) = continues in
             let same : x ≡ other = apart x other (item ∷ more) more_is from from'
-            (piece, drop at word ++ item ∷ more, piece_goes_on word x at piece (item ∷ more) is_piece, in_f, in_g)
-            (piece', drop at word ++ item ∷ more, piece_goes_on word other at piece' (item ∷ more) is', in_f', in_g) in
+            (piece, drop at word ++ item ∷ more, piece_continues word x at piece (item ∷ more) is_piece, in_f, in_g)
+            (piece', drop at word ++ item ∷ more, piece_continues word other at piece' (item ∷ more) is', in_f', in_g) in
             different.0 (subst (Contains all) (sym same) among),
         rest.different,
       );
       each = λ place there. elim (member_cases at place rest.ends there) [
-        | inl same ↦ (x, first_member x all, subst (GoesOnAt columns f g word starts x) same goes_on)
+        | inl same ↦ (x, first_member x all, subst (ContinuesAt columns f g word starts x) same continues)
         | inr later ↦ let (start, among, more) = rest.each place later in (start, later_member x start all among, more)
       ];
     }
@@ -173,7 +173,7 @@ few_live standing columns (choice f g) word starts live clear is positions apart
     (apart_second columns f g word starts apart) two.different.1 two.are.1 in
     omega (arith, count, first, second)
 few_live standing columns (split f g e) word starts live clear is positions apart different each =
-    let two = parted (IsLive columns f word starts) (GoesOnRight columns f g word starts) live different
+    let two = parted (IsLive columns f word starts) (ContinuesRight columns f g word starts) live different
     (λ i there. live_split columns f g e word starts i is positions (each i there)) in
     let right = through columns f g e word starts two.seconds clear is apart two.different.1 two.are.1 in
     let count = two.count in

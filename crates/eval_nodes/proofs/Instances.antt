@@ -147,18 +147,18 @@ module _ {R : Type 0} where
           subst (Contains (y ∷ live)) same (first_member y live),
           subst (λ (z : Instance R). IsTrue (p z.outer)) same is,
         )
-        | inr later ↦ let (old, goes_on) = after later in (later_member y x live old, goes_on)
+        | inr later ↦ let (old, continues) = after later in (later_member y x live old, continues)
       ]
-      chosen false is after among = let (old, goes_on) = after among in (later_member y x live old, goes_on)
+      chosen false is after among = let (old, continues) = after among in (later_member y x live old, continues)
 
   pub member_kept : (p : ℕ → Bool) (live : List (Instance R)) (x : Instance R) → Contains live x → IsTrue (p x.outer)
       → Contains (live_instances p live) x
-  member_kept p [] x there goes_on = absurd (no_member x there)
-  member_kept p (y ∷ live) x there goes_on = elim (member_cases y x live there) [
+  member_kept p [] x there continues = absurd (no_member x there)
+  member_kept p (y ∷ live) x there continues = elim (member_cases y x live there) [
     | inl same ↦ subst (λ (b : Bool). Contains (cond b (y ∷ live_instances p live) (live_instances p live)) x)
-        (sym (subst (λ (z : Instance R). IsTrue (p z.outer)) (sym same) goes_on))
+        (sym (subst (λ (z : Instance R). IsTrue (p z.outer)) (sym same) continues))
         (subst (Contains (y ∷ live_instances p live)) same (first_member y (live_instances p live)))
-    | inr later ↦ after (p y.outer) (member_kept p live x later goes_on)
+    | inr later ↦ after (p y.outer) (member_kept p live x later continues)
   ]
     where
       after : (b : Bool) → Contains (live_instances p live) x

@@ -12,7 +12,7 @@ pub mod Copying
 pub mod CountParts
 pub mod Entries
 pub mod Few
-pub mod GoingOn
+pub mod Continuing
 pub mod HeldRunners
 pub mod HeldTracks
 pub mod Instances

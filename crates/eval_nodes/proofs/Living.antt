@@ -26,9 +26,9 @@ use Rattle.eval_nodes.specs.Represents.{Represents}
 use Rattle.eval_nodes.specs.Starts.{ArePositions, IsLive}
 use Rattle.eval_nodes.proofs.Chains.{star_push}
 use Rattle.eval_nodes.proofs.Few.{live_atom, no_live}
-use Rattle.eval_nodes.proofs.GoingOn.{live_iter, live_split}
+use Rattle.eval_nodes.proofs.Continuing.{live_iter, live_split}
 use Rattle.eval_nodes.proofs.Members.{first_member, later_member, member_cases, no_member}
-use Rattle.eval_nodes.proofs.Pieces.{after_end, piece_goes_on, word_join, word_piece}
+use Rattle.eval_nodes.proofs.Pieces.{after_end, piece_continues, word_join, word_piece}
 use Rattle.eval_nodes.proofs.SomeWords.{some_word}
 use Rattle.eval_nodes.proofs.Entries.{is_entry}
 
@@ -183,7 +183,7 @@ module _ {R : Type 0} (seen : R → Seen R) where
                   (
                     piece,
                     drop entry.inner word ++ item ∷ more,
-                    piece_goes_on word entry.outer entry.inner piece (item ∷ more) cut,
+                    piece_continues word entry.outer entry.inner piece (item ∷ more) cut,
                     in_f,
                     in_g,
                   ),
@@ -206,7 +206,7 @@ module _ {R : Type 0} (seen : R → Seen R) where
         (rep.1.each entry.inner entry.outer entry.value).0 (is_entry so_far.entries entry.inner entry found) in
         let in_pieces = den_in bound columns (iter f number e) piece entry.value clear
         (word_piece columns word entry.outer entry.inner piece is cut) den in
-        let whole = piece_goes_on word entry.outer entry.inner piece (item ∷ more) cut in
+        let whole = piece_continues word entry.outer entry.inner piece (item ∷ more) cut in
         subst (IsLive columns (iter f number e) word starts) outer (
           from,
           (

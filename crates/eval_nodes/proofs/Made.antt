@@ -59,8 +59,8 @@ none_reached A = λ end. (
   λ (start, piece, from, is, in_a). absurd (no_member start from),
 )
 
-pub none_waits : (D : Word → Value → Type 0) (goes_on : Word → Type 0) → AreWaiting D goes_on [] [] []
-none_waits D goes_on = record {
+pub none_waits : (D : Word → Value → Type 0) (continues : Word → Type 0) → AreWaiting D continues [] [] []
+none_waits D continues = record {
   distinct = tt;
   each = λ inner outer v. (
     λ found. absurd (none-some _ found),

@@ -43,7 +43,7 @@ module _ {R : Type 0} (seen : R → Seen R) where
           there = λ start. (
             λ there. absurd (no_member start
                 (subst (λ (xs : List (Instance R)). Contains (outers_of xs) start) none there)),
-            λ goes_on. absurd (no_member start goes_on.0),
+            λ continues. absurd (no_member start continues.0),
           );
           each = λ start runner there. absurd (no_member (record { outer = start; follower = runner })
               (subst (λ (xs : List (Instance R)). Contains xs (record { outer = start; follower = runner })) none there));

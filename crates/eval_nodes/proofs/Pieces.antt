@@ -27,9 +27,9 @@ pub drop_more : (word : Word) (item : List Field) (at : ℕ) → at ≤ length w
 drop_more word item at inside = drop-append-le at word (item ∷ []) inside
 
 -- what is behind a piece, with more behind it
-pub piece_goes_on : (word : Word) (from to : ℕ) (piece more : Word) → IsPiece word from piece to
+pub piece_continues : (word : Word) (from to : ℕ) (piece more : Word) → IsPiece word from piece to
     → drop from word ++ more ≡ piece ++ (drop to word ++ more)
-piece_goes_on word from to piece more is =
+piece_continues word from to piece more is =
     ap (λ u. u ++ more) is.cut ∙ append_assoc piece (drop to word) more
 
 pub begins_inside : (word : Word) (from to : ℕ) (piece : Word) → IsPiece word from piece to → from ≤ length word
@@ -44,7 +44,7 @@ piece_more word item from to piece is =
       end = is.end;
       inside = omega (arith, inside, more);
       cut = drop_more word item from (begins_inside word from to piece is)
-          ∙ piece_goes_on word from to piece (item ∷ []) is
+          ∙ piece_continues word from to piece (item ∷ []) is
           ∙ ap (λ u. piece ++ u) (sym (drop_more word item to inside));
     }
 

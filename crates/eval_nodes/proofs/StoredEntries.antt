@@ -88,13 +88,13 @@ module _ (columns : List Column) (f g : Qre) (e : Expression) (word : Word) (sta
     piece : Word
     cut : IsPiece word entry.outer piece entry.inner
     gives : Den f piece entry.value
-    goes_on : HasExtension columns (rate_of g) (drop entry.inner word)
+    continues : HasExtension columns (rate_of g) (drop entry.inner word)
 
   waits : (entry : Entry Value) → Contains entries entry → IsWaiting entry
   waits entry there =
-      let (among, (piece, cut, gives), goes_on) =
+      let (among, (piece, cut, gives), continues) =
       (waiting.each entry.inner entry.outer entry.value).0 (only_at entries entry waiting.distinct there) in
-      record { among = among; piece = piece; cut = cut; gives = gives; goes_on = goes_on }
+      record { among = among; piece = piece; cut = cut; gives = gives; continues = continues }
 
   ends_at : (entry : Entry Value) → IsWaiting entry → Contains ends entry.inner
   ends_at entry it = (reached entry.inner).1 (
@@ -117,7 +117,7 @@ module _ (columns : List Column) (f g : Qre) (e : Expression) (word : Word) (sta
       let (entry, among, same) = whole_there (λ (x : Entry Value). x.inner) entries at there in
       let it = waits entry among in
       subst (λ (i : ℕ). Contains ends i × HasExtension columns (rate_of g) (drop i word)) same
-      (ends_at entry it, it.goes_on)) in
+      (ends_at entry it, it.continues)) in
       let count = length-map entries (λ (x : Entry Value). x.inner) in
       omega (arith, few, count)
 

@@ -29,9 +29,9 @@ no_ends : (A : Word → Type 0) (word : Word) (ends : List ℕ) → AreReached A
 no_ends A word ends reached = none_of ends (λ end there.
     let (start, piece, among, cut, is) = (reached end).0 there in no_member start among)
 
-no_lefts : (D : Word → Value → Type 0) (goes_on : Word → Type 0) (word : Word) (entries : List (Entry Value))
-    → AreWaiting D goes_on word [] entries → entries ≡ []
-no_lefts D goes_on word entries lefts = none_of entries (λ entry there.
+no_lefts : (D : Word → Value → Type 0) (continues : Word → Type 0) (word : Word) (entries : List (Entry Value))
+    → AreWaiting D continues word [] entries → entries ≡ []
+no_lefts D continues word entries lefts = none_of entries (λ entry there.
     no_member entry.outer
     ((lefts.each entry.inner entry.outer entry.value).0 (only_at entries entry lefts.distinct there)).0)
 

@@ -38,13 +38,13 @@ IsEntry entries inner outer value =
 
 -- the entries are the values of pieces that begin at the starts and end where a further piece is
 -- live
-pub record AreWaiting (D : Word → Value → Type 0) (goes_on : Word → Type 0) (word : Word)
+pub record AreWaiting (D : Word → Value → Type 0) (continues : Word → Type 0) (word : Word)
     (starts : List ℕ)
     (entries : List (Entry Value)) : Type 0 where
   pub distinct : AreDistinct entries
   pub each : (inner outer : ℕ) (value : Value) → IsEntry entries inner outer value
       ↔ (Contains starts outer × ((piece : Word) × IsPiece word outer piece inner × D piece value)
-      × goes_on (drop inner word))
+      × continues (drop inner word))
 
 module _ {R : Type 0} (seen : R → Seen R) where
   -- a runner follows a word of a query: what is kept for it stands for the word and the single

@@ -73,14 +73,14 @@ module _ {R : Type 0} (seen : R → Seen R) where
             λ there. elim (Contains-push_cases (starts_of tracks) at start
                 (subst (λ (xs : List ℕ). Contains xs start) all there)) [
                   | inl old ↦
-                      let (from, goes_on) = (row.there start).0 old in
-                      (Contains-append_left starts (at ∷ []) start from, goes_on)
+                      let (from, continues) = (row.there start).0 old in
+                      (Contains-append_left starts (at ∷ []) start from, continues)
                   | inr same ↦ subst (IsLive columns (collect column sync rate f) word (starts ++ at ∷ [])) same
                       (Contains-push starts at, begins_is.0 extends)
                 ],
-            λ (from, goes_on). subst (λ (xs : List ℕ). Contains xs start) (sym all)
+            λ (from, continues). subst (λ (xs : List ℕ). Contains xs start) (sym all)
                 (elim (Contains-push_cases starts at start from) [
-                  | inl old ↦ Contains-append_left (starts_of tracks) (at ∷ []) start ((row.there start).1 (old, goes_on))
+                  | inl old ↦ Contains-append_left (starts_of tracks) (at ∷ []) start ((row.there start).1 (old, continues))
                   | inr same ↦ subst (Contains (starts_of tracks ++ at ∷ [])) same (Contains-push (starts_of tracks) at)
                 ]),
           );
@@ -103,12 +103,12 @@ module _ {R : Type 0} (seen : R → Seen R) where
       distinct = row.distinct;
       there = λ start. (
         λ there.
-            let (from, goes_on) = (row.there start).0 there in
-            (Contains-append_left starts (at ∷ []) start from, goes_on),
-        λ (from, goes_on). elim (Contains-push_cases starts at start from) [
-          | inl old ↦ (row.there start).1 (old, goes_on)
+            let (from, continues) = (row.there start).0 there in
+            (Contains-append_left starts (at ∷ []) start from, continues),
+        λ (from, continues). elim (Contains-push_cases starts at start from) [
+          | inl old ↦ (row.there start).1 (old, continues)
           | inr same ↦ absurd (dead (begins_is.1
-              (subst (λ (s : ℕ). HasExtension columns rate (drop s word)) (sym same) goes_on)))
+              (subst (λ (s : ℕ). HasExtension columns rate (drop s word)) (sym same) continues)))
         ],
       );
       each = row.each;

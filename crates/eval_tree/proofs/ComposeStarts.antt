@@ -97,13 +97,13 @@ module _ {R : Type 0} (seen : R → Seen R) (standing : Standing) (columns : Lis
           λ there. elim (Contains-push_cases (outers_of held.live) at start
               (subst (λ (xs : List ℕ). Contains xs start) outers there)) [
                 | inl old ↦
-                    let (from, goes_on) = (row.there start).0 old in
-                    (Contains-append_left starts (at ∷ []) start from, goes_on)
+                    let (from, continues) = (row.there start).0 old in
+                    (Contains-append_left starts (at ∷ []) start from, continues)
                 | inr same ↦ subst (IsLive columns f word (starts ++ at ∷ [])) same live
               ],
-          λ (from, goes_on). subst (λ (xs : List ℕ). Contains xs start) (sym outers)
+          λ (from, continues). subst (λ (xs : List ℕ). Contains xs start) (sym outers)
               (elim (Contains-push_cases starts at start from) [
-                | inl old ↦ Contains-append_left (outers_of held.live) (at ∷ []) start ((row.there start).1 (old, goes_on))
+                | inl old ↦ Contains-append_left (outers_of held.live) (at ∷ []) start ((row.there start).1 (old, continues))
                 | inr same ↦ subst (Contains (outers_of held.live ++ at ∷ [])) same
                     (Contains-push (outers_of held.live) at)
               ]),
@@ -134,11 +134,11 @@ module _ {R : Type 0} (seen : R → Seen R) (standing : Standing) (columns : Lis
         distinct = row.distinct;
         there = λ start. (
           λ there.
-              let (from, goes_on) = (row.there start).0 there in
-              (Contains-append_left starts (at ∷ []) start from, goes_on),
-          λ (from, goes_on). elim (Contains-push_cases starts at start from) [
-            | inl old ↦ (row.there start).1 (old, goes_on)
-            | inr same ↦ absurd (dead (subst (IsLive columns f word (starts ++ at ∷ [])) (sym same) (from, goes_on)))
+              let (from, continues) = (row.there start).0 there in
+              (Contains-append_left starts (at ∷ []) start from, continues),
+          λ (from, continues). elim (Contains-push_cases starts at start from) [
+            | inl old ↦ (row.there start).1 (old, continues)
+            | inr same ↦ absurd (dead (subst (IsLive columns f word (starts ++ at ∷ [])) (sym same) (from, continues)))
           ],
         );
         each = row.each;
@@ -152,10 +152,10 @@ module _ {R : Type 0} (seen : R → Seen R) (standing : Standing) (columns : Lis
       → (feeds : IsFedFrom seen g held live at left new hit)
       → Sees seen standing columns f g clear clear_right word at feeds.next
       → RowOf (IsLive columns f word (starts ++ at ∷ [])) word new
-  fed_from true word starts at held new left hit fresh row goes_on is_live feeds sees =
+  fed_from true word starts at held new left hit fresh row continues is_live feeds sees =
       subst (RowOf (IsLive columns f word (starts ++ at ∷ [])) word) (sym feeds.is)
-      (fed_live word starts at held feeds.front feeds.runner feeds.next fresh row feeds.last (goes_on refl) sees)
-  fed_from false word starts at held new left hit fresh row goes_on is_live feeds sees =
+      (fed_live word starts at held feeds.front feeds.runner feeds.next fresh row feeds.last (continues refl) sees)
+  fed_from false word starts at held new left hit fresh row continues is_live feeds sees =
       subst (RowOf (IsLive columns f word (starts ++ at ∷ [])) word) (sym feeds.is)
       (fed_dead word starts at held feeds.front feeds.runner feeds.next row feeds.last
       (λ live. let wrong : false ≡ true = is_live live in cc))
@@ -184,8 +184,8 @@ module _ {R : Type 0} (seen : R → Seen R) where
               after = (
                 x.after,
                 fed_from seen standing columns f g clear.0 clear.1 live word starts at held new left hit fresh rep.1
-                    (λ goes_on. lives.0 (subst IsTrue is_live goes_on))
-                    (λ goes_on. subst IsTrue (sym is_live) (lives.1 goes_on)) feeds_one
+                    (λ continues. lives.0 (subst IsTrue is_live continues))
+                    (λ continues. subst IsTrue (sym is_live) (lives.1 continues)) feeds_one
                     sees_at,
                 idle_started seen standing columns f g clear.0 clear.1 clear.2 live word at held new left hit is rep.2
                     feeds_one sees_at,

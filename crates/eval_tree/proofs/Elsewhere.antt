@@ -10,16 +10,16 @@ use Rattle.split_eval.proofs.Found.{entry_at-live}
 abbrev pub elsewhere : ℕ → (ℕ → Bool) → ℕ → Bool
 elsewhere at live start = not (start == at) && live start
 
-can_go_on : (same live : Bool) → IsTrue (not same && live) → IsTrue live
-can_go_on true live is = let wrong : false ≡ true = is in cc
-can_go_on false live is = is
+can_continue : (same live : Bool) → IsTrue (not same && live) → IsTrue live
+can_continue true live is = let wrong : false ≡ true = is in cc
+can_continue false live is = is
 
 -- those that are meant are not at the one
 pub elsewhere_lives : (at : ℕ) (live : ℕ → Bool) (P : ℕ → Type 0) → (P at → ⊥)
     → ((start : ℕ) → IsTrue (live start) ↔ P start)
     → (start : ℕ) → IsTrue (elsewhere at live start) ↔ P start
 elsewhere_lives at live P none lives start = (
-  λ is. (lives start).0 (can_go_on (start == at) (live start) is),
+  λ is. (lives start).0 (can_continue (start == at) (live start) is),
   λ there.
       ap (λ (same : Bool). not same && live start) (ne_eqb start at (λ same. none (subst P same there)))
       ∙ (lives start).1 there,

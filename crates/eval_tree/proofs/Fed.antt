@@ -175,14 +175,14 @@ module _ {R : Type 0} (seen : R → Seen R) (standing : Standing) (columns : Lis
                 let (runner, among) = member_outer (live_instances p passed.live) start
                 (subst (λ (xs : List (Instance R)). Contains (outers_of xs) start) live there) in
                 (lives start).0 (kept_member p passed.live (record { outer = start; follower = runner }) among).1,
-            λ goes_on.
+            λ continues.
                 let before = extension_before columns (rate_of f) (drop start word) item old.1
-                (subst (HasExtension columns (rate_of f)) (drop_more word item start (positions start goes_on.0))
-                goes_on.1) in
-                let (runner, among) = member_outer passed.live start ((row.there start).1 (goes_on.0, before)) in
+                (subst (HasExtension columns (rate_of f)) (drop_more word item start (positions start continues.0))
+                continues.1) in
+                let (runner, among) = member_outer passed.live start ((row.there start).1 (continues.0, before)) in
                 subst (λ (xs : List (Instance R)). Contains (outers_of xs) start) (sym live)
                 (outer_member (live_instances p passed.live) (record { outer = start; follower = runner })
-                (member_kept p passed.live (record { outer = start; follower = runner }) among ((lives start).1 goes_on))),
+                (member_kept p passed.live (record { outer = start; follower = runner }) among ((lives start).1 continues))),
           );
           each = λ start runner there.
               row.each start runner (kept_member p passed.live (record { outer = start; follower = runner })

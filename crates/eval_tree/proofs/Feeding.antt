@@ -178,8 +178,8 @@ module _ {R : Type 0} (seen : R → Seen R) (g : Qre) where
       → IsBegun seen g runner left next hit
       → Wakes at (record { live = old.live; idle = set old.idle i next; room = old.room }) new → new.room ≡ old.room
       → Feeds seen g old live at left new hit
-  feeds_awake old new live at i left hit runner next goes_on has last read begun wakes room =
-      subst (λ (b : Bool). Feeds seen g old b at left new hit) (sym goes_on)
+  feeds_awake old new live at i left hit runner next continues has last read begun wakes room =
+      subst (λ (b : Bool). Feeds seen g old b at left new hit) (sym continues)
       (inl (has, fed_awake old new at i left hit runner next has.idle last read begun wakes room))
 
   pub feeds_at_rest : (old : Contents R) (live : Bool) (at i : ℕ) (left hit : Option Hit) (runner next : R)

@@ -106,13 +106,13 @@ module _ (columns : List Column) (f g : Qre) (e : Expression) (clear : IsClear b
         )
         | inr later ↦
             let (entry, found) = inner_found held.entries at distinct later in
-            let (from, (piece, cut, below, den), goes_on) = (waiting at entry.outer entry.value).0
+            let (from, (piece, cut, below, den), continues) = (waiting at entry.outer entry.value).0
             (is_entry held.entries at entry found) in
             let in_f = den_in bound columns f piece entry.value clear.0
             (word_piece columns word entry.outer at piece is cut) den in (
               Contains-append_left ends (length word ∷ []) at
                   ((before at).1 (entry.outer, piece, from, cut, below, in_f)),
-              goes_on,
+              continues,
             )
       ]) in
       omega (arith, few, count, room)

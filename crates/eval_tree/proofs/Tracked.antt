@@ -34,10 +34,10 @@ module _ {R : Type 0} (nfa : Automaton) where
             subst (λ (y : Track R). Extends nfa y.state) same extends,
           )
           | inr later ↦
-              let (among, goes_on) = kept_track tracks others x rest later in (later_member t x tracks among, goes_on)
+              let (among, continues) = kept_track tracks others x rest later in (later_member t x tracks among, continues)
         ]
     | inr (dead, rest) ↦
-        let (among, goes_on) = kept_track tracks kept x rest there in (later_member t x tracks among, goes_on)
+        let (among, continues) = kept_track tracks kept x rest there in (later_member t x tracks among, continues)
   ]
 
   -- and the other way round
@@ -45,7 +45,7 @@ module _ {R : Type 0} (nfa : Automaton) where
       → Extends nfa x.state → Contains kept x
   track_kept [] kept x keeps there extends = absurd (no_member x there)
   track_kept (t ∷ tracks) kept x keeps there extends = elim keeps [
-    | inl (goes_on, others, is, rest) ↦
+    | inl (continues, others, is, rest) ↦
         subst (λ (ts : List (Track R)). Contains ts x) (sym is) (elim (member_cases t x tracks there) [
           | inl same ↦ subst (Contains (t ∷ others)) same (first_member t others)
           | inr later ↦ later_member t x others (track_kept tracks others x rest later extends)

@@ -20,10 +20,10 @@ use Rattle.eval_tree.proofs.Ends.{before_end}
 
 -- the entries are the values of pieces that end before the end of the word
 abbrev pub AreWaitingBefore : (Word → Value → Type 0) → (Word → Type 0) → Word → List ℕ → List (Entry Value) → Type 0
-AreWaitingBefore D goes_on word starts entries = (inner outer : ℕ) (v : Value) → IsEntry entries inner outer v
+AreWaitingBefore D continues word starts entries = (inner outer : ℕ) (v : Value) → IsEntry entries inner outer v
     ↔ (Contains starts outer
     × ((piece : Word) × IsPiece word outer piece inner × (inner < length word) × D piece v)
-    × goes_on (drop inner word))
+    × continues (drop inner word))
 
 -- a choice of what is found
 kept_found : (live : Bool) (found : Option (Entry Value)) (entry : Entry Value)
@@ -44,15 +44,15 @@ found_live entries live inner entry is there =
     entry_at-live entries live inner
     ∙ ap (λ (b : Bool). cond b (entry_at entries inner) None) is ∙ there
 
-module _ (D : Word → Value → Type 0) (goes_on : Word → Type 0) where
+module _ (D : Word → Value → Type 0) (continues : Word → Type 0) where
   -- One more item: those whose right piece can still go on are kept.
   pub waiting_more : (word : Word) (item : List Field) (starts ends : List ℕ) (entries : List (Entry Value))
-      (live : ℕ → Bool) → ((u : Word) → goes_on (u ++ item ∷ []) → goes_on u)
-      → AreWaiting D goes_on word starts entries
+      (live : ℕ → Bool) → ((u : Word) → continues (u ++ item ∷ []) → continues u)
+      → AreWaiting D continues word starts entries
       → ((outer inner : ℕ) (piece : Word) (v : Value) → Contains starts outer → IsPiece word outer piece inner
       → D piece v → Contains ends inner)
-      → ((inner : ℕ) → IsTrue (live inner) ↔ (Contains ends inner × goes_on (drop inner (word ++ item ∷ []))))
-      → AreWaitingBefore D goes_on (word ++ item ∷ []) starts (live_entries live entries)
+      → ((inner : ℕ) → IsTrue (live inner) ↔ (Contains ends inner × continues (drop inner (word ++ item ∷ []))))
+      → AreWaitingBefore D continues (word ++ item ∷ []) starts (live_entries live entries)
   waiting_more word item starts ends entries live less waiting reached lives = λ inner outer v. (
     λ there.
         let both = live_found entries live inner _ there in
@@ -67,8 +67,8 @@ module _ (D : Word → Value → Type 0) (goes_on : Word → Type 0) where
         let longer = length_more word item in
         let inside : inner ≤ length word = omega (arith, below, longer) in
         let old = piece_less word item outer inner piece is inside in
-        let was : goes_on (drop inner word) =
-        less (drop inner word) (subst goes_on (drop_more word item inner inside) more) in
+        let was : continues (drop inner word) =
+        less (drop inner word) (subst continues (drop_more word item inner inside) more) in
         found_live entries live inner _
         ((lives inner).1 (reached outer inner piece v from old den, more))
         ((waiting.each inner outer v).1 (from, (piece, old, den), was)),
@@ -76,9 +76,9 @@ module _ (D : Word → Value → Type 0) (goes_on : Word → Type 0) where
 
   -- no value of a piece to the end
   pub waiting_all : (word : Word) (starts : List ℕ) (entries : List (Entry Value)) → AreDistinct entries
-      → AreWaitingBefore D goes_on word starts entries
+      → AreWaitingBefore D continues word starts entries
       → ((start : ℕ) (v : Value) → Contains starts start → D (drop start word) v → ⊥)
-      → AreWaiting D goes_on word starts entries
+      → AreWaiting D continues word starts entries
   waiting_all word starts entries distinct before none = record {
     distinct = distinct;
     each = λ inner outer v. (
@@ -93,7 +93,7 @@ module _ (D : Word → Value → Type 0) (goes_on : Word → Type 0) where
 
   -- nothing waits at the end yet
   pub fresh_end : (word : Word) (starts : List ℕ) (entries : List (Entry Value))
-      → AreWaitingBefore D goes_on word starts entries → entry_at entries (length word) ≡ None
+      → AreWaitingBefore D continues word starts entries → entry_at entries (length word) ≡ None
   fresh_end word starts entries before = none (entry_at entries (length word)) refl
     where
       none : (found : Option (Entry Value)) → entry_at entries (length word) ≡ found → found ≡ None
@@ -105,18 +105,18 @@ module _ (D : Word → Value → Type 0) (goes_on : Word → Type 0) where
 
   -- The one value of a piece to the end is put where more may go on behind it.
   pub waiting_end : (word : Word) (starts : List ℕ) (old new : Contents Value) (begun : ℕ) (x : Value) (live : Bool)
-      → AreDistinct old.entries → AreWaitingBefore D goes_on word starts old.entries
+      → AreDistinct old.entries → AreWaitingBefore D continues word starts old.entries
       → Contains starts begun → begun ≤ length word → D (drop begun word) x
       → ((start : ℕ) (v : Value) → Contains starts start → D (drop start word) v → (start ≡ begun) × (v ≡ x))
-      → (IsTrue live ↔ goes_on (drop (length word) word)) → (live ≡ true → length old.entries < old.room)
+      → (IsTrue live ↔ continues (drop (length word) word)) → (live ≡ true → length old.entries < old.room)
       → IsPut live old (record { inner = length word; outer = begun; value = x }) new
-      → AreWaiting D goes_on word starts new.entries
+      → AreWaiting D continues word starts new.entries
   waiting_end word starts old new begun x live distinct before there inside den one lives room put =
       let entry : Entry Value = record { inner = length word; outer = begun; value = x } in
       let fresh = fresh_end word starts old.entries before in
       elim put [
         | inl (can, entries, same) ↦
-            subst (AreWaiting D goes_on word starts) (sym entries) (record {
+            subst (AreWaiting D continues word starts) (sym entries) (record {
               distinct = AreDistinct-put old.entries entry distinct fresh;
               each = λ inner outer v. (
                 λ found. was_put inner outer v (inner == length word) refl can.live found,
@@ -133,7 +133,7 @@ module _ (D : Word → Value → Type 0) (goes_on : Word → Type 0) where
               );
             })
         | inr (cannot, same) ↦
-            subst (AreWaiting D goes_on word starts) (sym (ap (λ (held : Contents Value). held.entries) same)) (record {
+            subst (AreWaiting D continues word starts) (sym (ap (λ (held : Contents Value). held.entries) same)) (record {
               distinct = distinct;
               each = λ inner outer v. (
                 λ found. let (from, (piece, is, below, den'), more) = (before inner outer v).0 found in
@@ -141,7 +141,7 @@ module _ (D : Word → Value → Type 0) (goes_on : Word → Type 0) where
                 λ (from, (piece, is, den'), more). elim (before_end word inner is.inside) [
                   | inl below ↦ (before inner outer v).1 (from, (piece, is, below, den'), more)
                   | inr last ↦
-                      let is_live = lives.1 (subst (λ at. goes_on (drop at word)) last more) in
+                      let is_live = lives.1 (subst (λ at. continues (drop at word)) last more) in
                       absurd (cannot (record { live = is_live; fresh = fresh; room = room is_live }))
                 ],
               );
@@ -159,7 +159,7 @@ module _ (D : Word → Value → Type 0) (goes_on : Word → Type 0) where
       was_put : (inner outer : ℕ) (v : Value) (same : Bool) → (inner == length word) ≡ same → live ≡ true
           → IsEntry (old.entries ++ record { inner = length word; outer = begun; value = x } ∷ []) inner outer v
           → Contains starts outer × ((piece : Word) × IsPiece word outer piece inner × D piece v)
-          × goes_on (drop inner word)
+          × continues (drop inner word)
       was_put inner outer v true is is_live found =
           let last : inner ≡ length word = eqb-true inner (length word) is in
           let fresh = fresh_end word starts old.entries before in
@@ -177,7 +177,7 @@ module _ (D : Word → Value → Type 0) (goes_on : Word → Type 0) where
                   (end_piece word outer (subst (λ s. s ≤ length word) outers inside)),
               subst (λ s. D (drop s word) v) outers (subst (D (drop begun word)) values den),
             ),
-            subst (λ at. goes_on (drop at word)) (sym last) (lives.0 is_live),
+            subst (λ at. continues (drop at word)) (sym last) (lives.0 is_live),
           )
       was_put inner outer v false is is_live found =
           let differs : inner ≢ length word = eqb-false inner (length word) is in
@@ -188,8 +188,8 @@ module _ (D : Word → Value → Type 0) (goes_on : Word → Type 0) where
 
   -- a new start at the end, whose empty piece has no value
   pub waiting_same : (word : Word) (starts : List ℕ) (entries : List (Entry Value)) (at : ℕ) → at ≡ length word
-      → ((v : Value) → D [] v → ⊥) → AreWaiting D goes_on word starts entries
-      → AreWaiting D goes_on word (starts ++ at ∷ []) entries
+      → ((v : Value) → D [] v → ⊥) → AreWaiting D continues word starts entries
+      → AreWaiting D continues word (starts ++ at ∷ []) entries
   waiting_same word starts entries at last none waiting = record {
     distinct = waiting.distinct;
     each = λ inner outer v. (
@@ -205,8 +205,8 @@ module _ (D : Word → Value → Type 0) (goes_on : Word → Type 0) where
   -- or where no old piece to the end has one
   pub waiting_new : (word : Word) (starts : List ℕ) (entries : List (Entry Value)) (at : ℕ) → at ≡ length word
       → ((start : ℕ) (v : Value) → Contains starts start → D (drop start word) v → ⊥)
-      → AreWaiting D goes_on word starts entries
-      → AreWaitingBefore D goes_on word (starts ++ at ∷ []) entries
+      → AreWaiting D continues word starts entries
+      → AreWaitingBefore D continues word (starts ++ at ∷ []) entries
   waiting_new word starts entries at last none waiting = λ inner outer v. (
     λ there. let (from, (piece, is, den), more) = (waiting.each inner outer v).0 there in
         elim (before_end word inner is.inside) [

@@ -12,8 +12,8 @@ use Rattle.split_eval.specs.declared.entry.Entry.{Entry}
 use Rattle.eval_tree.specs.declared.hit.Hit.{Hit}
 
 -- the value is put in if the start is live, no value has its inner start, and there is room
-pub record CanPut (goes_on : Bool) (held : Contents Value) (inner : ℕ) : Type 0 where
-  pub live : goes_on ≡ true
+pub record CanPut (continues : Bool) (held : Contents Value) (inner : ℕ) : Type 0 where
+  pub live : continues ≡ true
   pub fresh : entry_at held.entries inner ≡ None
   pub room : length held.entries < held.room
 

@@ -66,7 +66,7 @@ module _ {R : Type 0} (seen : R → Seen R) where
           → StartsSoundly seen operand old at new right → IsNumberWith expression left.value right
 
   -- a piece of an iteration began after a value so far, which waits for it if the start is live
-  pub record GoesOn (operand : Qre) (hit : Hit) (old : Holding R) (waiting : Contents Value)
+  pub record Continues (operand : Qre) (hit : Hit) (old : Holding R) (waiting : Contents Value)
       (at : ℕ) (new : Holding R) (more : Contents Value) : Type 0 where
     pub begun : Option Hit
     pub started : HasStarted seen operand old at new (Ok begun)

@@ -12,7 +12,7 @@ use value_ops::Value;
 /// The value so far waits at the end of its pieces if a further piece may come. If the starts are
 /// apart (`AreApart`), there is room for it.
 #[inline(always)]
-pub(crate) fn go_on(
+pub(crate) fn continue_from(
     alloc: Global,
     so_far: &mut Chain<Value>,
     live: bool,
@@ -31,7 +31,7 @@ pub(crate) fn go_on(
 }
 
 /// The same where a value may wait there already, which then stays.
-pub(crate) fn go_on_if_new(
+pub(crate) fn continue_if_new(
     alloc: Global,
     so_far: &mut Chain<Value>,
     live: bool,
@@ -43,7 +43,7 @@ pub(crate) fn go_on_if_new(
     ensures no_memory { IsNoTable hit.now.value → IsOk result }
 {
     if live && so_far.find(at).is_none() {
-        return go_on(alloc, so_far, live, at, hit);
+        return continue_from(alloc, so_far, live, at, hit);
     }
     Ok(())
 }

@@ -7,11 +7,11 @@ ghost use Rattle.query_model.specs.Queries.{iter, plain_of};
 ghost use Rattle.eval_nodes.specs.Plain.{holding_of, seen_of};
 ghost use Rattle.eval_tree.specs.Calls.{HasStarted, HasStepped, found_in};
 ghost use Rattle.eval_tree.specs.Numbers.{StartsNumbers};
-ghost use Rattle.eval_tree.specs.Operands.{GoesOn};
+ghost use Rattle.eval_tree.specs.Operands.{Continues};
 ghost use Rattle.eval_tree.specs.Steps.{CanStart, CanStep};
 
 use crate::Hit;
-use crate::folds::{go_on, go_on_if_new};
+use crate::folds::{continue_from, continue_if_new};
 use crate::operands::step_and_end;
 use crate::steps::start_only;
 use eval_nodes::{Node, State, is_live};
@@ -43,7 +43,7 @@ pub(crate) fn start_iter(
             // No piece of an iteration is empty, so the operand has no hit here.
             start_only(inner, a, alloc, at)?;
             let begun = Hit::of_number(at, number);
-            go_on_if_new(alloc, so_far, is_live(inner, a, at), at, &begun)?;
+            continue_if_new(alloc, so_far, is_live(inner, a, at), at, &begun)?;
             *hit = Some(begun);
             Ok(())
         }
@@ -100,11 +100,11 @@ fn next_piece(
 ) -> Result<(), AllocError>
     requires can { CanStart seen_of (plain_of inner.now.shape) (holding_of a.old.state) at }
     requires fresh { entry_at so_far.old.entries at ≡ None }
-    ensures goes_on { IfOk result (λ done. GoesOn seen_of (plain_of inner.now.shape) hit.now
+    ensures continues { IfOk result (λ done. Continues seen_of (plain_of inner.now.shape) hit.now
         (holding_of a.old.state) so_far.old at (holding_of a.new.state) so_far.new) }
     ensures no_memory { StartsNumbers seen_of (plain_of inner.now.shape) (holding_of a.old.state) at
         → IsNoTable hit.now.value → IsOk result }
 {
     start_only(inner, a, alloc, at)?;
-    go_on(alloc, so_far, is_live(inner, a, at), at, hit)
+    continue_from(alloc, so_far, is_live(inner, a, at), at, hit)
 }

@@ -49,10 +49,10 @@ AreLines-next : (start : List ℕ) (x : ℕ) (bytes : List ℕ) (ended : Bool) �
     → AreLines bytes ended (lines bytes ended)
     → (x ≢ 10 → AreLines ((start ++ x ∷ []) ++ bytes) ended (lines_from (start ++ x ∷ []) bytes ended))
     → AreLines (start ++ x ∷ bytes) ended (lines_from start (x ∷ bytes) ended)
-AreLines-next start x bytes ended no_lf (inl is) cut goes_on =
+AreLines-next start x bytes ended no_lf (inl is) cut continues =
     rw is.1 (AreLines-cut start bytes ended (lines bytes ended) no_lf cut)
-AreLines-next start x bytes ended no_lf (inr is) cut goes_on =
-    rw (is.0, ← append_assoc start (x ∷ []) bytes) (goes_on is.1)
+AreLines-next start x bytes ended no_lf (inr is) cut continues =
+    rw (is.0, ← append_assoc start (x ∷ []) bytes) (continues is.1)
 
 -- the function gives the lines, where the first one has begun
 lines_from-are : (start bytes : List ℕ) (ended : Bool) → NoLf start

@@ -17,8 +17,8 @@ use Rattle.item_schema.specs.declared.stop.Cause.TheVariants as cause
 use Rattle.item_schema.specs.Reading.{fields_of, item_of, item_of_record, record_of, skip}
 
 -- what follows where a byte has been taken
-abbrev pub goes_on : List (List ℕ) → List ℕ → ℕ → List ℕ → State × Action → Option Read
-goes_on fields bytes byte rest taken =
+abbrev pub continues : List (List ℕ) → List ℕ → ℕ → List ℕ → State × Action → Option Read
+continues fields bytes byte rest taken =
     if is_end taken.1 then Some (fields_after taken.1 fields bytes, taken.0, rest)
     else next_record default_config taken.0 (fields_after taken.1 fields bytes) (field_after taken.1 byte bytes) rest
 
@@ -75,14 +75,14 @@ unfolding next_record texts_at
 next_record-texts place fields text [] none = rw (at_hand place) refl
 next_record-texts place fields text (byte ∷ bytes) none =
     let parts = or_parts (is_break byte) (list_any is_break bytes) none in
-    ap (goes_on fields text byte bytes) (step_at place byte parts.0)
+    ap (continues fields text byte bytes) (step_at place byte parts.0)
     ∙ by_byte (ends_field place byte) (is_kept place byte) (place_after place byte)
     (λ next fields text. next_record-texts next fields text bytes parts.1)
   where
     by_byte : (ends kept : Bool) (next : Place)
         → ((next : Place) (fields : List (List ℕ)) (text : List ℕ)
         → next_record default_config (state_of next) fields text bytes ≡ texts_read fields (texts_at next text bytes))
-        → goes_on fields text byte bytes (taken ends kept next)
+        → continues fields text byte bytes (taken ends kept next)
         ≡ texts_read fields (if ends then text ∷ texts_at Front [] bytes else texts_at next (if kept then text ++ byte ∷ [] else text) bytes)
     by_byte true kept next after =
         after Front (fields ++ text ∷ []) [] ∙ ap (λ texts. Some (texts, st.StartRecord, [])) (append_assoc fields (text ∷ []) (texts_at Front [] bytes))
@@ -100,7 +100,7 @@ record-texts [] some none = absurd (omega arith)
 record-texts (byte ∷ bytes) some none =
     let parts = or_parts (is_break byte) (list_any is_break bytes) none in
     ap (λ found. option_map (λ (read : Read). read.0) found)
-    (ap (goes_on [] [] byte bytes) (step_begin byte parts.0) ∙ next_record-texts Front [] [] (byte ∷ bytes) none)
+    (ap (continues [] [] byte bytes) (step_begin byte parts.0) ∙ next_record-texts Front [] [] (byte ∷ bytes) none)
 
 -- and none where they are none
 no_record : (bytes : List ℕ) → length bytes ≡ 0 → first_record bytes ≡ None

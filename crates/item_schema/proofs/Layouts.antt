@@ -14,9 +14,9 @@ both false b holds = absurd (cc)
 
 -- one test of two, and then another of the rest
 both_again : (a b rest rest' : Bool) → IsTrue ((a && b) && rest) → (IsTrue rest → IsTrue rest') → IsTrue (a && rest')
-both_again true true rest rest' holds goes_on = goes_on holds
-both_again true false rest rest' holds goes_on = absurd (cc)
-both_again false b rest rest' holds goes_on = absurd (cc)
+both_again true true rest rest' holds continues = continues holds
+both_again true false rest rest' holds continues = absurd (cc)
+both_again false b rest rest' holds continues = absurd (cc)
 
 -- of columns that all pass two tests all pass the first
 pub all_left : (test other : Column → Bool) (columns : List Column)

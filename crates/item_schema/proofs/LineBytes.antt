@@ -12,7 +12,7 @@ use Rattle.csv.specs.declared.parser.Action.{Action}
 use Rattle.csv.specs.declared.parser.Action.TheVariants as act
 use Rattle.value_ops.specs.Texts.{IsText, are_bytes}
 use Rattle.item_schema.specs.Reading.{record_of}
-use Rattle.item_schema.proofs.CutLines.{goes_on}
+use Rattle.item_schema.proofs.CutLines.{continues}
 
 -- each of the texts is of bytes
 abbrev pub are_texts : List (List ℕ) → Bool
@@ -58,7 +58,7 @@ record_bytes s fields text (byte ∷ bytes) are is rest =
     by_action : (next : State) (action : Action)
         → ((next : State) (fields : List (List ℕ)) (text : List ℕ) → are_texts fields ≡ true → are_bytes text ≡ true
         → ReadsTexts (next_record default_config next fields text bytes))
-        → ReadsTexts (goes_on fields text byte bytes (next, action))
+        → ReadsTexts (continues fields text byte bytes (next, action))
     by_action next action after = by_end (is_end action)
       where
         by_end : (ends : Bool) → ReadsTexts (if ends then Some (fields_after action fields text, next, bytes)

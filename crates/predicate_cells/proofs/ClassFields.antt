@@ -78,9 +78,9 @@ pub after_is : (s t : List ℕ) → slice_cmp nat_cmp s t ≡ Less → slice_cmp
 after_is s t e = nat_list_cmp_total.antisymm t s ∙ ap ordering_reverse e
 
 -- a text is before any that goes on behind it
-goes_on : (s : List ℕ) (b : ℕ) → slice_cmp nat_cmp s (s ++ b ∷ []) ≡ Less
-goes_on [] b = refl
-goes_on (x ∷ s) b = rw (tied_itself nat_cmp_total x) (goes_on s b)
+continues : (s : List ℕ) (b : ℕ) → slice_cmp nat_cmp s (s ++ b ∷ []) ≡ Less
+continues [] b = refl
+continues (x ∷ s) b = rw (tied_itself nat_cmp_total x) (continues s b)
 
 module _ (texts : List (List ℕ)) (rise : IsStrictlySortedBy (slice_cmp nat_cmp) texts) where
   in_order : (j k : ℕ) (d : List ℕ) → j < k → k < length texts → slice_cmp nat_cmp (get_or texts j d) (get_or texts k d) ≡ Less
@@ -110,7 +110,7 @@ module _ (texts : List (List ℕ)) (rise : IsStrictlySortedBy (slice_cmp nat_cmp
   all_before j d lt = rw (get_or_default texts j d [] lt) (⊎_elim earlier same (cases_lt j (length texts - 1)))
     where
       last : slice_cmp nat_cmp (get_or texts (length texts - 1) []) (other_text texts) ≡ Less
-      last = goes_on (get_or texts (length texts - 1) []) 95
+      last = continues (get_or texts (length texts - 1) []) 95
 
       earlier : j < length texts - 1 → slice_cmp nat_cmp (get_or texts j []) (other_text texts) ≡ Less
       earlier below = nat_list_cmp_total.trans (get_or texts j []) (get_or texts (length texts - 1) []) (other_text texts) (in_order j (length texts - 1) [] below (omega arith)) last

@@ -43,9 +43,9 @@ without_sign-cases byte rest = by (eqb byte 45) (eqb byte 43)
     by false false = inr refl
 
 -- a number goes on with digits alone
-number-goes_on : (first : ℕ) (tail : List ℕ) (byte : ℕ) (more : List ℕ)
+number-continues : (first : ℕ) (tail : List ℕ) (byte : ℕ) (more : List ℕ)
     → IsNumeral 10 (without_leading_sign (first ∷ tail ++ byte ∷ more)) → is_word_byte byte ≡ true
-number-goes_on first tail byte more is =
+number-continues first tail byte more is =
     digit-word_byte byte (elim (without_sign-cases first (tail ++ byte ∷ more)) [
       | inl e ↦ digits-middle tail byte more (subst (AllDigits 10) e is.1)
       | inr e ↦ digits-middle (first ∷ tail) byte more (subst (AllDigits 10) e is.1)
@@ -61,7 +61,7 @@ no_longer : (other : TokenKind) (first : ℕ) (tail : List ℕ) (byte : ℕ) (mo
     → IsRaw other (first ∷ tail ++ byte ∷ more) → ⊥
 no_longer Word first tail byte more no_quote ends is =
     false≢true (sym ends ∙ all-middle (λ b. IsTrue (is_word_byte b)) tail byte more is.1)
-no_longer Number first tail byte more no_quote ends is = false≢true (sym ends ∙ number-goes_on first tail byte more is)
+no_longer Number first tail byte more no_quote ends is = false≢true (sym ends ∙ number-continues first tail byte more is)
 no_longer Text first tail byte more no_quote ends (bytes, is) = no_quote (ap (λ l. get_or l 0 0) is.quoted)
 no_longer Open first tail byte more no_quote ends is = two-no_one first tail byte more 40 is
 no_longer Close first tail byte more no_quote ends is = two-no_one first tail byte more 41 is

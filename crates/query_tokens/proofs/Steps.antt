@@ -66,17 +66,17 @@ rest_at text place to later =
 pub tokens_more : (text : List ℕ) (place : ℕ) (before : List Token) (token : Token) → IsTokenAt place (drop place text) token
     → ((others : List Token) → AreTokens place (drop place text) others → AreTokens 0 text (before ++ others))
     → (others : List Token) → AreTokens token.span.to (drop token.span.to text) others → AreTokens 0 text ((before ++ token ∷ []) ++ others)
-tokens_more text place before token at goes_on others are =
+tokens_more text place before token at continues others are =
     let rest = rest_at text place token.span.to (omega (arith, at.later)) in
-    rw append_assoc (goes_on (token ∷ others) (drop (token.span.to - place) (drop place text), at.stands, rw rest are))
+    rw append_assoc (continues (token ∷ others) (drop (token.span.to - place) (drop place text), at.stands, rw rest are))
 
 -- and so is a fault behind it
 pub fault_more : (text : List ℕ) (place : ℕ) (before : List Token) (token : Token) → IsTokenAt place (drop place text) token
     → ((others : List Token) (fault : ℕ) → FaultAfter place (drop place text) others fault → FaultAfter 0 text (before ++ others) fault)
     → (others : List Token) (fault : ℕ) → FaultAfter token.span.to (drop token.span.to text) others fault → FaultAfter 0 text ((before ++ token ∷ []) ++ others) fault
-fault_more text place before token at goes_on others fault fails =
+fault_more text place before token at continues others fault fails =
     let rest = rest_at text place token.span.to (omega (arith, at.later)) in
-    rw append_assoc (goes_on (token ∷ others) fault (drop (token.span.to - place) (drop place text), at.stands, rw rest fails))
+    rw append_assoc (continues (token ∷ others) fault (drop (token.span.to - place) (drop place text), at.stands, rw rest fails))
 
 -- blank is within the bytes
 pub blank_within : (bytes : List ℕ) (blank : ℕ) → IsBlankLength bytes blank → blank ≤ length bytes

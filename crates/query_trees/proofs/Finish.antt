@@ -7,10 +7,10 @@ use Rattle.query_tokens.specs.declared.token.TokenKind.{TokenKind}
 use Rattle.query_tokens.specs.declared.token.TokenKind.TheVariants.{Word, Number, Text, Open, Close, Comma}
 use Rattle.query_trees.specs.declared.place.Place.{Place}
 use Rattle.query_trees.specs.declared.place.Place.TheVariants.{AfterTerm, AfterWord, Argument}
-use Rattle.query_trees.specs.Steps.{step, walk, ends, begin, go_on_inside, go_on, call_or_go_on}
+use Rattle.query_trees.specs.Steps.{step, walk, ends, begin, continue_inside, continue_calls, call_or_continue}
 use Rattle.query_trees.specs.Terms.{IsLeaf, AreMore, AreArguments, AreTerms}
 use Rattle.query_trees.specs.Trees.{Trees, none, leaf, call}
-use Rattle.query_trees.proofs.Places.{go_on-suc, walk-none}
+use Rattle.query_trees.proofs.Places.{continue_calls-suc, walk-none}
 
 -- tokens that this holds of, a `)`, and tokens that `rest` holds of
 pub record Closes (holds rest : List Token → Type 0) (tokens : List Token) : Type 0 where
@@ -209,7 +209,7 @@ argument-finish token tokens calls rest Comma is comes = comes-none tokens comes
 -- from behind an argument
 inner-finish :
     (token : Token) (tokens : List Token) (calls : ℕ) → Rest tokens → (kind : TokenKind) → token.kind ≡ kind
-    → Comes tokens (go_on_inside calls kind) → Finishes (suc calls) (token ∷ tokens)
+    → Comes tokens (continue_inside calls kind) → Finishes (suc calls) (token ∷ tokens)
 inner-finish token tokens calls rest Comma is comes = inner_comma token tokens calls is (rest (Argument calls) comes)
 inner-finish token tokens calls rest Close is comes = inner_close token tokens calls is (rest (AfterTerm calls) comes)
 inner-finish token tokens calls rest Word is comes = comes-none tokens comes
@@ -220,15 +220,15 @@ inner-finish token tokens calls rest Open is comes = comes-none tokens comes
 -- from behind a term
 term-finish :
     (token : Token) (tokens : List Token) (calls : ℕ) → Rest tokens → (kind : TokenKind) → token.kind ≡ kind
-    → Comes tokens (go_on calls kind) → Finishes calls (token ∷ tokens)
+    → Comes tokens (continue_calls calls kind) → Finishes calls (token ∷ tokens)
 term-finish token tokens zero rest kind is comes = top-finish token tokens rest kind is comes
 term-finish token tokens (suc calls) rest kind is comes =
-    inner-finish token tokens calls rest kind is (rw (go_on-suc calls kind) at comes)
+    inner-finish token tokens calls rest kind is (rw (continue_calls-suc calls kind) at comes)
 
 -- from behind a word
 word-finish :
     (token : Token) (tokens : List Token) (calls : ℕ) → Rest tokens → (kind : TokenKind) → token.kind ≡ kind
-    → Comes tokens (call_or_go_on calls kind) → FinishesFrom (AfterWord calls) (token ∷ tokens)
+    → Comes tokens (call_or_continue calls kind) → FinishesFrom (AfterWord calls) (token ∷ tokens)
 word-finish token tokens calls rest Open is comes = inr (record {
   open_ = token;
   more = tokens;

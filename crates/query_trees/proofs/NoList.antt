@@ -10,7 +10,7 @@ use Rattle.query_trees.specs.declared.place.Place.TheVariants.{AfterTerm, AfterW
 use Rattle.query_trees.specs.Steps.{step, walk, ends, after, start, may_end}
 use Rattle.query_trees.specs.Terms.{AreTerms, BeginTerms, IsMisplaced, IsCutShort, IsNoList}
 use Rattle.query_trees.specs.Trees.{Trees}
-use Rattle.query_trees.proofs.Places.{go_on-suc, walk-none, IsOutside-term}
+use Rattle.query_trees.proofs.Places.{continue_calls-suc, walk-none, IsOutside-term}
 use Rattle.query_trees.proofs.Fit.{walk-step, terms-end}
 use Rattle.query_trees.proofs.Finish.{walk-finish}
 
@@ -35,14 +35,14 @@ closes-end : (calls : ℕ) → ends (walk (Some (AfterTerm calls)) (closes calls
 unfolding closes some_token
 closes-end zero = refl
 closes-end (suc calls) =
-    ap ends (walk-step (AfterTerm (suc calls)) (some_token Close) (closes calls) _ (go_on-suc calls Close)) ∙ closes-end calls
+    ap ends (walk-step (AfterTerm (suc calls)) (some_token Close) (closes calls) _ (continue_calls-suc calls Close)) ∙ closes-end calls
 
 -- also behind a word
 word-end : (calls : ℕ) → ends (walk (Some (AfterWord calls)) (closes calls)) ≡ true
 unfolding closes some_token
 word-end zero = refl
 word-end (suc calls) =
-    ap ends (walk-step (AfterWord (suc calls)) (some_token Close) (closes calls) _ (go_on-suc calls Close)) ∙ closes-end calls
+    ap ends (walk-step (AfterWord (suc calls)) (some_token Close) (closes calls) _ (continue_calls-suc calls Close)) ∙ closes-end calls
 
 -- from each place some tokens lead to the end
 ending-ends : (place : Place) → ends (walk (Some place) (ending place)) ≡ true

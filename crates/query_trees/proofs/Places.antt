@@ -6,11 +6,11 @@ use Rattle.query_tokens.specs.declared.token.TokenKind.{TokenKind}
 use Rattle.query_tokens.specs.declared.token.TokenKind.TheVariants.{Word, Number, Text, Close, Comma}
 use Rattle.query_trees.specs.declared.place.Place.{Place}
 use Rattle.query_trees.specs.declared.place.Place.TheVariants.{AfterTerm, AfterWord, Argument}
-use Rattle.query_trees.specs.Steps.{go_on_inside, go_on, step, walk, may_end}
+use Rattle.query_trees.specs.Steps.{continue_inside, continue_calls, step, walk, may_end}
 
 -- behind a term of some call
-pub go_on-suc : (n : ℕ) (kind : TokenKind) → go_on (suc n) kind ≡ go_on_inside n kind
-go_on-suc n kind = let e : suc n - 1 ≡ n = omega arith in rw (e, eqb-suc-zero n) refl
+pub continue_calls-suc : (n : ℕ) (kind : TokenKind) → continue_calls (suc n) kind ≡ continue_inside n kind
+continue_calls-suc n kind = let e : suc n - 1 ≡ n = omega arith in rw (e, eqb-suc-zero n) refl
 
 -- where no place is left, none comes back
 pub walk-none : (tokens : List Token) → walk None tokens ≡ None
@@ -24,11 +24,11 @@ pub record IsInside (place : Place) (calls : ℕ) : Type 0 where
 
 -- behind a term
 pub IsInside-term : (calls : ℕ) → IsInside (AfterTerm (suc calls)) calls
-IsInside-term calls = record { comma = go_on-suc calls Comma; close = go_on-suc calls Close }
+IsInside-term calls = record { comma = continue_calls-suc calls Comma; close = continue_calls-suc calls Close }
 
 -- behind a word
 pub IsInside-word : (calls : ℕ) → IsInside (AfterWord (suc calls)) calls
-IsInside-word calls = record { comma = go_on-suc calls Comma; close = go_on-suc calls Close }
+IsInside-word calls = record { comma = continue_calls-suc calls Comma; close = continue_calls-suc calls Close }
 
 -- a place outside of calls where a term has ended
 pub record IsOutside (place : Place) : Type 0 where

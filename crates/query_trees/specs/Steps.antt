@@ -22,31 +22,31 @@ begin calls Close = None
 begin calls Comma = None
 
 -- the place after a token that comes after an argument, inside one call more than `calls`
-abbrev pub go_on_inside : ℕ → TokenKind → Option Place
-go_on_inside calls Word = None
-go_on_inside calls Number = None
-go_on_inside calls Text = None
-go_on_inside calls Open = None
-go_on_inside calls Close = Some (AfterTerm calls)
-go_on_inside calls Comma = Some (Argument calls)
+abbrev pub continue_inside : ℕ → TokenKind → Option Place
+continue_inside calls Word = None
+continue_inside calls Number = None
+continue_inside calls Text = None
+continue_inside calls Open = None
+continue_inside calls Close = Some (AfterTerm calls)
+continue_inside calls Comma = Some (Argument calls)
 
 -- the place after a token that comes after a term, inside `calls` calls
-abbrev pub go_on : ℕ → TokenKind → Option Place
-go_on calls kind = if calls == 0 then begin 0 kind else go_on_inside (calls - 1) kind
+abbrev pub continue_calls : ℕ → TokenKind → Option Place
+continue_calls calls kind = if calls == 0 then begin 0 kind else continue_inside (calls - 1) kind
 
 -- the place after a token that comes after a word, inside `calls` calls
-abbrev pub call_or_go_on : ℕ → TokenKind → Option Place
-call_or_go_on calls Open = Some (Argument calls)
-call_or_go_on calls Word = go_on calls Word
-call_or_go_on calls Number = go_on calls Number
-call_or_go_on calls Text = go_on calls Text
-call_or_go_on calls Close = go_on calls Close
-call_or_go_on calls Comma = go_on calls Comma
+abbrev pub call_or_continue : ℕ → TokenKind → Option Place
+call_or_continue calls Open = Some (Argument calls)
+call_or_continue calls Word = continue_calls calls Word
+call_or_continue calls Number = continue_calls calls Number
+call_or_continue calls Text = continue_calls calls Text
+call_or_continue calls Close = continue_calls calls Close
+call_or_continue calls Comma = continue_calls calls Comma
 
 -- the place after a token of this kind, if it may come
 abbrev pub step : Place → TokenKind → Option Place
-step (AfterTerm calls) kind = go_on calls kind
-step (AfterWord calls) kind = call_or_go_on calls kind
+step (AfterTerm calls) kind = continue_calls calls kind
+step (AfterWord calls) kind = call_or_continue calls kind
 step (Argument calls) kind = begin (calls + 1) kind
 
 -- the same, if all tokens before it could come

@@ -6,7 +6,7 @@
 //!
 //!     1: AfterWord(0)   2: Argument(0)   3: AfterTerm(1)   6: Argument(1)   9: AfterTerm(0)
 ghost use Rattle.std.specs.Prelude.{◌≡◌, ◌+◌, ◌<◌, ◌≤◌, ◌^◌, IfSome};
-ghost use Rattle.query_trees.specs.Steps.{begin, go_on_inside, go_on, call_or_go_on, step, may_end, calls_of};
+ghost use Rattle.query_trees.specs.Steps.{begin, continue_inside, continue_calls, call_or_continue, step, may_end, calls_of};
 
 use query_tokens::TokenKind;
 
@@ -36,8 +36,8 @@ fn begin(calls: usize, kind: TokenKind) -> Option<Place>
 
 /// The place after a token that comes after an argument. One more call is open than the number
 /// says.
-fn go_on_inside(calls: usize, kind: TokenKind) -> Option<Place>
-    ensures next { result ≡ go_on_inside calls kind }
+fn continue_inside(calls: usize, kind: TokenKind) -> Option<Place>
+    ensures next { result ≡ continue_inside calls kind }
     ensures few { IfSome result (λ next. calls_of next ≤ calls) }
 {
     match kind {
@@ -48,20 +48,20 @@ fn go_on_inside(calls: usize, kind: TokenKind) -> Option<Place>
 }
 
 /// The place after a token that comes after a term.
-fn go_on(calls: usize, kind: TokenKind) -> Option<Place>
-    ensures next { result ≡ go_on calls kind }
+fn continue_calls(calls: usize, kind: TokenKind) -> Option<Place>
+    ensures next { result ≡ continue_calls calls kind }
     ensures few { IfSome result (λ next. calls_of next ≤ calls + 1) }
 {
     if calls == 0 {
         begin(0, kind)
     } else {
-        go_on_inside(calls - 1, kind)
+        continue_inside(calls - 1, kind)
     }
 }
 
 /// The place after a token that comes after a word.
-fn call_or_go_on(calls: usize, kind: TokenKind) -> Option<Place>
-    ensures next { result ≡ call_or_go_on calls kind }
+fn call_or_continue(calls: usize, kind: TokenKind) -> Option<Place>
+    ensures next { result ≡ call_or_continue calls kind }
     ensures few { IfSome result (λ next. calls_of next ≤ calls + 1) }
 {
     match kind {
@@ -70,7 +70,7 @@ fn call_or_go_on(calls: usize, kind: TokenKind) -> Option<Place>
         | TokenKind::Number
         | TokenKind::Text
         | TokenKind::Close
-        | TokenKind::Comma => go_on(calls, kind),
+        | TokenKind::Comma => continue_calls(calls, kind),
     }
 }
 
@@ -81,8 +81,8 @@ pub(crate) fn step(place: Place, kind: TokenKind) -> Option<Place>
     ensures few { IfSome result (λ next. calls_of next ≤ calls_of place + 1) }
 {
     match place {
-        Place::AfterTerm(calls) => go_on(calls, kind),
-        Place::AfterWord(calls) => call_or_go_on(calls, kind),
+        Place::AfterTerm(calls) => continue_calls(calls, kind),
+        Place::AfterWord(calls) => call_or_continue(calls, kind),
         Place::Argument(calls) => begin(calls + 1, kind),
     }
 }

@@ -21,7 +21,7 @@ use std::alloc::Global;
 const PAYS: usize = 4;
 
 /// Adds the targets of the letters whose places are left. Some of these places may be taken out.
-pub(crate) fn go_on(
+pub(crate) fn extend(
     alloc: Global,
     alphabet: &Alphabet,
     left: &mut Places,
@@ -45,12 +45,12 @@ pub(crate) fn go_on(
         add(letter.target(ways), pairs, targets)?;
         alphabet.pass(alloc, left, letter, ways)?;
     }
-    go_on_each(&alphabet.letters, left, ways, pairs, targets)?;
+    extend_each(&alphabet.letters, left, ways, pairs, targets)?;
     Ok(())
 }
 
 // The same, letter by letter.
-fn go_on_each(
+fn extend_each(
     letters: &[Letter],
     left: &Places,
     ways: (u128, u128),
@@ -67,13 +67,13 @@ fn go_on_each(
         → AreTooMany pairs.old.keys (IsTarget letters.now ways) }
 {
     'parts: for block in 0..BLOCKS {
-        go_on_block(letters, block, left.block(block), ways, pairs, targets)?;
+        extend_block(letters, block, left.block(block), ways, pairs, targets)?;
     }
     Ok(())
 }
 
 // The same for the places of one block.
-fn go_on_block(
+fn extend_block(
     letters: &[Letter],
     block: usize,
     mask: u128,

@@ -8,7 +8,7 @@ ghost use Rattle.rate_equal.specs.Reach.{max_reach};
 ghost use Rattle.rate_equal.specs.Targets.{AreFound, AreKnown, HasTargets, IsTarget};
 
 use crate::alphabet::Alphabet;
-use crate::going::go_on;
+use crate::going::extend;
 use crate::holders::Holders;
 use crate::known::{Known, count, nearest};
 use crate::narrow::narrow;
@@ -104,7 +104,7 @@ fn from_known(
     let first = without(ways.0, near.ways.0);
     let second = without(ways.1, near.ways.1);
     let mut left = alphabet.having(alloc, (first, second))?;
-    go_on(alloc, alphabet, &mut left, ways, pairs, &mut targets)?;
+    extend(alloc, alphabet, &mut left, ways, pairs, &mut targets)?;
     Ok(targets)
 }
 
@@ -123,6 +123,6 @@ fn from_all(
 {
     let mut targets = Places::none(alloc)?;
     let mut left = alphabet.all(alloc)?;
-    go_on(alloc, alphabet, &mut left, ways, pairs, &mut targets)?;
+    extend(alloc, alphabet, &mut left, ways, pairs, &mut targets)?;
     Ok(targets)
 }

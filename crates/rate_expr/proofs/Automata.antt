@@ -16,16 +16,16 @@ pub record Automaton : Type 1 where
   pub Meet : State → List Field → Type 0
 
 -- behind a state the word leads to an end
-abbrev pub GoesOn : (a : Automaton) → a.State → Word → Type 0
-GoesOn a from [] = a.Last from
-GoesOn a from (item ∷ word) =
-    (next : a.State) × a.Follow from next × a.Meet next item × GoesOn a next word
+abbrev pub Continues : (a : Automaton) → a.State → Word → Type 0
+Continues a from [] = a.Last from
+Continues a from (item ∷ word) =
+    (next : a.State) × a.Follow from next × a.Meet next item × Continues a next word
 
 -- the word leads from the beginning to an end
 abbrev pub Accepts : Automaton → Word → Type 0
 Accepts a [] = a.nullable ≡ true
 Accepts a (item ∷ word) =
-    (begin : a.State) × a.First begin × a.Meet begin item × GoesOn a begin word
+    (begin : a.State) × a.First begin × a.Meet begin item × Continues a begin word
 
 -- the empty word alone
 abbrev pub of_empty : Automaton

@@ -1,7 +1,7 @@
 -- A word of either of two automata.
 use Rattle.std.proofs.Common.{◌≡◌, ◌⊎◌, inl, inr, Bool, true, false, ◌||◌, [], ◌∷◌, refl}
 use Rattle.rate_expr.specs.Words.{Word}
-use Rattle.rate_expr.proofs.Automata.{Automaton, GoesOn, Accepts, of_choice}
+use Rattle.rate_expr.proofs.Automata.{Automaton, Continues, Accepts, of_choice}
 
 -- one of two tests holds
 pub either : (x y : Bool) → (x || y) ≡ true → (x ≡ true) ⊎ (y ≡ true)
@@ -19,24 +19,24 @@ or_second true y is = refl
 or_second false y is = is
 
 -- a path of the first stays in it
-stays_first : (a b : Automaton) (p : a.State) (word : Word) → GoesOn (of_choice a b) (inl p) word → GoesOn a p word
+stays_first : (a b : Automaton) (p : a.State) (word : Word) → Continues (of_choice a b) (inl p) word → Continues a p word
 stays_first a b p [] last = last
 stays_first a b p (item ∷ word) (inl q, follow, meet, on) = (q, follow, meet, stays_first a b q word on)
 stays_first a b p (item ∷ word) (inr q, follow, meet, on) = absurd follow
 
 -- a path of the second stays in it
-stays_second : (a b : Automaton) (q : b.State) (word : Word) → GoesOn (of_choice a b) (inr q) word → GoesOn b q word
+stays_second : (a b : Automaton) (q : b.State) (word : Word) → Continues (of_choice a b) (inr q) word → Continues b q word
 stays_second a b q [] last = last
 stays_second a b q (item ∷ word) (inl p, follow, meet, on) = absurd follow
 stays_second a b q (item ∷ word) (inr p, follow, meet, on) = (p, follow, meet, stays_second a b p word on)
 
 -- a path of the first is there
-is_first : (a b : Automaton) (p : a.State) (word : Word) → GoesOn a p word → GoesOn (of_choice a b) (inl p) word
+is_first : (a b : Automaton) (p : a.State) (word : Word) → Continues a p word → Continues (of_choice a b) (inl p) word
 is_first a b p [] last = last
 is_first a b p (item ∷ word) (q, follow, meet, on) = (inl q, follow, meet, is_first a b q word on)
 
 -- a path of the second is there
-is_second : (a b : Automaton) (q : b.State) (word : Word) → GoesOn b q word → GoesOn (of_choice a b) (inr q) word
+is_second : (a b : Automaton) (q : b.State) (word : Word) → Continues b q word → Continues (of_choice a b) (inr q) word
 is_second a b q [] last = last
 is_second a b q (item ∷ word) (p, follow, meet, on) = (inr p, follow, meet, is_second a b p word on)
 

@@ -5,7 +5,7 @@ use Rattle.predicate_cells.specs.Truth.{holds}
 use Rattle.rate_expr.specs.Language.{In}
 use Rattle.rate_expr.specs.Rates.{Expression, empty, one, sequence, choice, star}
 use Rattle.rate_expr.specs.Words.{Word}
-use Rattle.rate_expr.proofs.Automata.{Automaton, GoesOn, Accepts, of_sequence, of_choice, automaton_of}
+use Rattle.rate_expr.proofs.Automata.{Automaton, Continues, Accepts, of_sequence, of_choice, automaton_of}
 use Rattle.rate_expr.proofs.Exact.{in_accepted, accepted_in}
 
 -- it holds or does not
@@ -53,22 +53,22 @@ pub record IsDecided (a : Automaton) : Type 1 where
   pub meet : (p : a.State) (item : List Field) → Decided (a.Meet p item)
 
 -- a path behind a state
-decided_on : (a : Automaton) → IsDecided a → (p : a.State) (word : Word) → Decided (GoesOn a p word)
+decided_on : (a : Automaton) → IsDecided a → (p : a.State) (word : Word) → Decided (Continues a p word)
 decided_on a d p [] = d.last p
 decided_on a d p (item ∷ word) =
-    let Next : a.State → Type 0 = λ q. a.Follow p q × a.Meet q item × GoesOn a q word in
-    decided_as ((q : a.State) × Next q) (GoesOn a p (item ∷ word))
+    let Next : a.State → Type 0 = λ q. a.Follow p q × a.Meet q item × Continues a q word in
+    decided_as ((q : a.State) × Next q) (Continues a p (item ∷ word))
     (λ on. (on.0, on.1.0, on.1.1, on.1.2)) (λ on. (on.0, (on.1, on.2, on.3)))
-    (d.some Next (λ q. decided_three (a.Follow p q) (a.Meet q item) (GoesOn a q word) (d.follow p q) (d.meet q item) (decided_on a d q word)))
+    (d.some Next (λ q. decided_three (a.Follow p q) (a.Meet q item) (Continues a q word) (d.follow p q) (d.meet q item) (decided_on a d q word)))
 
 -- a word
 decided_word : (a : Automaton) → IsDecided a → (word : Word) → Decided (Accepts a word)
 decided_word a d [] = decided_test a.nullable
 decided_word a d (item ∷ word) =
-    let Begin : a.State → Type 0 = λ q. a.First q × a.Meet q item × GoesOn a q word in
+    let Begin : a.State → Type 0 = λ q. a.First q × a.Meet q item × Continues a q word in
     decided_as ((q : a.State) × Begin q) (Accepts a (item ∷ word))
     (λ on. (on.0, on.1.0, on.1.1, on.1.2)) (λ on. (on.0, (on.1, on.2, on.3)))
-    (d.some Begin (λ q. decided_three (a.First q) (a.Meet q item) (GoesOn a q word) (d.first q) (d.meet q item) (decided_on a d q word)))
+    (d.some Begin (λ q. decided_three (a.First q) (a.Meet q item) (Continues a q word) (d.first q) (d.meet q item) (decided_on a d q word)))
 
 -- a state of either
 decided_some : (A B : Type 0) (P : A ⊎ B → Type 0) → Decided ((p : A) × P (inl p)) → Decided ((q : B) × P (inr q)) → Decided ((p : A ⊎ B) × P p)

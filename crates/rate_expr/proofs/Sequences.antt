@@ -1,7 +1,7 @@
 -- A word of one automaton and then of another.
 use Rattle.std.proofs.Common.{◌≡◌, inl, inr, Bool, true, false, ◌&&◌, [], ◌∷◌, ◌++◌, refl, ap}
 use Rattle.rate_expr.specs.Words.{Word}
-use Rattle.rate_expr.proofs.Automata.{Automaton, GoesOn, Accepts, of_sequence}
+use Rattle.rate_expr.proofs.Automata.{Automaton, Continues, Accepts, of_sequence}
 
 -- a test and another hold only both
 pub both : (x y : Bool) → (x && y) ≡ true → (x ≡ true) × (y ≡ true)
@@ -18,18 +18,18 @@ abbrev Splits : (a b : Automaton) → (Word → Type 0) → Word → Type 0
 Splits a b Begin word = (u : Word) × (v : Word) × (word ≡ u ++ v) × Begin u × Accepts b v
 
 -- in the second a path stays
-stays : (a b : Automaton) (q : b.State) (word : Word) → GoesOn (of_sequence a b) (inr q) word → GoesOn b q word
+stays : (a b : Automaton) (q : b.State) (word : Word) → Continues (of_sequence a b) (inr q) word → Continues b q word
 stays a b q [] last = last
 stays a b q (item ∷ word) (inl p, follow, meet, on) = absurd follow
 stays a b q (item ∷ word) (inr p, follow, meet, on) = (p, follow, meet, stays a b p word on)
 
 -- so that one of the second is one of both
-is_there : (a b : Automaton) (q : b.State) (word : Word) → GoesOn b q word → GoesOn (of_sequence a b) (inr q) word
+is_there : (a b : Automaton) (q : b.State) (word : Word) → Continues b q word → Continues (of_sequence a b) (inr q) word
 is_there a b q [] last = last
 is_there a b q (item ∷ word) (p, follow, meet, on) = (inr p, follow, meet, is_there a b p word on)
 
 -- a path behind a state of the first goes over into the second once
-goes_over : (a b : Automaton) (p : a.State) (word : Word) → GoesOn (of_sequence a b) (inl p) word → Splits a b (GoesOn a p) word
+goes_over : (a b : Automaton) (p : a.State) (word : Word) → Continues (of_sequence a b) (inl p) word → Splits a b (Continues a p) word
 goes_over a b p [] (last, nullable) = ([], [], refl, last, nullable)
 goes_over a b p (item ∷ word) (inl q, follow, meet, on) =
     let rest = goes_over a b q word on in
@@ -38,7 +38,7 @@ goes_over a b p (item ∷ word) (inr q, (last, first), meet, on) =
     ([], item ∷ word, refl, last, (q, first, meet, stays a b q word on))
 
 -- and may go over at each end
-may_go_over : (a b : Automaton) (p : a.State) (u v : Word) → GoesOn a p u → Accepts b v → GoesOn (of_sequence a b) (inl p) (u ++ v)
+may_go_over : (a b : Automaton) (p : a.State) (u v : Word) → Continues a p u → Accepts b v → Continues (of_sequence a b) (inl p) (u ++ v)
 may_go_over a b p [] [] last nullable = (last, nullable)
 may_go_over a b p [] (item ∷ v) last (q, first, meet, on) = (inr q, (last, first), meet, is_there a b q v on)
 may_go_over a b p (item ∷ u) v (q, follow, meet, on) accepts = (inl q, follow, meet, may_go_over a b q u v on accepts)

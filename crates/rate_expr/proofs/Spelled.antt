@@ -5,7 +5,7 @@ use Rattle.rate_expr.specs.Paths.{Meets, Follows, LeadsOn, Spells, AreOf}
 use Rattle.rate_expr.specs.Rates.{Expression}
 use Rattle.rate_expr.specs.Sets.{Sets, Has}
 use Rattle.rate_expr.specs.Words.{Word}
-use Rattle.rate_expr.proofs.Automata.{Automaton, GoesOn, Accepts, automaton_of}
+use Rattle.rate_expr.proofs.Automata.{Automaton, Continues, Accepts, automaton_of}
 use Rattle.rate_expr.proofs.Ends.{AreIn}
 use Rattle.rate_expr.proofs.Exact.{in_accepted, accepted_in}
 use Rattle.rate_expr.proofs.Follows.{Step}
@@ -24,7 +24,7 @@ pub record Say (sets : Sets) (a : Automaton) (number : a.State → ℕ) : Type 0
 
 module _ (sets : Sets) (a : Automaton) (number : a.State → ℕ) (say : Say sets a number) where
   -- a path behind a state is one behind its number
-  number_path : (p : a.State) (word : Word) → GoesOn a p word → (to : ℕ) × LeadsOn sets (number p) word to × Has sets.last to
+  number_path : (p : a.State) (word : Word) → Continues a p word → (to : ℕ) × LeadsOn sets (number p) word to × Has sets.last to
   number_path p [] last = (number p, refl, say.last.each p last)
   number_path p (item ∷ word) (q, follow, meet, on) =
       let rest = number_path q word on in
@@ -35,7 +35,7 @@ module _ (sets : Sets) (a : Automaton) (number : a.State → ℕ) (say : Say set
   renamed P p q n is other holds = subst P (say.apart p q (is ∙ sym other)) holds
 
   -- a path behind a number is one behind its state
-  state_path : (p : a.State) (from : ℕ) → number p ≡ from → (word : Word) (to : ℕ) → LeadsOn sets from word to → Has sets.last to → GoesOn a p word
+  state_path : (p : a.State) (from : ℕ) → number p ≡ from → (word : Word) (to : ℕ) → LeadsOn sets from word to → Has sets.last to → Continues a p word
   state_path p from is [] to same has =
       let q = say.last.only to has in renamed a.Last q.0 p to q.1 (is ∙ same) q.2
   state_path p from is (item ∷ word) to (next, follows, meets, on) has =

@@ -97,12 +97,12 @@ module _ (automata : Automata) where
     ]
 
     -- items lead on from known states, or these are next
-    gone_on : (left right : State) → AreKnown new left right
+    continued : (left right : State) → AreKnown new left right
         → LeadIntoKnown automata new left right ⊎ AreAmong next left right
-    gone_on Initial Initial known = inl (leads_on Initial Initial tt)
-    gone_on Initial (At right) known = absurd known
-    gone_on (At left) Initial known = absurd known
-    gone_on (At left) (At right) known = elim (grown.more (left, right) known) [
+    continued Initial Initial known = inl (leads_on Initial Initial tt)
+    continued Initial (At right) known = absurd known
+    continued (At left) Initial known = absurd known
+    continued (At left) (At right) known = elim (grown.more (left, right) known) [
       | inl was ↦ inl (leads_on (At left) (At right) was)
       | inr (agrees, among) ↦ inr among
     ]
@@ -142,4 +142,4 @@ module _ (automata : Automata) where
 
     -- one level more
     pub searched_next : IsSearched automata (items + 1) new next
-    searched_next = record { agree = agree_on; words = words_on; gone = gone_on }
+    searched_next = record { agree = agree_on; words = words_on; gone = continued }

@@ -113,13 +113,13 @@ after_all sets mask bound reached are so_far all next = (
 )
 
 -- a word goes on in the position
-abbrev pub GoesOn : Sets → Word → ℕ → Type 0
-GoesOn sets [] next = Has sets.first next
-GoesOn sets (item ∷ word) next = (from : ℕ) × Leads sets (item ∷ word) from × Follows sets from next
+abbrev pub Continues : Sets → Word → ℕ → Type 0
+Continues sets [] next = Has sets.first next
+Continues sets (item ∷ word) next = (from : ℕ) × Leads sets (item ∷ word) from × Follows sets from next
 
 -- the mask has exactly those in which it does
 abbrev pub AreWays : Sets → Word → ℕ → Type 0
-AreWays sets word ways = (next : ℕ) → Has ways next ↔ GoesOn sets word next
+AreWays sets word ways = (next : ℕ) → Has ways next ↔ Continues sets word next
 
 -- and exactly those in which paths of its end
 abbrev pub AreEnds : Sets → Word → ℕ → Type 0
@@ -171,13 +171,13 @@ spells_more sets (first ∷ word) item ends test are meeting = (
 pub record IsStepped (sets : Sets) (word : Word) (at ways : ℕ) (fronts : List Bool) : Type 0 where
   pub count : length fronts ≡ at + 1
   pub each : (place : ℕ) → place ≤ at → IsTrue (get_or fronts place false) ↔ Spells sets (take place word)
-  pub goes_on : AreWays sets (take at word) ways
+  pub continues : AreWays sets (take at word) ways
 
 pub step_none : (sets : Sets) (word : Word) → IsStepped sets word 0 sets.first (sets.nullable ∷ [])
 step_none sets word = record {
   count = refl;
   each = λ place none. rw (first place none) (nullable_is sets.nullable);
-  goes_on = λ next. (λ has. has, λ has. has);
+  continues = λ next. (λ has. has, λ has. has);
 }
   where
     first : (place : ℕ) → place ≤ 0 → place ≡ 0
@@ -196,7 +196,7 @@ step_more sets word at ways ends after fronts item test so_far inside read met r
     let more : take (at + 1) word ≡ take at word ++ item ∷ [] =
     take_more word at item inside ∙ ap (λ x. take at word ++ x ∷ []) read in
     let are : AreEnds sets (take at word ++ item ∷ []) ends =
-    ends_more sets (take at word) item ways ends so_far.goes_on met in
+    ends_more sets (take at word) item ways ends so_far.continues met in
     let long : length fronts ≡ at + 1 = so_far.count in
     record {
       count = length_push fronts test ∙ ap (λ n. n + 1) long;
@@ -212,7 +212,7 @@ step_more sets word at ways ends after fronts item test so_far inside read met r
             (sym (get_or_append_left fronts (test ∷ []) false place (omega arith)))
             (so_far.each place (omega arith))
       ];
-      goes_on = subst (λ w. AreWays sets w after) (sym more) (ways_more sets (take at word) item ends after are reached);
+      continues = subst (λ w. AreWays sets w after) (sym more) (ways_more sets (take at word) item ends after are reached);
     }
 
 -- all fronts

@@ -51,7 +51,7 @@ some_header : (layout : Layout) → layout.has_header ≡ true → 0 < length (m
 some_header layout is = rw is (omega arith)
 
 module _ (layout : Layout) (count state seed : ℕ)
-    (goes_on : (n : ℕ) → lines_from layout.columns (count + n) seed
+    (continues : (n : ℕ) → lines_from layout.columns (count + n) seed
     ≡ lines_from layout.columns count seed ++ lines_from layout.columns n state) where
   -- one drilled line more
   pub drilled_lines-next : drilled_lines layout (count + 1) seed
@@ -59,23 +59,23 @@ module _ (layout : Layout) (count state seed : ℕ)
   drilled_lines-next =
       let front = map ended_by_lf (header_of layout) in
       let shown = map text (lines_from layout.columns count seed) in
-      ap (λ (l : List (List ℕ)). front ++ map text l) (goes_on 1)
+      ap (λ (l : List (List ℕ)). front ++ map text l) (continues 1)
       ∙ ap (λ (l : List Shown). front ++ l) (map-append text (lines_from layout.columns count seed) (line_from layout.columns state ∷ []))
       ∙ sym (append_assoc front shown (text (line_from layout.columns state) ∷ []))
 
 -- so the drill goes on behind one line more
-pub goes_on-next : (columns : List Column) (count state state' seed : ℕ)
+pub continues-next : (columns : List Column) (count state state' seed : ℕ)
     → ((n : ℕ) → lines_from columns (count + n) seed ≡ lines_from columns count seed ++ lines_from columns n state)
     → ((n : ℕ) → lines_from columns (suc n) state ≡ line_from columns state ∷ lines_from columns n state')
     → (n : ℕ) → lines_from columns (count + 1 + n) seed ≡ lines_from columns (count + 1) seed ++ lines_from columns n state'
-goes_on-next columns count state state' seed goes_on next n =
+continues-next columns count state state' seed continues next n =
     let here = lines_from columns count seed in
     let line = line_from columns state in
     let at : count + 1 + n ≡ count + suc n = omega arith in
-    ap (λ (m : ℕ). lines_from columns m seed) at ∙ goes_on (suc n) ∙ ap (λ (l : List (List ℕ)). here ++ l) (next n)
+    ap (λ (m : ℕ). lines_from columns m seed) at ∙ continues (suc n) ∙ ap (λ (l : List (List ℕ)). here ++ l) (next n)
     ∙ sym (append_assoc here (line ∷ []) (lines_from columns n state'))
     ∙ ap (λ (l : List (List ℕ)). l ++ lines_from columns n state')
-    (sym (goes_on 1 ∙ ap (λ (l : List (List ℕ)). here ++ l) (next 0)))
+    (sym (continues 1 ∙ ap (λ (l : List (List ℕ)). here ++ l) (next 0)))
 
 -- the last of values and one more
 last_of-push : (values : List (Option Value)) (value : Option Value) → last_of (values ++ value ∷ []) ≡ value

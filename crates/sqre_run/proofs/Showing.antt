@@ -14,9 +14,9 @@ pub Showed-shows : (got got' : List ℕ) (shown more : List Shown) (old new : Re
     → Showed got shown old → old.met ≡ false → Shows old got' more new
     → Showed (got ++ got') (shown ++ more) new
 Showed-shows got got' shown more old new showed going shows = record {
-  goes_on = λ _ next ended.
+  continues = λ _ next ended.
       ap (λ (l : List ℕ). lines l ended) (append_assoc got got' next)
-      ∙ showed.goes_on going (got' ++ next) ended
+      ∙ showed.continues going (got' ++ next) ended
       ∙ ap (λ (l : List Shown). shown ++ l) (shows.each next ended)
       ∙ sym (append_assoc shown more (lines_after new next ended));
   at_end = λ met. absurd (cc (met, shows.not_met));
@@ -28,10 +28,10 @@ pub Showed-ends : (got got' : List ℕ) (shown more : List Shown) (old new : Rea
     → Showed got shown old → old.met ≡ false → Ends old got' more new
     → Showed (got ++ got') (shown ++ more) new
 Showed-ends got got' shown more old new showed going ends = record {
-  goes_on = λ ongoing. absurd (cc (ongoing, ends.done.met));
+  continues = λ ongoing. absurd (cc (ongoing, ends.done.met));
   at_end = λ _.
       ap (λ (l : List ℕ). lines (got ++ l) true) (sym (append-nil got'))
-      ∙ showed.goes_on going (got' ++ []) true
+      ∙ showed.continues going (got' ++ []) true
       ∙ ap (λ (l : List ℕ). shown ++ lines_after old l true) (append-nil got')
       ∙ ap (λ (l : List Shown). shown ++ l) ends.all;
   count = omega (arith, ends.count, showed.count, length-append got got');
@@ -41,7 +41,7 @@ Showed-ends got got' shown more old new showed going ends = record {
 pub Showed-lines : (got : List ℕ) (shown : List Shown) (now : Reading) (ended : Bool)
     → Showed got shown now → now.met ≡ false → lines got ended ≡ shown ++ lines_after now [] ended
 Showed-lines got shown now ended showed going =
-    ap (λ (l : List ℕ). lines l ended) (sym (append-nil got)) ∙ showed.goes_on going [] ended
+    ap (λ (l : List ℕ). lines l ended) (sym (append-nil got)) ∙ showed.continues going [] ended
 
 -- the lines of all bytes are those shown and some others
 pub Showed-split : (got : List ℕ) (shown : List Shown) (now : Reading) → Showed got shown now
@@ -74,7 +74,7 @@ module _ (got got' : List ℕ) (shown : List Shown) (line : Shown) (old new : Re
   Answers-whole showed going (more, inr ends) = (
     [],
     ap (λ (l : List ℕ). lines (got ++ l) false) (sym (append-nil got'))
-        ∙ showed.goes_on going (got' ++ []) false
+        ∙ showed.continues going (got' ++ []) false
         ∙ ap (λ (l : List ℕ). shown ++ lines_after old l false) (append-nil got')
         ∙ ap (λ (l : List Shown). shown ++ l) ends.whole,
   )

@@ -290,16 +290,16 @@ module _ {F : Type 0} (follows : F → Word → Type 0) (on : OnStream) (old now
 
 module _ {F : Type 0} (follows : F → Word → Type 0) (now new : Outside) (reading next : Reading) (kept kept' : Session F) (line : Shown) where
   -- where the text was written, whatever run there is goes on
-  pub Handed-goes_on : (status : Option Status) (reply : Result (Bor (List ℕ)) AllocError)
+  pub Handed-continues : (status : Option Status) (reply : Result (Bor (List ℕ)) AllocError)
       → TakesLine now.left new.left now.ends new.ends reading next line
       → IfOk reply (λ said. RepliesTo follows line said.now kept kept')
       → HandedOver status reply now.taken new.taken
       → IfNone status ((on : OnStream) (old : Outside)
       → Running follows on old now reading kept → Running follows on old new next kept')
-  Handed-goes_on None (Ok said) takes replies handed = λ on old run.
+  Handed-continues None (Ok said) takes replies handed = λ on old run.
       Running-line follows on old now new reading next kept kept' line said.now takes replies handed run
-  Handed-goes_on None (Err error) takes replies handed = absurd handed
-  Handed-goes_on (Some status) reply takes replies handed = tt
+  Handed-continues None (Err error) takes replies handed = absurd handed
+  Handed-continues (Some status) reply takes replies handed = tt
 
   -- and ends where it was not
   pub Handed-stops : (status : Option Status) (reply : Result (Bor (List ℕ)) AllocError)
@@ -325,7 +325,7 @@ Running-begins follows on here reading session fresh after =
     subst (λ (r : Reading). Running follows on here here r session) (sym fresh) (record {
       got = [];
       shown = [];
-      showed = record { goes_on = λ _ more ended. refl; at_end = λ met. absurd (cc); count = refl };
+      showed = record { continues = λ _ more ended. refl; at_end = λ met. absurd (cc); count = refl };
       wrote = record { read = Consumes-nil _; wrote = λ meaning means. Appends-nil _ };
       after = after;
       no_end = λ going. refl;

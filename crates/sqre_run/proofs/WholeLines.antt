@@ -12,8 +12,8 @@ IsFront front all = (more : List Shown) × (all ≡ front ++ more)
 IsFront-next : (is_lf : Bool) (line : Shown) (whole all whole' all' : List Shown)
     → IsFront whole all → IsFront whole' all'
     → IsFront (cond is_lf (line ∷ whole) whole') (cond is_lf (line ∷ all) all')
-IsFront-next true line whole all whole' all' (more, is) goes_on = (more, ap (λ l. line ∷ l) is)
-IsFront-next false line whole all whole' all' ended goes_on = goes_on
+IsFront-next true line whole all whole' all' (more, is) continues = (more, ap (λ l. line ∷ l) is)
+IsFront-next false line whole all whole' all' ended continues = continues
 
 -- the lines that an LF ends come first
 lines_from-front : (start bytes : List ℕ)

@@ -36,8 +36,8 @@ Untouched _ query query' items items' out out' = Unit {0}
 
 -- the text is compiled to a query with this monitor, and the run of it was as stated
 abbrev pub Runs : List ℕ → (Monitor → Type 0) → Type 0
-Runs text goes_on = (monitor : Monitor) × Compiles text (accepted monitor) × KeepsRules monitor
-    × goes_on monitor
+Runs text continues = (monitor : Monitor) × Compiles text (accepted monitor) × KeepsRules monitor
+    × continues monitor
 
 -- What `run` or `slow` read of the items and wrote for a query text, by the status.
 abbrev pub Outcome : List ℕ → Status → Outside → Outside → Type 0

@@ -14,7 +14,7 @@ use Rattle.sqre_run.specs.declared.session.Session.{Session}
 
 -- the bytes taken have given these lines: the lines of all bytes are these and then those to come
 pub record Showed (got : List ℕ) (shown : List Shown) (now : Reading) : Type 0 where
-  pub goes_on : now.met ≡ false → (more : List ℕ) (ended : Bool)
+  pub continues : now.met ≡ false → (more : List ℕ) (ended : Bool)
       → lines (got ++ more) ended ≡ shown ++ lines_after now more ended
   pub at_end : now.met ≡ true → lines got true ≡ shown
   pub count : count_of now ≡ length got

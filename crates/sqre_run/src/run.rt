@@ -70,7 +70,7 @@ fn turn<F: Follower, S: Source, W: Sink>(
 
     // Before a read, nothing is held back.
     requires handed_on { IsQuiet lines.old ⊎ (W.held out.old ≡ 0) }
-    ensures goes_on { let at = outside S.left S.ends W.taken in
+    ensures continues { let at = outside S.left S.ends W.taken in
         IfNone result ((on : OnStream) (before : Outside)
         → Running F.follows on before (at items.old out.old) lines.old session.old
         → Running F.follows on before (at items.new out.new) lines.new session.new) }

@@ -5,7 +5,7 @@ use Rattle.std.proofs.lemmas.Nat.{or_lt, pow_pos}
 use Rattle.std.proofs.lemmas.Bool.Decides.{eqb_tells}
 use Rattle.rate_expr.specs.Paths.{Follows}
 use Rattle.rate_expr.specs.Sets.{Sets, AreSets, Has, IsLowest}
-use Rattle.symbolic_nfa.specs.States.{AreWaysOn, GoesOn}
+use Rattle.symbolic_nfa.specs.States.{AreWaysOn, Continues}
 use Rattle.rate_expr.specs.declared.state.State.TheVariants.{At}
 use Rattle.symbolic_nfa.proofs.Lists.{all-at, one-at}
 use Rattle.rate_expr.proofs.MaskMembers.{has_first, has_or, has_second, has_zero}
@@ -15,7 +15,7 @@ use Rattle.rate_expr.proofs.MaskSets.{has-below}
 pub record AreGathered (sets : Sets) (mask rest found : ℕ) : Type 0 where
   pub left : rest ≤ mask
   pub kept : (from : ℕ) → Has rest from → Has mask from
-  pub sound : (next : ℕ) → Has found next → GoesOn sets (At mask) next
+  pub sound : (next : ℕ) → Has found next → Continues sets (At mask) next
   pub whole : (from next : ℕ) → Has mask from → Follows sets from next → Has rest from ⊎ Has found next
   pub within : found < 2 ^ length sets.preds
 

@@ -7,7 +7,7 @@ use Rattle.predicate_cells.specs.Cells.{Partition, cell_count, IsIn}
 use Rattle.rate_expr.specs.Sets.{Sets}
 use Rattle.symbolic_nfa.specs.Automata.{Automaton, IsMet}
 use Rattle.symbolic_nfa.specs.Growth.{IsUseful}
-use Rattle.symbolic_nfa.specs.States.{AreWaysOn, GoesOn, StepsTo, Extends}
+use Rattle.symbolic_nfa.specs.States.{AreWaysOn, Continues, StepsTo, Extends}
 use Rattle.symbolic_nfa.specs.Tables.{AreTables}
 use Rattle.rate_expr.specs.declared.state.State.{State}
 use Rattle.rate_expr.specs.declared.state.State.TheVariants.{Initial, At}
@@ -22,8 +22,8 @@ steps_to-and sets cells state cell ways met item are is_met is_in = record {
   sound = λ next has.
       let both = has-and ways met next has in
       ((are.exact next).0 both.0, is_met.sound next item is_in both.1);
-  whole = λ next goes_on meets.
-      has-and_both ways met next ((are.exact next).1 goes_on) (is_met.whole next item is_in meets);
+  whole = λ next continues meets.
+      has-and_both ways met next ((are.exact next).1 continues) (is_met.whole next item is_in meets);
 }
 
 -- the table has the mask of each cell
@@ -63,12 +63,12 @@ module _ (nfa seen : Automaton) (met : List ℕ) (growing : ℕ) (begins : Bool)
 -- a state extends exactly where a word goes on from it in a useful position
 extends-useful :
     (nfa : Automaton) (state : State)
-    → Extends nfa state ↔ ((next : ℕ) × GoesOn nfa.sets state next × IsUseful nfa next)
+    → Extends nfa state ↔ ((next : ℕ) × Continues nfa.sets state next × IsUseful nfa next)
 extends-useful nfa state = (
   λ on.
-      let (next, end, goes_on, meets, path, last) = on.ends in (
+      let (next, end, continues, meets, path, last) = on.ends in (
         next,
-        goes_on,
+        continues,
         record {
           item = on.item;
           word = on.word;
@@ -79,12 +79,12 @@ extends-useful nfa state = (
           last = last;
         },
       ),
-  λ (next, goes_on, useful).
+  λ (next, continues, useful).
       record {
         item = useful.item;
         word = useful.word;
         items = useful.items;
-        ends = (next, useful.end, goes_on, useful.met, useful.path, useful.last);
+        ends = (next, useful.end, continues, useful.met, useful.path, useful.last);
       },
 )
 

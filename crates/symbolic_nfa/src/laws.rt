@@ -15,7 +15,7 @@ ghost use Rattle.symbolic_nfa.specs.States.{Extends, IsAccepted, Steps};
 /// A step leads from the state after a word to the state after the word and one more item.
 pub fn steps_lead_on()
     ensures begins { (sets : Sets) → IsAfter sets [] State.Initial }
-    ensures goes_on { (sets : Sets) (word : Word) (state next : State) (item : List Field)
+    ensures continues { (sets : Sets) (word : Word) (state next : State) (item : List Field)
         → IsAfter sets word state → Steps sets state item next
         → IsAfter sets (word ++ item ∷ []) next }
 {}

@@ -12,7 +12,7 @@ fn push_next<S: Source>(
     source: &mut S,
     text: &mut Vec<u8>,
 ) -> Result<bool, AllocError> {
-    let (answer, goes_on): (&[u8], bool) = match lines.next(source) {
+    let (answer, continues): (&[u8], bool) = match lines.next(source) {
         Ok(Line::Whole(line)) => (line, true),
         Ok(Line::Long) => (b"long", true),
         Ok(Line::End) => (b"", false),
@@ -20,10 +20,10 @@ fn push_next<S: Source>(
         Err(LineStop::Limit) => (b"limit", false),
     };
     text.extend_from_slice(answer)?;
-    if goes_on {
+    if continues {
         text.push(b'|')?;
     }
-    Ok(goes_on)
+    Ok(continues)
 }
 
 /// What the calls answer until the end or the limit.

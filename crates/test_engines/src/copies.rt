@@ -32,7 +32,11 @@ struct Apart {
     failed: bool,
 }
 
-fn go_on(alloc: Global, runner: &mut Runner<'_>, copy: &mut Runner<'_>) -> Result<Apart, AllocError>
+fn continue_both(
+    alloc: Global,
+    runner: &mut Runner<'_>,
+    copy: &mut Runner<'_>,
+) -> Result<Apart, AllocError>
     requires fed { TakesItems tested.numbers runner.old }
     requires position { position_of runner.old ≡ 1 }
     requires copy_fed { TakesItems tested.numbers copy.old }
@@ -56,7 +60,7 @@ fn copied_after(alloc: Global, runner: &mut Runner<'_>) -> Result<Apart, AllocEr
 {
     value_after(alloc, runner, 9)?;
     let mut copy = copy_of(alloc, runner)?;
-    go_on(alloc, runner, &mut copy)
+    continue_both(alloc, runner, &mut copy)
 }
 
 // The copy is made after a 9.

@@ -135,7 +135,7 @@ fn is_live_once(rt: &impl Abort, alloc: Global, query: &Query, node: &mut Node) 
 }
 
 #[test]
-fn a_start_is_live_until_no_word_goes_on(rt: HostRuntime) -> Result<(), Fail> {
+fn a_start_is_live_until_no_word_continues(rt: HostRuntime) -> Result<(), Fail> {
     let query = difference(rt.alloc())?;
     let mut node = resting(rt.alloc(), &query)?;
     is_live_once(&rt, rt.alloc(), &query, &mut node)

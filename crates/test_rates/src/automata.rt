@@ -97,7 +97,7 @@ fn states_answer_for_the_words_after_them(rt: HostRuntime) -> Result<(), Fail> {
 }
 
 // From the initial state both positions may come next, and items of the cell meet only the first.
-fn goes_on_in_the_first(rt: &impl Abort, nfa: &Nfa, cell: u32) {
+fn continues_in_the_first(rt: &impl Abort, nfa: &Nfa, cell: u32) {
     holds(rt, nfa.has_state(State::Initial));
     let ways = nfa.ways_on(State::Initial);
     same(rt, ways, 0b_11);
@@ -109,7 +109,7 @@ fn goes_on_in_the_first(rt: &impl Abort, nfa: &Nfa, cell: u32) {
 fn ways_on_are_found_once_for_all_items(rt: HostRuntime) -> Result<(), Fail> {
     let nfa = nfa(&rt, rt.alloc())?;
     let cell = cell_of(rt.alloc(), &nfa, 2)?;
-    goes_on_in_the_first(&rt, &nfa, cell);
+    continues_in_the_first(&rt, &nfa, cell);
     Ok(())
 }
 

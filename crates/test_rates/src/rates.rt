@@ -37,7 +37,7 @@ fn have_tests(rt: &impl Abort, sets: &Positions) {
 }
 
 #[test]
-fn a_sequence_goes_on_from_its_first_part(rt: HostRuntime) -> Result<(), Fail> {
+fn a_sequence_continues_from_its_first_part(rt: HostRuntime) -> Result<(), Fail> {
     let rate = two_items(rt.alloc())?;
     let sets = copied_sets(&rt, rt.alloc(), &rate)?;
     let ends = (sets.nullable(), sets.first(), sets.last());

@@ -13,7 +13,7 @@ fn put_new(chain: &mut Chain<u64>, inner: u64, outer: u64, value: u64) {
 }
 
 // A piece from `inner` up to `now` adds its value to the value so far.
-fn go_on(chain: &mut Chain<u64>, inner: u64, now: u64, value: u64) {
+fn continue_chain(chain: &mut Chain<u64>, inner: u64, now: u64, value: u64) {
     let found = chain.find(inner).map(|entry| (entry.outer, entry.value));
     if let Some((outer, so_far)) = found {
         put_new(chain, now, outer, so_far.saturating_add(value));
@@ -28,12 +28,12 @@ fn same_starts(rt: &impl Abort, chain: &Chain<u64>, wanted: &[u64]) {
 }
 
 #[test]
-fn a_sum_goes_on_piece_by_piece(rt: HostRuntime) -> Result<(), Fail> {
+fn a_sum_continues_piece_by_piece(rt: HostRuntime) -> Result<(), Fail> {
     let mut chain = Chain::new(rt.alloc(), 2)?;
     put_new(&mut chain, 0, 0, 0);
-    go_on(&mut chain, 0, 1, 5);
+    continue_chain(&mut chain, 0, 1, 5);
     chain.keep(|start| start == 1);
-    go_on(&mut chain, 1, 2, 7);
+    continue_chain(&mut chain, 1, 2, 7);
     chain.keep(|start| start == 2);
     same(&rt, chain.len(), 1);
     let sum = chain.take(2).map(|entry| (entry.outer, entry.value));
@@ -43,11 +43,11 @@ fn a_sum_goes_on_piece_by_piece(rt: HostRuntime) -> Result<(), Fail> {
 }
 
 #[test]
-fn pieces_of_two_lengths_go_on_side_by_side(rt: HostRuntime) -> Result<(), Fail> {
+fn pieces_of_two_lengths_continue_side_by_side(rt: HostRuntime) -> Result<(), Fail> {
     let mut chain = Chain::new(rt.alloc(), 3)?;
     put_new(&mut chain, 0, 0, 0);
-    go_on(&mut chain, 0, 1, 10);
-    go_on(&mut chain, 0, 2, 30);
+    continue_chain(&mut chain, 0, 1, 10);
+    continue_chain(&mut chain, 0, 2, 30);
     let short = chain.find(1).map(|entry| (entry.outer, entry.value));
     same(&rt, short, Some((0, 10)));
     let long = chain.find(2).map(|entry| (entry.outer, entry.value));

@@ -186,7 +186,7 @@ fn the_first_accepted_start_is_reported(rt: HostRuntime) -> Result<(), Fail> {
 }
 
 #[test]
-fn starts_that_can_go_on_are_kept_in_their_order(rt: HostRuntime) -> Result<(), Fail> {
+fn starts_that_can_continue_are_kept_in_their_order(rt: HostRuntime) -> Result<(), Fail> {
     let mut tracks = four(&rt, rt.alloc())?;
     let live = (tracks.is_live(30), tracks.is_live(20), tracks.is_live(50));
     same(&rt, live, (true, false, false));

@@ -40,9 +40,9 @@ use Rattle.type_checker.proofs.Parted.{few_values}
 use Rattle.type_checker.proofs.Counted.{count_made, count_of, count_written}
 
 -- a step with a value
-goes_on : {A B E : Type 0} (first : Result A E) (next : A → Result B E) (value : A) → first ≡ Ok value
+continues : {A B E : Type 0} (first : Result A E) (next : A → Result B E) (value : A) → first ≡ Ok value
     → (first >>= next) ≡ next value
-goes_on first next value is = rw is refl
+continues first next value is = rw is refl
 
 -- a step that stops
 stops : {A B E : Type 0} (first : Result A E) (next : A → Result B E) (why : E) → first ≡ Err why
@@ -143,7 +143,7 @@ module _ (program : Program) where
 
   module _ (counts : counted program ≡ Ok tt) where
     count_goes : measured program ≡ named
-    count_goes = measured_as ∙ goes_on (counted program) (λ few. named) tt counts
+    count_goes = measured_as ∙ continues (counted program) (λ few. named) tt counts
 
     -- names and types
     pub names_stop : (why : Refusal) → resolved outside (layout_of program.stream).columns (unfolded program) ≡ Err why
@@ -155,7 +155,7 @@ module _ (program : Program) where
         (is : resolved outside (layout_of program.stream).columns (unfolded program) ≡ Ok query) where
       named_goes : measured program ≡ sized query
       named_goes = count_goes
-          ∙ goes_on (resolved outside (layout_of program.stream).columns (unfolded program)) sized query is
+          ∙ continues (resolved outside (layout_of program.stream).columns (unfolded program)) sized query is
 
       -- too many positions
       pub limits_stop : (why : Refusal) → limited (layout_of program.stream) (unfolded program) query ≡ Err why
@@ -164,7 +164,7 @@ module _ (program : Program) where
 
       module _ (small : limited (layout_of program.stream) (unfolded program) query ≡ Ok tt) where
         small_goes : measured program ≡ (parted program.stream (unfolded program) query >>= (λ cells. Ok query))
-        small_goes = named_goes ∙ goes_on (limited (layout_of program.stream) (unfolded program) query) _ tt small
+        small_goes = named_goes ∙ continues (limited (layout_of program.stream) (unfolded program) query) _ tt small
 
         -- too many cells
         pub cells_stop : (why : Refusal) → parted program.stream (unfolded program) query ≡ Err why
@@ -173,7 +173,7 @@ module _ (program : Program) where
 
         -- nothing is refused
         pub all_measured : parted program.stream (unfolded program) query ≡ Ok tt → measured program ≡ Ok query
-        all_measured is = small_goes ∙ goes_on (parted program.stream (unfolded program) query) _ tt is
+        all_measured is = small_goes ∙ continues (parted program.stream (unfolded program) query) _ tt is
 
 -- the columns of a stream are read from lines
 pub columns_read : (columns : List Column) → list_all (λ column. is_read column.kind) (map column_of columns) ≡ true

@@ -21,6 +21,6 @@ pub use language_base::{BinaryOp, Bytes, Compare, UnaryOp};
 pub use laws::{texts_are_bytes, typed_expressions_have_values};
 pub use scalar::{Scalar, sums_fit_or_overflow};
 pub use table::{Table, absent_keys_have_no_value};
-pub use total::totals_go_on;
+pub use total::totals_continue;
 pub use typing::Types;
 pub use value::{Value, ValueType};

@@ -317,8 +317,8 @@ iter::start_iter-returns = Iter.iter::start_iter-returns
 pub iter::start_iter-returns-in_err-start_only-in-Iter : goal.iter::start_iter-returns-in_err-start_only-in-Iter
 iter::start_iter-returns-in_err-start_only-in-Iter = Iter.iter::start_iter-returns-in_err-start_only-in-Iter
 
-pub iter::start_iter-returns-in_err-go_on_if_new-in-Iter : goal.iter::start_iter-returns-in_err-go_on_if_new-in-Iter
-iter::start_iter-returns-in_err-go_on_if_new-in-Iter = Iter.iter::start_iter-returns-in_err-go_on_if_new-in-Iter
+pub iter::start_iter-returns-in_err-continue_if_new-in-Iter : goal.iter::start_iter-returns-in_err-continue_if_new-in-Iter
+iter::start_iter-returns-in_err-continue_if_new-in-Iter = Iter.iter::start_iter-returns-in_err-continue_if_new-in-Iter
 
 pub iter::step_iter-step_and_end-requires : goal.iter::step_iter-step_and_end-requires
 iter::step_iter-step_and_end-requires = Iter.iter::step_iter-step_and_end-requires
@@ -338,8 +338,8 @@ iter::step_iter-returns-in_err-step_and_end-in-Iter = Iter.iter::step_iter-retur
 pub iter::next_piece-start_only-requires : goal.iter::next_piece-start_only-requires
 iter::next_piece-start_only-requires = Iter.iter::next_piece-start_only-requires
 
-pub iter::next_piece-returns-clause-goes_on : goal.iter::next_piece-returns-clause-goes_on
-iter::next_piece-returns-clause-goes_on = Iter.iter::next_piece-returns-clause-goes_on
+pub iter::next_piece-returns-clause-continues : goal.iter::next_piece-returns-clause-continues
+iter::next_piece-returns-clause-continues = Iter.iter::next_piece-returns-clause-continues
 
 pub iter::next_piece-returns-in_err-start_only-clause-no_memory :
     goal.iter::next_piece-returns-in_err-start_only-clause-no_memory

@@ -3,5 +3,5 @@ use Rattle.ambiguity_check.proofs.laws.all_are_seen_after_an_empty_level.Goals a
 
 pub returns : goal.returns
 returns g c = λ items search level none.
-    level_over (g.G.Graph.begins c.args.graph.now) (g.G.Graph.goes_on c.args.graph.now)
+    level_over (g.G.Graph.begins c.args.graph.now) (g.G.Graph.continues c.args.graph.now)
     (g.G.Graph.meet c.args.graph.now) items search level none

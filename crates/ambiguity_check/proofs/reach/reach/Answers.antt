@@ -10,5 +10,5 @@ levels-preserved g c = (c.levels.invariant.0 + 1, c.advance.ensures.level _ c.le
 
 pub returns : goal.returns
 returns g c = rw c.into_seen.ensures (level_over (g.G.Graph.begins c.args.graph.now)
-    (g.G.Graph.goes_on c.args.graph.now) (g.G.Graph.meet c.args.graph.now) _ _
+    (g.G.Graph.continues c.args.graph.now) (g.G.Graph.meet c.args.graph.now) _ _
     c.levels.invariant.1 c.levels-test.ensures)

@@ -6,7 +6,7 @@ use Rattle.ambiguity_check.proofs.reach.reach.Given as goal
 
 abbrev pub invariant-levels : goal.invariant-levels
 invariant-levels g l = (items : ℕ)
-    × IsLevel (g.G.Graph.begins l.graph) (g.G.Graph.goes_on l.graph) (g.G.Graph.meet l.graph) items
+    × IsLevel (g.G.Graph.begins l.graph) (g.G.Graph.continues l.graph) (g.G.Graph.meet l.graph) items
     l.search
 
 -- the nodes that are left to be seen, and the latest

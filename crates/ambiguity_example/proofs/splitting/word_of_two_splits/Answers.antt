@@ -1,6 +1,6 @@
 use Rattle.std.proofs.Common.{ℕ, ◌+◌, [], ◌∷◌, ap, sym, ◌∙◌}
 use Rattle.ambiguity_check.specs.declared.graph.Phase.TheVariants.{Together, Parted}
-use Rattle.ambiguity_check.specs.Splits.{left_of, right_of, BeginsSplits, GoesOn, MeetIn}
+use Rattle.ambiguity_check.specs.Splits.{left_of, right_of, BeginsSplits, Continues, MeetIn}
 use Rattle.ambiguity_check.specs.Walks.{IsIn}
 use Rattle.ambiguity_example.proofs.Halved.{none_halved, walk_halved}
 use Rattle.ambiguity_example.proofs.MetItems.{all_meet_long, walk_meet}
@@ -22,7 +22,7 @@ example_of-requires-clause-meet c =
     (rw c.in-Some.is at c.in_ok-walk.ensures) in
     rw c.deref.ensures.value (walk_meet
     (BeginsSplits c.args.first.now.sets c.args.second.now.sets)
-    (GoesOn c.args.first.now.sets c.args.second.now.sets)
+    (Continues c.args.first.now.sets c.args.second.now.sets)
     (MeetIn c.in_ok-splits.splits.together.items c.in_ok-splits.splits.parted.items
     c.in_ok-splits.splits.rejoined.items) (IsIn c.ends_of-ends.result)
     (HasItem c.args.first.now.cells.layout.columns (left_of c.args.first.now.sets c.args.second.now.sets)

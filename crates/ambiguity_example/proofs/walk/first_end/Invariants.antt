@@ -10,12 +10,12 @@ use Rattle.ambiguity_example.proofs.walk.first_end.Given as goal
 -- the levels so far are known, and none of their nodes is an end
 abbrev pub invariant-levels : goal.invariant-levels
 invariant-levels g l = record {
-  level : IsLevel (g.G.Graph.begins l.graph) (g.G.Graph.goes_on l.graph) (g.G.Graph.meet l.graph)
+  level : IsLevel (g.G.Graph.begins l.graph) (g.G.Graph.continues l.graph) (g.G.Graph.meet l.graph)
       l.items l.search.value;
-  known : AreKnown (g.G.Graph.begins l.graph) (g.G.Graph.goes_on l.graph) (g.G.Graph.meet l.graph)
+  known : AreKnown (g.G.Graph.begins l.graph) (g.G.Graph.continues l.graph) (g.G.Graph.meet l.graph)
       l.items l.reached.items;
   none : (fewer : ℕ) → fewer < l.items → EndsAfter (g.G.Graph.begins l.graph)
-      (g.G.Graph.goes_on l.graph) (g.G.Graph.meet l.graph) (IsIn l.ends) fewer → ⊥;
+      (g.G.Graph.continues l.graph) (g.G.Graph.meet l.graph) (IsIn l.ends) fewer → ⊥;
 }
 
 -- the nodes that are left to be seen, and the latest

@@ -7,7 +7,7 @@ pub returns-in-Some : goal.returns-in-Some
 returns-in-Some g c =
     let first = rw c.in-Some.is at c.in_ok-end.ensures in
     let walk = c.in_ok-walk_to-in-Some.ensures in record {
-      walk = walk_to_as (g.G.Graph.begins c.args.graph.now) (g.G.Graph.goes_on c.args.graph.now)
+      walk = walk_to_as (g.G.Graph.begins c.args.graph.now) (g.G.Graph.continues c.args.graph.now)
           (g.G.Graph.meet c.args.graph.now) (λ node. node ≡ c.in-Some.end.node) (IsIn c.args.ends)
           (λ node same. subst (IsIn c.args.ends) (sym same) first.ended) _ walk.walk;
       few = walk.few;

@@ -13,7 +13,7 @@ use Rattle.eval_nodes.specs.declared.node.State.TheViews.{out-State, roll-State}
 use Rattle.eval_nodes.proofs.Same.{where_ok}
 use Rattle.eval_tree.specs.declared.hit.Hit.{Hit}
 use Rattle.eval_tree.specs.Lefts.{IsPut}
-use Rattle.eval_tree.specs.Operands.{CanEnd, EndsNumbers, GoesOn, HasEnded}
+use Rattle.eval_tree.specs.Operands.{CanEnd, EndsNumbers, Continues, HasEnded}
 use Rattle.eval_tree.proofs.Arms.{can_start_as, can_step_as, ended_as, live_as, number_hit, numbers_start_as, numbers_step_as, soundly_stepped_as, start_fails, started_as, started_from, step_fails, stepped_as, stepped_from, when_stepped}
 use Rattle.eval_tree.proofs.Elsewhere.{elsewhere, fresh_elsewhere}
 use Rattle.eval_tree.proofs.FoldsAllowed.{start_next, start_piece, step_piece, stepped_iter}
@@ -41,12 +41,12 @@ iter::start_iter-returns t c =
     let s = c.in-Iter in
     let first = number_hit _ _ _ c.ranges.number c.of_number-begun.ensures in
     let put = subst (λ (hit : Hit). IsPut c.is_live.result s.so_far
-    (record { inner = c.args.at; outer = hit.start; value = hit.value }) c.go_on_if_new.new.so_far)
-    first (rw s.is at c.in_ok-go_on_if_new-in-Iter.ensures.put) in
+    (record { inner = c.args.at; outer = hit.start; value = hit.value }) c.continue_if_new.new.so_far)
+    first (rw s.is at c.in_ok-continue_if_new-in-Iter.ensures.put) in
     λ fold. started_as _ _ _ _ _ _ c.args.at _ _ refl (ap holding_of s.is) refl
     (ap (λ (hit : Hit). Ok (Some hit)) first)
     (iter_starts (plain_of c.args.inner.now.shape) c.args.number fold (holding_of s.a.value.state)
-    (holding_of c.start_only.new.node.state) s.so_far c.go_on_if_new.new.so_far c.args.at
+    (holding_of c.start_only.new.node.state) s.so_far c.continue_if_new.new.so_far c.args.at
     c.in_ok-start_only-in-Iter.ensures.0 c.is_live.result
     (started_from _ _ (holding_of c.deref_mut.result.now.state) (holding_of s.a.value.state) _ c.args.at _ refl
     (search rules) c.in_ok-start_only-in-Iter.ensures.1)
@@ -61,10 +61,10 @@ iter::start_iter-returns-in_err-start_only-in-Iter t c =
     (piece_starts seen_of (plain_of c.args.inner.now.shape) c.args.number fold (holding_of s.a.value.state) s.so_far
     c.args.at free))))
 
-pub iter::start_iter-returns-in_err-go_on_if_new-in-Iter : goal.iter::start_iter-returns-in_err-go_on_if_new-in-Iter
-iter::start_iter-returns-in_err-go_on_if_new-in-Iter t c = λ fold.
+pub iter::start_iter-returns-in_err-continue_if_new-in-Iter : goal.iter::start_iter-returns-in_err-continue_if_new-in-Iter
+iter::start_iter-returns-in_err-continue_if_new-in-Iter t c = λ fold.
     start_fails _ _ _ _ _ c.args.at _ (search rules) refl refl
-    (λ free. false≢true (c.in_err-go_on_if_new-in-Iter.ensures.no_memory
+    (λ free. false≢true (c.in_err-continue_if_new-in-Iter.ensures.no_memory
     (subst (λ (hit : Hit). IsNoTable hit.value) (sym c.of_number-begun.ensures) tt)))
 
 pub iter::step_iter-step_and_end-requires : goal.iter::step_iter-step_and_end-requires
@@ -155,12 +155,12 @@ iter::step_iter-returns-in-Some t c = λ number.
     let same : next ≡ node = search rules in
     let ends = ended_as e s.so_far s.so_far piece.right _ _ refl c.in-Some.is piece.ended in
     when_stepped _ _ _ c.args.now c.args.item.now c.next_piece.result c.step_and_end.new.hit
-    (GoesOn seen_of f c.in-Some.found node c.keep.new.self c.args.now last c.next_piece.new.so_far)
+    (Continues seen_of f c.in-Some.found node c.keep.new.self c.args.now last c.next_piece.new.so_far)
     (λ on. stepped_as _ _ _ _ _ _ c.args.now c.args.item.now _ _ refl (ap holding_of s.is) refl (ap Ok c.in-Some.is)
     (iter_steps_some f number e a next last s.so_far c.keep.new.self c.next_piece.new.so_far c.args.now c.args.item.now
     piece.right on.begun c.in-Some.found _ piece.stepped ends (chain_kept t after) (rw s.is at c.keep.ensures.room)
     (started_from _ _ node next _ c.args.now _ refl same on.started) refl on.put))
-    c.next_piece.ensures.goes_on
+    c.next_piece.ensures.continues
     (λ free. let numbers = numbers_step_as _ _ _ _ c.args.now c.args.item.now refl (sym (ap holding_of s.is)) free in
     c.next_piece.ensures.no_memory (numbers_start_as _ _ _ _ c.args.now refl (sym same)
     (piece_begins seen_of f number e a next s.so_far c.args.now c.args.item.now piece.right numbers piece.stepped.sound))
@@ -202,15 +202,15 @@ iter::step_iter-returns-in_err-step_and_end-in-Iter t c =
 pub iter::next_piece-start_only-requires : goal.iter::next_piece-start_only-requires
 iter::next_piece-start_only-requires t c = (search rules, c.requires.can)
 
-pub iter::next_piece-returns-clause-goes_on : goal.iter::next_piece-returns-clause-goes_on
-iter::next_piece-returns-clause-goes_on t c =
-    where_ok c.go_on.result _ _ (λ done put. record {
+pub iter::next_piece-returns-clause-continues : goal.iter::next_piece-returns-clause-continues
+iter::next_piece-returns-clause-continues t c =
+    where_ok c.continue_from.result _ _ (λ done put. record {
       begun = c.in_ok-start_only.ensures.0;
       started = c.in_ok-start_only.ensures.1;
       put = subst (λ (live : Bool). IsPut live c.args.so_far.now
-          (record { inner = c.args.at; outer = c.args.hit.now.start; value = c.args.hit.now.value }) c.go_on.new.so_far)
+          (record { inner = c.args.at; outer = c.args.hit.now.start; value = c.args.hit.now.value }) c.continue_from.new.so_far)
           c.is_live.ensures.read put;
-    }) c.go_on.ensures.put
+    }) c.continue_from.ensures.put
 
 pub iter::next_piece-returns-in_err-start_only-clause-no_memory : goal.iter::next_piece-returns-in_err-start_only-clause-no_memory
 iter::next_piece-returns-in_err-start_only-clause-no_memory t c = λ free none.

@@ -13,7 +13,7 @@ use Rattle.sqre_run.specs.Drilling.{Takes, drilled_lines}
 use Rattle.sqre_run.specs.Meanings.{IsMeaning, Meaning}
 use Rattle.sqre_run.specs.Output.{value_after}
 use Rattle.sqre_run.specs.Sessions.{IsAfter}
-use Rattle.sqre_run.proofs.Drills.{IsTally, drilled_lines-next, goes_on-next, tally_next, reported_of_bytes}
+use Rattle.sqre_run.proofs.Drills.{IsTally, drilled_lines-next, continues-next, tally_next, reported_of_bytes}
 use Rattle.sqre_run.proofs.Taking.{answer_after}
 use Rattle.sqre_run.proofs.drilling.drill.Goals as goal
 
@@ -41,7 +41,7 @@ items-preserved g c =
     let count = c.items.counter in
     let state = c.items.drill.state in
     let kept = c.items.invariant in
-    let next = drilled_lines-next layout count state seed kept.goes_on in
+    let next = drilled_lines-next layout count state seed kept.continues in
     let took = subst (λ (l : Layout). Takes f.follows (text (line_from l.columns state)) c.items.session c.take_next.new.session)
     kept.same c.in_ok-take_next.ensures.takes
     in
@@ -60,7 +60,7 @@ items-preserved g c =
       ready = c.in_ok-take_next.ensures.ready;
       position = omega (arith, c.in_ok-take_next.ensures.position, kept.position);
       same = ap (λ d. d.layout) c.in_ok-take_next.ensures.drill ∙ kept.same;
-      goes_on = goes_on-next layout.columns count state c.take_next.new.drill.state seed kept.goes_on
+      continues = continues-next layout.columns count state c.take_next.new.drill.state seed kept.continues
           (λ n. ap (λ (s : ℕ). line_from layout.columns state ∷ lines_from layout.columns n s) (sym later));
       tally = λ meaning means.
           let is = answer_after f.follows f.query on (drilled_lines layout (count + 1) seed) c.take_next.new.session answer

@@ -19,7 +19,7 @@ invariant-items g l =
       ready : IsReady f.query f.columns f.lost f.sound l.session;
       position : f.position l.session.follower ≤ l.counter + 1;
       same : l.drill.layout ≡ layout;
-      goes_on : (n : ℕ) → lines_from layout.columns (l.counter + n) l.fn.seed
+      continues : (n : ℕ) → lines_from layout.columns (l.counter + n) l.fn.seed
           ≡ lines_from layout.columns l.counter l.fn.seed ++ lines_from layout.columns n l.drill.state;
       tally : (meaning : Meaning) → IsMeaning (monitor_of l.fn.checked) meaning
           → IsTally l.counter l.defined (values_of meaning (drilled_lines layout l.counter l.fn.seed))

@@ -1,13 +1,13 @@
 use Rattle.std.proofs.Common.{Ok, Err, ap, ◌∙◌, refl}
 use Rattle.sqre_run.proofs.Takes.{TakesLine-whole, TakesLine-long}
-use Rattle.sqre_run.proofs.Turns.{Handed-goes_on, Handed-stops, Ended-failed, Ended-at_limit, Ended-at_limit_held, Ended-done, Ended-done_held, Ended-or_held}
+use Rattle.sqre_run.proofs.Turns.{Handed-continues, Handed-stops, Ended-failed, Ended-at_limit, Ended-at_limit_held, Ended-done, Ended-done_held, Ended-or_held}
 use Rattle.sqre_run.proofs.run.turn.Goals as goal
 
-pub returns-in-Ok-Whole-clause-goes_on : goal.returns-in-Ok-Whole-clause-goes_on
-returns-in-Ok-Whole-clause-goes_on g c =
+pub returns-in-Ok-Whole-clause-continues : goal.returns-in-Ok-Whole-clause-continues
+returns-in-Ok-Whole-clause-continues g c =
     let is = c.in-Ok-Whole.is ∙ ap Ok c.in-Ok-Whole.field-0-is in
     let takes = TakesLine-whole c.next.follows.holds-at-none _ is in
-    Handed-goes_on _ _ _ _ _ _ _ _ _ _ takes c.line_text.ensures.replies c.hand_over.ensures.handed
+    Handed-continues _ _ _ _ _ _ _ _ _ _ takes c.line_text.ensures.replies c.hand_over.ensures.handed
 
 pub returns-in-Ok-Whole-clause-stops : goal.returns-in-Ok-Whole-clause-stops
 returns-in-Ok-Whole-clause-stops g c =
@@ -15,11 +15,11 @@ returns-in-Ok-Whole-clause-stops g c =
     let takes = TakesLine-whole c.next.follows.holds-at-none _ is in
     Handed-stops _ _ _ _ _ _ _ _ _ _ takes c.line_text.ensures.replies c.hand_over.ensures.handed
 
-pub returns-in-Ok-Long-clause-goes_on : goal.returns-in-Ok-Long-clause-goes_on
-returns-in-Ok-Long-clause-goes_on g c =
+pub returns-in-Ok-Long-clause-continues : goal.returns-in-Ok-Long-clause-continues
+returns-in-Ok-Long-clause-continues g c =
     let is = c.in-Ok-Long.is ∙ ap Ok c.in-Ok-Long.field-0-is in
     let takes = TakesLine-long c.next.follows.holds-at-none is in
-    Handed-goes_on _ _ _ _ _ _ _ _ _ _ takes c.long_text.ensures.replies c.hand_over-in-Ok-Long.ensures.handed
+    Handed-continues _ _ _ _ _ _ _ _ _ _ takes c.long_text.ensures.replies c.hand_over-in-Ok-Long.ensures.handed
 
 pub returns-in-Ok-Long-clause-stops : goal.returns-in-Ok-Long-clause-stops
 returns-in-Ok-Long-clause-stops g c =

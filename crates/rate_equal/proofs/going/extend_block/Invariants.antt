@@ -1,6 +1,6 @@
 use Rattle.rate_equal.specs.PlaceSets.{IsIn}
 use Rattle.rate_equal.proofs.Coming.{Comes, IsAlong}
-use Rattle.rate_equal.proofs.going.go_on_block.Given as goal
+use Rattle.rate_equal.proofs.going.extend_block.Given as goal
 
 abbrev pub invariant-places : goal.invariant-places
 invariant-places l = IsAlong l.letters l.ways l.initial.pairs.keys l.initial.targets

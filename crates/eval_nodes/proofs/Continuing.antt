@@ -15,17 +15,17 @@ use Rattle.eval_nodes.proofs.Chains.{crossed}
 use Rattle.eval_nodes.proofs.Pieces.{split_piece}
 
 -- a right piece goes on from a position behind a left piece of the start
-abbrev pub GoesOnAt : List Column → Qre → Qre → Word → List ℕ → ℕ → ℕ → Type 0
-GoesOnAt columns f g word starts start at = (piece : Word) × Contains starts start × IsPiece word start piece at
+abbrev pub ContinuesAt : List Column → Qre → Qre → Word → List ℕ → ℕ → ℕ → Type 0
+ContinuesAt columns f g word starts start at = (piece : Word) × Contains starts start × IsPiece word start piece at
     × In (rate_of f) piece × HasExtension columns (rate_of g) (drop at word)
 
-abbrev pub GoesOnRight : List Column → Qre → Qre → Word → List ℕ → ℕ → Type 0
-GoesOnRight columns f g word starts start = (at : ℕ) × GoesOnAt columns f g word starts start at
+abbrev pub ContinuesRight : List Column → Qre → Qre → Word → List ℕ → ℕ → Type 0
+ContinuesRight columns f g word starts start = (at : ℕ) × ContinuesAt columns f g word starts start at
 
 -- a split goes on in its left piece or in its right one
 pub live_split : (columns : List Column) (f g : Qre) (e : Expression) (word : Word) (starts : List ℕ) (start : ℕ)
     → IsWordOf columns word → ArePositions word starts → IsLive columns (split f g e) word starts start
-    → IsLive columns f word starts start ⊎ GoesOnRight columns f g word starts start
+    → IsLive columns f word starts start ⊎ ContinuesRight columns f g word starts start
 live_split columns f g e word starts start is positions (there, (item, more, more_is, (u, v, whole, in_f, in_g))) =
     elim (comparable (drop start word) (item ∷ more) u v whole) [
       | inl (t, longer, rest) ↦ left t longer rest
@@ -44,7 +44,7 @@ live_split columns f g e word starts start is positions (there, (item, more, mor
     ]
   where
     left : (t : Word) → u ≡ drop start word ++ t → item ∷ more ≡ t ++ v
-        → IsLive columns f word starts start ⊎ GoesOnRight columns f g word starts start
+        → IsLive columns f word starts start ⊎ ContinuesRight columns f g word starts start
     left [] longer rest =
         let same : u ≡ drop start word = longer ∙ append-nil (drop start word) in
         let cut = split_piece word start u [] (positions start there) (sym same ∙ sym (append-nil u)) in
@@ -65,11 +65,11 @@ live_split columns f g e word starts start is positions (there, (item, more, mor
 -- an iter goes on in the piece behind some that are ended
 pub live_iter : (columns : List Column) (f : Qre) (number : ℤ) (e : Expression) (word : Word) (starts : List ℕ)
     (start : ℕ) → ArePositions word starts → IsLive columns (iter f number e) word starts start
-    → GoesOnRight columns (iter f number e) f word starts start
+    → ContinuesRight columns (iter f number e) f word starts start
 live_iter columns f number e word starts start positions (there, (item, more, more_is, (pieces, whole, each))) =
-    let (first, second, same, in_pieces, goes_on) =
+    let (first, second, same, in_pieces, continues) =
     crossed columns (rate_of f) pieces (drop start word) item more more_is whole each in
     let cut = split_piece word start first second (positions start there) same in (
       start + length first,
-      (first, there, cut.0, in_pieces, subst (HasExtension columns (rate_of f)) (sym cut.1) goes_on),
+      (first, there, cut.0, in_pieces, subst (HasExtension columns (rate_of f)) (sym cut.1) continues),
     )

@@ -4,17 +4,17 @@ use Rattle.std.proofs.lemmas.Result.{err_from_is_err_and}
 use Rattle.rate_equal.proofs.Added.{too_many_more}
 use Rattle.rate_equal.proofs.Coming.{letters_next}
 use Rattle.rate_equal.proofs.Stepping.{way_ended}
-use Rattle.rate_equal.proofs.going.go_on_each.Goals as goal
+use Rattle.rate_equal.proofs.going.extend_each.Goals as goal
 
-pub returns-in_err-go_on_block-clause-too_many : goal.returns-in_err-go_on_block-clause-too_many
-returns-in_err-go_on_block-clause-too_many c =
+pub returns-in_err-extend_block-clause-too_many : goal.returns-in_err-extend_block-clause-too_many
+returns-in_err-extend_block-clause-too_many c =
     let err = err_from_is_err_and c.from_residual.result c.from_residual.ensures.1 in
     rw (err.1, err.2) (λ is. too_many_more _ _ _ _ _ _ _ c.parts.invariant.added (λ pair of. of)
-    (c.in_err-go_on_block.ensures.too_many is))
+    (c.in_err-extend_block.ensures.too_many is))
 
 pub parts-preserved : goal.parts-preserved
 parts-preserved c = letters_next _ _ _ _ _ _ _ _ _ _ _ c.parts.invariant c.block.ensures
-    c.in_ok-go_on_block.ensures.added c.in_ok-go_on_block.ensures.whole
+    c.in_ok-extend_block.ensures.added c.in_ok-extend_block.ensures.whole
 
 pub returns-clause-whole : goal.returns-clause-whole
 returns-clause-whole c = λ place letter at found.

@@ -1,6 +1,6 @@
 use Rattle.rate_equal.specs.PlaceSets.{HasPlace}
 use Rattle.rate_equal.proofs.Coming.{Comes, IsAlong}
-use Rattle.rate_equal.proofs.going.go_on.Given as goal
+use Rattle.rate_equal.proofs.going.extend.Given as goal
 
 abbrev pub invariant-looks : goal.invariant-looks
 invariant-looks l = IsAlong l.alphabet.letters.items l.ways l.initial.pairs.keys l.initial.targets

@@ -1,7 +1,7 @@
 use Rattle.std.proofs.Common.{◌≤◌, ◌/◌}
 use Rattle.rate_equal.specs.PlaceSets.{HasPlace}
 use Rattle.rate_equal.proofs.Coming.{Comes, IsAlong}
-use Rattle.rate_equal.proofs.going.go_on_each.Given as goal
+use Rattle.rate_equal.proofs.going.extend_each.Given as goal
 
 abbrev pub invariant-parts : goal.invariant-parts
 invariant-parts l = IsAlong l.letters l.ways l.initial.pairs.keys l.initial.targets

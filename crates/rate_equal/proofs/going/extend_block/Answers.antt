@@ -4,8 +4,8 @@ use Rattle.std.proofs.lemmas.Result.{err_from_is_err_and}
 use Rattle.rate_equal.proofs.Added.{too_many_more}
 use Rattle.rate_equal.proofs.Coming.{is_target, letter_next, letter_none}
 use Rattle.rate_equal.proofs.Lettering.{letter_at, no_letter}
-use Rattle.rate_equal.proofs.going.go_on_block.Goals as goal
-use Rattle.rate_equal.proofs.going.go_on_block.Goals.{then-place-letters+in_ok-add, else-place-letters}
+use Rattle.rate_equal.proofs.going.extend_block.Goals as goal
+use Rattle.rate_equal.proofs.going.extend_block.Goals.{then-place-letters+in_ok-add, else-place-letters}
 
 pub returns-in_err-add-clause-too_many : goal.returns-in_err-add-clause-too_many
 returns-in_err-add-clause-too_many c =
