@@ -99,7 +99,7 @@ module _ {R : Type 0} (seen : R → Seen R) where
       (apart_right columns f g e word all (ends ++ at ∷ []) clear is apart
       (λ k there. (after k).0 (subst (λ n. Contains (ends ++ n ∷ []) k) end there))) in
       let inner : left.start ≡ at = x.hit.0 in
-      let handed_on = handed seen columns f g e clear word all ends b' held new at left.value live is
+      let passed_on = handed seen columns f g e clear word all ends b' held new at left.value live is
       (λ start there. elim (Contains-push_cases starts at start there) [
         | inl old ↦ positions start old
         | inr same ↦ subst (λ k. k ≤ length word) same inside
@@ -113,6 +113,6 @@ module _ {R : Type 0} (seen : R → Seen R) where
       (subst (λ s. IsPut live held (record { inner = at; outer = s; value = left.value }) new) inner put))
       room in
       record {
-        after = (x.after, handed_on.0, handed_on.1, handed_on.2);
+        after = (x.after, passed_on.0, passed_on.1, passed_on.2);
         hit = joined_first f g e at left.start left.value right hit inner x.hit.1 y.hit joined;
       }

@@ -155,7 +155,7 @@ module _ {R : Type 0} (seen : R → Seen R) where
       last
       (apart_right columns f g e longer starts (ends ++ now ∷ []) clear is apart
       (λ k there. (after k).0 (subst (λ n. Contains (ends ++ n ∷ []) k) last there))) in
-      let handed_on = handed seen columns f g e clear longer starts ends b'' kept new left.start left.value live
+      let passed_on = handed seen columns f g e clear longer starts ends b'' kept new left.start left.value live
       is all apart before
       (subst AreDistinct (sym keeps) (AreDistinct-live held.entries (elsewhere now (live_of g b')) rep.2.distinct))
       (subst (AreWaitingBefore (Den f) (HasExtension columns (rate_of g)) longer starts) (sym keeps) waits)
@@ -165,7 +165,7 @@ module _ {R : Type 0} (seen : R → Seen R) where
       (subst (λ n. IsPut live kept (record { inner = n; outer = left.start; value = left.value }) new) last put)
       same_room in
       record {
-        after = (x.after, handed_on.0, handed_on.1, handed_on.2);
+        after = (x.after, passed_on.0, passed_on.1, passed_on.2);
         hit = either_end f g e longer starts hit second_hit all
             (ended_before columns f g e clear word item starts ends held.entries is reached rep.2 right hit
             y.hit ended before)

@@ -22,7 +22,7 @@ pub fn explain<Q: Source, W: Sink>(alloc: Global, name: &str, query: &mut Q, out
         (result ≡ Status.QueryFault) }
     ensures sink_faults { FailsBy (W.faults out.old) (W.faults out.new)
         (result ≡ Status.SinkFault) }
-    ensures handed_on { W.held out.old ≡ 0 → (result ≡ Status.SinkFault → ⊥)
+    ensures flushed { W.held out.old ≡ 0 → (result ≡ Status.SinkFault → ⊥)
         → W.held out.new ≡ 0 }
 {
     match read_to_limit(alloc, query, MAX_READ) {
@@ -37,7 +37,7 @@ fn explain_text<W: Sink>(alloc: Global, name: &str, text: &[u8], out: &mut W) ->
     ensures reported { Reported name.now text.now (W.taken out.old) (W.taken out.new) result }
     ensures faults { FailsBy (W.faults out.old) (W.faults out.new) (result ≡ Status.SinkFault) }
     ensures read { result ≢ Status.QueryFault }
-    ensures handed_on { W.held out.old ≡ 0 → (result ≡ Status.SinkFault → ⊥)
+    ensures flushed { W.held out.old ≡ 0 → (result ≡ Status.SinkFault → ⊥)
         → W.held out.new ≡ 0 }
 {
     match explanation_of(alloc, name, text) {
@@ -55,7 +55,7 @@ fn hand_over<W: Sink>(bytes: &[u8], out: &mut W) -> Result<(), Failed>
     ensures written { MatchResult result
         (λ _. Appends (W.taken out.old) (W.taken out.new) bytes.now)
         (λ _. AppendsSome (W.taken out.old) (W.taken out.new) bytes.now) }
-    ensures handed_on { OnOk result (W.held out.new ≡ 0) }
+    ensures flushed { OnOk result (W.held out.new ≡ 0) }
     ensures cause { FailsByFault (W.faults out.old) (W.faults out.new) result }
 {
     write_all(out, bytes)?;

@@ -13,5 +13,5 @@ abbrev pub HoldsNoMore : {E : Type 0} → ℕ → ℕ → Result ℕ E → Type 
 HoldsNoMore old new result = MatchResult result (λ n. new ≤ old + n) (λ _. new ≤ old)
 
 -- after a flush nothing waits; if it fails, no more waits than before
-abbrev pub HandsOn : {T E : Type 0} → ℕ → ℕ → Result T E → Type 0
-HandsOn old new result = MatchResult result (λ _. new ≡ 0) (λ _. new ≤ old)
+abbrev pub Flushes : {T E : Type 0} → ℕ → ℕ → Result T E → Type 0
+Flushes old new result = MatchResult result (λ _. new ≡ 0) (λ _. new ≤ old)

@@ -4,7 +4,7 @@ ghost use Rattle.std.specs.Io.{WritesAtMost};
 ghost use Rattle.std.specs.Io.KnownBytes.{Keeps, WriteAppends, append_known};
 ghost use Rattle.io_edge.specs.Counts.{FailsByFault};
 ghost use Rattle.io_edge.specs.Limits.{max_held};
-ghost use Rattle.io_edge.specs.Written.{HandsOn, HoldsNoMore};
+ghost use Rattle.io_edge.specs.Written.{Flushes, HoldsNoMore};
 
 use crate::Failed;
 use crate::system::write_once;
@@ -60,14 +60,14 @@ impl HeldBytes {
     }
 
     /// Flushes all bytes in their order. After a fault, those that were not written are still held.
-    pub(crate) fn hand_on<O: Write>(
+    pub(crate) fn flush_all<O: Write>(
         &mut self,
         output: &mut O,
         faults: &mut u64,
     ) -> Result<(), Failed>
         ensures bytes { Keeps (append_known (O.contents output.old) self.old)
             (append_known (O.contents output.new) self.new) }
-        ensures held { HandsOn (length self.old) (length self.new) result }
+        ensures held { Flushes (length self.old) (length self.new) result }
         ensures cause { FailsByFault faults.old faults.new result }
     {
         'pieces: while !self.bytes.is_empty() {
@@ -93,7 +93,7 @@ impl HeldBytes {
         if count <= MAX_HELD - self.bytes.len() {
             return Ok(());
         }
-        self.hand_on(output, faults)
+        self.flush_all(output, faults)
     }
 
     fn hold(&mut self, bytes: &[u8]) -> usize

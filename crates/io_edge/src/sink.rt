@@ -3,7 +3,7 @@ ghost use Rattle.std.specs.Prelude.{◌≡◌, ◌<◌, ◌≤◌, ◌+◌, ℕ,
 ghost use Rattle.std.specs.Io.{WritesAtMost};
 ghost use Rattle.std.specs.Io.KnownBytes.{WriteAppends, Appends};
 ghost use Rattle.io_edge.specs.Counts.{FailsByFault};
-ghost use Rattle.io_edge.specs.Written.{AppendsSome, HandsOn, HoldsNoMore};
+ghost use Rattle.io_edge.specs.Written.{AppendsSome, Flushes, HoldsNoMore};
 
 use crate::Failed;
 
@@ -29,7 +29,7 @@ pub trait Sink {
     /// Flushes all bytes that it took.
     fn flush(&mut self) -> Result<(), Failed>
         ensures taken { taken self.new ≡ taken self.old }
-        ensures held { HandsOn (held self.old) (held self.new) result }
+        ensures held { Flushes (held self.old) (held self.new) result }
         ensures cause { FailsByFault (faults self.old) (faults self.new) result };
 }
 

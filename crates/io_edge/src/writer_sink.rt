@@ -45,6 +45,6 @@ impl<O: Output + Drop> Sink for WriterSink<O> {
     }
 
     fn flush(&mut self) -> Result<(), Failed> {
-        self.held.hand_on(&mut self.output, &mut self.faults)
+        self.held.flush_all(&mut self.output, &mut self.faults)
     }
 }

@@ -42,7 +42,7 @@ pub fn sqre<Q: Source, S: Source, W: Sink>(
         × EndsItems (command_of (map string_bytes words.now)) (S.ends items.old) (S.ends items.new) }
     ensures first_end { ReadsToFirstEnd (command_of (map string_bytes words.now)) result
         (S.ends items.old) (S.ends items.new) }
-    ensures handed_on { W.held out.old ≡ 0 → (result ≡ Status.SinkFault → ⊥)
+    ensures flushed { W.held out.old ≡ 0 → (result ≡ Status.SinkFault → ⊥)
         → W.held out.new ≡ 0 }
     ensures outcome { IfSome (Q.left query.old) (λ text. let at = outside S.left S.ends W.taken in
         OutcomeOf (command_of (map string_bytes words.now)) text result

@@ -34,7 +34,7 @@ pub fn carry_out<S: Source, W: Sink>(
     ensures carried { let at = outside S.left S.ends W.taken in
         Carried command (monitor_of checked.now) result (at items.old out.old) (at items.new out.new) }
     ensures items { LeavesItems (Some command) items.old items.new }
-    ensures handed_on { W.held out.old ≡ 0 → (result ≡ Status.SinkFault → ⊥)
+    ensures flushed { W.held out.old ≡ 0 → (result ≡ Status.SinkFault → ⊥)
         → W.held out.new ≡ 0 }
     ensures item_faults { FailsBy (S.faults items.old) (S.faults items.new)
         (result ≡ Status.ItemFault) }

@@ -13,7 +13,7 @@ use std::alloc::AllocError;
 #[inline(always)]
 pub fn hand_over<W: Sink>(reply: Result<&[u8], AllocError>, out: &mut W) -> Option<Status>
     ensures handed { HandedOver result reply.entry (W.taken out.old) (W.taken out.new) }
-    ensures handed_on { IfSome result (λ status.
+    ensures flushed { IfSome result (λ status.
         (status ≡ Status.SinkFault → ⊥) → W.held out.new ≡ 0) }
     ensures sink_faults { FailsBy (W.faults out.old) (W.faults out.new)
         (result ≡ Some Status.SinkFault) }
@@ -30,7 +30,7 @@ pub fn hand_over<W: Sink>(reply: Result<&[u8], AllocError>, out: &mut W) -> Opti
 /// Writes the one line of a call and flushes it, or reports why it cannot.
 pub fn report<W: Sink>(line: Result<Bytes, AllocError>, out: &mut W) -> Status
     ensures reported { Reported result line (W.taken out.old) (W.taken out.new) }
-    ensures handed_on { (result ≡ Status.SinkFault → ⊥) → W.held out.new ≡ 0 }
+    ensures flushed { (result ≡ Status.SinkFault → ⊥) → W.held out.new ≡ 0 }
     ensures sink_faults { FailsBy (W.faults out.old) (W.faults out.new)
         (result ≡ Status.SinkFault) }
 {
@@ -48,7 +48,7 @@ pub fn end<W: Sink>(status: Status, out: &mut W) -> Status
     requires no_fault { status ≡ Status.SinkFault → ⊥ }
     ensures ends { (result ≡ status) ⊎ (result ≡ Status.SinkFault) }
     ensures taken { W.taken out.new ≡ W.taken out.old }
-    ensures handed_on { (result ≡ Status.SinkFault → ⊥) → W.held out.new ≡ 0 }
+    ensures flushed { (result ≡ Status.SinkFault → ⊥) → W.held out.new ≡ 0 }
     ensures sink_faults { FailsBy (W.faults out.old) (W.faults out.new)
         (result ≡ Status.SinkFault) }
 {
@@ -60,7 +60,7 @@ pub fn end<W: Sink>(status: Status, out: &mut W) -> Status
 
 /// Flushes the sink if a read is needed for the next line.
 #[inline(always)]
-pub fn hand_on_before_read<W: Sink>(lines: &Lines, out: &mut W) -> Result<(), Failed>
+pub fn flush_before_read<W: Sink>(lines: &Lines, out: &mut W) -> Result<(), Failed>
     ensures calm { OnOk result (IsQuiet lines.now ⊎ (W.held out.new ≡ 0)) }
     ensures taken { W.taken out.new ≡ W.taken out.old }
     ensures cause { FailsByFault (W.faults out.old) (W.faults out.new) result }

@@ -12,7 +12,7 @@ use std::alloc::AllocError;
 /// Writes the lines of a refusal and flushes them. Out of memory for them, it writes nothing.
 pub fn refuse<W: Sink>(lines: Result<Bytes, AllocError>, out: &mut W) -> Status
     ensures refuses { Refuses result lines (W.taken out.old) (W.taken out.new) }
-    ensures handed_on { W.held out.old ≡ 0 → (result ≡ Status.SinkFault → ⊥)
+    ensures flushed { W.held out.old ≡ 0 → (result ≡ Status.SinkFault → ⊥)
         → W.held out.new ≡ 0 }
     ensures cause { FailsBy (W.faults out.old) (W.faults out.new) (result ≡ Status.SinkFault) }
 {

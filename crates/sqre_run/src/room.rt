@@ -14,19 +14,19 @@ use std::alloc::{AllocError, Global};
 #[derive(Drop)]
 struct RoomSink<const ROOM: usize> {
     bytes: Vec<u8>,
-    handed_on: usize,
+    flushed: usize,
     faults: u64,
-    ghost room: { handed_on ≤ ROOM },
-    ghost within: { handed_on ≤ vec_len bytes },
+    ghost room: { flushed ≤ ROOM },
+    ghost within: { flushed ≤ vec_len bytes },
 }
 
 impl<const ROOM: usize> RoomSink<ROOM> {
     fn new(alloc: Global) -> Self
-        ensures { (result.bytes.items ≡ []) × (result.handed_on ≡ 0) }
+        ensures { (result.bytes.items ≡ []) × (result.flushed ≡ 0) }
     {
         RoomSink {
             bytes: Vec::new(alloc),
-            handed_on: 0,
+            flushed: 0,
             faults: 0,
         }
     }
@@ -35,7 +35,7 @@ impl<const ROOM: usize> RoomSink<ROOM> {
 impl<const ROOM: usize> Sink for RoomSink<ROOM> {
     ghost taken = { λ s. Some s.bytes.items };
 
-    ghost held = { λ s. vec_len s.bytes - s.handed_on };
+    ghost held = { λ s. vec_len s.bytes - s.flushed };
 
     ghost faults = { λ s. s.faults };
 
@@ -57,7 +57,7 @@ impl<const ROOM: usize> Sink for RoomSink<ROOM> {
             self.faults = self.faults.saturating_add(1);
             return Err(Failed);
         }
-        self.handed_on = self.bytes.len();
+        self.flushed = self.bytes.len();
         Ok(())
     }
 }

@@ -11,7 +11,7 @@ ghost use Rattle.sqre_run.specs.Running.{Running};
 ghost use Rattle.sqre_run.specs.Sessions.{IsReady};
 
 use crate::Status;
-use crate::handing::{end, hand_on_before_read, hand_over};
+use crate::handing::{end, flush_before_read, hand_over};
 use crate::line_texts::{line_text, long_text};
 use crate::session::Session;
 use io_edge::{Failed, Line, LineStop, Lines, Sink, Source};
@@ -32,7 +32,7 @@ pub fn run<F: Follower + Drop, S: Source, W: Sink>(
     requires columns { F.columns follower ≡ checked.now.layout.columns }
     ensures ended { let at = outside S.left S.ends W.taken in
         Ended (monitor_of checked.now) result (at items.old out.old) (at items.new out.new) }
-    ensures handed_on { W.held out.old ≡ 0 → (result ≡ Status.SinkFault → ⊥)
+    ensures flushed { W.held out.old ≡ 0 → (result ≡ Status.SinkFault → ⊥)
         → W.held out.new ≡ 0 }
     ensures item_faults { FailsBy (S.faults items.old) (S.faults items.new)
         (result ≡ Status.ItemFault) }
@@ -46,7 +46,7 @@ pub fn run<F: Follower + Drop, S: Source, W: Sink>(
     let mut session = Session::begin(checked, follower);
     let mut buffer = Vec::new(alloc);
     'lines: loop {
-        let ended = match hand_on_before_read(&lines, out) {
+        let ended = match flush_before_read(&lines, out) {
             Ok(()) => turn(alloc, &mut lines, &mut session, &mut buffer, items, out),
             Err(Failed) => Some(Status::SinkFault),
         };
@@ -69,7 +69,7 @@ fn turn<F: Follower, S: Source, W: Sink>(
     requires count { F.position session.old.follower ≤ lines.old.answered }
 
     // Before a read, nothing is held back.
-    requires handed_on { IsQuiet lines.old ⊎ (W.held out.old ≡ 0) }
+    requires flushed { IsQuiet lines.old ⊎ (W.held out.old ≡ 0) }
     ensures continues { let at = outside S.left S.ends W.taken in
         IfNone result ((on : OnStream) (before : Outside)
         → Running F.follows on before (at items.old out.old) lines.old session.old
@@ -78,7 +78,7 @@ fn turn<F: Follower, S: Source, W: Sink>(
         IfSome result (λ status. (on : OnStream) (before : Outside)
         → Running F.follows on before (at items.old out.old) lines.old session.old
         → Ended (monitor_of on) status before (at items.new out.new)) }
-    ensures handed_on { IfSome result (λ status.
+    ensures flushed { IfSome result (λ status.
         (status ≡ Status.SinkFault → ⊥) → W.held out.new ≡ 0) }
     ensures ready { IfNone result (IsReady F.query F.columns F.lost F.sound session.new
         × (F.position session.new.follower ≤ lines.new.answered)) }

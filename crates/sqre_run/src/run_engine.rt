@@ -23,7 +23,7 @@ pub fn run_query<S: Source, W: Sink>(
 ) -> Status
     ensures ended { let at = outside S.left S.ends W.taken in
         Ended (monitor_of checked.now) result (at items.old out.old) (at items.new out.new) }
-    ensures handed_on { W.held out.old ≡ 0 → (result ≡ Status.SinkFault → ⊥)
+    ensures flushed { W.held out.old ≡ 0 → (result ≡ Status.SinkFault → ⊥)
         → W.held out.new ≡ 0 }
     ensures item_faults { FailsBy (S.faults items.old) (S.faults items.new)
         (result ≡ Status.ItemFault) }
@@ -45,7 +45,7 @@ fn run_item_by_item<S: Source, W: Sink>(
 ) -> Status
     ensures ended { let at = outside S.left S.ends W.taken in
         Ended (monitor_of checked.now) result (at items.old out.old) (at items.new out.new) }
-    ensures handed_on { W.held out.old ≡ 0 → (result ≡ Status.SinkFault → ⊥)
+    ensures flushed { W.held out.old ≡ 0 → (result ≡ Status.SinkFault → ⊥)
         → W.held out.new ≡ 0 }
     ensures item_faults { FailsBy (S.faults items.old) (S.faults items.new)
         (result ≡ Status.ItemFault) }
@@ -67,7 +67,7 @@ fn run_slow<S: Source, W: Sink>(
 ) -> Status
     ensures ended { let at = outside S.left S.ends W.taken in
         Ended (monitor_of checked.now) result (at items.old out.old) (at items.new out.new) }
-    ensures handed_on { W.held out.old ≡ 0 → (result ≡ Status.SinkFault → ⊥)
+    ensures flushed { W.held out.old ≡ 0 → (result ≡ Status.SinkFault → ⊥)
         → W.held out.new ≡ 0 }
     ensures item_faults { FailsBy (S.faults items.old) (S.faults items.new)
         (result ≡ Status.ItemFault) }

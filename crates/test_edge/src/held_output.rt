@@ -71,7 +71,7 @@ fn has_taken(rt: &impl Abort, output: &ShortOutput, wanted: &[u8]) -> Result<(),
 }
 
 // Five bytes wait for a flush, and two more come after it.
-fn are_handed_on(rt: &impl Abort, alloc: Global, output: &ShortOutput) -> Result<(), AllocError> {
+fn are_flushed(rt: &impl Abort, alloc: Global, output: &ShortOutput) -> Result<(), AllocError> {
     let mut sink = WriterSink::new(io::writer(output), alloc)?;
     same(rt, sink.write(b"12\n34"), Ok(5));
     same(rt, output.writes.get(), 0);
@@ -80,10 +80,10 @@ fn are_handed_on(rt: &impl Abort, alloc: Global, output: &ShortOutput) -> Result
 }
 
 #[test]
-fn bytes_are_handed_on_once_and_in_order(rt: HostRuntime) -> Result<(), Fail> {
+fn bytes_are_flushed_once_and_in_order(rt: HostRuntime) -> Result<(), Fail> {
     for most in 1..9 {
         let output = Box::new(rt.alloc(), short_output(rt.alloc(), most))?;
-        are_handed_on(&rt, rt.alloc(), &output)?;
+        are_flushed(&rt, rt.alloc(), &output)?;
         has_taken(&rt, &output, b"12\n34\n5")?;
     }
     Ok(())

@@ -17,14 +17,14 @@ const SEEN: usize = 8;
 #[derive(Drop)]
 struct HoldingSink<'a> {
     taken: usize,
-    handed_on: usize,
+    flushed: usize,
     shown: &'a Cell<usize>,
 }
 
 impl Sink for HoldingSink<'_> {
     ghost taken = { λ _. None };
 
-    ghost held = { λ s. s.taken - s.handed_on };
+    ghost held = { λ s. s.taken - s.flushed };
 
     ghost faults = { λ _. 0 };
 
@@ -36,8 +36,8 @@ impl Sink for HoldingSink<'_> {
     }
 
     fn flush(&mut self) -> Result<(), Failed> {
-        self.handed_on = self.taken;
-        self.shown.set(self.handed_on);
+        self.flushed = self.taken;
+        self.shown.set(self.flushed);
         Ok(())
     }
 }
@@ -84,7 +84,7 @@ fn seen_at_reads(alloc: Global, cuts: &[usize]) -> Result<([usize; SEEN], usize)
     };
     let mut out = HoldingSink {
         taken: 0,
-        handed_on: 0,
+        flushed: 0,
         shown: &shown,
     };
     match sqre(alloc, &words, &mut query, &mut items, &mut out) {

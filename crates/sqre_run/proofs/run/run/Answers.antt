@@ -5,7 +5,7 @@ use Rattle.sqre_run.proofs.Turns.{Ended-held, Running-begins, Running-held}
 use Rattle.sqre_run.specs.Outside.{outside}
 use Rattle.sqre_run.specs.declared.status.Status.TheVariants.{SinkFault}
 use Rattle.sqre_run.proofs.run.run.Goals as goal
-use Rattle.sqre_run.proofs.run.run.Goals.{in-Err-hand_on_before_read, in-Ok-hand_on_before_read}
+use Rattle.sqre_run.proofs.run.run.Goals.{in-Err-flush_before_read, in-Ok-flush_before_read}
 
 -- nothing was read and nothing was written
 pub returns-in-Err-clause-ended : goal.returns-in-Err-clause-ended
@@ -47,15 +47,15 @@ returns-in-Some-clause-ended g c =
     let at = outside g.S.Source.left g.S.Source.ends g.W.Sink.taken in
     let before = at c.args.items.now c.args.out.now in
     let now = at c.lines.items c.lines.out in
-    elim c.match-hand_on_before_read.branch [
-      | in-Ok-hand_on_before_read w ↦
+    elim c.match-flush_before_read.branch [
+      | in-Ok-flush_before_read w ↦
           let running = Running-held g.F.Follower.follows c.args.checked.now before now c.lines.lines c.lines.session _
-          c.hand_on_before_read.ensures.taken c.lines.invariant.running in
+          c.flush_before_read.ensures.taken c.lines.invariant.running in
           let stops = some_holds _ w.turn-ended.result c.in-Some.status (sym w.ended-is ∙ c.in-Some.is) w.turn-ended.ensures.stops in
           rw (w.items-is, w.out-is) (stops c.args.checked.now before running)
-      | in-Err-hand_on_before_read w ↦
+      | in-Err-flush_before_read w ↦
           let held = Ended-held g.F.Follower.follows c.args.checked.now before now c.lines.lines c.lines.session _
-          c.hand_on_before_read.ensures.taken c.lines.invariant.running in
+          c.flush_before_read.ensures.taken c.lines.invariant.running in
           let fault : SinkFault ≡ c.in-Some.status = cc in
           rw (w.items-is, w.out-is, ← fault) held
     ]

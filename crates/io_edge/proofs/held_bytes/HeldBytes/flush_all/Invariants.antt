@@ -1,7 +1,7 @@
 use Rattle.std.proofs.Common.{◌≡◌, ◌≤◌, length, vec_len, vec_capacity}
 use Rattle.std.specs.Io.KnownBytes.{Keeps, append_known}
 use Rattle.io_edge.specs.Limits.{max_held}
-use Rattle.io_edge.proofs.held_bytes.HeldBytes.hand_on.Given as goal
+use Rattle.io_edge.proofs.held_bytes.HeldBytes.flush_all.Given as goal
 
 -- what the writer holds and what is held back are the same bytes as at first, with no fault on the way
 abbrev pub invariant-pieces : goal.invariant-pieces
