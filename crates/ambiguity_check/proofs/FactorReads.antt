@@ -4,7 +4,7 @@ use Rattle.std.specs.List.{AllByRecursion}
 use Rattle.item_schema.specs.declared.column.Column.{Column}
 use Rattle.rate_expr.specs.Language.{In}
 use Rattle.rate_expr.specs.Paths.{Follows, Leads, Spells, AreOf}
-use Rattle.rate_expr.specs.Rates.{Expression}
+use Rattle.rate_expr.specs.Rates.{Regex}
 use Rattle.rate_expr.specs.Sets.{Sets, Has}
 use Rattle.rate_expr.specs.Words.{Word, IsWordOf, join}
 use Rattle.rate_expr.proofs.PathSteps.{leads_one, leads_more}
@@ -126,7 +126,7 @@ module _ (columns : List Column) (sets : Sets) (rows : List ℕ)
       reads_on items before.phase before.left before.right node (walk_reads items before walk) goes
       ((are node.left node.right).0 met)
 
-  module _ (r : Expression) (of_r : AreOf sets r) where
+  module _ (r : Regex) (of_r : AreOf sets r) where
     -- spelled words are words of the rate
     all_in : (words : List Word) → AllByRecursion (Spells sets) words → AllByRecursion (In r) words
     all_in words all = all_as (Spells sets) (In r) (λ word. (of_r word).1) words all

@@ -7,7 +7,7 @@ use Rattle.value_ops.specs.declared.field.Field.{Field}
 use Rattle.item_schema.specs.declared.column.Column.{Column}
 use Rattle.rate_expr.specs.Language.{In}
 use Rattle.rate_expr.specs.Paths.{Leads, LeadsOn, Spells, AreOf}
-use Rattle.rate_expr.specs.Rates.{Expression}
+use Rattle.rate_expr.specs.Rates.{Regex}
 use Rattle.rate_expr.specs.Readings.{HasOneFactoring, HasTwoFactorings}
 use Rattle.rate_expr.specs.Sets.{Sets}
 use Rattle.rate_expr.specs.Words.{Word, IsWordOf, join}
@@ -27,7 +27,7 @@ use Rattle.ambiguity_check.proofs.FactorReads.{AreRead, AreParted, walk_reads, t
 use Rattle.ambiguity_check.proofs.Walking.{walk_as}
 
 -- where the empty word is in the rate, it factors in two ways
-pub empty_factors : (columns : List Column) (sets : Sets) (r : Expression) → AreOf sets r
+pub empty_factors : (columns : List Column) (sets : Sets) (r : Regex) → AreOf sets r
     → sets.nullable ≡ true
     → HasTwoFactorings columns r
 empty_factors columns sets r of_r nullable = record {
@@ -140,7 +140,7 @@ module _ (columns : List Column) (sets : Sets) (rows : List ℕ)
         (refl, left.2, right.2),
       )
 
-  module _ (r : Expression) (of_r : AreOf sets r) where
+  module _ (r : Regex) (of_r : AreOf sets r) where
     -- words of the rate are spelled
     all_spelled : (words : List Word) → AllByRecursion (In r) words → AllByRecursion (Spells sets) words
     all_spelled words all = all_as (In r) (Spells sets) (λ word. (of_r word).0) words all

@@ -3,7 +3,7 @@ use Rattle.std.proofs.Common.{◌≡◌, ℕ, ◌+◌, ◌<◌, List, [], ◌∷
 use Rattle.std.specs.Prelude.{MatchBool}
 use Rattle.item_schema.specs.declared.column.Column.{Column}
 use Rattle.rate_expr.specs.Paths.{Leads, LeadsOn, AreOf}
-use Rattle.rate_expr.specs.Rates.{Expression}
+use Rattle.rate_expr.specs.Rates.{Regex}
 use Rattle.rate_expr.specs.Readings.{AreDisjoint, Overlap}
 use Rattle.rate_expr.specs.Sets.{Sets}
 use Rattle.rate_expr.specs.Words.{Word, IsWordOf}
@@ -87,7 +87,7 @@ module _ (columns : List Column) (first second : Sets) (rows : List ℕ)
   EndWalk items = EndsAfter (BeginsBoth first second) (FollowsBoth first second) (IsInRows rows)
       (EndsBoth first second) items
 
-  module _ (r s : Expression) (of_r : AreOf first r) (of_s : AreOf second s) where
+  module _ (r s : Regex) (of_r : AreOf first r) (of_s : AreOf second s) where
     -- a walk to an end of both is a word of both rates
     pub walk_overlaps : (items : ℕ) → EndWalk items → OverlapOf columns r s items
     walk_overlaps items (node, walk, ends) = overlapping (walk_words items node walk)

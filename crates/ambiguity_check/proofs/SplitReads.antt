@@ -3,7 +3,7 @@ use Rattle.std.proofs.Common.{◌≡◌, ℕ, ◌+◌, ◌<◌, List, [], ◌∷
 use Rattle.std.proofs.lemmas.List.{append-nil}
 use Rattle.item_schema.specs.declared.column.Column.{Column}
 use Rattle.rate_expr.specs.Paths.{Follows, Leads, Spells, AreOf}
-use Rattle.rate_expr.specs.Rates.{Expression}
+use Rattle.rate_expr.specs.Rates.{Regex}
 use Rattle.rate_expr.specs.Sets.{Sets}
 use Rattle.rate_expr.specs.Words.{Word, IsWordOf}
 use Rattle.rate_expr.proofs.PathSteps.{leads_one, leads_more}
@@ -169,7 +169,7 @@ module _ (columns : List Column) (first second : Sets) (together parted rejoined
   abbrev pub Ends : Node → Type 0
   Ends node = EndsSplits first second node
 
-  module _ (r s : Expression) (of_r : AreOf first r) (of_s : AreOf second s) where
+  module _ (r s : Regex) (of_r : AreOf first r) (of_s : AreOf second s) where
     -- what a walk to an end reads has two splits
     pub two_splits : (items : ℕ) (phase : Phase) (left right : ℕ) → AreRead items phase left right
         → Ends (node_at phase left right) → TwoSplitsOf columns r s items

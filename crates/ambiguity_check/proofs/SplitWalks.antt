@@ -5,7 +5,7 @@ use Rattle.std.proofs.lemmas.List.{append-nil}
 use Rattle.item_schema.specs.declared.column.Column.{Column}
 use Rattle.rate_expr.specs.Language.{In}
 use Rattle.rate_expr.specs.Paths.{Leads, LeadsOn, Spells, AreOf}
-use Rattle.rate_expr.specs.Rates.{Expression}
+use Rattle.rate_expr.specs.Rates.{Regex}
 use Rattle.rate_expr.specs.Readings.{HaveOneSplit, HaveTwoSplits}
 use Rattle.rate_expr.specs.Sets.{Sets}
 use Rattle.rate_expr.specs.Words.{Word, IsWordOf}
@@ -135,7 +135,7 @@ module _ (columns : List Column) (first second : Sets) (together parted rejoined
         inr (refl, on.2, by_second'.2),
       )
 
-  module _ (r s : Expression) (of_r : AreOf first r) (of_s : AreOf second s) where
+  module _ (r s : Regex) (of_r : AreOf first r) (of_s : AreOf second s) where
     -- where the second of two splits ends its first part later, a walk leads to an end
     later_walk : (u t v v' : Word) → IsWordOf columns (u ++ v) → v ≡ t ++ v'
         → In r u → In s v → In r (u ++ t) → In s v' → (t ≡ []) ⊎ EndWalk (length (u ++ v))

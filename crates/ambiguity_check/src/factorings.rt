@@ -1,7 +1,7 @@
 //! Whether each word factors in at most one way into words of a rate.
 ghost use Rattle.std.specs.Prelude.{◌≡◌, IfOk, MatchBool};
 ghost use Rattle.rate_expr.specs.Paths.{AreOf};
-ghost use Rattle.rate_expr.specs.Rates.{Expression};
+ghost use Rattle.rate_expr.specs.Rates.{Regex};
 ghost use Rattle.rate_expr.specs.Readings.{HasOneFactoring, HasTwoFactorings};
 ghost use Rattle.ambiguity_check.specs.Meetings.{AreMeetings};
 
@@ -17,7 +17,7 @@ use symbolic_nfa::Nfa;
 /// Whether no word factors in two ways into words of the rate. If so, the empty word is not in the
 /// rate.
 pub fn one_factoring(alloc: Global, nfa: &Nfa) -> Result<bool, AllocError>
-    ensures { IfOk result (λ answer. (r : Expression) → AreOf nfa.now.sets r → MatchBool answer
+    ensures { IfOk result (λ answer. (r : Regex) → AreOf nfa.now.sets r → MatchBool answer
         (HasOneFactoring nfa.now.cells.layout.columns r)
         (HasTwoFactorings nfa.now.cells.layout.columns r)) }
 {

@@ -2,7 +2,7 @@
 ghost use Rattle.std.specs.Prelude.{◌≡◌, ◌≤◌, ◌<◌, ℕ, List, true};
 ghost use Rattle.item_schema.specs.declared.column.Column.{Column};
 ghost use Rattle.rate_expr.specs.Paths.{AreOf};
-ghost use Rattle.rate_expr.specs.Rates.{Expression};
+ghost use Rattle.rate_expr.specs.Rates.{Regex};
 ghost use Rattle.rate_expr.specs.Sets.{Sets};
 ghost use Rattle.ambiguity_check.specs.Factorings.{BeginsFactors, Factors, EndsFactors};
 ghost use Rattle.ambiguity_check.specs.Lengths.{EndsAfter, OverlapOf, TwoSplitsOf, TwoFactoringsOf};
@@ -29,12 +29,12 @@ pub fn all_are_seen_after_an_empty_level<G: Graph>(graph: &G)
 pub fn overlaps_are_walks()
     ensures sound { (columns : List Column) (first second : Sets) (rows : List ℕ)
         → AreMeetings columns first second rows
-        → (r s : Expression) → AreOf first r → AreOf second s → (items : ℕ)
+        → (r s : Regex) → AreOf first r → AreOf second s → (items : ℕ)
         → EndsAfter (BeginsBoth first second) (FollowsBoth first second) (IsInRows rows)
         (EndsBoth first second) items → OverlapOf columns r s items }
     ensures whole { (columns : List Column) (first second : Sets) (rows : List ℕ)
         → AreMeetings columns first second rows
-        → (r s : Expression) → AreOf first r → AreOf second s → (items : ℕ) → 0 < items
+        → (r s : Regex) → AreOf first r → AreOf second s → (items : ℕ) → 0 < items
         → OverlapOf columns r s items
         → EndsAfter (BeginsBoth first second) (FollowsBoth first second) (IsInRows rows)
         (EndsBoth first second) items }
@@ -44,13 +44,13 @@ pub fn overlaps_are_walks()
 pub fn two_splits_are_walks()
     ensures sound { (columns : List Column) (first second : Sets) (together parted rejoined : List ℕ)
         → AreRows columns first second together parted rejoined
-        → (r s : Expression) → AreOf first r → AreOf second s → (items : ℕ)
+        → (r s : Regex) → AreOf first r → AreOf second s → (items : ℕ)
         → EndsAfter (BeginsSplits first second) (Continues first second)
         (MeetIn together parted rejoined) (EndsSplits first second) items
         → TwoSplitsOf columns r s items }
     ensures whole { (columns : List Column) (first second : Sets) (together parted rejoined : List ℕ)
         → AreRows columns first second together parted rejoined
-        → (r s : Expression) → AreOf first r → AreOf second s → (items : ℕ)
+        → (r s : Regex) → AreOf first r → AreOf second s → (items : ℕ)
         → TwoSplitsOf columns r s items
         → EndsAfter (BeginsSplits first second) (Continues first second)
         (MeetIn together parted rejoined) (EndsSplits first second) items }
@@ -60,11 +60,11 @@ pub fn two_splits_are_walks()
 /// same in both are no part of the walk.
 pub fn two_factorings_are_walks()
     ensures sound { (columns : List Column) (sets : Sets) (rows : List ℕ)
-        → AreMeetings columns sets sets rows → (r : Expression) → AreOf sets r → (items : ℕ)
+        → AreMeetings columns sets sets rows → (r : Regex) → AreOf sets r → (items : ℕ)
         → EndsAfter (BeginsFactors sets) (Factors sets) (IsInRows rows) (EndsFactors sets) items
         → TwoFactoringsOf columns r items }
     ensures whole { (columns : List Column) (sets : Sets) (rows : List ℕ)
-        → AreMeetings columns sets sets rows → (r : Expression) → AreOf sets r
+        → AreMeetings columns sets sets rows → (r : Regex) → AreOf sets r
         → (sets.nullable ≡ true → ⊥) → (items : ℕ) → TwoFactoringsOf columns r items
         → (some : ℕ) × (some ≤ items)
         × EndsAfter (BeginsFactors sets) (Factors sets) (IsInRows rows) (EndsFactors sets) some }

@@ -1,7 +1,7 @@
 //! Whether two rates share a word.
 ghost use Rattle.std.specs.Prelude.{◌≡◌, IfOk, MatchBool};
 ghost use Rattle.rate_expr.specs.Paths.{AreOf};
-ghost use Rattle.rate_expr.specs.Rates.{Expression};
+ghost use Rattle.rate_expr.specs.Rates.{Regex};
 ghost use Rattle.rate_expr.specs.Readings.{AreDisjoint, Overlap};
 ghost use Rattle.ambiguity_check.specs.Meetings.{AreMeetings};
 
@@ -16,7 +16,7 @@ use symbolic_nfa::Nfa;
 /// Whether no word is in both rates.
 pub fn disjoint(alloc: Global, first: &Nfa, second: &Nfa) -> Result<bool, AllocError>
     requires { first.now.cells ≡ second.now.cells }
-    ensures { IfOk result (λ answer. (r s : Expression)
+    ensures { IfOk result (λ answer. (r s : Regex)
         → AreOf first.now.sets r → AreOf second.now.sets s → MatchBool answer
         (AreDisjoint first.now.cells.layout.columns r s)
         (Overlap first.now.cells.layout.columns r s)) }

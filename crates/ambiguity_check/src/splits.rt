@@ -1,7 +1,7 @@
 //! Whether each word splits in at most one way into a word of one rate and then one of another.
 ghost use Rattle.std.specs.Prelude.{◌≡◌, ◌↔◌, ℕ, IfOk, MatchBool, IsSomeAnd};
 ghost use Rattle.rate_expr.specs.Paths.{AreOf};
-ghost use Rattle.rate_expr.specs.Rates.{Expression};
+ghost use Rattle.rate_expr.specs.Rates.{Regex};
 ghost use Rattle.rate_expr.specs.Sets.{Has};
 ghost use Rattle.rate_expr.specs.Readings.{HaveOneSplit, HaveTwoSplits};
 ghost use Rattle.ambiguity_check.specs.declared.graph.Node.{Node};
@@ -22,7 +22,7 @@ use symbolic_nfa::Nfa;
 /// Whether no word splits in two ways into a word of the first rate and then one of the second.
 pub fn one_split(alloc: Global, first: &Nfa, second: &Nfa) -> Result<bool, AllocError>
     requires { first.now.cells ≡ second.now.cells }
-    ensures { IfOk result (λ answer. (r s : Expression)
+    ensures { IfOk result (λ answer. (r s : Regex)
         → AreOf first.now.sets r → AreOf second.now.sets s → MatchBool answer
         (HaveOneSplit first.now.cells.layout.columns r s)
         (HaveTwoSplits first.now.cells.layout.columns r s)) }

@@ -3,7 +3,7 @@ use Rattle.std.proofs.Common.{◌≡◌, sym, subst}
 use Rattle.std.specs.Borrow.{Bor}
 use Rattle.std.specs.Prelude.{Result, Ok, Err, IfOk, Option, MatchOption}
 use Rattle.rate_expr.specs.Paths.{AreOf}
-use Rattle.rate_expr.specs.Rates.{Expression}
+use Rattle.rate_expr.specs.Rates.{Regex}
 use Rattle.rate_expr.specs.Readings.{AreDisjoint, HaveOneSplit, HasOneFactoring}
 use Rattle.symbolic_nfa.specs.Automata.{Automaton}
 use Rattle.ambiguity_example.specs.Asks.{Asks, columns_of}
@@ -22,7 +22,7 @@ answers_as : {E : Type 0} (ask other : Ask) (result : Result (Option Shown) E) �
 answers_as ask other result is says = subst (λ (a : Ask). IfOk result (Answers a)) (sym is) says
 
 module _ {E : Type 0} (first second : Bor Automaton) where
-  choice_asked : (result : Result (Option Shown) E) → IfOk result (λ found. (r s : Expression)
+  choice_asked : (result : Result (Option Shown) E) → IfOk result (λ found. (r s : Regex)
       → AreOf first.now.sets r → AreOf second.now.sets s → MatchOption found
       (AreDisjoint first.now.cells.layout.columns r s)
       (IsShortestShown first.now.cells.layout.columns (choice r s)))
@@ -35,7 +35,7 @@ module _ {E : Type 0} (first second : Bor Automaton) where
       asked (split r s) none = absurd none
       asked (iter r) none = absurd none
 
-  split_asked : (result : Result (Option Shown) E) → IfOk result (λ found. (r s : Expression)
+  split_asked : (result : Result (Option Shown) E) → IfOk result (λ found. (r s : Regex)
       → AreOf first.now.sets r → AreOf second.now.sets s → MatchOption found
       (HaveOneSplit first.now.cells.layout.columns r s)
       (IsShortestShown first.now.cells.layout.columns (split r s)))
@@ -49,7 +49,7 @@ module _ {E : Type 0} (first second : Bor Automaton) where
       asked (iter r) none = absurd none
 
 iter_asked : {E : Type 0} (nfa : Bor Automaton) (result : Result (Option Shown) E)
-    → IfOk result (λ found. (r : Expression) → AreOf nfa.now.sets r → MatchOption found
+    → IfOk result (λ found. (r : Regex) → AreOf nfa.now.sets r → MatchOption found
     (HasOneFactoring nfa.now.cells.layout.columns r)
     (IsShortestShown nfa.now.cells.layout.columns (iter r)))
     → IfOk result (Answers (Iter nfa))
@@ -64,7 +64,7 @@ iter_asked nfa (Ok found) says = asked
 -- each form of a question
 pub answers_choice : {E : Type 0} (ask : Ask) (first second : Bor Automaton)
     (result : Result (Option Shown) E) → ask ≡ Choice first second
-    → IfOk result (λ found. (r s : Expression)
+    → IfOk result (λ found. (r s : Regex)
     → AreOf first.now.sets r → AreOf second.now.sets s → MatchOption found
     (AreDisjoint first.now.cells.layout.columns r s)
     (IsShortestShown first.now.cells.layout.columns (choice r s)))
@@ -74,7 +74,7 @@ answers_choice ask first second result is says =
 
 pub answers_split : {E : Type 0} (ask : Ask) (first second : Bor Automaton)
     (result : Result (Option Shown) E) → ask ≡ Split first second
-    → IfOk result (λ found. (r s : Expression)
+    → IfOk result (λ found. (r s : Regex)
     → AreOf first.now.sets r → AreOf second.now.sets s → MatchOption found
     (HaveOneSplit first.now.cells.layout.columns r s)
     (IsShortestShown first.now.cells.layout.columns (split r s)))
@@ -83,7 +83,7 @@ answers_split ask first second result is says =
     answers_as ask (Split first second) result is (split_asked first second result says)
 
 pub answers_iter : {E : Type 0} (ask : Ask) (nfa : Bor Automaton) (result : Result (Option Shown) E)
-    → ask ≡ Iter nfa → IfOk result (λ found. (r : Expression) → AreOf nfa.now.sets r
+    → ask ≡ Iter nfa → IfOk result (λ found. (r : Regex) → AreOf nfa.now.sets r
     → MatchOption found (HasOneFactoring nfa.now.cells.layout.columns r)
     (IsShortestShown nfa.now.cells.layout.columns (iter r)))
     → IfOk result (Answers ask)

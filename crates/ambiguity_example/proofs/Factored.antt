@@ -5,7 +5,7 @@ use Rattle.value_ops.specs.declared.field.Field.{Field}
 use Rattle.item_schema.specs.declared.column.Column.{Column}
 use Rattle.rate_expr.specs.Language.{In}
 use Rattle.rate_expr.specs.Paths.{Follows, Meets, LeadsOn, Spells, AreOf}
-use Rattle.rate_expr.specs.Rates.{Expression}
+use Rattle.rate_expr.specs.Rates.{Regex}
 use Rattle.rate_expr.specs.Readings.{HasOneFactoring}
 use Rattle.rate_expr.specs.Sets.{Sets, Has}
 use Rattle.rate_expr.specs.Words.{Word, IsWordOf, join}
@@ -193,7 +193,7 @@ module _ (columns : List Column) (sets : Sets) (rows : List ℕ) (ends : Node �
       (inr (stays, more)) ends'' same =
       let never : Parted ≡ Together = sym is ∙ stays.1 refl in cc
 
-  module _ (r : Expression) (of_r : AreOf sets r) where
+  module _ (r : Regex) (of_r : AreOf sets r) where
     -- the pieces of one reading
     side_parts : (side : Side) (nodes : List Node) (word : Word) (cuts : List ℕ)
         → IsWalkOf (BeginsFactors sets) (Factors sets) (IsInRows rows) ends nodes → Meet nodes word

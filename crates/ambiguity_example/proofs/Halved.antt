@@ -6,7 +6,7 @@ use Rattle.value_ops.specs.declared.field.Field.{Field}
 use Rattle.item_schema.specs.declared.column.Column.{Column}
 use Rattle.rate_expr.specs.Language.{In}
 use Rattle.rate_expr.specs.Paths.{LeadsOn, Spells, AreOf}
-use Rattle.rate_expr.specs.Rates.{Expression}
+use Rattle.rate_expr.specs.Rates.{Regex}
 use Rattle.rate_expr.specs.Readings.{HaveOneSplit}
 use Rattle.rate_expr.specs.Sets.{Sets, Has}
 use Rattle.rate_expr.specs.Words.{Word, IsWordOf}
@@ -287,7 +287,7 @@ module _ (columns : List Column) (first second : Sets) (together parted rejoined
         spells' = ((rest.end', (node.right, begins', meets.2, rest.on'), rest.last'), rest.spells);
       }
 
-  module _ (r s : Expression) (of_r : AreOf first r) (of_s : AreOf second s) where
+  module _ (r s : Regex) (of_r : AreOf first r) (of_s : AreOf second s) where
     -- a word splits at the end of its first part
     split_at : (word u v : Word) (middle : ℕ) → word ≡ u ++ v → length u ≡ middle → In r u → In s v
         → InBoth r s word middle

@@ -3,7 +3,7 @@ use Rattle.std.proofs.Common.{◌≡◌, ℕ, ◌+◌, ◌<◌, ◌≤◌, List,
 use Rattle.std.proofs.lemmas.List.{append-nil, take-append-drop, length-take-le, length-append}
 use Rattle.std.proofs.Math.Seq.{take-append_seam, drop-append_seam}
 use Rattle.rate_expr.specs.Language.{In}
-use Rattle.rate_expr.specs.Rates.{Expression}
+use Rattle.rate_expr.specs.Rates.{Regex}
 use Rattle.rate_expr.specs.Words.{Word}
 use Rattle.ambiguity_example.specs.Cuts.{ArePieces}
 use Rattle.ambiguity_example.specs.Shows.{Shown, ShowsSplits}
@@ -39,10 +39,10 @@ module _ (word : Word) (cuts : List ℕ) (middle : ℕ)
       )
 
 -- a rate has a word up to a place, and another one after it
-abbrev pub InBoth : Expression → Expression → Word → ℕ → Type 0
+abbrev pub InBoth : Regex → Regex → Word → ℕ → Type 0
 InBoth r s word middle = In r (take middle word) × In s (drop middle word)
 
-module _ (r s : Expression) (shown : Shown) (shorter longer : ℕ)
+module _ (r s : Regex) (shown : Shown) (shorter longer : ℕ)
     (first : shown.first ≡ 0 ∷ shorter ∷ length shown.items ∷ [])
     (second : shown.second ≡ 0 ∷ longer ∷ length shown.items ∷ []) where
   -- two splits at these places

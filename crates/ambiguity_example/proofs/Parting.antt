@@ -4,7 +4,7 @@ use Rattle.std.proofs.lemmas.List.{take-append-drop, length-take, length-drop}
 use Rattle.std.proofs.Math.Seq.{take-append_seam, drop-append_seam, take-length}
 use Rattle.std.specs.List.{AllByRecursion}
 use Rattle.rate_expr.specs.Language.{In}
-use Rattle.rate_expr.specs.Rates.{Expression}
+use Rattle.rate_expr.specs.Rates.{Regex}
 use Rattle.rate_expr.specs.Words.{Word, join}
 use Rattle.ambiguity_example.specs.Cuts.{cuts_from, PartsInto}
 use Rattle.ambiguity_example.specs.Parts.{PartsFrom}
@@ -24,7 +24,7 @@ pub after_first : (cuts : List ℕ) → take (length cuts - 1) (drop 1 cuts) ≡
 after_first cuts = ap (λ (n : ℕ). take n (drop 1 cuts)) (sym (length-drop 1 cuts))
     ∙ take-length (drop 1 cuts)
 
-module _ (rate : Expression) where
+module _ (rate : Regex) where
   -- pieces from a place on
   abbrev pub Pieces : ℕ → Word → List ℕ → Type 0
   Pieces at word cuts = (pieces : List Word) × (join pieces ≡ word)

@@ -11,7 +11,7 @@ use Rattle.rate_expr.proofs.Wording.{word_parts}
 use Rattle.rate_expr.specs.After.{IsAfter}
 use Rattle.rate_expr.specs.Language.{In}
 use Rattle.rate_expr.specs.Paths.{AreOf}
-use Rattle.rate_expr.specs.Rates.{Expression}
+use Rattle.rate_expr.specs.Rates.{Regex}
 use Rattle.rate_expr.specs.Words.{Word, IsWordOf}
 use Rattle.rate_expr.specs.declared.state.State.{State}
 use Rattle.symbolic_nfa.proofs.WordsAfter.{is_after-step, is_accepted-in}
@@ -54,7 +54,7 @@ read_on nfa items at item cell state next is below here in_cell after steps =
     (is_after-step nfa.sets (take at items) state next item after (steps item (one, sym in_cell)))
 
 -- the state after all items decides whether they are a word of the rate
-pub read_all : (nfa : Automaton) (items : Word) (at : ℕ) (state : State) (accepted : Bool) (rate : Expression)
+pub read_all : (nfa : Automaton) (items : Word) (at : ℕ) (state : State) (accepted : Bool) (rate : Regex)
     → at ≤ length items → length items ≤ at → IsAfter nfa.sets (take at items) state
     → AreOf nfa.sets rate → IsTrue accepted ↔ IsAccepted nfa.sets state
     → MatchBool accepted (In rate items) (In rate items → ⊥)

@@ -4,7 +4,7 @@ use Rattle.std.proofs.lemmas.List.{append-nil}
 use Rattle.item_schema.specs.declared.column.Column.{Column}
 use Rattle.rate_expr.specs.Language.{In}
 use Rattle.rate_expr.specs.Paths.{LeadsOn, AreOf}
-use Rattle.rate_expr.specs.Rates.{Expression}
+use Rattle.rate_expr.specs.Rates.{Regex}
 use Rattle.rate_expr.specs.Readings.{AreDisjoint}
 use Rattle.rate_expr.specs.Sets.{Sets, Has}
 use Rattle.rate_expr.specs.Words.{Word, IsWordOf}
@@ -27,7 +27,7 @@ one_piece word = record {
 }
 
 -- a shared word is shown
-pub shown_overlap : (r s : Expression) (word : Word) → In r word → In s word
+pub shown_overlap : (r s : Regex) (word : Word) → In r word → In s word
     → ShowsOverlap r s (twice_whole word)
 shown_overlap r s word in_r in_s = record {
   first = one_piece word;
@@ -36,7 +36,7 @@ shown_overlap r s word in_r in_s = record {
   in_second = in_s;
 }
 
-module _ (columns : List Column) (first second : Sets) (r s : Expression) (of_r : AreOf first r)
+module _ (columns : List Column) (first second : Sets) (r s : Regex) (of_r : AreOf first r)
     (of_s : AreOf second s) where
   -- where both have the empty word, that is shown
   pub empty_shared : first.nullable ≡ true → second.nullable ≡ true

@@ -2,7 +2,7 @@
 use Rattle.std.specs.Prelude.{◌≡◌, ◌+◌, ℕ, List, [], ◌∷◌, length}
 use Rattle.std.specs.List.{AllByRecursion}
 use Rattle.rate_expr.specs.Language.{In}
-use Rattle.rate_expr.specs.Rates.{Expression}
+use Rattle.rate_expr.specs.Rates.{Regex}
 use Rattle.rate_expr.specs.Words.{Word, join}
 
 -- where pieces that follow one another from the place `at` on begin and end, counted in items
@@ -16,6 +16,6 @@ pub record ArePieces (word : Word) (cuts : List ℕ) (pieces : List Word) : Type
   pub at : cuts_from 0 pieces ≡ cuts
 
 -- they part it into words of the rate
-abbrev pub PartsInto : Expression → Word → List ℕ → Type 0
+abbrev pub PartsInto : Regex → Word → List ℕ → Type 0
 PartsInto rate word cuts =
     (pieces : List Word) × ArePieces word cuts pieces × AllByRecursion (In rate) pieces

@@ -2,7 +2,7 @@
 use Rattle.std.specs.Prelude.{◌≢◌, ◌<◌, ℕ, List, [], ◌∷◌, length}
 use Rattle.item_schema.specs.declared.column.Column.{Column}
 use Rattle.rate_expr.specs.Language.{In}
-use Rattle.rate_expr.specs.Rates.{Expression}
+use Rattle.rate_expr.specs.Rates.{Regex}
 use Rattle.rate_expr.specs.Readings.{AreDisjoint, Overlap, HaveOneSplit, HaveTwoSplits, HasOneFactoring, HasTwoFactorings}
 use Rattle.rate_expr.specs.Words.{Word, IsWordOf}
 use Rattle.ambiguity_example.specs.Cuts.{ArePieces, PartsInto}
@@ -16,9 +16,9 @@ pub record Shown : Type 0 where
 -- a rule and the rates that it is about: no word is in both, no word splits in two ways, or no word
 -- factors in two ways
 pub data Question : Type 0 where
-  choice : Expression → Expression → Question
-  split : Expression → Expression → Question
-  iter : Expression → Question
+  choice : Regex → Regex → Question
+  split : Regex → Regex → Question
+  iter : Regex → Question
 
 -- some word has two readings, so that the rule is broken
 abbrev pub IsBroken : List Column → Question → Type 0
@@ -33,7 +33,7 @@ IsKept columns (split r s) = HaveOneSplit columns r s
 IsKept columns (iter r) = HasOneFactoring columns r
 
 -- the word is in both rates, and both readings have it in one piece
-pub record ShowsOverlap (r s : Expression) (shown : Shown) : Type 0 where
+pub record ShowsOverlap (r s : Regex) (shown : Shown) : Type 0 where
   pub first : ArePieces shown.items shown.first (shown.items ∷ [])
   pub second : ArePieces shown.items shown.second (shown.items ∷ [])
   pub in_first : In r shown.items
@@ -48,7 +48,7 @@ twice_whole word = record {
 }
 
 -- the word splits in two ways, and the first split has the shorter first part
-pub record ShowsSplits (r s : Expression) (shown : Shown) : Type 0 where
+pub record ShowsSplits (r s : Regex) (shown : Shown) : Type 0 where
   pub u : Word
   pub v : Word
   pub u' : Word
@@ -60,7 +60,7 @@ pub record ShowsSplits (r s : Expression) (shown : Shown) : Type 0 where
   pub in_second : In s v × In s v'
 
 -- the word factors in two ways
-pub record ShowsFactorings (r : Expression) (shown : Shown) : Type 0 where
+pub record ShowsFactorings (r : Regex) (shown : Shown) : Type 0 where
   pub first : PartsInto r shown.items shown.first
   pub second : PartsInto r shown.items shown.second
   pub differ : shown.first ≢ shown.second

@@ -1,7 +1,7 @@
 //! Whether an example shows that a rule is broken.
 ghost use Rattle.std.specs.Prelude.{◌≡◌, ◌↔◌, MatchBool};
 ghost use Rattle.rate_expr.specs.Paths.{AreOf};
-ghost use Rattle.rate_expr.specs.Rates.{Expression};
+ghost use Rattle.rate_expr.specs.Rates.{Regex};
 ghost use Rattle.rate_expr.specs.Words.{IsWordOf};
 ghost use Rattle.ambiguity_example.specs.Asks.{Asks, ShareCells, columns_of};
 ghost use Rattle.ambiguity_example.specs.Shows.{Question, Shows, ShowsOverlap, ShowsSplits, ShowsFactorings};
@@ -30,7 +30,7 @@ pub fn confirm(ask: Ask<'_>, example: &Example) -> bool
 fn is_in_both(first: &Nfa, second: &Nfa, example: &Example) -> bool
     requires cells { first.now.cells ≡ second.now.cells }
     requires items { IsWordOf first.now.cells.layout.columns example.now.items }
-    ensures { (r s : Expression) → AreOf first.now.sets r → AreOf second.now.sets s
+    ensures { (r s : Regex) → AreOf first.now.sets r → AreOf second.now.sets s
         → MatchBool result (ShowsOverlap r s example.now) (ShowsOverlap r s example.now → ⊥) }
 {
     let items = example.items();
@@ -43,7 +43,7 @@ fn is_in_both(first: &Nfa, second: &Nfa, example: &Example) -> bool
 fn splits_twice(first: &Nfa, second: &Nfa, example: &Example) -> bool
     requires cells { first.now.cells ≡ second.now.cells }
     requires items { IsWordOf first.now.cells.layout.columns example.now.items }
-    ensures { (r s : Expression) → AreOf first.now.sets r → AreOf second.now.sets s
+    ensures { (r s : Regex) → AreOf first.now.sets r → AreOf second.now.sets s
         → MatchBool result (ShowsSplits r s example.now) (ShowsSplits r s example.now → ⊥) }
 {
     let items = example.items();
@@ -60,7 +60,7 @@ fn splits_twice(first: &Nfa, second: &Nfa, example: &Example) -> bool
 
 fn factors_twice(nfa: &Nfa, example: &Example) -> bool
     requires { IsWordOf nfa.now.cells.layout.columns example.now.items }
-    ensures { (r : Expression) → AreOf nfa.now.sets r
+    ensures { (r : Regex) → AreOf nfa.now.sets r
         → MatchBool result (ShowsFactorings r example.now) (ShowsFactorings r example.now → ⊥) }
 {
     let items = example.items();

@@ -1,7 +1,7 @@
 //! A shortest word that factors in two ways.
 ghost use Rattle.std.specs.Prelude.{◌≡◌, ◌<◌, ◌↔◌, ◌^◌, [], ◌∷◌, IfOk, MatchOption, length};
 ghost use Rattle.rate_expr.specs.Paths.{AreOf};
-ghost use Rattle.rate_expr.specs.Rates.{Expression};
+ghost use Rattle.rate_expr.specs.Rates.{Regex};
 ghost use Rattle.rate_expr.specs.Readings.{HasOneFactoring};
 ghost use Rattle.ambiguity_check.specs.declared.graph.Node.{Node};
 ghost use Rattle.ambiguity_check.specs.Factorings.{EndsFactors};
@@ -26,7 +26,7 @@ pub(crate) fn word_of_two_factorings(
     alloc: Global,
     nfa: &Nfa,
 ) -> Result<Option<Example>, AllocError>
-    ensures { IfOk result (λ found. (r : Expression) → AreOf nfa.now.sets r → MatchOption found
+    ensures { IfOk result (λ found. (r : Regex) → AreOf nfa.now.sets r → MatchOption found
         (HasOneFactoring nfa.now.cells.layout.columns r)
         (IsShortestShown nfa.now.cells.layout.columns (iter r))) }
 {

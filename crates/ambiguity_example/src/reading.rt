@@ -2,7 +2,7 @@
 ghost use Rattle.std.specs.Prelude.{◌≡◌, ◌≤◌, MatchBool, length, take, drop};
 ghost use Rattle.rate_expr.specs.Language.{In};
 ghost use Rattle.rate_expr.specs.Paths.{AreOf};
-ghost use Rattle.rate_expr.specs.Rates.{Expression};
+ghost use Rattle.rate_expr.specs.Rates.{Regex};
 ghost use Rattle.rate_expr.specs.Words.{IsWordOf};
 ghost use Rattle.ambiguity_example.specs.Cuts.{PartsInto};
 ghost use Rattle.ambiguity_example.specs.Parts.{PartsFrom};
@@ -13,7 +13,7 @@ use symbolic_nfa::{Nfa, State};
 /// Whether the items are a word of the rate.
 pub(crate) fn reads(nfa: &Nfa, items: &[Item]) -> bool
     requires { IsWordOf nfa.now.cells.layout.columns items.now }
-    ensures { (rate : Expression) → AreOf nfa.now.sets rate
+    ensures { (rate : Regex) → AreOf nfa.now.sets rate
         → MatchBool result (In rate items.now) (In rate items.now → ⊥) }
 {
     let mut state = State::Initial;
@@ -28,7 +28,7 @@ pub(crate) fn reads_both(first: &Nfa, second: &Nfa, items: &[Item], middle: usiz
     requires cells { first.now.cells ≡ second.now.cells }
     requires items { IsWordOf first.now.cells.layout.columns items.now }
     requires middle { middle ≤ length items.now }
-    ensures { (r s : Expression) → AreOf first.now.sets r → AreOf second.now.sets s
+    ensures { (r s : Regex) → AreOf first.now.sets r → AreOf second.now.sets s
         → MatchBool result (In r (take middle items.now) × In s (drop middle items.now))
         (In r (take middle items.now) → In s (drop middle items.now) → ⊥) }
 {
@@ -39,7 +39,7 @@ pub(crate) fn reads_both(first: &Nfa, second: &Nfa, items: &[Item], middle: usiz
 /// Whether the cuts part the items into words of the rate.
 pub(crate) fn parts_into(nfa: &Nfa, items: &[Item], cuts: &[u32]) -> bool
     requires { IsWordOf nfa.now.cells.layout.columns items.now }
-    ensures { (rate : Expression) → AreOf nfa.now.sets rate
+    ensures { (rate : Regex) → AreOf nfa.now.sets rate
         → MatchBool result (PartsInto rate items.now cuts.now)
         (PartsInto rate items.now cuts.now → ⊥) }
 {
@@ -55,7 +55,7 @@ pub(crate) fn parts_into(nfa: &Nfa, items: &[Item], cuts: &[u32]) -> bool
 // Whether the items are parted by the cuts into words of the rate, and no item is left.
 fn reads_parts(nfa: &Nfa, items: &[Item], cuts: &[u32]) -> bool
     requires { IsWordOf nfa.now.cells.layout.columns items.now }
-    ensures { (rate : Expression) → AreOf nfa.now.sets rate
+    ensures { (rate : Regex) → AreOf nfa.now.sets rate
         → MatchBool result (PartsFrom rate 0 items.now cuts.now)
         (PartsFrom rate 0 items.now cuts.now → ⊥) }
 {

@@ -1,7 +1,7 @@
 //! A shortest word that two rates share.
 ghost use Rattle.std.specs.Prelude.{◌≡◌, ◌<◌, ◌↔◌, ◌^◌, true, IfOk, MatchOption, length};
 ghost use Rattle.rate_expr.specs.Paths.{AreOf};
-ghost use Rattle.rate_expr.specs.Rates.{Expression};
+ghost use Rattle.rate_expr.specs.Rates.{Regex};
 ghost use Rattle.rate_expr.specs.Readings.{AreDisjoint};
 ghost use Rattle.rate_expr.specs.Words.{Word};
 ghost use Rattle.ambiguity_check.specs.declared.graph.Node.{Node};
@@ -27,7 +27,7 @@ pub(crate) fn shared_word(
     second: &Nfa,
 ) -> Result<Option<Example>, AllocError>
     requires { first.now.cells ≡ second.now.cells }
-    ensures { IfOk result (λ found. (r s : Expression)
+    ensures { IfOk result (λ found. (r s : Regex)
         → AreOf first.now.sets r → AreOf second.now.sets s → MatchOption found
         (AreDisjoint first.now.cells.layout.columns r s)
         (IsShortestShown first.now.cells.layout.columns (choice r s))) }
@@ -47,7 +47,7 @@ fn shared_nonempty_word(
 ) -> Result<Option<Example>, AllocError>
     requires cells { first.now.cells ≡ second.now.cells }
     requires nonempty { first.now.sets.nullable ≡ true → second.now.sets.nullable ≡ true → ⊥ }
-    ensures { IfOk result (λ found. (r s : Expression)
+    ensures { IfOk result (λ found. (r s : Regex)
         → AreOf first.now.sets r → AreOf second.now.sets s → MatchOption found
         (AreDisjoint first.now.cells.layout.columns r s)
         (IsShortestShown first.now.cells.layout.columns (choice r s))) }

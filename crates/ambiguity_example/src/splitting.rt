@@ -1,7 +1,7 @@
 //! A shortest word that splits in two ways.
 ghost use Rattle.std.specs.Prelude.{◌≡◌, ◌<◌, ◌↔◌, ◌+◌, ◌^◌, [], ◌∷◌, IfOk, MatchOption, length};
 ghost use Rattle.rate_expr.specs.Paths.{AreOf};
-ghost use Rattle.rate_expr.specs.Rates.{Expression};
+ghost use Rattle.rate_expr.specs.Rates.{Regex};
 ghost use Rattle.rate_expr.specs.Readings.{HaveOneSplit};
 ghost use Rattle.ambiguity_check.specs.declared.graph.Node.{Node};
 ghost use Rattle.ambiguity_check.specs.declared.graph.Phase.TheVariants.{Together, Parted};
@@ -28,7 +28,7 @@ pub(crate) fn word_of_two_splits(
     second: &Nfa,
 ) -> Result<Option<Example>, AllocError>
     requires { first.now.cells ≡ second.now.cells }
-    ensures { IfOk result (λ found. (r s : Expression)
+    ensures { IfOk result (λ found. (r s : Regex)
         → AreOf first.now.sets r → AreOf second.now.sets s → MatchOption found
         (HaveOneSplit first.now.cells.layout.columns r s)
         (IsShortestShown first.now.cells.layout.columns (split r s))) }

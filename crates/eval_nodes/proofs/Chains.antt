@@ -32,7 +32,7 @@ all_push : (P : Word → Type 0) (pieces : List Word) (piece : Word) → AllByRe
 all_push P [] piece all is = (is, tt)
 all_push P (u ∷ pieces) piece all is = (all.0, all_push P pieces piece all.1 is)
 
-pub star_push : (r : rate.Expression) (u v : Word) → In (rate.star r) u → In r v → In (rate.star r) (u ++ v)
+pub star_push : (r : rate.Regex) (u v : Word) → In (rate.star r) u → In r v → In (rate.star r) (u ++ v)
 star_push r u v (pieces, whole, all) in_r = (
   pieces ++ v ∷ [],
   ap (λ w. w ++ v) whole ∙ sym (join_push pieces v),
@@ -70,12 +70,12 @@ init_same (x ∷ us) (y ∷ vs) u v same =
     ap (λ w. w ∷ us) heads ∙ ap (λ ws. y ∷ ws) (init_same us vs u v tails)
 
 -- no piece is empty, since it could be left out
-pub no_empty : (columns : List Column) (r : rate.Expression) → HasOneFactoring columns r → In r [] → ⊥
+pub no_empty : (columns : List Column) (r : rate.Regex) → HasOneFactoring columns r → In r [] → ⊥
 no_empty columns r one in_r =
     let wrong : ◌≡◌ {A = List Word} [] ([] ∷ []) = one [] ([] ∷ []) tt tt (in_r, tt) refl in cc
 
 -- some pieces and one more split a word in one way
-one_split : (columns : List Column) (r : rate.Expression) → HasOneFactoring columns r
+one_split : (columns : List Column) (r : rate.Regex) → HasOneFactoring columns r
     → HaveOneSplit columns (rate.star r) r
 one_split columns r one = λ u v u' v' is (us, whole, all) in_v (us', whole', all') in_v' same.
     let first : u ++ v ≡ join (us ++ v ∷ []) = ap (λ w. w ++ v) whole ∙ sym (join_push us v) in
@@ -107,11 +107,11 @@ chain_apart columns f number e word starts apart =
     (subst (In (rate.star (rate_of f))) (sym whole') (star_push (rate_of f) u' v' in_u' in_v'))
 
 -- a word is some pieces and one that goes on behind it
-abbrev pub IsCrossed : List Column → rate.Expression → Word → Type 0
+abbrev pub IsCrossed : List Column → rate.Regex → Word → Type 0
 IsCrossed columns r word = (first : Word) × (second : Word) × (word ≡ first ++ second)
     × In (rate.star r) first × HasExtension columns r second
 
-first_crossed : (columns : List Column) (r : rate.Expression) (pieces : List Word) (word : Word) (item : List Field)
+first_crossed : (columns : List Column) (r : rate.Regex) (pieces : List Word) (word : Word) (item : List Field)
     (more t u : Word) → IsWordOf columns (item ∷ more) → In r u → u ≡ word ++ t → item ∷ more ≡ t ++ join pieces
     → ((t : Word) → word ≡ u ++ t → join pieces ≡ t ++ item ∷ more → IsCrossed columns r word)
     → IsCrossed columns r word
@@ -122,7 +122,7 @@ first_crossed columns r pieces word item more (x ∷ t) u is in_r longer rest la
     ([], word, refl, ([], refl, tt), (x, t, parts.0, subst (In r) longer in_r))
 
 -- the piece in which a word ends that goes on to a word of pieces
-pub crossed : (columns : List Column) (r : rate.Expression) (pieces : List Word) (word : Word) (item : List Field)
+pub crossed : (columns : List Column) (r : rate.Regex) (pieces : List Word) (word : Word) (item : List Field)
     (more : Word) → IsWordOf columns (item ∷ more) → word ++ item ∷ more ≡ join pieces → AllByRecursion (In r) pieces
     → IsCrossed columns r word
 crossed columns r [] word item more is whole all = absurd (some_item word item more whole)
@@ -143,7 +143,7 @@ crossed columns r (u ∷ pieces) word item more is whole all =
       | inr (t, longer, rest) ↦ later t longer rest
     ]
 
-last_piece : (r : rate.Expression) (u : Word) (pieces : List Word) → AllByRecursion (In r) (u ∷ pieces)
+last_piece : (r : rate.Regex) (u : Word) (pieces : List Word) → AllByRecursion (In r) (u ∷ pieces)
     → (first : Word) × (last : Word) × (join (u ∷ pieces) ≡ first ++ last) × In (rate.star r) first × In r last
 last_piece r u [] all = ([], u, append-nil u, ([], refl, tt), all.0)
 last_piece r u (v ∷ pieces) all =
@@ -156,7 +156,7 @@ last_piece r u (v ∷ pieces) all =
     )
 
 -- pieces that have an item are some and a last one
-pub star_last : (r : rate.Expression) (word : Word) (item : List Field) → In (rate.star r) (word ++ item ∷ [])
+pub star_last : (r : rate.Regex) (word : Word) (item : List Field) → In (rate.star r) (word ++ item ∷ [])
     → (first : Word) × (last : Word) × (word ++ item ∷ [] ≡ first ++ last) × In (rate.star r) first × In r last
 star_last r word item ([], whole, all) = absurd (some_item word item [] whole)
 star_last r word item (u ∷ pieces, whole, all) =

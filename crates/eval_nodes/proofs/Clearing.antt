@@ -60,7 +60,7 @@ module _ {R : Type 0} (seen : R → Seen R) where
   clear_eps number held = λ no_collect columns position sound. absurd sound
 
   -- no collect is cleared
-  pub clear_collect : (column : ℕ) (sync : Predicate) (rate : rates.Expression) (f : Qre) (held : Holding R)
+  pub clear_collect : (column : ℕ) (sync : Predicate) (rate : rates.Regex) (f : Qre) (held : Holding R)
       → IsCleared seen (collect column sync rate f) held held
   clear_collect column sync rate f held = λ no_collect columns position sound. absurd no_collect
 

@@ -11,7 +11,7 @@ use Rattle.query_model.specs.Rules.{Standing, bound, CanBeMet, IsClear}
 use Rattle.eval_nodes.proofs.Pieces.{word_join}
 
 -- a word of the stream that is in the rate
-abbrev pub HasWord : List Column → rate.Expression → Type 0
+abbrev pub HasWord : List Column → rate.Regex → Type 0
 HasWord columns r = (word : Word) × IsWordOf columns word × In r word
 
 all_parts : {A : Type 0} (P : A → Type 0) (xs ys : List A) → AllByRecursion P (xs ++ ys)
@@ -19,7 +19,7 @@ all_parts : {A : Type 0} (P : A → Type 0) (xs ys : List A) → AllByRecursion 
 all_parts P [] ys all = (tt, all)
 all_parts P (x ∷ xs) ys all = let rest = all_parts P xs ys all.1 in ((all.0, rest.0), rest.1)
 
-rate_word : (columns : List Column) (r : rate.Expression)
+rate_word : (columns : List Column) (r : rate.Regex)
     → AllByRecursion (CanBeMet columns) (rate.preds_of r) → HasWord columns r
 rate_word columns rate.empty all = ([], tt, refl)
 rate_word columns (rate.one pred) all = (all.0.item ∷ [], (all.0.is_item, tt), (all.0.item, refl, all.0.meets))

@@ -4,16 +4,16 @@ use Rattle.std.specs.List.{AllByRecursion, Contains}
 use Rattle.language_base.specs.Limits.{max_positions}
 use Rattle.item_schema.specs.declared.column.Column.{Column}
 use Rattle.predicate_cells.specs.Cells.{Partition}
-use Rattle.rate_expr.specs.Rates.{Expression, preds_of, size_of}
+use Rattle.rate_expr.specs.Rates.{Regex, preds_of, size_of}
 use Rattle.query_model.specs.Queries.{Qre, atom, eps, choice, split, iter, combine, apply, compose, collect}
 
 -- the rate does not have too many positions, and its predicates distinguish the cells
-pub record CanRead (cells : Partition) (rate : Expression) : Type 0 where
+pub record CanRead (cells : Partition) (rate : Regex) : Type 0 where
   pub few : size_of rate ≤ max_positions
   pub decided : AllByRecursion (λ pred. Contains cells.preds pred) (preds_of rate)
 
 -- there are cells, and they can read the rate
-abbrev pub CanReadWith : Option Partition → Expression → Type 0
+abbrev pub CanReadWith : Option Partition → Regex → Type 0
 CanReadWith cells rate = MatchOption cells ⊥ (λ found. CanRead found rate)
 
 -- The cells can read the rate of each collect. Runners have no cells, so their queries have no

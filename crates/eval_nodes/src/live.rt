@@ -118,7 +118,7 @@ fn is_live_in_compose(first: &Query, node: &Node, start: u64) -> bool
 // A collect keeps only live starts.
 #[inline(always)]
 fn is_live_in_collect(node: &Node, start: u64) -> bool
-    ensures { (column : ℕ) (sync : Predicate) (rate : rates.Expression) (inner : Qre) → result
+    ensures { (column : ℕ) (sync : Predicate) (rate : rates.Regex) (inner : Qre) → result
         ≡ live_of (collect column sync rate inner) (holding_of node.now.state) start }
 {
     match &node.state {

@@ -157,7 +157,7 @@ pub(crate) fn copy_of_compose(
 
 #[cycle(copy)]
 pub(crate) fn copy_of_collect(inner: &Query, node: &Node, alloc: Global) -> Result<Node, AllocError>
-    ensures { IfOk result (λ copy. (column : ℕ) (sync : Predicate) (rate : rates.Expression)
+    ensures { IfOk result (λ copy. (column : ℕ) (sync : Predicate) (rate : rates.Regex)
         → IsCopy seen_of (collect column sync rate (plain_of inner.now.shape))
         (holding_of node.now.state) (holding_of copy.state)) }
 {

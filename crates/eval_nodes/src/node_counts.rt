@@ -103,7 +103,7 @@ pub(crate) fn size_of_compose(first: &Query, second: &Query, node: &Node) -> u64
 
 #[cycle(stored)]
 pub(crate) fn size_of_collect(inner: &Query, node: &Node) -> u64
-    ensures { (column : ℕ) (sync : Predicate) (rate : rates.Expression) → result
+    ensures { (column : ℕ) (sync : Predicate) (rate : rates.Regex) → result
         ≡ min (stored_in seen_of (collect column sync rate (plain_of inner.now.shape))
         (holding_of node.now.state)) (2 ^ 64 - 1) }
 {

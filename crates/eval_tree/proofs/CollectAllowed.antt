@@ -34,7 +34,7 @@ with_length (t ∷ tracks) (suc i) keys = ap suc (with_length tracks i keys)
 
 module _ {R : Type 0} (seen : R → Seen R) where
   -- a runner may be made for a new start
-  pub make_allowed : (column : ℕ) (sync : Predicate) (rate : rates.Expression) (f : Qre) (all : Contents R) (at : ℕ)
+  pub make_allowed : (column : ℕ) (sync : Predicate) (rate : rates.Regex) (f : Qre) (all : Contents R) (at : ℕ)
       → CanStart seen (collect column sync rate f) (collect_held all) at → CanMake f
   make_allowed column sync rate f all at can =
       let room : at + composes_of f < 2 ^ 64 = can.room in
@@ -47,7 +47,7 @@ module _ {R : Type 0} (seen : R → Seen R) where
         room = omega (arith, room);
       }
 
-  module _ (column : ℕ) (sync : Predicate) (rate : rates.Expression) (f : Qre) (all : Contents R) (now : ℕ)
+  module _ (column : ℕ) (sync : Predicate) (rate : rates.Regex) (f : Qre) (all : Contents R) (now : ℕ)
       (item : List Field) (can : CanStep seen (collect column sync rate f) (collect_held all) now item) where
     -- the states may go on by the item
     advance_allowed : IsItemOf all.nfa.cells.layout.columns item

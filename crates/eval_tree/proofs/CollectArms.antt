@@ -15,7 +15,7 @@ use Rattle.eval_tree.proofs.CollectSoundness.{sound_start_collect, sound_step_co
 use Rattle.eval_tree.proofs.CollectStarts.{start_collect}
 use Rattle.eval_tree.proofs.CollectSteps.{step_collect}
 
-module _ (column : ℕ) (sync : Predicate) (rate : rates.Expression) (f : Qre) (old new : Contents Progress) where
+module _ (column : ℕ) (sync : Predicate) (rate : rates.Regex) (f : Qre) (old new : Contents Progress) where
   pub collect_starts : (at : ℕ) (hit : Option Hit) → BeginsAt seen_of f old at new hit
       → HasStarted seen_of (collect column sync rate f) (collect_held old) at (collect_held new) (Ok hit)
   collect_starts at hit begins = record {

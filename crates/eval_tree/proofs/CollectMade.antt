@@ -23,14 +23,14 @@ use Rattle.eval_tree.proofs.CollectSteps.{RowOf}
 more_times : (n m : ℕ) → m ≤ (n + 1) * m
 more_times n m = omega arith
 
-pub body_small : (column : ℕ) (sync : Predicate) (rate : rates.Expression) (f : Qre)
+pub body_small : (column : ℕ) (sync : Predicate) (rate : rates.Regex) (f : Qre)
     → slots_of (collect column sync rate f) ≤ max_slots → slots_of f ≤ max_slots
 body_small column sync rate f small =
     let whole : (size_of rate + 1) * (1 + size_of rate + (inner_of f + 2)) + 2 ≤ max_slots = small in
     let more = more_times (size_of rate) (1 + size_of rate + (inner_of f + 2)) in
     omega (arith, whole, more)
 
-module _ {R : Type 0} (seen : R → Seen R) (columns : List Column) (column : ℕ) (sync : Predicate) (rate : rates.Expression)
+module _ {R : Type 0} (seen : R → Seen R) (columns : List Column) (column : ℕ) (sync : Predicate) (rate : rates.Regex)
     (f : Qre) (all : Contents R) (of_rate : AreSetsOf all.nfa.sets rate)
     (on : all.nfa.cells.layout.columns ≡ columns) (none : all.tracks ≡ []) where
   pub new_collect : Represents seen columns (collect column sync rate f) (collect_held all) [] []

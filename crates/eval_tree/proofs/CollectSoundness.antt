@@ -72,7 +72,7 @@ module _ {R : Type 0} (seen : R → Seen R) where
   tabled_typed all None none = tt
   tabled_typed all (Some found) one = table_typed found one.table one.value one.typed
 
-  pub sound_step_collect : (column : ℕ) (sync : Predicate) (rate : rates.Expression) (f : Qre)
+  pub sound_step_collect : (column : ℕ) (sync : Predicate) (rate : rates.Regex) (f : Qre)
       (old advanced pushed kept : Contents R) (now : ℕ) (item : List Field) (hit : Option Hit)
       → AllAdvance old.nfa.sets item old.tracks advanced.tracks → pushed.nfa ≡ old.nfa
       → ArePushed seen f column sync item advanced.tracks pushed.tracks → IsTabled seen pushed hit
@@ -123,7 +123,7 @@ module _ {R : Type 0} (seen : R → Seen R) where
   first_typed sets at None none = tt
   first_typed sets at (Some found) (same, is, typed, accepted) = (same, table_typed found [] is typed)
 
-  pub sound_start_collect : (column : ℕ) (sync : Predicate) (rate : rates.Expression) (f : Qre) (old new : Contents R)
+  pub sound_start_collect : (column : ℕ) (sync : Predicate) (rate : rates.Regex) (f : Qre) (old new : Contents R)
       (at : ℕ) (hit : Option Hit) → AddsStart seen f old at new → IsFirstTable old.nfa.sets at hit
       → StartsSoundly seen (collect column sync rate f) (collect_held old) at (collect_held new) hit
   sound_start_collect column sync rate f old new at hit (same, puts) first = λ standing columns clear sound.

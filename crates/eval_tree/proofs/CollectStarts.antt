@@ -46,7 +46,7 @@ module _ {R : Type 0} (seen : R → Seen R) where
         (sym are.keyed) tt;
   }
 
-  module _ (columns : List Column) (column : ℕ) (sync : Predicate) (rate : rates.Expression) (f : Qre) (nfa : Automaton)
+  module _ (columns : List Column) (column : ℕ) (sync : Predicate) (rate : rates.Regex) (f : Qre) (nfa : Automaton)
       (clear : IsClear bound columns f) (of_rate : AreSetsOf nfa.sets rate) (on : nfa.cells.layout.columns ≡ columns)
       (word : Word) (starts : List ℕ) (at : ℕ) (end : at ≡ length word) where
     -- a word of the rate begins where the initial state extends
@@ -115,7 +115,7 @@ module _ {R : Type 0} (seen : R → Seen R) where
     }
 
   -- the empty word has no keys, and so the empty table
-  first_table : (columns : List Column) (column : ℕ) (sync : Predicate) (rate : rates.Expression) (f : Qre) (sets : Sets)
+  first_table : (columns : List Column) (column : ℕ) (sync : Predicate) (rate : rates.Regex) (f : Qre) (sets : Sets)
       (at : ℕ) (hit : Option Hit) → AreSetsOf sets rate → IsFirstTable sets at hit
       → IsFirstHit (Den (collect column sync rate f)) at hit
   first_table columns column sync rate f sets at None of_rate none = λ v (entries, in_rate, each, same).
@@ -125,7 +125,7 @@ module _ {R : Type 0} (seen : R → Seen R) where
     ([], (is_accepted-in sets rate [] Initial (sets_spell sets rate of_rate) tt).0 accepted, refl, value),
   )
 
-  pub start_collect : (column : ℕ) (sync : Predicate) (rate : rates.Expression) (f : Qre) (old new : Contents R) (at : ℕ)
+  pub start_collect : (column : ℕ) (sync : Predicate) (rate : rates.Regex) (f : Qre) (old new : Contents R) (at : ℕ)
       (hit : Option Hit) → AddsStart seen f old at new → IsFirstTable old.nfa.sets at hit
       → Starts seen (collect column sync rate f) (collect_held old) at (collect_held new) hit
   start_collect column sync rate f old new at hit (same, puts) first =

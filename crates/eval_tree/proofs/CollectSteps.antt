@@ -37,7 +37,7 @@ use Rattle.eval_tree.proofs.Quiet.{extension_before}
 use Rattle.eval_tree.proofs.Tracked.{kept_apart, kept_track, track_kept}
 
 module _ {R : Type 0} (seen : R → Seen R) (columns : List Column) (column : ℕ) (sync : Predicate)
-    (rate : rates.Expression) (f : Qre) where
+    (rate : rates.Regex) (f : Qre) where
   abbrev pub q : Qre
   q = collect column sync rate f
 
@@ -193,7 +193,7 @@ module _ {R : Type 0} (seen : R → Seen R) (columns : List Column) (column : �
       }
 
 module _ {R : Type 0} (seen : R → Seen R) where
-  pub step_collect : (column : ℕ) (sync : Predicate) (rate : rates.Expression) (f : Qre)
+  pub step_collect : (column : ℕ) (sync : Predicate) (rate : rates.Regex) (f : Qre)
       (old advanced pushed kept : Contents R) (now : ℕ) (item : List Field) (hit : Option Hit)
       → AllAdvance old.nfa.sets item old.tracks advanced.tracks → pushed.nfa ≡ old.nfa
       → ArePushed seen f column sync item advanced.tracks pushed.tracks → IsTabled seen pushed hit

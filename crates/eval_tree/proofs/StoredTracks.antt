@@ -93,7 +93,7 @@ state_few : (sets : Sets) (state : State) → IsStateOf sets state → size_of_s
 state_few sets Initial is = omega arith
 state_few sets (At mask) is = ones-le (length sets.preds) mask is
 
-pub state_size : (sets : Sets) (rate : rates.Expression) (word : Word) (state : State) → AreSetsOf sets rate
+pub state_size : (sets : Sets) (rate : rates.Regex) (word : Word) (state : State) → AreSetsOf sets rate
     → IsAfter sets word state → size_of_state state ≤ size_of rate
 state_size sets rate word state are after =
     let few = state_few sets state (after_exists sets word state after) in

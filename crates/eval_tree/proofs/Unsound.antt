@@ -28,7 +28,7 @@ no_compose columns position f g (Compose' p a held runners) unlike sound =
     (runners_of (out-State (Compose' p a held runners))) (sym (roll-out-State (Compose' p a held runners)))
 no_compose columns position f g node unlike sound = sound
 
-no_collect : (columns : List Column) (position column : ℕ) (sync : Predicate) (rate : rates.Expression) (f : Qre)
+no_collect : (columns : List Column) (position column : ℕ) (sync : Predicate) (rate : rates.Regex) (f : Qre)
     (node : State) → ((all : tracks.Contents Progress) → node ≡ Collect all → ⊥)
     → IsSound seen_of columns (collect column sync rate f) position (holding_of node) → ⊥
 unfolding roll-State out-State denote.Hole.Carrier.roll denote.Hole.Carrier.out
@@ -114,7 +114,7 @@ module _ (columns : List Column) (position : ℕ) (q : Qre) (state : State) wher
   unsound_compose f g same unlike sound =
       no_compose columns position f g state unlike (taken_for (compose f g) same sound)
 
-  pub unsound_collect : (column : ℕ) (sync : Predicate) (rate : rates.Expression) (f : Qre) → q ≡ collect column sync rate f
+  pub unsound_collect : (column : ℕ) (sync : Predicate) (rate : rates.Regex) (f : Qre) → q ≡ collect column sync rate f
       → ((all : tracks.Contents Progress) → state ≡ Collect all → ⊥) → IsFor q state → ⊥
   unsound_collect column sync rate f same unlike sound =
       no_collect columns position column sync rate f state unlike (taken_for (collect column sync rate f) same sound)

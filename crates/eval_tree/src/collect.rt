@@ -32,9 +32,9 @@ pub(crate) fn start_collect(
     hit: &mut Option<Hit>,
 ) -> Result<(), AllocError>
     requires none { hit.old ≡ None }
-    requires can { (column : ℕ) × (sync : Predicate) × (rate : rates.Expression) × CanStart seen_of
+    requires can { (column : ℕ) × (sync : Predicate) × (rate : rates.Regex) × CanStart seen_of
         (collect column sync rate (plain_of inner.now.shape)) (holding_of node.old.state) at }
-    ensures { (column : ℕ) (sync : Predicate) (rate : rates.Expression) → HasStarted seen_of
+    ensures { (column : ℕ) (sync : Predicate) (rate : rates.Regex) → HasStarted seen_of
         (collect column sync rate (plain_of inner.now.shape)) (holding_of node.old.state) at
         (holding_of node.new.state) (found_in result hit.new) }
 {
@@ -56,10 +56,10 @@ pub(crate) fn step_collect(
     hit: &mut Option<Hit>,
 ) -> Result<(), AllocError>
     requires none { hit.old ≡ None }
-    requires can { (rate : rates.Expression) × (now : ℕ) × CanStep seen_of
+    requires can { (rate : rates.Regex) × (now : ℕ) × CanStep seen_of
         (collect column (predicates.plain_of sync.now) rate (plain_of inner.now.shape))
         (holding_of node.old.state) now item.now }
-    ensures { (rate : rates.Expression) (now : ℕ) → HasStepped seen_of
+    ensures { (rate : rates.Regex) (now : ℕ) → HasStepped seen_of
         (collect column (predicates.plain_of sync.now) rate (plain_of inner.now.shape))
         (holding_of node.old.state) now item.now (holding_of node.new.state)
         (found_in result hit.new) }

@@ -37,7 +37,7 @@ pub right_inner : (f g : Qre) → inner_of g + 2 ≤ inner_of (compose f g)
 right_inner f g =
     let one = once_of (places_of f) (1 + (inner_of g + 2)) in omega (arith, one)
 
-pub body_inner : (column : ℕ) (sync : Predicate) (rate : rate.Expression) (f : Qre)
+pub body_inner : (column : ℕ) (sync : Predicate) (rate : rate.Regex) (f : Qre)
     → inner_of f + 2 ≤ inner_of (collect column sync rate f)
 body_inner column sync rate f =
     let one = once_of (size_of rate) (1 + size_of rate + (inner_of f + 2)) in omega (arith, one)

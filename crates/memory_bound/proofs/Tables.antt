@@ -151,7 +151,7 @@ text_at column (text ∷ texts) key there =
     ]
 
 -- the keys that a collect tells apart are keys that were met
-pub keys_few : (column : ℕ) (sync : Predicate) (rate : rates.Expression) (f : Qre) (word : Word)
+pub keys_few : (column : ℕ) (sync : Predicate) (rate : rates.Regex) (f : Qre) (word : Word)
     → length (keys_after column sync [] word) ≤ keys_met (collect column sync rate f) word
 keys_few column sync rate f word =
     let texts = keys_after column sync [] word in

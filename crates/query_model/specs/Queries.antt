@@ -29,7 +29,7 @@ pub data Qre : Type 0 where
   compose : Qre → Qre → Qre
   -- For each key in a column the value on the items with this key and on those that meet the predicate, on
   -- the words of the rate
-  collect : ℕ → Predicate → rate.Expression → Qre → Qre
+  collect : ℕ → Predicate → rate.Regex → Qre → Qre
 
 -- the query of a shape
 abbrev pub plain_of : Shape → Qre

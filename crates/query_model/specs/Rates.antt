@@ -1,9 +1,9 @@
 -- Statement. The rate of a query: the words on which it can have a value.
 use Rattle.rate_expr.specs.Rates as rate
-use Rattle.rate_expr.specs.Rates.{Expression}
+use Rattle.rate_expr.specs.Rates.{Regex}
 use Rattle.query_model.specs.Queries.{Qre, atom, eps, choice, split, iter, combine, apply, compose, collect}
 
-abbrev pub rate_of : Qre → Expression
+abbrev pub rate_of : Qre → Regex
 rate_of (atom pred expression) = rate.one pred
 rate_of (eps number) = rate.empty
 rate_of (choice f g) = rate.choice (rate_of f) (rate_of g)

@@ -5,7 +5,7 @@ use Rattle.value_ops.specs.declared.field.Field.{Field}
 use Rattle.rate_expr.specs.After.{IsAfter}
 use Rattle.rate_expr.specs.Language.{In}
 use Rattle.rate_expr.specs.Paths.{AreOf}
-use Rattle.rate_expr.specs.Rates.{Expression}
+use Rattle.rate_expr.specs.Rates.{Regex}
 use Rattle.rate_expr.specs.Readings.{AreEqual, HasAllButEmpty}
 use Rattle.rate_expr.specs.Words.{Word, IsWordOf}
 use Rattle.rate_expr.specs.declared.state.State.{State}
@@ -18,7 +18,7 @@ use Rattle.rate_equal.specs.Pairs.{AreAll}
 use Rattle.rate_equal.specs.declared.pair.Pair.{Pair}
 
 module _ (first second : Automaton) (pairs : List Pair) (all : AreAll first second pairs) where
-  module _ (r s : Expression) (of_r : AreOf first.sets r) (of_s : AreOf second.sets s) where
+  module _ (r s : Regex) (of_r : AreOf first.sets r) (of_s : AreOf second.sets s) where
     -- states that disagree are behind a word that is in one of the rates
     in_one : (word : Word) (pair : Pair) → IsAfter first.sets word pair.first
         → IsAfter second.sets word pair.second → Disagree first.sets second.sets pair → IsInOne r s word
@@ -45,7 +45,7 @@ module _ (first second : Automaton) (pairs : List Pair) (all : AreAll first seco
         let (word, is, (here, there)) = all.reached.each pair (k, lt, at) in
         (word, is, in_one word pair here there differ)
 
-  module _ (r : Expression) (of_r : AreOf first.sets r) where
+  module _ (r : Regex) (of_r : AreOf first.sets r) where
     -- a word of at least one item is in the rate where words may end behind it
     in_full : (item : List Field) (more : Word) (state : State) → IsAfter first.sets (item ∷ more) state
         → EndsThere first.sets state → In r (item ∷ more)

@@ -1,7 +1,7 @@
 //! Whether two rates have the same words.
 ghost use Rattle.std.specs.Prelude.{◌≡◌, ◌+◌, All, Any, Err, IfOk, MatchBool, OnOk};
 ghost use Rattle.rate_expr.specs.Paths.{AreOf};
-ghost use Rattle.rate_expr.specs.Rates.{Expression};
+ghost use Rattle.rate_expr.specs.Rates.{Regex};
 ghost use Rattle.rate_expr.specs.Readings.{AreEqual, HasAllButEmpty};
 ghost use Rattle.rate_equal.specs.declared.stop.EqualStop.TheVariants.{Reach};
 ghost use Rattle.rate_equal.specs.Endings.{Agree, Disagree, IsFull, IsLacking};
@@ -17,7 +17,7 @@ use symbolic_nfa::{Nfa, State};
 /// Whether each word is in both rates or in neither.
 pub fn same(alloc: Global, first: &Nfa, second: &Nfa) -> Result<bool, EqualStop>
     requires { first.now.cells ≡ second.now.cells }
-    ensures answer { IfOk result (λ answer. (r s : Expression)
+    ensures answer { IfOk result (λ answer. (r s : Regex)
         → AreOf first.now.sets r → AreOf second.now.sets s → MatchBool answer
         (AreEqual first.now.cells.layout.columns r s)
         (HaveDifference first.now.cells.layout.columns r s)) }
@@ -32,7 +32,7 @@ pub fn same(alloc: Global, first: &Nfa, second: &Nfa) -> Result<bool, EqualStop>
 
 /// Whether every word of at least one item is in the rate.
 pub fn all_but_empty(alloc: Global, nfa: &Nfa) -> Result<bool, EqualStop>
-    ensures answer { IfOk result (λ answer. (r : Expression) → AreOf nfa.now.sets r
+    ensures answer { IfOk result (λ answer. (r : Regex) → AreOf nfa.now.sets r
         → MatchBool answer (HasAllButEmpty nfa.now.cells.layout.columns r)
         (LacksSome nfa.now.cells.layout.columns r)) }
     ensures few { OnOk result

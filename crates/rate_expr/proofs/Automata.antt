@@ -3,7 +3,7 @@ use Rattle.std.proofs.Common.{◌≡◌, ◌⊎◌, inl, inr, Bool, true, false,
 use Rattle.value_ops.specs.declared.field.Field.{Field}
 use Rattle.predicate_cells.specs.Predicates.{Predicate}
 use Rattle.predicate_cells.specs.Truth.{holds}
-use Rattle.rate_expr.specs.Rates.{Expression, empty, one, sequence, choice, star}
+use Rattle.rate_expr.specs.Rates.{Regex, empty, one, sequence, choice, star}
 use Rattle.rate_expr.specs.Words.{Word}
 
 -- whether the empty word is accepted, where words begin, end and go on, and what items meet
@@ -122,7 +122,7 @@ of_star a = record {
 }
 
 -- the automaton of a rate, whose states are the one-item parts
-abbrev pub automaton_of : Expression → Automaton
+abbrev pub automaton_of : Regex → Automaton
 automaton_of empty = of_empty
 automaton_of (one pred) = of_one pred
 automaton_of (sequence first second) = of_sequence (automaton_of first) (automaton_of second)

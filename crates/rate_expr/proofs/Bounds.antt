@@ -5,7 +5,7 @@ use Rattle.std.proofs.Math.Pow.{pow_mono}
 use Rattle.std.specs.Int.{bit_at}
 use Rattle.std.specs.List.{AllByRecursion}
 use Rattle.rate_expr.specs.Parts.{with_if, part_of, all_linked, follow_of}
-use Rattle.rate_expr.specs.Rates.{Expression, empty, one, sequence, choice, star, size_of, preds_of}
+use Rattle.rate_expr.specs.Rates.{Regex, empty, one, sequence, choice, star, size_of, preds_of}
 use Rattle.rate_expr.specs.Sets.{AreSets}
 use Rattle.rate_expr.proofs.Follows.{length-follow_of}
 use Rattle.rate_expr.proofs.Meetings.{length-preds_of}
@@ -21,7 +21,7 @@ pub raised : (mask j k : ℕ) → j ≤ k → mask < 2 ^ j → mask < 2 ^ k
 raised mask j k le below = let higher : 2 ^ j ≤ 2 ^ k = pow_mono le in omega arith
 
 -- words of the rate begin and end at its positions
-part_below : (rate : Expression) (base k : ℕ) → base + size_of rate ≤ k → ((part_of rate base).first < 2 ^ k) × ((part_of rate base).last < 2 ^ k)
+part_below : (rate : Regex) (base k : ℕ) → base + size_of rate ≤ k → ((part_of rate base).first < 2 ^ k) × ((part_of rate base).last < 2 ^ k)
 part_below empty base k le = (pow_pos k, pow_pos k)
 part_below (one pred) base k le = let below = pow_below base k (omega arith) in (below, below)
 part_below (sequence first second) base k le =
@@ -50,7 +50,7 @@ more_below k [] mask below all = (below, tt)
 more_below k (first ∷ masks) mask below (at, all) = (at, more_below k masks mask below all)
 
 -- words of the rate go on at its positions
-follow_below : (rate : Expression) (before : List ℕ) (k : ℕ) → length before + size_of rate ≤ k → AllByRecursion (λ mask. mask < 2 ^ k) before → AllByRecursion (λ mask. mask < 2 ^ k) (follow_of rate before)
+follow_below : (rate : Regex) (before : List ℕ) (k : ℕ) → length before + size_of rate ≤ k → AllByRecursion (λ mask. mask < 2 ^ k) before → AllByRecursion (λ mask. mask < 2 ^ k) (follow_of rate before)
 follow_below empty before k le all = all
 follow_below (one pred) before k le all = more_below k before 0 (pow_pos k) all
 follow_below (sequence first second) before k le all =
@@ -67,7 +67,7 @@ follow_below (star inner) before k le all =
     (part_below inner (length before) k le).0 (follow_below inner before k le all)
 
 -- the sets of a rate with at most 128 positions
-pub are_sets : (rate : Expression) → size_of rate ≤ 128 → AreSets (sets_of rate)
+pub are_sets : (rate : Regex) → size_of rate ≤ 128 → AreSets (sets_of rate)
 are_sets rate few =
     let long = length-preds_of rate in
     let ends = part_below rate 0 (length (preds_of rate)) (omega arith) in

@@ -3,7 +3,7 @@ use Rattle.std.proofs.Common.{◌≡◌, ◌⊎◌, inl, inr, Bool, true, false,
 use Rattle.value_ops.specs.declared.field.Field.{Field}
 use Rattle.predicate_cells.specs.Truth.{holds}
 use Rattle.rate_expr.specs.Language.{In}
-use Rattle.rate_expr.specs.Rates.{Expression, empty, one, sequence, choice, star}
+use Rattle.rate_expr.specs.Rates.{Regex, empty, one, sequence, choice, star}
 use Rattle.rate_expr.specs.Words.{Word}
 use Rattle.rate_expr.proofs.Automata.{Automaton, Continues, Accepts, of_sequence, of_choice, automaton_of}
 use Rattle.rate_expr.proofs.Exact.{in_accepted, accepted_in}
@@ -139,7 +139,7 @@ decided_choice a b da db = record {
     meet (inr q) item = db.meet q item
 
 -- those of the automaton of a rate
-decided_automaton : (rate : Expression) → IsDecided (automaton_of rate)
+decided_automaton : (rate : Regex) → IsDecided (automaton_of rate)
 decided_automaton empty = record {
   some = λ P each. inr (λ some. some.0);
   first = λ p. absurd p;
@@ -171,7 +171,7 @@ decided_automaton (star inner) =
     }
 
 -- each word is in a rate or is not
-pub in_or_not : (rate : Expression) (word : Word) → In rate word ⊎ (In rate word → ⊥)
+pub in_or_not : (rate : Regex) (word : Word) → In rate word ⊎ (In rate word → ⊥)
 in_or_not rate word =
     decided_as (Accepts (automaton_of rate) word) (In rate word) (accepted_in rate word) (in_accepted rate word)
     (decided_word (automaton_of rate) (decided_automaton rate) word)

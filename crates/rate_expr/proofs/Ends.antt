@@ -3,7 +3,7 @@ use Rattle.std.proofs.Common.{◌≡◌, ◌⊎◌, inl, inr, ℕ, ◌+◌, ◌^
 use Rattle.rate_expr.specs.declared.part.Part.{Part}
 use Rattle.rate_expr.specs.Parts as parts
 use Rattle.rate_expr.specs.Parts.{part_of, with_if}
-use Rattle.rate_expr.specs.Rates.{Expression, empty, one, sequence, choice, star, size_of}
+use Rattle.rate_expr.specs.Rates.{Regex, empty, one, sequence, choice, star, size_of}
 use Rattle.rate_expr.specs.Sets.{Has}
 use Rattle.rate_expr.proofs.Automata as automata
 use Rattle.rate_expr.proofs.Automata.{Automaton, automaton_of}
@@ -91,7 +91,7 @@ in_none : (number : ⊥ → ℕ) → AreIn ⊥ number (λ p. ⊥) 0
 in_none number = record { each = λ p holds. absurd p; only = λ n has. absurd (has_zero n has) }
 
 -- the part of a rate is that of its automaton
-pub is_part : (rate : Expression) (base : ℕ) → IsPart (automaton_of rate) (number_of rate base) (part_of rate base)
+pub is_part : (rate : Regex) (base : ℕ) → IsPart (automaton_of rate) (number_of rate base) (part_of rate base)
 is_part empty base = record { nullable = refl; first = in_none (λ p. base); last = in_none (λ p. base) }
 is_part (one pred) base = record { nullable = refl; first = in_one base; last = in_one base }
 is_part (sequence first second) base =

@@ -2,7 +2,7 @@
 use Rattle.std.proofs.Common.{◌⊎◌, inl, inr, List, [], ◌∷◌, refl, sym, subst}
 use Rattle.std.specs.List.{AllByRecursion}
 use Rattle.rate_expr.specs.Language.{In}
-use Rattle.rate_expr.specs.Rates.{Expression, empty, one, sequence, choice, star}
+use Rattle.rate_expr.specs.Rates.{Regex, empty, one, sequence, choice, star}
 use Rattle.rate_expr.specs.Words.{Word}
 use Rattle.rate_expr.proofs.Automata.{Accepts, automaton_of}
 use Rattle.rate_expr.proofs.Sequences.{sequence_only, sequence_each}
@@ -15,7 +15,7 @@ each_of P Q follows [] all = tt
 each_of P Q follows (word ∷ words) (at, all) = (follows word at, each_of P Q follows words all)
 
 -- a word of a rate is accepted
-pub in_accepted : (rate : Expression) (word : Word) → In rate word → Accepts (automaton_of rate) word
+pub in_accepted : (rate : Regex) (word : Word) → In rate word → Accepts (automaton_of rate) word
 in_accepted empty word is = subst (Accepts (automaton_of empty)) (sym is) refl
 in_accepted (one pred) word (item, is, meet) = subst (Accepts (automaton_of (one pred))) (sym is) (tt, tt, meet, tt)
 in_accepted (sequence first second) word (u, v, is, left, right) =
@@ -30,12 +30,12 @@ in_accepted (star inner) word (pieces, is, all) =
     (star_each (automaton_of inner) pieces (each_of (In inner) (Accepts (automaton_of inner)) (in_accepted inner) pieces all))
 
 -- the word is in either rate, as it is accepted for either
-in_either : (first second : Expression) (word : Word) → (Accepts (automaton_of first) word → In first word) → (Accepts (automaton_of second) word → In second word) → Accepts (automaton_of first) word ⊎ Accepts (automaton_of second) word → In (choice first second) word
+in_either : (first second : Regex) (word : Word) → (Accepts (automaton_of first) word → In first word) → (Accepts (automaton_of second) word → In second word) → Accepts (automaton_of first) word ⊎ Accepts (automaton_of second) word → In (choice first second) word
 in_either first second word left right (inl accepts) = inl (left accepts)
 in_either first second word left right (inr accepts) = inr (right accepts)
 
 -- an accepted word is one of the rate
-pub accepted_in : (rate : Expression) (word : Word) → Accepts (automaton_of rate) word → In rate word
+pub accepted_in : (rate : Regex) (word : Word) → Accepts (automaton_of rate) word → In rate word
 accepted_in empty [] accepts = refl
 accepted_in empty (item ∷ word) accepts = absurd accepts.0
 accepted_in (one pred) [] accepts = absurd (cc)

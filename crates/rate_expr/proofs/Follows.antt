@@ -2,7 +2,7 @@
 use Rattle.std.proofs.Common.{◌≡◌, ◌⊎◌, inl, inr, ℕ, zero, suc, ◌+◌, ◌<◌, List, [], ◌∷◌, ◌++◌, length, sym, ap, ◌∙◌, subst, arith}
 use Rattle.std.proofs.lemmas.List.{length_push}
 use Rattle.rate_expr.specs.Parts.{part_of, all_linked, follow_of}
-use Rattle.rate_expr.specs.Rates.{Expression, empty, one, sequence, choice, star, size_of}
+use Rattle.rate_expr.specs.Rates.{Regex, empty, one, sequence, choice, star, size_of}
 use Rattle.rate_expr.specs.Sets.{Has}
 use Rattle.rate_expr.proofs.Automata as automata
 use Rattle.rate_expr.proofs.Automata.{Automaton, automaton_of}
@@ -12,7 +12,7 @@ use Rattle.rate_expr.proofs.MaskMembers.{has_zero}
 use Rattle.rate_expr.proofs.Numbers.{either_number, number_of, number_within}
 
 -- the rate has so many masks
-pub length-follow_of : (rate : Expression) (before : List ℕ) → length (follow_of rate before) ≡ length before + size_of rate
+pub length-follow_of : (rate : Regex) (before : List ℕ) → length (follow_of rate before) ≡ length before + size_of rate
 length-follow_of empty before = omega arith
 length-follow_of (one pred) before = length_push before 0
 length-follow_of (sequence first second) before =
@@ -131,7 +131,7 @@ star_steps a f from to before after in_from in_to below steps = record {
         inr (p.0, q.0, p.1, q.1, inr (p.2, q.2))
 
 -- the masks of a rate are the steps of its automaton
-pub add_steps : (rate : Expression) (base : ℕ) (before : List ℕ) → length before ≡ base → AddSteps (automaton_of rate) (number_of rate base) before (follow_of rate before)
+pub add_steps : (rate : Regex) (base : ℕ) (before : List ℕ) → length before ≡ base → AddSteps (automaton_of rate) (number_of rate base) before (follow_of rate before)
 add_steps empty base before is = record {
   kept = λ i n goes. goes;
   each = λ p q follow. absurd p;

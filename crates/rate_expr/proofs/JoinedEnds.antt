@@ -4,7 +4,7 @@ use Rattle.rate_expr.specs.declared.part.Part.{Part}
 use Rattle.rate_expr.specs.FirstLastFollow.{IsNullable, IsFirst, IsLast}
 use Rattle.rate_expr.specs.Joined.{moved, part_moved}
 use Rattle.rate_expr.specs.Parts.{with_if, of_choice, of_sequence, of_star}
-use Rattle.rate_expr.specs.Rates.{Expression, sequence, choice, star, size_of}
+use Rattle.rate_expr.specs.Rates.{Regex, sequence, choice, star, size_of}
 use Rattle.rate_expr.specs.Sets.{Has}
 use Rattle.rate_expr.proofs.MaskMembers.{has_or, has_first, has_second, has_kept, has_more, has_no_more}
 use Rattle.rate_expr.proofs.Moved.{IsMoved, is_moved}
@@ -12,7 +12,7 @@ use Rattle.rate_expr.proofs.Renumbered.{IsFrom, first_from, last_from}
 use Rattle.rate_expr.proofs.Textbook.{test_either, test_both}
 
 -- the part says where words of the rate begin and end, with its positions numbered from a number on
-pub record AreEnds (base : ℕ) (part : Part) (rate : Expression) : Type 0 where
+pub record AreEnds (base : ℕ) (part : Part) (rate : Regex) : Type 0 where
   pub nullable : (part.nullable ≡ true) ↔ IsNullable rate
   pub first : (n : ℕ) → Has part.first n ↔ IsFirst rate base n
   pub last : (n : ℕ) → Has part.last n ↔ IsLast rate base n
@@ -32,7 +32,7 @@ has_from count mask other Is is same higher m = (there, back)
         subst (λ (k : ℕ). Has other k) n.1 (is.each n.0 ((same n.0).1 n.2))
 
 -- so do the ends of a part
-pub ends_higher : (count long : ℕ) (part : Part) (rate : Expression) → part.first < 2 ^ long
+pub ends_higher : (count long : ℕ) (part : Part) (rate : Regex) → part.first < 2 ^ long
     → part.last < 2 ^ long → count + long ≤ 128 → AreEnds 0 part rate
     → AreEnds count (part_moved count part) rate
 ends_higher count long part rate first last few ends = record {
@@ -81,7 +81,7 @@ turned X P Q N same = (λ x. there (same.0 x), λ holds. same.1 (back holds))
     back (inl (q, n)) = inr (n, q)
     back (inr p) = inl p
 
-pub choice_ends : (base : ℕ) (x y : Part) (r s : Expression) → AreEnds base x r
+pub choice_ends : (base : ℕ) (x y : Part) (r s : Regex) → AreEnds base x r
     → AreEnds (base + size_of r) y s → AreEnds base (of_choice x y) (choice r s)
 choice_ends base x y r s one other = record {
   nullable = test_either x.nullable y.nullable (IsNullable r) (IsNullable s) one.nullable other.nullable;
@@ -91,7 +91,7 @@ choice_ends base x y r s one other = record {
       (one.last n) (other.last n);
 }
 
-pub sequence_ends : (base : ℕ) (x y : Part) (r s : Expression) → AreEnds base x r
+pub sequence_ends : (base : ℕ) (x y : Part) (r s : Regex) → AreEnds base x r
     → AreEnds (base + size_of r) y s → AreEnds base (of_sequence x y) (sequence r s)
 sequence_ends base x y r s one other = record {
   nullable = test_both x.nullable y.nullable (IsNullable r) (IsNullable s) one.nullable other.nullable;
@@ -105,7 +105,7 @@ sequence_ends base x y r s one other = record {
       other.nullable (other.last n) (one.last n));
 }
 
-pub star_ends : (base : ℕ) (x : Part) (r : Expression) → AreEnds base x r
+pub star_ends : (base : ℕ) (x : Part) (r : Regex) → AreEnds base x r
     → AreEnds base (of_star x) (star r)
 star_ends base x r ends =
     record { nullable = (λ is. tt, λ is. refl); first = ends.first; last = ends.last }

@@ -7,7 +7,7 @@ use Rattle.rate_expr.specs.FirstLastFollow.{AreSetsOf}
 use Rattle.rate_expr.specs.Joined.{moved, part_moved, ends_of, ends_after, with_ends, with_links, beside, sets_of_one}
 use Rattle.rate_expr.specs.Parts.{all_linked, of_choice, of_sequence, of_star}
 use Rattle.rate_expr.specs.Rates as rates
-use Rattle.rate_expr.specs.Rates.{Expression}
+use Rattle.rate_expr.specs.Rates.{Regex}
 use Rattle.rate_expr.specs.Sets.{Sets, AreSets}
 use Rattle.rate_expr.proofs.JoinedSets.{AreFew, beside_sets, linked_sets, after_below, choice_below, sequence_below, choice_of, sequence_of, star_of, one_of}
 use Rattle.rate_expr.proofs.Linking.{length-all_linked}
@@ -133,7 +133,7 @@ choice_bounds a b part after whole sets known is =
 
 pub choice_made : (a b : Sets) (part after whole : Part) (sets result : Sets)
     → AreReady a b part after sets → whole ≡ of_choice part after → result ≡ with_ends sets whole
-    → (r s : Expression) → AreSetsOf a r → AreSetsOf b s → AreSetsOf result (rates.choice r s)
+    → (r s : Regex) → AreSetsOf a r → AreSetsOf b s → AreSetsOf result (rates.choice r s)
 choice_made a b part after whole sets result known is made r s of_r of_s =
     subst (λ (x : Sets). AreSetsOf x (rates.choice r s)) (sym same)
     (choice_of a b r s known.both of_r of_s)
@@ -155,7 +155,7 @@ sequence_bounds a b part after whole sets linked known links is =
 
 pub sequence_made : (a b : Sets) (part after whole : Part) (sets linked result : Sets)
     → AreReady a b part after sets → linked ≡ with_links sets part.last after.first
-    → whole ≡ of_sequence part after → result ≡ with_ends linked whole → (r s : Expression)
+    → whole ≡ of_sequence part after → result ≡ with_ends linked whole → (r s : Regex)
     → AreSetsOf a r → AreSetsOf b s → AreSetsOf result (rates.sequence r s)
 sequence_made a b part after whole sets linked result known links is made r s of_r of_s =
     subst (λ (x : Sets). AreSetsOf x (rates.sequence r s)) (sym same)
@@ -179,7 +179,7 @@ sequence_made a b part after whole sets linked result known links is made r s of
 -- a star
 pub star_made : (a : Sets) (part whole : Part) (linked result : Sets) → AreSets a
     → part ≡ ends_of a → linked ≡ with_links a part.last part.first → whole ≡ of_star part
-    → result ≡ with_ends linked whole → (r : Expression) → AreSetsOf a r
+    → result ≡ with_ends linked whole → (r : Regex) → AreSetsOf a r
     → AreSetsOf result (rates.star r)
 star_made a part whole linked result are ends links is made r of_r =
     subst (λ (x : Sets). AreSetsOf x (rates.star r)) (sym same) (star_of a r are of_r)

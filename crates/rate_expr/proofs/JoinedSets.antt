@@ -8,7 +8,7 @@ use Rattle.rate_expr.specs.declared.part.Part.{Part}
 use Rattle.rate_expr.specs.FirstLastFollow.{AreSetsOf, IsFirst, IsLast, IsFollowedBy}
 use Rattle.rate_expr.specs.Joined.{moved, ends_of, ends_after, with_ends, with_links, beside, sets_of_empty, sets_of_one, sets_of_choice, sets_of_sequence, sets_of_star}
 use Rattle.rate_expr.specs.Parts.{of_choice, of_sequence}
-use Rattle.rate_expr.specs.Rates.{Expression, empty, one, sequence, choice, star, size_of, preds_of}
+use Rattle.rate_expr.specs.Rates.{Regex, empty, one, sequence, choice, star, size_of, preds_of}
 use Rattle.rate_expr.specs.Sets.{Sets, AreSets}
 use Rattle.rate_expr.proofs.Bounds.{are_sets, raised, with_if_below, linked_below}
 use Rattle.rate_expr.proofs.JoinedEnds.{AreEnds, choice_ends, ends_higher, sequence_ends, star_ends}
@@ -127,17 +127,17 @@ sequence_below a b both =
     )
 
 -- where words of a rate begin and end
-ends_are : (a : Sets) (r : Expression) → AreSetsOf a r → AreEnds 0 (ends_of a) r
+ends_are : (a : Sets) (r : Regex) → AreSetsOf a r → AreEnds 0 (ends_of a) r
 ends_are a r are = record { nullable = are.nullable; first = are.first; last = are.last }
 
 -- so many positions
-count_is : (a : Sets) (r : Expression) → AreSetsOf a r → length a.preds ≡ 0 + size_of r
+count_is : (a : Sets) (r : Regex) → AreSetsOf a r → length a.preds ≡ 0 + size_of r
 count_is a r are =
     let long = length-preds_of r in
     let same = ap length are.preds in
     omega arith
 
-after_are : (a b : Sets) (r s : Expression) → AreFew a b → AreSetsOf a r → AreSetsOf b s
+after_are : (a b : Sets) (r s : Regex) → AreFew a b → AreSetsOf a r → AreSetsOf b s
     → AreEnds (0 + size_of r) (ends_after a b) s
 after_are a b r s both of_r of_s =
     subst (λ (base : ℕ). AreEnds base (ends_after a b) s) (count_is a r of_r)
@@ -145,7 +145,7 @@ after_are a b r s both of_r of_s =
     both.few (ends_are b s of_s))
 
 -- what goes on in both
-goes_are : (a b : Sets) (r s : Expression) → AreFew a b → AreSetsOf a r → AreSetsOf b s
+goes_are : (a b : Sets) (r s : Regex) → AreFew a b → AreSetsOf a r → AreSetsOf b s
     → (i n : ℕ) → Goes (beside a b).follow i n
     ↔ (IsFollowedBy r 0 i n ⊎ IsFollowedBy s (0 + size_of r) i n)
 goes_are a b r s both of_r of_s i n =
@@ -154,14 +154,14 @@ goes_are a b r s both of_r of_s i n =
     (omega arith) both.few both.second.follow of_r.follow of_s.follow i n
 
 -- the predicates of both
-preds_are : (a b : Sets) (r s : Expression) → AreSetsOf a r → AreSetsOf b s
+preds_are : (a b : Sets) (r s : Regex) → AreSetsOf a r → AreSetsOf b s
     → a.preds ++ b.preds ≡ preds_of r ++ preds_of s
 preds_are a b r s of_r of_s =
     ap (λ (list : List Predicate). list ++ b.preds) of_r.preds
     ∙ ap (λ (list : List Predicate). preds_of r ++ list) of_s.preds
 
 -- a choice
-pub choice_of : (a b : Sets) (r s : Expression) → AreFew a b → AreSetsOf a r → AreSetsOf b s
+pub choice_of : (a b : Sets) (r s : Regex) → AreFew a b → AreSetsOf a r → AreSetsOf b s
     → AreSetsOf (sets_of_choice a b) (choice r s)
 choice_of a b r s both of_r of_s =
     let ends = choice_ends 0 (ends_of a) (ends_after a b) r s (ends_are a r of_r)
@@ -175,7 +175,7 @@ choice_of a b r s both of_r of_s =
     }
 
 -- a sequence
-pub sequence_of : (a b : Sets) (r s : Expression) → AreFew a b → AreSetsOf a r → AreSetsOf b s
+pub sequence_of : (a b : Sets) (r s : Regex) → AreFew a b → AreSetsOf a r → AreSetsOf b s
     → AreSetsOf (sets_of_sequence a b) (sequence r s)
 sequence_of a b r s both of_r of_s =
     let after = after_are a b r s both of_r of_s in
@@ -195,7 +195,7 @@ sequence_of a b r s both of_r of_s =
     }
 
 -- a star
-pub star_of : (a : Sets) (r : Expression) → AreSets a → AreSetsOf a r
+pub star_of : (a : Sets) (r : Regex) → AreSets a → AreSetsOf a r
     → AreSetsOf (sets_of_star a) (star r)
 star_of a r are of_r =
     let ends = star_ends 0 (ends_of a) r (ends_are a r of_r) in

@@ -4,7 +4,7 @@ use Rattle.std.specs.List.{AllByRecursion}
 use Rattle.rate_expr.specs.FirstLastFollow.{IsFollowedBy}
 use Rattle.rate_expr.specs.Joined.{moved}
 use Rattle.rate_expr.specs.Parts.{all_linked}
-use Rattle.rate_expr.specs.Rates.{Expression, size_of}
+use Rattle.rate_expr.specs.Rates.{Regex, size_of}
 use Rattle.rate_expr.specs.Sets.{Has}
 use Rattle.rate_expr.proofs.Linking.{Goes, goes_kept, goes_linked, goes_no_more}
 use Rattle.rate_expr.proofs.MaskSets.{has-below}
@@ -65,11 +65,11 @@ goes_lower count long (first ∷ masks) few (below, all) (suc i) m goes =
     goes_lower count long masks few all i m goes
 
 -- words of the rate, whose positions are numbered from a number on, go on by these masks
-abbrev pub AreSteps : ℕ → List ℕ → Expression → Type 0
+abbrev pub AreSteps : ℕ → List ℕ → Regex → Type 0
 AreSteps base masks rate = (i n : ℕ) → Goes masks i n ↔ IsFollowedBy rate base i n
 
 -- the masks of two rates, those of the second moved behind those of the first
-pub steps_beside : (count long : ℕ) (xs ys : List ℕ) (r s : Expression) → length xs ≡ count
+pub steps_beside : (count long : ℕ) (xs ys : List ℕ) (r s : Regex) → length xs ≡ count
     → size_of r ≡ count → count + long ≤ 128 → AllByRecursion (λ mask. mask < 2 ^ long) ys
     → AreSteps 0 xs r → AreSteps 0 ys s → (i n : ℕ)
     → Goes (xs ++ map (moved count) ys) i n

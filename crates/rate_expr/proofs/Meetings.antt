@@ -4,12 +4,12 @@ use Rattle.std.proofs.lemmas.List.{append-nil}
 use Rattle.value_ops.specs.declared.field.Field.{Field}
 use Rattle.predicate_cells.specs.Predicates.{Predicate}
 use Rattle.predicate_cells.specs.Truth.{holds}
-use Rattle.rate_expr.specs.Rates.{Expression, empty, one, sequence, choice, star, size_of, preds_of}
+use Rattle.rate_expr.specs.Rates.{Regex, empty, one, sequence, choice, star, size_of, preds_of}
 use Rattle.rate_expr.proofs.Automata.{Automaton, MeetEither, automaton_of}
 use Rattle.rate_expr.proofs.Numbers.{either_number, number_of}
 
 -- the rate has so many predicates
-pub length-preds_of : (rate : Expression) → length (preds_of rate) ≡ size_of rate
+pub length-preds_of : (rate : Regex) → length (preds_of rate) ≡ size_of rate
 length-preds_of empty = refl
 length-preds_of (one pred) = refl
 length-preds_of (sequence first second) =
@@ -72,14 +72,14 @@ either_preds a b f g before middle after in_a in_b = record {
     found n item (inr (q, at, meet)) = inr (inr q, at, meet)
 
 -- those of two rates, one behind the other
-two_preds : (first second : Expression) (base : ℕ) (before : List Predicate) → AddPreds (automaton_of first).State (number_of first base) (automaton_of first).Meet before (before ++ preds_of first) → AddPreds (automaton_of second).State (number_of second (base + size_of first)) (automaton_of second).Meet (before ++ preds_of first) ((before ++ preds_of first) ++ preds_of second) → AddPreds ((automaton_of first).State ⊎ (automaton_of second).State) (either_number (automaton_of first).State (automaton_of second).State (number_of first base) (number_of second (base + size_of first))) (MeetEither (automaton_of first) (automaton_of second)) before (before ++ (preds_of first ++ preds_of second))
+two_preds : (first second : Regex) (base : ℕ) (before : List Predicate) → AddPreds (automaton_of first).State (number_of first base) (automaton_of first).Meet before (before ++ preds_of first) → AddPreds (automaton_of second).State (number_of second (base + size_of first)) (automaton_of second).Meet (before ++ preds_of first) ((before ++ preds_of first) ++ preds_of second) → AddPreds ((automaton_of first).State ⊎ (automaton_of second).State) (either_number (automaton_of first).State (automaton_of second).State (number_of first base) (number_of second (base + size_of first))) (MeetEither (automaton_of first) (automaton_of second)) before (before ++ (preds_of first ++ preds_of second))
 two_preds first second base before left right =
     rw (← append_assoc before (preds_of first) (preds_of second))
     (either_preds (automaton_of first) (automaton_of second) (number_of first base) (number_of second (base + size_of first))
     before (before ++ preds_of first) ((before ++ preds_of first) ++ preds_of second) left right)
 
 -- the predicates of a rate are what its automaton meets
-pub add_preds : (rate : Expression) (base : ℕ) (before : List Predicate) → length before ≡ base → AddPreds (automaton_of rate).State (number_of rate base) (automaton_of rate).Meet before (before ++ preds_of rate)
+pub add_preds : (rate : Regex) (base : ℕ) (before : List Predicate) → length before ≡ base → AddPreds (automaton_of rate).State (number_of rate base) (automaton_of rate).Meet before (before ++ preds_of rate)
 add_preds empty base before is = record {
   kept = λ n item meets. rw append-nil meets;
   each = λ p item meet. absurd p;

@@ -1,6 +1,6 @@
 -- The states of the automaton of a rate, numbered from left to right.
 use Rattle.std.proofs.Common.{◌≡◌, ◌⊎◌, inl, inr, ℕ, ◌+◌, ◌<◌, ◌≤◌, refl, ap, arith}
-use Rattle.rate_expr.specs.Rates.{Expression, empty, one, sequence, choice, star, size_of}
+use Rattle.rate_expr.specs.Rates.{Regex, empty, one, sequence, choice, star, size_of}
 use Rattle.rate_expr.proofs.Automata.{automaton_of}
 
 -- the number of a state of either
@@ -9,7 +9,7 @@ either_number A B f g (inl p) = f p
 either_number A B f g (inr q) = g q
 
 -- the number of a state, from a number on
-abbrev pub number_of : (rate : Expression) → ℕ → (automaton_of rate).State → ℕ
+abbrev pub number_of : (rate : Regex) → ℕ → (automaton_of rate).State → ℕ
 number_of empty base p = base
 number_of (one pred) base p = base
 number_of (sequence first second) base p =
@@ -32,7 +32,7 @@ either_within A B f g low middle high up on left right (inr q) =
     let at = right q in (omega arith, at.1)
 
 -- the numbers are those from the base on, so many
-pub number_within : (rate : Expression) (base : ℕ) (p : (automaton_of rate).State) → (base ≤ number_of rate base p) × (number_of rate base p < base + size_of rate)
+pub number_within : (rate : Regex) (base : ℕ) (p : (automaton_of rate).State) → (base ≤ number_of rate base p) × (number_of rate base p < base + size_of rate)
 number_within empty base p = absurd p
 number_within (one pred) base p = (omega arith, omega arith)
 number_within (sequence first second) base p =
@@ -63,7 +63,7 @@ either_apart A B f g middle below above left right (inr p) (inl q) same =
 either_apart A B f g middle below above left right (inr p) (inr q) same = ap inr (right p q same)
 
 -- those of a rate
-pub number_apart : (rate : Expression) (base : ℕ) (p q : (automaton_of rate).State) → number_of rate base p ≡ number_of rate base q → p ≡ q
+pub number_apart : (rate : Regex) (base : ℕ) (p q : (automaton_of rate).State) → number_of rate base p ≡ number_of rate base q → p ≡ q
 number_apart empty base p q same = absurd p
 number_apart (one pred) base p q same = refl
 number_apart (sequence first second) base p q same =

@@ -2,7 +2,7 @@
 use Rattle.std.proofs.Common.{◌≡◌, ℕ, zero, suc, ◌↔◌, Bool, List, [], ◌∷◌, length, refl, sym, ap, ◌∙◌, subst, arith}
 use Rattle.predicate_cells.specs.Predicates.{Predicate}
 use Rattle.rate_expr.specs.FirstLastFollow.{AreSetsOf}
-use Rattle.rate_expr.specs.Rates.{Expression}
+use Rattle.rate_expr.specs.Rates.{Regex}
 use Rattle.rate_expr.specs.Sets.{Sets, AreSets, Has}
 use Rattle.rate_expr.proofs.Linking.{Goes}
 use Rattle.rate_expr.proofs.MaskSets.{same-has}
@@ -43,7 +43,7 @@ same_parts sets other nullable first last follow preds =
     ∙ ap (λ (list : List Predicate). made other.nullable other.first other.last other.follow list) preds
 
 -- so sets of one rate are the same
-pub one_sets : (rate : Expression) (sets other : Sets) → AreSets sets → AreSets other → AreSetsOf sets rate → AreSetsOf other rate → other ≡ sets
+pub one_sets : (rate : Regex) (sets other : Sets) → AreSets sets → AreSets other → AreSetsOf sets rate → AreSetsOf other rate → other ≡ sets
 one_sets rate sets other are also of_rate of_rate_too =
     let preds : other.preds ≡ sets.preds = of_rate_too.preds ∙ sym of_rate.preds in
     same_parts other sets

@@ -1,7 +1,7 @@
 -- The positions of a rate, numbered from a number on and from 0 on.
 use Rattle.std.proofs.Common.{◌≡◌, ◌⊎◌, inl, inr, ℕ, ◌+◌, ◌↔◌, refl, sym, ap, ◌∙◌, arith}
 use Rattle.rate_expr.specs.FirstLastFollow.{IsFirst, IsLast, IsFollowedBy}
-use Rattle.rate_expr.specs.Rates.{Expression, empty, one, sequence, choice, star, size_of}
+use Rattle.rate_expr.specs.Rates.{Regex, empty, one, sequence, choice, star, size_of}
 use Rattle.rate_expr.proofs.Automata.{automaton_of}
 use Rattle.rate_expr.proofs.Numbers.{either_number, number_of}
 use Rattle.rate_expr.proofs.Textbook.{IsNumberOf, first_as, last_as, follow_as}
@@ -18,7 +18,7 @@ further : (base size n m k : ℕ) → n ≡ (base + size) + k → m ≡ (0 + siz
 further base size n m k is also = omega arith
 
 -- each state has its number that much higher
-number_from : (rate : Expression) (base : ℕ) (p : (automaton_of rate).State)
+number_from : (rate : Regex) (base : ℕ) (p : (automaton_of rate).State)
     → number_of rate base p ≡ base + number_of rate 0 p
 number_from empty base p = absurd p
 number_from (one pred) base p = omega arith
@@ -39,7 +39,7 @@ abbrev pub IsFrom : (ℕ → ℕ → Type 0) → ℕ → ℕ → Type 0
 IsFrom Is base m = (n : ℕ) × (base + n ≡ m) × Is 0 n
 
 -- what holds of the numbers of these states
-holds_from : (rate : Expression) (P : (automaton_of rate).State → Type 0) (Is : ℕ → ℕ → Type 0)
+holds_from : (rate : Regex) (P : (automaton_of rate).State → Type 0) (Is : ℕ → ℕ → Type 0)
     → ((base n : ℕ) → IsNumberOf (automaton_of rate).State (number_of rate base) P n ↔ Is base n)
     → (base m : ℕ) → Is base m ↔ IsFrom Is base m
 holds_from rate P Is same base m = (there, back)
@@ -58,24 +58,24 @@ holds_from rate P Is same base m = (there, back)
         (same base m).0 (p.0, number_from rate base p.0 ∙ ap (λ (k : ℕ). base + k) p.1 ∙ at, p.2)
 
 -- words begin
-pub first_from : (rate : Expression) (base m : ℕ)
+pub first_from : (rate : Regex) (base m : ℕ)
     → IsFirst rate base m ↔ IsFrom (IsFirst rate) base m
 first_from rate base m =
     holds_from rate (automaton_of rate).First (IsFirst rate) (first_as rate) base m
 
 -- they end
-pub last_from : (rate : Expression) (base m : ℕ)
+pub last_from : (rate : Regex) (base m : ℕ)
     → IsLast rate base m ↔ IsFrom (IsLast rate) base m
 last_from rate base m =
     holds_from rate (automaton_of rate).Last (IsLast rate) (last_as rate) base m
 
 -- two positions, so many higher than one and the next
-abbrev pub IsStepFrom : Expression → ℕ → ℕ → ℕ → Type 0
+abbrev pub IsStepFrom : Regex → ℕ → ℕ → ℕ → Type 0
 IsStepFrom rate base i m =
     (j : ℕ) × (n : ℕ) × (base + j ≡ i) × (base + n ≡ m) × IsFollowedBy rate 0 j n
 
 -- they go on
-pub follow_from : (rate : Expression) (base i m : ℕ)
+pub follow_from : (rate : Regex) (base i m : ℕ)
     → IsFollowedBy rate base i m ↔ IsStepFrom rate base i m
 follow_from rate base i m = (there, back)
   where

@@ -5,7 +5,7 @@ use Rattle.predicate_cells.specs.Predicates.{Predicate}
 use Rattle.rate_expr.specs.FirstLastFollow.{AreSetsOf}
 use Rattle.rate_expr.specs.Parts.{part_of, follow_of}
 use Rattle.rate_expr.specs.Paths.{AreOf}
-use Rattle.rate_expr.specs.Rates.{Expression, preds_of}
+use Rattle.rate_expr.specs.Rates.{Regex, preds_of}
 use Rattle.rate_expr.specs.Sets.{Sets, Has}
 use Rattle.rate_expr.proofs.Automata.{Automaton, automaton_of}
 use Rattle.rate_expr.proofs.Ends.{AreIn, is_part}
@@ -17,7 +17,7 @@ use Rattle.rate_expr.proofs.Spelled.{Say, spell_exactly}
 use Rattle.rate_expr.proofs.Textbook.{IsNumberOf, nullable_as, first_as, last_as, follow_as}
 
 -- the sets of a rate
-abbrev pub sets_of : Expression → Sets
+abbrev pub sets_of : Regex → Sets
 sets_of rate =
     let part = part_of rate 0 in
     record {
@@ -39,7 +39,7 @@ meet_only A number Meet n item (inl (pred, is, meet)) = absurd (cc)
 meet_only A number Meet n item (inr met) = met
 
 -- the sets of a rate say what its automaton says
-sets_say : (rate : Expression) → Say (sets_of rate) (automaton_of rate) (number_of rate 0)
+sets_say : (rate : Regex) → Say (sets_of rate) (automaton_of rate) (number_of rate 0)
 sets_say rate =
     let a = automaton_of rate in
     let part = is_part rate 0 in
@@ -78,7 +78,7 @@ same_test false true P of_x of_y = of_x.1 (of_y.0 refl)
 same_test false false P of_x of_y = refl
 
 -- the sets of a rate are those of the textbook
-pub are_sets_of : (rate : Expression) → AreSetsOf (sets_of rate) rate
+pub are_sets_of : (rate : Regex) → AreSetsOf (sets_of rate) rate
 are_sets_of rate =
     let a = automaton_of rate in
     let number = number_of rate 0 in
@@ -101,7 +101,7 @@ are_sets_of rate =
         (subst (λ (m : ℕ). Goes (sets_of rate).follow (number_of rate 0 p) m) at_next ((sets_say rate).goes p q follow))
 
 -- and sets of the textbook say what the automaton says
-say_of : (sets : Sets) (rate : Expression) → AreSetsOf sets rate → Say sets (automaton_of rate) (number_of rate 0)
+say_of : (sets : Sets) (rate : Regex) → AreSetsOf sets rate → Say sets (automaton_of rate) (number_of rate 0)
 say_of sets rate are =
     let a = automaton_of rate in
     let number = number_of rate 0 in
@@ -123,5 +123,5 @@ say_of sets rate are =
     }
 
 -- so they spell exactly its words
-pub sets_spell : (sets : Sets) (rate : Expression) → AreSetsOf sets rate → AreOf sets rate
+pub sets_spell : (sets : Sets) (rate : Regex) → AreSetsOf sets rate → AreOf sets rate
 sets_spell sets rate are = spell_exactly rate sets (say_of sets rate are)

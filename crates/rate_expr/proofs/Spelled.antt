@@ -2,7 +2,7 @@
 use Rattle.std.proofs.Common.{◌≡◌, ℕ, List, [], ◌∷◌, refl, sym, ◌∙◌, subst}
 use Rattle.value_ops.specs.declared.field.Field.{Field}
 use Rattle.rate_expr.specs.Paths.{Meets, Follows, LeadsOn, Spells, AreOf}
-use Rattle.rate_expr.specs.Rates.{Expression}
+use Rattle.rate_expr.specs.Rates.{Regex}
 use Rattle.rate_expr.specs.Sets.{Sets, Has}
 use Rattle.rate_expr.specs.Words.{Word}
 use Rattle.rate_expr.proofs.Automata.{Automaton, Continues, Accepts, automaton_of}
@@ -63,7 +63,7 @@ module _ (sets : Sets) (a : Automaton) (number : a.State → ℕ) (say : Say set
       (p.0, p.2, renamed (λ r. a.Meet r item) met.0 p.0 begin met.1 p.1 met.2, state_path p.0 begin p.1 word to on last)
 
 -- the paths over such sets spell exactly the words of the rate
-pub spell_exactly : (rate : Expression) (sets : Sets) → Say sets (automaton_of rate) (number_of rate 0) → AreOf sets rate
+pub spell_exactly : (rate : Regex) (sets : Sets) → Say sets (automaton_of rate) (number_of rate 0) → AreOf sets rate
 spell_exactly rate sets say word =
     let a = automaton_of rate in (
       λ is. spelled sets a (number_of rate 0) say word (in_accepted rate word is),

@@ -1,7 +1,7 @@
 -- What a textbook says of the positions of a rate, its automaton says of their states.
 use Rattle.std.proofs.Common.{◌≡◌, ◌⊎◌, inl, inr, ℕ, ◌+◌, ◌↔◌, ◌&&◌, ◌||◌, Bool, true, refl}
 use Rattle.rate_expr.specs.FirstLastFollow.{IsNullable, IsFirst, IsLast, IsFollowedBy}
-use Rattle.rate_expr.specs.Rates.{Expression, empty, one, sequence, choice, star, size_of}
+use Rattle.rate_expr.specs.Rates.{Regex, empty, one, sequence, choice, star, size_of}
 use Rattle.rate_expr.proofs.Automata as automata
 use Rattle.rate_expr.proofs.Automata.{Automaton, automaton_of}
 use Rattle.rate_expr.proofs.Choices.{either, or_first, or_second}
@@ -103,7 +103,7 @@ steps_in_star a f i n X L F in_a last first = (to, from)
         let p = last.1 ends in let q = first.1 begins in (p.0, q.0, p.1, q.1, inr (p.2, q.2))
 
 -- the empty word is accepted
-pub nullable_as : (rate : Expression) → ((automaton_of rate).nullable ≡ true) ↔ IsNullable rate
+pub nullable_as : (rate : Regex) → ((automaton_of rate).nullable ≡ true) ↔ IsNullable rate
 nullable_as empty = (λ is. tt, λ is. refl)
 nullable_as (one pred) = (λ is. cc, λ none. absurd none)
 nullable_as (sequence r s) =
@@ -113,7 +113,7 @@ nullable_as (choice r s) =
 nullable_as (star inner) = (λ is. tt, λ is. refl)
 
 -- words begin
-pub first_as : (rate : Expression) (base n : ℕ) → IsNumberOf (automaton_of rate).State (number_of rate base) (automaton_of rate).First n ↔ IsFirst rate base n
+pub first_as : (rate : Regex) (base n : ℕ) → IsNumberOf (automaton_of rate).State (number_of rate base) (automaton_of rate).First n ↔ IsFirst rate base n
 first_as empty base n = (λ some. absurd some.0, λ none. absurd none)
 first_as (one pred) base n = (λ some. some.1, λ is. (tt, is, tt))
 first_as (sequence r s) base n =
@@ -134,7 +134,7 @@ first_as (choice r s) base n =
 first_as (star inner) base n = first_as inner base n
 
 -- they end
-pub last_as : (rate : Expression) (base n : ℕ) → IsNumberOf (automaton_of rate).State (number_of rate base) (automaton_of rate).Last n ↔ IsLast rate base n
+pub last_as : (rate : Regex) (base n : ℕ) → IsNumberOf (automaton_of rate).State (number_of rate base) (automaton_of rate).Last n ↔ IsLast rate base n
 last_as empty base n = (λ some. absurd some.0, λ none. absurd none)
 last_as (one pred) base n = (λ some. some.1, λ is. (tt, is, tt))
 last_as (sequence r s) base n =
@@ -156,7 +156,7 @@ last_as (choice r s) base n =
 last_as (star inner) base n = last_as inner base n
 
 -- they go on
-pub follow_as : (rate : Expression) (base i n : ℕ) → Step (automaton_of rate) (number_of rate base) i n ↔ IsFollowedBy rate base i n
+pub follow_as : (rate : Regex) (base i n : ℕ) → Step (automaton_of rate) (number_of rate base) i n ↔ IsFollowedBy rate base i n
 follow_as empty base i n = (λ some. absurd some.0, λ none. absurd none)
 follow_as (one pred) base i n = (λ some. absurd some.4, λ none. absurd none)
 follow_as (sequence r s) base i n =

@@ -3,11 +3,11 @@
 -- second part come after those of the first.
 use Rattle.std.specs.Prelude.{◌≡◌, ◌+◌, ◌⊎◌, ◌↔◌, ℕ, true}
 use Rattle.rate_expr.specs.Paths.{Follows}
-use Rattle.rate_expr.specs.Rates.{Expression, empty, one, sequence, choice, star, size_of, preds_of}
+use Rattle.rate_expr.specs.Rates.{Regex, empty, one, sequence, choice, star, size_of, preds_of}
 use Rattle.rate_expr.specs.Sets.{Sets, Has}
 
 -- the empty word is a word of the rate
-abbrev pub IsNullable : Expression → Type 0
+abbrev pub IsNullable : Regex → Type 0
 IsNullable empty = Unit {0}
 IsNullable (one pred) = ⊥
 IsNullable (sequence first second) = IsNullable first × IsNullable second
@@ -15,7 +15,7 @@ IsNullable (choice first second) = IsNullable first ⊎ IsNullable second
 IsNullable (star inner) = Unit {0}
 
 -- words of the rate begin at the position, where its positions are numbered from `base` on
-abbrev pub IsFirst : Expression → ℕ → ℕ → Type 0
+abbrev pub IsFirst : Regex → ℕ → ℕ → Type 0
 IsFirst empty base position = ⊥
 IsFirst (one pred) base position = base ≡ position
 IsFirst (sequence first second) base position = IsFirst first base position
@@ -25,7 +25,7 @@ IsFirst (choice first second) base position = IsFirst first base position
 IsFirst (star inner) base position = IsFirst inner base position
 
 -- words of the rate end at the position
-abbrev pub IsLast : Expression → ℕ → ℕ → Type 0
+abbrev pub IsLast : Regex → ℕ → ℕ → Type 0
 IsLast empty base position = ⊥
 IsLast (one pred) base position = base ≡ position
 IsLast (sequence first second) base position = (IsLast first base position × IsNullable second)
@@ -35,7 +35,7 @@ IsLast (choice first second) base position = IsLast first base position
 IsLast (star inner) base position = IsLast inner base position
 
 -- in words of the rate, the position `next` may follow the position `before`
-abbrev pub IsFollowedBy : Expression → ℕ → ℕ → ℕ → Type 0
+abbrev pub IsFollowedBy : Regex → ℕ → ℕ → ℕ → Type 0
 IsFollowedBy empty base before next = ⊥
 IsFollowedBy (one pred) base before next = ⊥
 IsFollowedBy (sequence first second) base before next =
@@ -47,7 +47,7 @@ IsFollowedBy (star inner) base before next = IsFollowedBy inner base before next
     ⊎ (IsLast inner base before × IsFirst inner base next)
 
 -- the sets are those of the rate, where its positions are numbered from 0 on
-pub record AreSetsOf (sets : Sets) (rate : Expression) : Type 0 where
+pub record AreSetsOf (sets : Sets) (rate : Regex) : Type 0 where
   pub nullable : (sets.nullable ≡ true) ↔ IsNullable rate
   pub first : (position : ℕ) → Has sets.first position ↔ IsFirst rate 0 position
   pub last : (position : ℕ) → Has sets.last position ↔ IsLast rate 0 position

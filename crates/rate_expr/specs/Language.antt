@@ -3,11 +3,11 @@ use Rattle.std.specs.Prelude.{◌≡◌, ◌⊎◌, true, List, [], ◌∷◌, �
 use Rattle.std.specs.List.{AllByRecursion}
 use Rattle.value_ops.specs.declared.field.Field.{Field}
 use Rattle.predicate_cells.specs.Truth.{holds}
-use Rattle.rate_expr.specs.Rates.{Expression, empty, one, sequence, choice, star}
+use Rattle.rate_expr.specs.Rates.{Regex, empty, one, sequence, choice, star}
 use Rattle.rate_expr.specs.Words.{Word, join}
 
 -- the word is in the rate
-abbrev pub In : Expression → Word → Type 0
+abbrev pub In : Regex → Word → Type 0
 In empty word = word ≡ []
 In (one pred) word = (item : List Field) × (word ≡ item ∷ []) × (holds pred item ≡ true)
 In (sequence first second) word =

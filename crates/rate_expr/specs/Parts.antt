@@ -2,7 +2,7 @@
 use Rattle.std.specs.Prelude.{◌+◌, ◌^◌, ◌==◌, ◌&&◌, ◌||◌, ℕ, Bool, true, false, if◌then◌else◌, List, [], ◌∷◌, ◌++◌, bit_or, length}
 use Rattle.std.specs.Int.{bit_at}
 use Rattle.rate_expr.specs.declared.part.Part.{Part}
-use Rattle.rate_expr.specs.Rates.{Expression, empty, one, sequence, choice, star, size_of}
+use Rattle.rate_expr.specs.Rates.{Regex, empty, one, sequence, choice, star, size_of}
 
 -- the mask, with the positions of another if the test holds
 abbrev pub with_if : ℕ → Bool → ℕ → ℕ
@@ -37,7 +37,7 @@ abbrev pub of_star : Part → Part
 of_star a = record { nullable = true; first = a.first; last = a.last }
 
 -- where words of the rate begin and end, with its positions numbered from `base` on
-abbrev pub part_of : Expression → ℕ → Part
+abbrev pub part_of : Regex → ℕ → Part
 part_of empty base = of_empty
 part_of (one pred) base = of_one base
 part_of (sequence first second) base =
@@ -57,7 +57,7 @@ all_linked from to position (mask ∷ masks) =
     linked from to position mask ∷ all_linked from to (position + 1) masks
 
 -- the follow masks of other positions, and after them those of the positions of the rate
-abbrev pub follow_of : Expression → List ℕ → List ℕ
+abbrev pub follow_of : Regex → List ℕ → List ℕ
 follow_of empty before = before
 follow_of (one pred) before = before ++ 0 ∷ []
 follow_of (sequence first second) before =

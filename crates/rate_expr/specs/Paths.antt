@@ -4,7 +4,7 @@ use Rattle.value_ops.specs.declared.field.Field.{Field}
 use Rattle.predicate_cells.specs.Predicates.{Predicate}
 use Rattle.predicate_cells.specs.Truth.{holds}
 use Rattle.rate_expr.specs.Language.{In}
-use Rattle.rate_expr.specs.Rates.{Expression}
+use Rattle.rate_expr.specs.Rates.{Regex}
 use Rattle.rate_expr.specs.Sets.{Sets, Has}
 use Rattle.rate_expr.specs.Words.{Word}
 
@@ -36,5 +36,5 @@ Spells sets [] = sets.nullable ≡ true
 Spells sets (item ∷ word) = (end : ℕ) × Leads sets (item ∷ word) end × Has sets.last end
 
 -- the paths over the sets spell exactly the words of the rate
-abbrev pub AreOf : Sets → Expression → Type 0
+abbrev pub AreOf : Sets → Regex → Type 0
 AreOf sets rate = (word : Word) → (In rate word → Spells sets word) × (Spells sets word → In rate word)

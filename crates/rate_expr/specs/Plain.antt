@@ -4,7 +4,7 @@ use Rattle.rate_expr.specs.Rates as plain
 use Rattle.rate_expr.specs.declared.rate.Rate.{Rate}
 use Rattle.rate_expr.specs.declared.rate.Rate.TheVariants.{Empty, One, Seq', Alt', Star'}
 
-abbrev pub plain_of : Rate → plain.Expression
+abbrev pub plain_of : Rate → plain.Regex
 plain_of Empty = plain.empty
 plain_of (One pred) = plain.one (predicate.plain_of pred)
 plain_of (Seq' p first q second) = plain.sequence (plain_of first) (plain_of second)

@@ -2,7 +2,7 @@
 ghost use Rattle.std.specs.Prelude.{◌+◌, ◌≤◌, IfOk, length};
 ghost use Rattle.language_base.specs.Limits.{max_positions};
 ghost use Rattle.rate_expr.specs.FirstLastFollow.{AreSetsOf};
-ghost use Rattle.rate_expr.specs.Rates.{Expression, choice, sequence, star};
+ghost use Rattle.rate_expr.specs.Rates.{Regex, choice, sequence, star};
 
 use crate::positions::Positions;
 use std::alloc::AllocError;
@@ -12,7 +12,7 @@ impl Positions {
     /// first.
     pub fn or(self, other: Positions) -> Result<Positions, AllocError>
         requires { length self.preds + length other.preds ≤ max_positions }
-        ensures { (r s : Expression) → AreSetsOf self r → AreSetsOf other s
+        ensures { (r s : Regex) → AreSetsOf self r → AreSetsOf other s
             → IfOk result (λ sets. AreSetsOf sets (choice r s)) }
     {
         let one = self.ends();
@@ -23,7 +23,7 @@ impl Positions {
     /// A word of the first rate and then one of the second, whose positions are appended.
     pub fn then(self, other: Positions) -> Result<Positions, AllocError>
         requires { length self.preds + length other.preds ≤ max_positions }
-        ensures { (r s : Expression) → AreSetsOf self r → AreSetsOf other s
+        ensures { (r s : Regex) → AreSetsOf self r → AreSetsOf other s
             → IfOk result (λ sets. AreSetsOf sets (sequence r s)) }
     {
         let before = self.ends();
@@ -34,7 +34,7 @@ impl Positions {
 
     /// Any number of words of the rate, one after the other.
     pub fn star(self) -> Positions
-        ensures { (r : Expression) → AreSetsOf self r → AreSetsOf result (star r) }
+        ensures { (r : Regex) → AreSetsOf self r → AreSetsOf result (star r) }
     {
         let ends = self.ends();
         self.with_links(ends.last, ends.first)

@@ -26,7 +26,7 @@ use Rattle.slow_eval.proofs.Keying.{projection_shorter, projection_taken}
 use Rattle.slow_eval.proofs.Tabling.{all_push, all_so, all_take}
 
 -- the query of the values, on what a word has for a key
-pub of_key : (column : ℕ) (sync : Predicate) (r : rate.Expression) (f : Qre) (key : List ℕ) (word : Word)
+pub of_key : (column : ℕ) (sync : Predicate) (r : rate.Regex) (f : Qre) (key : List ℕ) (word : Word)
     → CanBeRead (collect column sync r f) word → CanBeRead f (projection column sync key word)
 of_key column sync r f key word can = record {
   standing = bound;
@@ -83,7 +83,7 @@ tables_by fronts fronts' counts counts' all all' row tables same same' same'' =
     subst (λ fs. AreTables fs counts all row) same
     (subst (λ cs. AreTables fronts' cs all row) same' (subst (λ xs. AreTables fronts' counts' xs row) same'' tables))
 
-module _ (f : Qre) (column : ℕ) (sync : Predicate) (r : rate.Expression) (word : Word) (keys : List (List ℕ))
+module _ (f : Qre) (column : ℕ) (sync : Predicate) (r : rate.Regex) (word : Word) (keys : List (List ℕ))
     (counts : List ℕ) (all : List Keyed) (can : CanBeRead (collect column sync r f) word)
     (are : AreKeysOf column sync word keys counts) (all_keys : keys_in all ≡ keys)
     (each_keyed : AllByRecursion (IsKeyed f column sync word) all) where

@@ -40,7 +40,7 @@ nothing_more : (pieces : List Word) → [] ∷ pieces ≡ [] → ⊥
 nothing_more pieces same = cc
 
 -- no piece is empty
-some_item : (columns : List Column) (r : rate.Expression) (piece : Word) → HasOneFactoring columns r → In r piece
+some_item : (columns : List Column) (r : rate.Regex) (piece : Word) → HasOneFactoring columns r → In r piece
     → 0 < length piece
 some_item columns r [] one is =
     let same : [] ∷ [] ≡ [] = one ([] ∷ []) [] tt (is, tt) tt refl in

@@ -4,7 +4,7 @@ use Rattle.std.specs.Prelude.{MatchBool, slice_get}
 use Rattle.std.proofs.lemmas.List.{get_or_append_left, get_or_push, length_push, take_more}
 use Rattle.value_ops.specs.declared.field.Field.{Field}
 use Rattle.rate_expr.specs.Paths.{AreOf, Follows, Leads, Meets, Spells}
-use Rattle.rate_expr.specs.Rates.{Expression}
+use Rattle.rate_expr.specs.Rates.{Regex}
 use Rattle.rate_expr.specs.Sets.{AreSets, Has, Sets}
 use Rattle.rate_expr.specs.Words.{Word}
 use Rattle.rate_expr.proofs.MaskMembers.{has_added, has_added_same, has_first, has_or, has_second, has_zero}
@@ -224,7 +224,7 @@ step_all sets word at ways fronts all whole = record {
 }
 
 -- those that are spelled are in the rate
-pub spelled_in : (sets : Sets) (rate : Expression) (word : Word) (fronts : List Bool) → AreOf sets rate
+pub spelled_in : (sets : Sets) (rate : Regex) (word : Word) (fronts : List Bool) → AreOf sets rate
     → AreSpelled sets word fronts → AreInRate rate word fronts
 spelled_in sets rate word fronts are all = record {
   count = all.count;

@@ -3,12 +3,12 @@ use Rattle.std.specs.Prelude.{◌≡◌, ◌≤◌, ◌↔◌, ℕ, ◌+◌, Boo
 use Rattle.value_ops.specs.declared.field.Field.{Field}
 use Rattle.rate_expr.specs.Language.{In}
 use Rattle.rate_expr.specs.Paths.{Follows, Meets, Spells}
-use Rattle.rate_expr.specs.Rates.{Expression}
+use Rattle.rate_expr.specs.Rates.{Regex}
 use Rattle.rate_expr.specs.Sets.{Has, Sets}
 use Rattle.rate_expr.specs.Words.{Word}
 
 -- for each front of the word, from the empty one to the whole, whether it is in the rate
-pub record AreInRate (rate : Expression) (word : Word) (fronts : List Bool) : Type 0 where
+pub record AreInRate (rate : Regex) (word : Word) (fronts : List Bool) : Type 0 where
   pub count : length fronts ≡ length word + 1
   pub each : (place : ℕ) → place ≤ length word
       → IsTrue (slice_index_or fronts place false) ↔ In rate (take place word)

@@ -4,7 +4,7 @@ use Rattle.value_ops.specs.declared.field.Field.{Field}
 use Rattle.rate_expr.specs.After.{IsAfter}
 use Rattle.rate_expr.specs.Language.{In}
 use Rattle.rate_expr.specs.Paths.{Spells, AreOf}
-use Rattle.rate_expr.specs.Rates.{Expression}
+use Rattle.rate_expr.specs.Rates.{Regex}
 use Rattle.rate_expr.specs.Readings.{HasExtension}
 use Rattle.rate_expr.specs.Sets.{Sets, Has}
 use Rattle.rate_expr.specs.Words.{Word}
@@ -65,7 +65,7 @@ is_accepted-spells sets (item ∷ word) (At mask) holds_after = (
 
 -- so where it is in the rate
 pub is_accepted-in :
-    (sets : Sets) (rate : Expression) (word : Word) (state : State) → AreOf sets rate
+    (sets : Sets) (rate : Regex) (word : Word) (state : State) → AreOf sets rate
     → IsAfter sets word state → IsAccepted sets state ↔ In rate word
 is_accepted-in sets rate word state are holds_after =
     let spells = is_accepted-spells sets word state holds_after in
@@ -96,7 +96,7 @@ leads_to_end-spells sets (first ∷ u) (At mask) item word holds_after = (
 
 -- the state behind a word extends exactly where the word has an extension
 pub extends-in :
-    (nfa : Automaton) (rate : Expression) (u : Word) (state : State) → AreOf nfa.sets rate
+    (nfa : Automaton) (rate : Regex) (u : Word) (state : State) → AreOf nfa.sets rate
     → IsAfter nfa.sets u state → Extends nfa state ↔ HasExtension nfa.cells.layout.columns rate u
 extends-in nfa rate u state are holds_after = (
   λ on. let way = leads_to_end-spells nfa.sets u state on.item on.word holds_after in

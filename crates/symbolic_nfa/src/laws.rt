@@ -4,7 +4,7 @@ ghost use Rattle.value_ops.specs.declared.field.Field.{Field};
 ghost use Rattle.rate_expr.specs.After.{IsAfter};
 ghost use Rattle.rate_expr.specs.Language.{In};
 ghost use Rattle.rate_expr.specs.Paths.{AreOf};
-ghost use Rattle.rate_expr.specs.Rates.{Expression};
+ghost use Rattle.rate_expr.specs.Rates.{Regex};
 ghost use Rattle.rate_expr.specs.Readings.{HasExtension};
 ghost use Rattle.rate_expr.specs.Sets.{Sets};
 ghost use Rattle.rate_expr.specs.Words.{Word};
@@ -22,13 +22,13 @@ pub fn steps_lead_on()
 
 /// A word is in the rate exactly if the state after it is accepted.
 pub fn acceptance_is_membership()
-    ensures { (sets : Sets) (rate : Expression) (word : Word) (state : State) → AreOf sets rate
+    ensures { (sets : Sets) (rate : Regex) (word : Word) (state : State) → AreOf sets rate
         → IsAfter sets word state → IsAccepted sets state ↔ In rate word }
 {}
 
 /// A word has an extension in the rate exactly if the state after it extends.
 pub fn extending_is_having_an_extension()
-    ensures { (nfa : Automaton) (rate : Expression) (word : Word) (state : State)
+    ensures { (nfa : Automaton) (rate : Regex) (word : Word) (state : State)
         → AreOf nfa.sets rate → IsAfter nfa.sets word state
         → Extends nfa state ↔ HasExtension nfa.cells.layout.columns rate word }
 {}

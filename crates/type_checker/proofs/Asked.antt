@@ -117,7 +117,7 @@ module _ (cells : Partition) where
       all_fit layout.columns g (subst (λ (l : Layout). KeepsTypes l.columns g) (sym is) can.types.1)
 
   -- of the operand of a collection, and of its rate
-  pub asked_collect : (column : ℕ) (sync : Predicate) (rate : rates.Expression) (f : Qre)
+  pub asked_collect : (column : ℕ) (sync : Predicate) (rate : rates.Regex) (f : Qre)
       → CanBeAsked cells (q.collect column sync rate f) → CanBeAsked cells f
   asked_collect column sync rate f can = record {
     types = can.types.0;
@@ -126,7 +126,7 @@ module _ (cells : Partition) where
     members = among_back (sync ∷ preds_of rate) (predicates_of f) can.members;
   }
 
-  pub asked_rate : (column : ℕ) (sync : Predicate) (rate : rates.Expression) (f : Qre)
+  pub asked_rate : (column : ℕ) (sync : Predicate) (rate : rates.Regex) (f : Qre)
       → CanBeAsked cells (q.collect column sync rate f) → AreAmong cells (preds_of rate)
   asked_rate column sync rate f can =
       among_back (sync ∷ []) (preds_of rate) (among_front (sync ∷ preds_of rate) (predicates_of f) can.members)

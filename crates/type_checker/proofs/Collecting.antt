@@ -15,7 +15,7 @@ use Rattle.query_syntax.specs.Predicates as p
 use Rattle.query_syntax.specs.Queries as q
 use Rattle.query_syntax.specs.Rates as r
 use Rattle.query_syntax.specs.declared.leaf.Name as leaf
-use Rattle.rate_expr.specs.Rates.{Expression, preds_of}
+use Rattle.rate_expr.specs.Rates.{Regex, preds_of}
 use Rattle.type_checker.specs.Findings.{IsUnresolved, places_at, places_in}
 use Rattle.type_checker.specs.Names.{column_named}
 use Rattle.type_checker.specs.Nestings.{MayStand}
@@ -71,7 +71,7 @@ module _ (nesting : Nesting) (columns : List Column) (key : leaf.Name) (sync : p
         rate_refused (Refused why) none = rw (is.resolved, ← keyed, ← tested, none) refl
         rate_refused Memory none = tt
 
-        module _ (words : Expression) (rated : Some words ≡ rate_over columns rate) where
+        module _ (words : Regex) (rated : Some words ≡ rate_over columns rate) where
           abbrev parts_fit : Bool
           parts_fit = has_texts columns column && (fits columns pred && list_all (fits columns) (preds_of words))
 

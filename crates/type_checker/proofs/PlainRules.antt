@@ -22,7 +22,7 @@ use Rattle.query_syntax.specs.Programs.{Program, Stream}
 use Rattle.query_syntax.specs.Queries as q
 use Rattle.query_syntax.specs.Queries.{Query}
 use Rattle.query_syntax.specs.Spans.{query_span}
-use Rattle.rate_expr.specs.Rates.{Expression, preds_of}
+use Rattle.rate_expr.specs.Rates.{Regex, preds_of}
 use Rattle.value_ops.specs.declared.value.ValueType.TheVariants.{Number}
 use Rattle.type_checker.specs.Blames.{ForbidsTwoReadings, question_of}
 use Rattle.type_checker.specs.Expressions.{expression_over, is_number, is_typed, of_item, of_one, of_two}
@@ -154,13 +154,13 @@ measured_plain program =
     (parted_plain program.stream (unfolded program) query) (λ cells. tt)))))
 
 -- the rules of words
-equal_plain : (columns : List Column) (r s : Expression) (rule : Rule) → BreaksEqual columns r s (Some rule)
+equal_plain : (columns : List Column) (r s : Regex) (rule : Rule) → BreaksEqual columns r s (Some rule)
     → IsPlain rule
 equal_plain columns r s Reach broken = λ forbids. forbids
 equal_plain columns r s Rates broken = λ forbids. forbids
 equal_plain columns r s _ broken = absurd broken
 
-pub fed_plain : (standing : Standing) (columns : List Column) (r : Expression) (rule : Rule)
+pub fed_plain : (standing : Standing) (columns : List Column) (r : Regex) (rule : Rule)
     → BreaksFed standing columns r (Some rule) → IsPlain rule
 fed_plain free columns r rule broken = absurd broken
 fed_plain bound columns r Reach broken = λ forbids. forbids

@@ -8,7 +8,7 @@ use Rattle.query_model.specs.Queries.{Qre}
 use Rattle.query_model.specs.Rates.{rate_of}
 use Rattle.query_model.specs.Rules.{Standing, bound}
 use Rattle.rate_expr.specs.FirstLastFollow.{AreSetsOf}
-use Rattle.rate_expr.specs.Rates.{Expression}
+use Rattle.rate_expr.specs.Rates.{Regex}
 use Rattle.rate_expr.specs.Sets.{Sets}
 use Rattle.rate_expr.proofs.SetsOf.{sets_spell}
 use Rattle.symbolic_nfa.specs.Automata.{Automaton}
@@ -60,7 +60,7 @@ automaton_of cells query sets nfa is are =
     subst (IsAutomatonOf query) (sym is) (record { sets = are; spells = sets_spell sets (rate_of query) are })
 
 -- what is told of the values of another query
-module _ (standing : Standing) (columns : List Column) (r : Expression) (broken : Option Rule)
+module _ (standing : Standing) (columns : List Column) (r : Regex) (broken : Option Rule)
     (breaks : BreaksFed standing columns r broken) where
   pub fed_by : broken ≡ None → BreaksFed standing columns r None
   fed_by none = subst (BreaksFed standing columns r) none breaks
@@ -75,8 +75,8 @@ module _ (standing : Standing) (columns : List Column) (r : Expression) (broken 
 -- what an automaton tells of a rate, on its cells
 pub on_values : (sets : Sets) (cells : Partition) (nfa : Automaton) → nfa ≡ record { sets = sets; cells = cells }
     → (broken : Option Rule)
-    → ((r : Expression) → AreSetsOf nfa.sets r → BreaksFed bound nfa.cells.layout.columns r broken)
-    → (r : Expression) → AreSetsOf sets r → BreaksFed bound cells.layout.columns r broken
+    → ((r : Regex) → AreSetsOf nfa.sets r → BreaksFed bound nfa.cells.layout.columns r broken)
+    → (r : Regex) → AreSetsOf sets r → BreaksFed bound cells.layout.columns r broken
 on_values sets cells nfa is broken answered r are =
     subst (λ (n : Automaton). BreaksFed bound n.cells.layout.columns r broken) is
     (answered r (subst (λ (n : Automaton). AreSetsOf n.sets r) (sym is) are))

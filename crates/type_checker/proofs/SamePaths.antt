@@ -6,7 +6,7 @@ use Rattle.predicate_cells.specs.Predicates.{Predicate}
 use Rattle.rate_expr.specs.After.{IsAfter}
 use Rattle.rate_expr.specs.FirstLastFollow.{AreSetsOf}
 use Rattle.rate_expr.specs.Paths.{Follows, Leads, LeadsOn, Meets}
-use Rattle.rate_expr.specs.Rates.{Expression}
+use Rattle.rate_expr.specs.Rates.{Regex}
 use Rattle.rate_expr.specs.Sets.{Sets, Has}
 use Rattle.rate_expr.specs.Words.{Word}
 use Rattle.rate_expr.specs.declared.state.State.{State}
@@ -14,7 +14,7 @@ use Rattle.rate_expr.specs.declared.state.State.TheVariants.{Initial, At}
 use Rattle.rate_equal.specs.Reach.{LeadToApart, ReachPairs, ReachStates, max_reach}
 use Rattle.type_checker.specs.WordRules.{ReachManyPairs, ReachManyStates}
 
-module _ (r : Expression) (one other : Sets) (ones : AreSetsOf one r) (others : AreSetsOf other r) where
+module _ (r : Regex) (one other : Sets) (ones : AreSetsOf one r) (others : AreSetsOf other r) where
   begins_too : (position : ℕ) → Has one.first position → Has other.first position
   begins_too position has = (others.first position).1 ((ones.first position).0 has)
 
@@ -37,7 +37,7 @@ module _ (r : Expression) (one other : Sets) (ones : AreSetsOf one r) (others : 
   leads_too (item ∷ word) to (begin, has, meets, path) =
       (begin, begins_too begin has, meets_too begin item meets, leads_on_too begin word to path)
 
-module _ (r : Expression) (one other : Sets) (ones : AreSetsOf one r) (others : AreSetsOf other r) where
+module _ (r : Regex) (one other : Sets) (ones : AreSetsOf one r) (others : AreSetsOf other r) where
   -- the state behind a word is the same for both
   after_too : (word : Word) (state : State) → IsAfter one word state → IsAfter other word state
   after_too [] Initial after = after
@@ -48,7 +48,7 @@ module _ (r : Expression) (one other : Sets) (ones : AreSetsOf one r) (others : 
     λ leads. (after to).1 (leads_too r other one others ones (item ∷ word) to leads),
   )
 
-module _ (columns : List Column) (r s : Expression) (first second : Sets) (firsts : AreSetsOf first r)
+module _ (columns : List Column) (r s : Regex) (first second : Sets) (firsts : AreSetsOf first r)
     (seconds : AreSetsOf second s) where
   -- words that lead apart in the one pair of automata do so in the other
   apart_too : (first' second' : Sets) → AreSetsOf first' r → AreSetsOf second' s → (u v : Word)
@@ -68,7 +68,7 @@ module _ (columns : List Column) (r s : Expression) (first second : Sets) (first
     so_many = many.so_many;
   }
 
-module _ (columns : List Column) (r : Expression) (sets : Sets) (are : AreSetsOf sets r) where
+module _ (columns : List Column) (r : Regex) (sets : Sets) (are : AreSetsOf sets r) where
   -- the same of single states
   pub many_states_here : ReachManyStates columns r → ReachStates columns sets (max_reach + 1)
   many_states_here (others, ares, many) = record {

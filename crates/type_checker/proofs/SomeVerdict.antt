@@ -13,7 +13,7 @@ use Rattle.predicate_cells.specs.Predicates.{Predicate}
 use Rattle.predicate_cells.proofs.MetOrNot.{met_or_not}
 use Rattle.rate_equal.specs.Differences.{HaveDifference, LacksSome}
 use Rattle.rate_expr.specs.Language.{In}
-use Rattle.rate_expr.specs.Rates.{Expression, preds_of}
+use Rattle.rate_expr.specs.Rates.{Regex, preds_of}
 use Rattle.rate_expr.specs.Readings.{AreEqual, HasAllButEmpty}
 use Rattle.rate_expr.specs.Words.{Word, IsWordOf, join}
 use Rattle.rate_expr.proofs.Deciding.{in_or_not}
@@ -61,7 +61,7 @@ abbrev IsDecided : (Option Rule → Type 0) → Type 0
 IsDecided Broken = (Decision Broken → ⊥) → ⊥
 
 -- a word that is in one rate alone if it is in one of them
-same_words : (columns : List Column) (r s : Expression) → (HaveDifference columns r s → ⊥) → AreEqual columns r s
+same_words : (columns : List Column) (r s : Regex) → (HaveDifference columns r s → ⊥) → AreEqual columns r s
 same_words columns r s alike word is = (there, back)
   where
     there : In r word → In s word
@@ -78,7 +78,7 @@ same_words columns r s alike word is = (there, back)
         by (inl also) = also
         by (inr none) = absurd (alike (word, is, inr (here, none)))
 
-equal_decided : (columns : List Column) (r s : Expression) → IsDecided (BreaksEqual columns r s)
+equal_decided : (columns : List Column) (r s : Regex) → IsDecided (BreaksEqual columns r s)
 equal_decided columns r s never =
     never (inr (
       λ many. never (inl (Reach, many)),
@@ -86,14 +86,14 @@ equal_decided columns r s never =
     ))
 
 -- each word of an item or more is in the rate if none is not
-all_words : (columns : List Column) (r : Expression) → (LacksSome columns r → ⊥) → HasAllButEmpty columns r
+all_words : (columns : List Column) (r : Regex) → (LacksSome columns r → ⊥) → HasAllButEmpty columns r
 all_words columns r lacks item more is = by (in_or_not r (item ∷ more))
   where
     by : In r (item ∷ more) ⊎ (In r (item ∷ more) → ⊥) → In r (item ∷ more)
     by (inl here) = here
     by (inr none) = absurd (lacks (item, more, is, none))
 
-fed_decided : (standing : Standing) (columns : List Column) (r : Expression) → IsDecided (BreaksFed standing columns r)
+fed_decided : (standing : Standing) (columns : List Column) (r : Regex) → IsDecided (BreaksFed standing columns r)
 fed_decided free columns r never = never (inr tt)
 fed_decided bound columns r never =
     never (inr (

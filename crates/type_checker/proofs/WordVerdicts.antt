@@ -9,7 +9,7 @@ use Rattle.predicate_cells.specs.Met.{IsMet, IsUnmet}
 use Rattle.predicate_cells.specs.Predicates.{Predicate}
 use Rattle.predicate_cells.specs.Truth.{holds}
 use Rattle.rate_equal.specs.Differences.{HaveDifference}
-use Rattle.rate_expr.specs.Rates.{Expression, preds_of}
+use Rattle.rate_expr.specs.Rates.{Regex, preds_of}
 use Rattle.rate_expr.specs.Readings.{AreEqual}
 use Rattle.query_model.specs.Queries.{Qre, atom, eps, choice, split, iter, combine, apply, compose, collect}
 use Rattle.query_model.specs.QueryTypes.{derived_columns, type_of}
@@ -30,12 +30,12 @@ apart : (columns : List Column) (pred : Predicate) → IsUnmet columns pred → 
 apart columns pred unmet (item, is, meets) = let fails : holds pred item ≡ false = unmet item is in cc
 
 -- words do not tell rates apart that have the same
-alike : (columns : List Column) (r s : Expression) → HaveDifference columns r s → AreEqual columns r s → ⊥
+alike : (columns : List Column) (r s : Regex) → HaveDifference columns r s → AreEqual columns r s → ⊥
 alike columns r s (word, is, inl (here, none)) equal = none ((equal word is).0 here)
 alike columns r s (word, is, inr (here, none)) equal = none ((equal word is).1 here)
 
 -- the rates of a combination
-equal_once : (columns : List Column) (r s : Expression) (rule other : Rule) → BreaksEqual columns r s (Some rule)
+equal_once : (columns : List Column) (r s : Regex) (rule other : Rule) → BreaksEqual columns r s (Some rule)
     → BreaksEqual columns r s (Some other) → other ≡ rule
 equal_once columns r s Reach Reach broken broken' = refl
 equal_once columns r s Reach Rates broken broken' = absurd (broken'.0 broken)
@@ -45,14 +45,14 @@ equal_once columns r s Reach _ broken broken' = absurd broken'
 equal_once columns r s Rates _ broken broken' = absurd broken'
 equal_once columns r s _ _ broken broken' = absurd broken
 
-equal_or : (columns : List Column) (r s : Expression) (rule : Rule) → BreaksEqual columns r s (Some rule)
+equal_or : (columns : List Column) (r s : Regex) (rule : Rule) → BreaksEqual columns r s (Some rule)
     → BreaksEqual columns r s None → ⊥
 equal_or columns r s Reach broken kept = kept.0 broken
 equal_or columns r s Rates broken kept = alike columns r s broken.1 kept.1
 equal_or columns r s _ broken kept = broken
 
 -- the rate of the right operand of a composition
-fed_once : (standing : Standing) (columns : List Column) (r : Expression) (rule other : Rule)
+fed_once : (standing : Standing) (columns : List Column) (r : Regex) (rule other : Rule)
     → BreaksFed standing columns r (Some rule) → BreaksFed standing columns r (Some other) → other ≡ rule
 fed_once free columns r rule other broken broken' = absurd broken
 fed_once bound columns r Reach Reach broken broken' = refl
@@ -63,7 +63,7 @@ fed_once bound columns r Reach _ broken broken' = absurd broken'
 fed_once bound columns r Compose _ broken broken' = absurd broken'
 fed_once bound columns r _ _ broken broken' = absurd broken
 
-fed_or : (standing : Standing) (columns : List Column) (r : Expression) (rule : Rule)
+fed_or : (standing : Standing) (columns : List Column) (r : Regex) (rule : Rule)
     → BreaksFed standing columns r (Some rule) → BreaksFed standing columns r None → ⊥
 fed_or free columns r rule broken kept = broken
 fed_or bound columns r Reach broken kept = kept.0 broken

@@ -11,7 +11,7 @@ use Rattle.item_schema.specs.declared.column.Column.{Column}
 use Rattle.predicate_cells.specs.Cells.{AllFit, Partition}
 use Rattle.rate_expr.specs.FirstLastFollow.{AreSetsOf}
 use Rattle.rate_expr.specs.Paths.{AreOf}
-use Rattle.rate_expr.specs.Rates.{Expression, preds_of}
+use Rattle.rate_expr.specs.Rates.{Regex, preds_of}
 use Rattle.rate_expr.specs.Sets.{Sets}
 use Rattle.symbolic_nfa.specs.Automata.{Automaton}
 use Rattle.query_model.specs.Few.{has_few_cells}
@@ -162,7 +162,7 @@ IsBrokenAt columns query span stop = (rule : Rule) × ((standing : Standing)
 
 -- the stop is by the rule that the right operand's rate breaks in a bound composition, or out of
 -- memory
-abbrev pub IsUnfed : Standing → List Column → Expression → Span → WordStop → Type 0
+abbrev pub IsUnfed : Standing → List Column → Regex → Span → WordStop → Type 0
 IsUnfed standing columns r span (word.Broken why) =
     (rule : Rule) × (why ≡ refusal rule span) × BreaksFed standing columns r (Some rule)
 IsUnfed standing columns r span (word.Ambiguous blame) = ⊥

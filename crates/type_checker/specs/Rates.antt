@@ -4,17 +4,17 @@ use Rattle.item_schema.specs.declared.column.Column.{Column}
 use Rattle.query_syntax.specs.Rates as written
 use Rattle.query_syntax.specs.declared.operator.Join.{Join}
 use Rattle.query_syntax.specs.declared.operator.Join.TheVariants.{Seq, Alt}
-use Rattle.rate_expr.specs.Rates.{Expression, empty, one, sequence, choice, star}
+use Rattle.rate_expr.specs.Rates.{Regex, empty, one, sequence, choice, star}
 use Rattle.type_checker.specs.Tests.{resolved_over}
 
 -- two rates joined, if there are both
-abbrev pub joined_rates : Join → Option Expression → Option Expression → Option Expression
+abbrev pub joined_rates : Join → Option Regex → Option Regex → Option Regex
 joined_rates Seq (Some first) (Some second) = Some (sequence first second)
 joined_rates Alt (Some first) (Some second) = Some (choice first second)
 joined_rates join _ _ = None
 
 -- the rate over these columns, if each name in it is a column's
-abbrev pub rate_over : List Column → written.Rate → Option Expression
+abbrev pub rate_over : List Column → written.Rate → Option Regex
 rate_over columns (written.eps span) = Some empty
 rate_over columns (written.item predicate span) = option_map one (resolved_over columns predicate)
 rate_over columns (written.joined join first second span) =

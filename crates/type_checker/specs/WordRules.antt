@@ -11,7 +11,7 @@ use Rattle.predicate_cells.specs.Predicates.{Predicate}
 use Rattle.rate_equal.specs.Differences.{HaveDifference, LacksSome}
 use Rattle.rate_equal.specs.Reach.{ReachPairs, ReachStates, max_reach}
 use Rattle.rate_expr.specs.FirstLastFollow.{AreSetsOf}
-use Rattle.rate_expr.specs.Rates.{Expression, preds_of}
+use Rattle.rate_expr.specs.Rates.{Regex, preds_of}
 use Rattle.rate_expr.specs.Readings.{AreDisjoint, AreEqual, HasAllButEmpty, HasOneFactoring, HasTwoFactorings, HaveOneSplit, HaveTwoSplits, Overlap}
 use Rattle.rate_expr.specs.Sets.{Sets}
 use Rattle.query_model.specs.Queries.{Qre, atom, eps, choice, split, iter, combine, apply, compose, collect}
@@ -22,17 +22,17 @@ use Rattle.type_checker.specs.Nodes.{Node}
 use Rattle.type_checker.specs.Steps.{refusal}
 
 -- words lead to too many pairs of states of the automata of two rates
-abbrev pub ReachManyPairs : List Column → Expression → Expression → Type 0
+abbrev pub ReachManyPairs : List Column → Regex → Regex → Type 0
 ReachManyPairs columns r s = (first : Sets) × (second : Sets) × AreSetsOf first r
     × AreSetsOf second s × ReachPairs columns first second (max_reach + 1)
 
 -- words lead to too many states of the automaton of a rate
-abbrev pub ReachManyStates : List Column → Expression → Type 0
+abbrev pub ReachManyStates : List Column → Regex → Type 0
 ReachManyStates columns r =
     (sets : Sets) × AreSetsOf sets r × ReachStates columns sets (max_reach + 1)
 
 -- the first rule that the rates of a combination's operands break, or none
-abbrev pub BreaksEqual : List Column → Expression → Expression → Option Rule → Type 0
+abbrev pub BreaksEqual : List Column → Regex → Regex → Option Rule → Type 0
 BreaksEqual columns r s (Some Reach) = ReachManyPairs columns r s
 BreaksEqual columns r s (Some Rates) = (ReachManyPairs columns r s → ⊥) × HaveDifference columns r s
 BreaksEqual columns r s None = (ReachManyPairs columns r s → ⊥) × AreEqual columns r s
@@ -40,7 +40,7 @@ BreaksEqual columns r s _ = ⊥
 
 -- the same of the rate of a composition's right operand, which is checked only where the
 -- composition is bound: there its value may never be missing
-abbrev pub BreaksFed : Standing → List Column → Expression → Option Rule → Type 0
+abbrev pub BreaksFed : Standing → List Column → Regex → Option Rule → Type 0
 BreaksFed free columns r None = Unit {0}
 BreaksFed bound columns r (Some Reach) = ReachManyStates columns r
 BreaksFed bound columns r (Some Compose) = (ReachManyStates columns r → ⊥) × LacksSome columns r

@@ -139,9 +139,9 @@ pub(crate) fn fed(
     span: Span,
 ) -> Result<(), WordStop>
     requires { AreDecided second cells.now.value }
-    ensures kept { OnOk result ((r : rate.Expression) → AreSetsOf second r
+    ensures kept { OnOk result ((r : rate.Regex) → AreSetsOf second r
         → BreaksFed (standing_of standing) cells.now.value.layout.columns r None) }
-    ensures refused { IfErr result (λ stop. (r : rate.Expression) → AreSetsOf second r
+    ensures refused { IfErr result (λ stop. (r : rate.Regex) → AreSetsOf second r
         → IsUnfed (standing_of standing) cells.now.value.layout.columns r span stop) }
 {
     match standing {

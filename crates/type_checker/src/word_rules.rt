@@ -105,7 +105,7 @@ pub(crate) fn rates_rule(
 /// The rule that a bound composition breaks, if some non-empty word of values is not in the rate of
 /// its right operand, or if words lead to too many states to find that out.
 pub(crate) fn fed_rule(alloc: Global, second: &Nfa) -> Result<Option<Rule>, AllocError>
-    ensures { IfOk result (λ broken. (r : rate.Expression) → AreSetsOf second.now.sets r
+    ensures { IfOk result (λ broken. (r : rate.Regex) → AreSetsOf second.now.sets r
         → BreaksFed bound second.now.cells.layout.columns r broken) }
 {
     match all_but_empty(alloc, second) {
