@@ -1,14 +1,14 @@
 -- Statement. The sentence for the forms of what has to stand at a place. The words are constants of
 -- the code.
 use Rattle.std.specs.Prelude.{ℕ, List}
-use Rattle.query_forms.specs.declared.place.Place.{Place}
-use Rattle.query_forms.specs.declared.place.Place.TheVariants.{Mode, Column, Kind, Query, Rate, Pred, Literal, Expr, Compare, Name, Number, Text, Digits}
+use Rattle.query_forms.specs.declared.place.TermPlace.{TermPlace}
+use Rattle.query_forms.specs.declared.place.TermPlace.TheVariants.{Mode, Column, Kind, Query, Rate, Pred, Literal, Expr, Compare, Name, Number, Text, Digits}
 use Rattle.explanation.specs.declared.form_sentence.TheConstants as words
 use Rattle.explanation.specs.declared.standing.Standing.{Standing}
 use Rattle.explanation.specs.declared.standing.Standing.TheVariants.{Top, In, Nothing}
 
 -- the forms of a place in a call
-unfoldable pub forms_of_place : Place → List ℕ
+unfoldable pub forms_of_place : TermPlace → List ℕ
 forms_of_place Mode = words.MODE.now
 forms_of_place Column = words.COLUMN.now
 forms_of_place Kind = words.KIND.now

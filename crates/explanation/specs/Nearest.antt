@@ -6,8 +6,8 @@ use Rattle.std.specs.Borrow.{Bor}
 use Rattle.std.specs.Char.{is_ascii_uppercase}
 use Rattle.std.specs.List.{list_any}
 use Rattle.std.specs.Str.{bytes_eq}
-use Rattle.query_forms.specs.declared.place.Place.{Place}
-use Rattle.query_forms.specs.declared.place.Place.TheVariants as place
+use Rattle.query_forms.specs.declared.place.TermPlace.{TermPlace}
+use Rattle.query_forms.specs.declared.place.TermPlace.TheVariants as place
 use Rattle.explanation.specs.declared.nearest.TheConstants.{LOWER_CASE}
 use Rattle.explanation.specs.declared.nearest_words.TheConstants as words
 use Rattle.explanation.specs.declared.standing.Standing.{Standing}
@@ -21,7 +21,7 @@ abbrev pub shown_rows : List (List (Bor (List ℕ))) → List (List (List ℕ))
 shown_rows rows = map shown_row rows
 
 -- the rows for a place in a call
-unfoldable pub rows_of : Place → List (List (List ℕ))
+unfoldable pub rows_of : TermPlace → List (List (List ℕ))
 rows_of place.Kind = map (λ row. map (λ text. text.now) row) words.KINDS
 rows_of place.Query = map (λ row. map (λ text. text.now) row) words.QUERIES
 rows_of place.Rate = map (λ row. map (λ text. text.now) row) words.RATES
@@ -53,7 +53,7 @@ nearest_in [] word = None
 nearest_in (row ∷ rows) word = said_or (said_in row word) (nearest_in rows word)
 
 -- words of the language may stand at a place in a call, and not only names, numbers or strings
-abbrev pub has_words : Place → Bool
+abbrev pub has_words : TermPlace → Bool
 has_words place.Name = false
 has_words place.Number = false
 has_words place.Literal = false

@@ -3,8 +3,8 @@
 use Rattle.std.specs.Prelude.{ℕ, zero, suc, ◌+◌, ◌-◌, ◌==◌, ◌&&◌, List, codes, slice_get, take, drop, Option, Some, None, if◌then◌else◌}
 use Rattle.std.specs.Str.{bytes_eq}
 use Rattle.query_forms.specs.Forms.{places_of}
-use Rattle.query_forms.specs.declared.place.Place.{Place}
-use Rattle.query_forms.specs.declared.place.Place.TheVariants as place
+use Rattle.query_forms.specs.declared.place.TermPlace.{TermPlace}
+use Rattle.query_forms.specs.declared.place.TermPlace.TheVariants as place
 use Rattle.explanation.specs.Calls.{call_at, level_of}
 use Rattle.explanation.specs.declared.calls.Word.{Word}
 use Rattle.explanation.specs.declared.standing.Standing.{Standing}
@@ -22,17 +22,17 @@ top_argument head argument =
     else (if bytes_eq head (codes "let") && (argument == 0) then In place.Name else In place.Query)
 
 -- an argument, by the places of all arguments
-abbrev pub argument_in : Option (List Place) → ℕ → Option Place
+abbrev pub argument_in : Option (List TermPlace) → ℕ → Option TermPlace
 argument_in (Some places) argument = slice_get places argument
 argument_in None argument = None
 
 -- the first place, if there is one, or else the second
-abbrev pub place_or : Option Place → Option Place → Option Place
+abbrev pub place_or : Option TermPlace → Option TermPlace → Option TermPlace
 place_or (Some place) other = Some place
 place_or None other = other
 
 -- what has to stand at such a place
-abbrev pub standing_of : Option Place → Standing
+abbrev pub standing_of : Option TermPlace → Standing
 standing_of (Some place) = In place
 standing_of None = Nothing
 

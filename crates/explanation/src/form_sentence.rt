@@ -3,7 +3,7 @@ ghost use Rattle.std.specs.Prelude.{◌≡◌};
 ghost use Rattle.explanation.specs.FormSentences.{forms_of, forms_of_place};
 
 use crate::standing::Standing;
-use query_forms::Place;
+use query_forms::TermPlace;
 
 const TOP: &str = "\
     A file is stream(MODE, COL, ..) with 1 to 32 COL, then any let(NAME, QUERY), then \
@@ -57,22 +57,22 @@ pub(crate) fn forms_of(standing: Standing) -> &'static str
 }
 
 #[tactic(auto, unfolding(crate::specs::FormSentences::forms_of_place))]
-fn forms_of_place(place: Place) -> &'static str
+fn forms_of_place(place: TermPlace) -> &'static str
     ensures { result.now ≡ forms_of_place place }
 {
     match place {
-        Place::Mode => MODE,
-        Place::Column => COLUMN,
-        Place::Kind => KIND,
-        Place::Query => QUERY,
-        Place::Rate => RATE,
-        Place::Pred => PREDICATE,
-        Place::Literal => LITERAL,
-        Place::Expr => EXPRESSION,
-        Place::Compare => COMPARISON,
-        Place::Name => NAME,
-        Place::Number => NUMBER,
-        Place::Text => TEXT,
-        Place::Digits => DIGITS,
+        TermPlace::Mode => MODE,
+        TermPlace::Column => COLUMN,
+        TermPlace::Kind => KIND,
+        TermPlace::Query => QUERY,
+        TermPlace::Rate => RATE,
+        TermPlace::Pred => PREDICATE,
+        TermPlace::Literal => LITERAL,
+        TermPlace::Expr => EXPRESSION,
+        TermPlace::Compare => COMPARISON,
+        TermPlace::Name => NAME,
+        TermPlace::Number => NUMBER,
+        TermPlace::Text => TEXT,
+        TermPlace::Digits => DIGITS,
     }
 }

@@ -6,7 +6,7 @@ use crate::nearest_words::{
     COMPARISONS, EXPRESSIONS, KINDS, NUMBERS, PREDICATES, QUERIES, RATES, TOPS,
 };
 use crate::standing::Standing;
-use query_forms::Place;
+use query_forms::TermPlace;
 
 const LOWER_CASE: &str = "The words of all forms are written in lower case.";
 
@@ -31,11 +31,15 @@ fn has_forms(standing: Standing) -> bool
 }
 
 // Whether words of the language may stand at the place, and not only names, numbers or strings.
-fn has_words(place: Place) -> bool
+fn has_words(place: TermPlace) -> bool
     ensures { result ≡ has_words place }
 {
     match place {
-        Place::Name | Place::Number | Place::Literal | Place::Text | Place::Digits => false,
+        TermPlace::Name
+        | TermPlace::Number
+        | TermPlace::Literal
+        | TermPlace::Text
+        | TermPlace::Digits => false,
         _ => true,
     }
 }
@@ -80,18 +84,22 @@ fn rows_at(standing: Standing) -> &'static [[&'static str; 2]]
 }
 
 #[tactic(auto, unfolding(crate::specs::Nearest::rows_of))]
-fn rows_of(place: Place) -> &'static [[&'static str; 2]]
+fn rows_of(place: TermPlace) -> &'static [[&'static str; 2]]
     ensures { shown_rows result.now ≡ rows_of place }
 {
     match place {
-        Place::Kind => &KINDS,
-        Place::Query => &QUERIES,
-        Place::Rate => &RATES,
-        Place::Pred => &PREDICATES,
-        Place::Expr => &EXPRESSIONS,
-        Place::Compare => &COMPARISONS,
-        Place::Number => &NUMBERS,
-        Place::Mode | Place::Column | Place::Literal | Place::Name | Place::Text | Place::Digits =>
-            { &[] }
+        TermPlace::Kind => &KINDS,
+        TermPlace::Query => &QUERIES,
+        TermPlace::Rate => &RATES,
+        TermPlace::Pred => &PREDICATES,
+        TermPlace::Expr => &EXPRESSIONS,
+        TermPlace::Compare => &COMPARISONS,
+        TermPlace::Number => &NUMBERS,
+        TermPlace::Mode
+        | TermPlace::Column
+        | TermPlace::Literal
+        | TermPlace::Name
+        | TermPlace::Text
+        | TermPlace::Digits => { &[] }
     }
 }

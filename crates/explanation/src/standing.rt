@@ -5,7 +5,7 @@ ghost use Rattle.explanation.specs.Standing.{argument_in, argument_of, place_or,
 
 use crate::calls::{call_at, level_of};
 use place_in_text::bytes_between;
-use query_forms::{Place, places_of};
+use query_forms::{TermPlace, places_of};
 
 /// What has to stand at a place.
 #[derive(Clone, Copy, Debug, PartialEq, Eq)]
@@ -13,7 +13,7 @@ pub(crate) enum Standing {
     /// A stream, a let or a main query.
     Top,
     /// An argument, by its place in a call.
-    In(Place),
+    In(TermPlace),
     /// Nothing that is known, since no call around it has a form.
     Nothing,
 }
@@ -61,19 +61,19 @@ fn top_argument(head: &[u8], argument: usize) -> Standing
 {
     if head == b"stream".as_slice() {
         Standing::In(if argument == 0 {
-            Place::Mode
+            TermPlace::Mode
         } else {
-            Place::Column
+            TermPlace::Column
         })
     } else if head == b"let".as_slice() && argument == 0 {
-        Standing::In(Place::Name)
+        Standing::In(TermPlace::Name)
     } else {
-        Standing::In(Place::Query)
+        Standing::In(TermPlace::Query)
     }
 }
 
 // The place of an argument in the form with `count` arguments, if there is one.
-fn argument_in(place: Place, head: &[u8], count: usize, argument: usize) -> Option<Place>
+fn argument_in(place: TermPlace, head: &[u8], count: usize, argument: usize) -> Option<TermPlace>
     ensures { result ≡ argument_in (places_of place head.now count) argument }
 {
     match places_of(place, head, count) {
@@ -82,13 +82,13 @@ fn argument_in(place: Place, head: &[u8], count: usize, argument: usize) -> Opti
     }
 }
 
-fn place_or(place: Option<Place>, other: Option<Place>) -> Option<Place>
+fn place_or(place: Option<TermPlace>, other: Option<TermPlace>) -> Option<TermPlace>
     ensures { result ≡ place_or place other }
 {
     place.or(other)
 }
 
-fn standing_of(place: Option<Place>) -> Standing
+fn standing_of(place: Option<TermPlace>) -> Standing
     ensures { result ≡ standing_of place }
 {
     match place {

@@ -46,7 +46,7 @@ pub enum LineStop {
 pub struct Lines {
     chunk: Chunk,
     line: UnderWay,
-    place: Place,
+    place: LinePlace,
     answered: u64,
     met: bool,
 }
@@ -54,7 +54,7 @@ pub struct Lines {
 /// Which buffer holds the line answered last, if any does. A line that lies whole in a read is not
 /// copied.
 #[derive(Clone, Copy)]
-enum Place {
+enum LinePlace {
     Nowhere,
     InChunk,
     InBuffer,
@@ -97,7 +97,7 @@ impl Lines {
         Ok(Lines {
             chunk: Chunk::new(alloc)?,
             line: UnderWay::new(alloc)?,
-            place: Place::Nowhere,
+            place: LinePlace::Nowhere,
             answered: 0,
             met: false,
         })
@@ -138,9 +138,9 @@ impl Lines {
         ensures { result.now ≡ self.now.shown }
     {
         match self.place {
-            Place::Nowhere => &[],
-            Place::InChunk => self.chunk.line(),
-            Place::InBuffer => self.line.shown(),
+            LinePlace::Nowhere => &[],
+            LinePlace::InChunk => self.chunk.line(),
+            LinePlace::InBuffer => self.line.shown(),
         }
     }
 
@@ -181,14 +181,14 @@ impl Lines {
         match first_lf(bytes) {
             Some(at) if at <= MAX_LINE && self.line.len() == 0 => {
                 self.chunk.cut(at);
-                self.place = Place::InChunk;
+                self.place = LinePlace::InChunk;
                 self.answered += at as u64 + 1;
                 Some(Answer::Whole)
             }
             Some(at) => {
                 self.line.add(&bytes[..at]);
                 self.chunk.skip(at + 1);
-                self.place = Place::InBuffer;
+                self.place = LinePlace::InBuffer;
                 self.answered += self.line.len() + 1;
                 Some(self.line.end_at_lf())
             }
@@ -216,7 +216,7 @@ impl Lines {
         ensures cause { FailsBy (S.faults source.old) (S.faults source.new)
             (IsErrOf result LineStop.Failed) }
     {
-        self.place = Place::Nowhere;
+        self.place = LinePlace::Nowhere;
         let room = MAX_COUNT - self.answered - self.line.len();
         if room == 0 {
             return Err(LineStop::Limit);
@@ -241,7 +241,7 @@ impl Lines {
             return None;
         }
         self.answered += count;
-        self.place = Place::InBuffer;
+        self.place = LinePlace::InBuffer;
         Some(self.line.end_with_input())
     }
 }

@@ -11,20 +11,20 @@ use Rattle.item_lines.specs.Lines.{byte_text, is_delimiter, typed_text}
 abbrev domain : {A B : Type 0} → (A → B) → Type 0
 domain {A} {B} f = A
 
-abbrev Place : Type 0
-Place = domain ends_field
+abbrev QuoteState : Type 0
+QuoteState = domain ends_field
 
-abbrev place_of : (place : Place) (texts : List (List ℕ)) → texts ≡ texts_at place [] [] → Place
+abbrev place_of : (place : QuoteState) (texts : List (List ℕ)) → texts ≡ texts_at place [] [] → QuoteState
 place_of place texts is = place
 
-abbrev plain : Place
+abbrev plain : QuoteState
 plain = place_of _ _ (front_plain [] refl)
 
-abbrev in_quotes : Place
+abbrev in_quotes : QuoteState
 in_quotes = place_of _ _ (begin_quoted (34 ∷ []) refl)
 
 -- after a quote that ends them
-abbrev after_quote : Place
+abbrev after_quote : QuoteState
 after_quote = place_after in_quotes 34
 
 -- the bytes are cut to this text, before a comma and at the end of the line

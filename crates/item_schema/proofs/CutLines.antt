@@ -11,8 +11,8 @@ use Rattle.csv.specs.declared.parser.Action.{Action}
 use Rattle.csv.specs.declared.parser.Action.TheVariants as act
 use Rattle.item_schema.specs.CutLines.{ends_field, is_break, is_kept, mark, place_after, texts_at, texts_in}
 use Rattle.item_schema.specs.declared.column.Column.{Column}
-use Rattle.item_schema.specs.declared.place.Place.{Place}
-use Rattle.item_schema.specs.declared.place.Place.TheVariants.{Front, Plain, Quoted, Closed}
+use Rattle.item_schema.specs.declared.place.QuoteState.{QuoteState}
+use Rattle.item_schema.specs.declared.place.QuoteState.TheVariants.{Front, Plain, Quoted, Closed}
 use Rattle.item_schema.specs.declared.stop.Cause.TheVariants as cause
 use Rattle.item_schema.specs.Reading.{fields_of, item_of, item_of_record, record_of, skip}
 
@@ -23,21 +23,21 @@ continues fields bytes byte rest taken =
     else next_record default_config taken.0 (fields_after taken.1 fields bytes) (field_after taken.1 byte bytes) rest
 
 -- the state of csv's machine at a place
-abbrev state_of : Place → State
+abbrev state_of : QuoteState → State
 state_of Front = st.StartField
 state_of Plain = st.InField
 state_of Quoted = st.InQuoted
 state_of Closed = st.AfterQuote
 
 -- a field is at hand there
-at_hand : (place : Place) → ends_at_end (state_of place) ≡ true
+at_hand : (place : QuoteState) → ends_at_end (state_of place) ≡ true
 at_hand Front = refl
 at_hand Plain = refl
 at_hand Quoted = refl
 at_hand Closed = refl
 
 -- what a byte that is no line break does
-abbrev taken : Bool → Bool → Place → State × Action
+abbrev taken : Bool → Bool → QuoteState → State × Action
 taken ends kept next = if ends then (st.StartField, act.EndField) else (state_of next, if kept then act.Copy else act.Skip)
 
 -- at the front of a field, in it, between quotes and behind one
@@ -53,7 +53,7 @@ step_quoted byte other = grind (arith, nat_tests)
 step_after : (byte : ℕ) → is_break byte ≡ false → step default_config st.AfterQuote byte ≡ taken (ends_field Closed byte) (is_kept Closed byte) (place_after Closed byte)
 step_after byte other = grind (arith, nat_tests)
 
-step_at : (place : Place) (byte : ℕ) → is_break byte ≡ false
+step_at : (place : QuoteState) (byte : ℕ) → is_break byte ≡ false
     → step default_config (state_of place) byte ≡ taken (ends_field place byte) (is_kept place byte) (place_after place byte)
 step_at Front = step_front
 step_at Plain = step_plain
@@ -69,7 +69,7 @@ abbrev texts_read : List (List ℕ) → List (List ℕ) → Option Read
 texts_read fields texts = Some (fields ++ texts, st.StartRecord, [])
 
 -- from a place on, the texts behind the fields so far are read
-next_record-texts : (place : Place) (fields : List (List ℕ)) (text bytes : List ℕ) → list_any is_break bytes ≡ false
+next_record-texts : (place : QuoteState) (fields : List (List ℕ)) (text bytes : List ℕ) → list_any is_break bytes ≡ false
     → next_record default_config (state_of place) fields text bytes ≡ texts_read fields (texts_at place text bytes)
 unfolding next_record texts_at
 next_record-texts place fields text [] none = rw (at_hand place) refl
@@ -79,8 +79,8 @@ next_record-texts place fields text (byte ∷ bytes) none =
     ∙ by_byte (ends_field place byte) (is_kept place byte) (place_after place byte)
     (λ next fields text. next_record-texts next fields text bytes parts.1)
   where
-    by_byte : (ends kept : Bool) (next : Place)
-        → ((next : Place) (fields : List (List ℕ)) (text : List ℕ)
+    by_byte : (ends kept : Bool) (next : QuoteState)
+        → ((next : QuoteState) (fields : List (List ℕ)) (text : List ℕ)
         → next_record default_config (state_of next) fields text bytes ≡ texts_read fields (texts_at next text bytes))
         → continues fields text byte bytes (taken ends kept next)
         ≡ texts_read fields (if ends then text ∷ texts_at Front [] bytes else texts_at next (if kept then text ++ byte ∷ [] else text) bytes)

@@ -6,55 +6,55 @@ use Rattle.std.proofs.lemmas.Bool.Decides.{nat_tests}
 use Rattle.std.proofs.lemmas.Grind.{common_steps}
 use Rattle.std.proofs.lemmas.List.{drop_all}
 use Rattle.item_schema.specs.CutLines.{ends_field, is_comma, is_kept, is_quote, place_after, texts_at, texts_in, texts_of}
-use Rattle.item_schema.specs.declared.place.Place.{Place}
-use Rattle.item_schema.specs.declared.place.Place.TheVariants.{Front, Plain, Quoted, Closed}
+use Rattle.item_schema.specs.declared.place.QuoteState.{QuoteState}
+use Rattle.item_schema.specs.declared.place.QuoteState.TheVariants.{Front, Plain, Quoted, Closed}
 use Rattle.item_schema.proofs.Cuts.{before_first-none}
 use Rattle.item_schema.proofs.Fields.{drop-next}
 
 -- a byte that ends a field, and one that does not
-pub texts_end : (place : Place) (text : List ℕ) (byte : ℕ) (bytes : List ℕ) → ends_field place byte ≡ true
+pub texts_end : (place : QuoteState) (text : List ℕ) (byte : ℕ) (bytes : List ℕ) → ends_field place byte ≡ true
     → texts_at place text (byte ∷ bytes) ≡ text ∷ texts_in bytes
 unfolding texts_at
 texts_end place text byte bytes ends = rw ends refl
 
-pub texts_more : (place : Place) (text : List ℕ) (byte : ℕ) (bytes : List ℕ) → ends_field place byte ≡ false
+pub texts_more : (place : QuoteState) (text : List ℕ) (byte : ℕ) (bytes : List ℕ) → ends_field place byte ≡ false
     → texts_at place text (byte ∷ bytes) ≡ texts_at (place_after place byte) (if is_kept place byte then text ++ byte ∷ [] else text) bytes
 unfolding texts_at
 texts_more place text byte bytes more = rw more refl
 
 -- the end of the bytes
-pub texts_none : (place : Place) (text : List ℕ) → texts_at place text [] ≡ text ∷ []
+pub texts_none : (place : QuoteState) (text : List ℕ) → texts_at place text [] ≡ text ∷ []
 unfolding texts_at
 texts_none place text = refl
 
 -- behind the end of a field is the front of the next one
-front_after : (place : Place) (byte : ℕ) → ends_field place byte ≡ true → place_after place byte ≡ Front
+front_after : (place : QuoteState) (byte : ℕ) → ends_field place byte ≡ true → place_after place byte ≡ Front
 front_after Front byte ends = rw ends refl
 front_after Plain byte ends = rw ends refl
 front_after Quoted byte ends = absurd (cc)
 front_after Closed byte ends = rw ends refl
 
 -- how many texts there are does not rest on the first one
-length-texts_at : (place : Place) (text other bytes : List ℕ) → length (texts_at place text bytes) ≡ length (texts_at place other bytes)
+length-texts_at : (place : QuoteState) (text other bytes : List ℕ) → length (texts_at place text bytes) ≡ length (texts_at place other bytes)
 length-texts_at place text other [] = rw (texts_none place text, texts_none place other) refl
 length-texts_at place text other (byte ∷ bytes) =
     by_end (ends_field place byte) refl (λ next text other. length-texts_at next text other bytes)
   where
     by_end : (ends : Bool) → ends_field place byte ≡ ends
-        → ((next : Place) (text other : List ℕ) → length (texts_at next text bytes) ≡ length (texts_at next other bytes))
+        → ((next : QuoteState) (text other : List ℕ) → length (texts_at next text bytes) ≡ length (texts_at next other bytes))
         → length (texts_at place text (byte ∷ bytes)) ≡ length (texts_at place other (byte ∷ bytes))
     by_end true is same = rw (texts_end place text byte bytes is, texts_end place other byte bytes is) refl
     by_end false is same = rw (texts_more place text byte bytes is, texts_more place other byte bytes is) (same (place_after place byte) _ _)
 
 -- one text more where a byte ends a field
-pub count_texts : (place : Place) (byte : ℕ) (bytes : List ℕ) (ends : Bool) → ends_field place byte ≡ ends
+pub count_texts : (place : QuoteState) (byte : ℕ) (bytes : List ℕ) (ends : Bool) → ends_field place byte ≡ ends
     → length (texts_at place [] (byte ∷ bytes)) ≡ (if ends then 1 else 0) + length (texts_at (place_after place byte) [] bytes)
 count_texts place byte bytes true is = rw (texts_end place [] byte bytes is, front_after place byte is) (omega arith)
 count_texts place byte bytes false is =
     rw (texts_more place [] byte bytes is) (length-texts_at (place_after place byte) _ [] bytes ∙ omega arith)
 
 -- at a place of a line
-pub count_at : (place : Place) (line : List ℕ) (i : ℕ) (ends : Bool) → i < length line → ends_field place (get_or line i 0) ≡ ends
+pub count_at : (place : QuoteState) (line : List ℕ) (i : ℕ) (ends : Bool) → i < length line → ends_field place (get_or line i 0) ≡ ends
     → length (texts_at place [] (drop i line)) ≡ (if ends then 1 else 0) + length (texts_at (place_after place (get_or line i 0)) [] (drop (i + 1) line))
 count_at place line i ends within is = rw (drop-next line i 0 within) (count_texts place (get_or line i 0) (drop (i + 1) line) ends is)
 
@@ -201,5 +201,5 @@ begin_unquoted [] is = unquoted_texts [] refl
 begin_unquoted (byte ∷ bytes) is = unquoted_texts (byte ∷ bytes) (grind (arith, nat_tests))
 
 -- there is no byte at a place
-pub none_at : (place : Place) (text bytes : List ℕ) (i : ℕ) → length bytes ≤ i → texts_at place text (drop i bytes) ≡ text ∷ []
+pub none_at : (place : QuoteState) (text bytes : List ℕ) (i : ℕ) → length bytes ≤ i → texts_at place text (drop i bytes) ≡ text ∷ []
 none_at place text bytes i past = rw (drop_all i bytes past) (texts_none place text)

@@ -1,7 +1,7 @@
 -- Statement. The texts of a line: what stands between its commas, but for those between quotes.
 use Rattle.std.specs.Prelude.{ℕ, Bool, true, false, ◌==◌, ◌||◌, not, if◌then◌else◌, List, [], ◌∷◌, ◌++◌, Option, None, Some}
-use Rattle.item_schema.specs.declared.place.Place.{Place}
-use Rattle.item_schema.specs.declared.place.Place.TheVariants.{Front, Plain, Quoted, Closed}
+use Rattle.item_schema.specs.declared.place.QuoteState.{QuoteState}
+use Rattle.item_schema.specs.declared.place.QuoteState.TheVariants.{Front, Plain, Quoted, Closed}
 
 -- a comma
 abbrev pub is_comma : ℕ → Bool
@@ -20,28 +20,28 @@ abbrev pub mark : List ℕ
 mark = 239 ∷ 187 ∷ 191 ∷ []
 
 -- the byte ends the field: a comma that is not between quotes
-abbrev pub ends_field : Place → ℕ → Bool
+abbrev pub ends_field : QuoteState → ℕ → Bool
 ends_field Front byte = is_comma byte
 ends_field Plain byte = is_comma byte
 ends_field Quoted byte = false
 ends_field Closed byte = is_comma byte
 
 -- the byte is one of the field: all but a quote that opens it or stands in it before another byte
-abbrev pub is_kept : Place → ℕ → Bool
+abbrev pub is_kept : QuoteState → ℕ → Bool
 is_kept Front byte = not (is_quote byte)
 is_kept Plain byte = true
 is_kept Quoted byte = not (is_quote byte)
 is_kept Closed byte = true
 
 -- the place behind a byte: a quote opens a field only at its front, and two of them go on with it
-abbrev pub place_after : Place → ℕ → Place
+abbrev pub place_after : QuoteState → ℕ → QuoteState
 place_after Front byte = if is_comma byte then Front else if is_quote byte then Quoted else Plain
 place_after Plain byte = if is_comma byte then Front else Plain
 place_after Quoted byte = if is_quote byte then Closed else Quoted
 place_after Closed byte = if is_comma byte then Front else if is_quote byte then Quoted else Plain
 
 -- the texts of bytes that begin at a place of a field, of which this text stands before them
-unfoldable pub texts_at : Place → List ℕ → List ℕ → List (List ℕ)
+unfoldable pub texts_at : QuoteState → List ℕ → List ℕ → List (List ℕ)
 texts_at place text [] = text ∷ []
 texts_at place text (byte ∷ bytes) =
     if ends_field place byte then text ∷ texts_at Front [] bytes

@@ -7,7 +7,7 @@ ghost use Rattle.item_schema.specs.CutLines.{is_break, texts_in, texts_of};
 ghost use Rattle.item_schema.specs.Reading.{IsStopOf, fields_of};
 
 use crate::field::{push_field, read_field};
-use crate::place::Place;
+use crate::place::QuoteState;
 use crate::text::first_text;
 use crate::{Column, Item, ItemStop, Schema};
 use std::alloc::Global;
@@ -33,7 +33,7 @@ pub(crate) fn commas(line: &[u8]) -> Option<usize>
         (list_any is_break line.now ≡ false) × (commas + 1 ≡ length (texts_in line.now))) }
 {
     let mut commas = 0;
-    let mut place = Place::Front;
+    let mut place = QuoteState::Front;
     for byte in line {
         if is_break(*byte) {
             return None;

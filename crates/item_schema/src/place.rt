@@ -4,7 +4,7 @@ ghost use Rattle.item_schema.specs.CutLines.{ends_field, place_after};
 
 /// A place between two bytes of a line.
 #[derive(Clone, Copy, Debug, PartialEq, Eq)]
-pub(crate) enum Place {
+pub(crate) enum QuoteState {
     /// At the front of a field.
     Front,
     /// In a field, and not between quotes.
@@ -15,27 +15,27 @@ pub(crate) enum Place {
     Closed,
 }
 
-impl Place {
+impl QuoteState {
     /// Whether the byte ends the field.
     pub(crate) fn ends_field(self, byte: u8) -> bool
         ensures { result ≡ ends_field self byte }
     {
         match self {
-            Place::Quoted => false,
-            Place::Front | Place::Plain | Place::Closed => byte == b',',
+            QuoteState::Quoted => false,
+            QuoteState::Front | QuoteState::Plain | QuoteState::Closed => byte == b',',
         }
     }
 
     /// The place behind the byte.
-    pub(crate) fn after(self, byte: u8) -> Place
+    pub(crate) fn after(self, byte: u8) -> QuoteState
         ensures { result ≡ place_after self byte }
     {
         match (self, byte) {
-            (Place::Quoted, b'"') => Place::Closed,
-            (Place::Quoted, _) => Place::Quoted,
-            (_, b',') => Place::Front,
-            (Place::Front | Place::Closed, b'"') => Place::Quoted,
-            _ => Place::Plain,
+            (QuoteState::Quoted, b'"') => QuoteState::Closed,
+            (QuoteState::Quoted, _) => QuoteState::Quoted,
+            (_, b',') => QuoteState::Front,
+            (QuoteState::Front | QuoteState::Closed, b'"') => QuoteState::Quoted,
+            _ => QuoteState::Plain,
         }
     }
 }

@@ -5,7 +5,7 @@ use Rattle.query_tokens.specs.declared.token.Token.{Token}
 use Rattle.query_trees.specs.declared.tree.Tree.{Tree, Leaf, Call'}
 use Rattle.query_trees.specs.Trees as trees
 use Rattle.query_trees.specs.Trees.{Trees, tree_before, trees_of, first_of_two}
-use Rattle.query_forms.specs.declared.place.Place.{Place}
+use Rattle.query_forms.specs.declared.place.TermPlace.{TermPlace}
 use Rattle.query_forms.specs.Terms.{Terms, none, word, number, string, call, bytes_at, count_of, Say}
 use Rattle.query_forms.specs.Forms.{places_of, unfit_in, first_unfit}
 use Rattle.query_forms.proofs.Parts.{after, say_after, first_of_two-None}
@@ -30,13 +30,13 @@ count_said text (tree ∷ list) terms say =
     omega (arith, count_before text tree (trees_of list) terms say)
 
 -- the places of the arguments, from what was read of the call
-places_read : (text : List ℕ) (place : Place) (head : Token) (list : List Tree) (read : List ℕ) (count : ℕ) (places : Option (List Place)) (bytes : List ℕ) (inner : Terms) → read ≡ bytes_at text head.span → count ≡ length list → places_of place read count ≡ places → bytes ≡ bytes_at text head.span → Say text (trees_of list) inner → places_of place bytes (count_of inner) ≡ places
+places_read : (text : List ℕ) (place : TermPlace) (head : Token) (list : List Tree) (read : List ℕ) (count : ℕ) (places : Option (List TermPlace)) (bytes : List ℕ) (inner : Terms) → read ≡ bytes_at text head.span → count ≡ length list → places_of place read count ≡ places → bytes ≡ bytes_at text head.span → Say text (trees_of list) inner → places_of place bytes (count_of inner) ≡ places
 places_read text place head list read count places bytes inner is_read is_count of bytes_are say =
     ap (λ b. places_of place b (count_of inner)) (bytes_are ∙ sym is_read)
     ∙ ap (λ n. places_of place read n) (count_said text list inner say ∙ sym is_count) ∙ of
 
 -- a call that has a form
-pub call_fits : (text : List ℕ) (place : Place) (head : Token) (list : List Tree) (span : Span) (read : List ℕ) (count : ℕ) (places : List Place) (answer : Option Span) → read ≡ bytes_at text head.span → count ≡ length list → places_of place read count ≡ Some places → ((terms : Terms) → Say text (trees_of list) terms → answer ≡ first_unfit places terms) → (terms : Terms) → Say text (trees.call head (trees_of list) span trees.none) terms → answer ≡ first_unfit (place ∷ []) terms
+pub call_fits : (text : List ℕ) (place : TermPlace) (head : Token) (list : List Tree) (span : Span) (read : List ℕ) (count : ℕ) (places : List TermPlace) (answer : Option Span) → read ≡ bytes_at text head.span → count ≡ length list → places_of place read count ≡ Some places → ((terms : Terms) → Say text (trees_of list) terms → answer ≡ first_unfit places terms) → (terms : Terms) → Say text (trees.call head (trees_of list) span trees.none) terms → answer ≡ first_unfit (place ∷ []) terms
 call_fits text place head list span read count places answer is_read is_count of inside none say = absurd say
 call_fits text place head list span read count places answer is_read is_count of inside (word bytes at rest) say = absurd say
 call_fits text place head list span read count places answer is_read is_count of inside (number value at rest) say = absurd say
@@ -46,7 +46,7 @@ call_fits text place head list span read count places answer is_read is_count of
     ∙ ap (λ found. first_of_two (unfit_in found at (λ ps. first_unfit ps inner)) None) (sym (places_read text place head list read count (Some places) bytes inner is_read is_count of say.0 say.2))
 
 -- a call that has none
-pub call_unfit : (text : List ℕ) (place : Place) (head : Token) (list : List Tree) (span : Span) (read : List ℕ) (count : ℕ) → read ≡ bytes_at text head.span → count ≡ length list → places_of place read count ≡ None → (terms : Terms) → Say text (trees.call head (trees_of list) span trees.none) terms → Some span ≡ first_unfit (place ∷ []) terms
+pub call_unfit : (text : List ℕ) (place : TermPlace) (head : Token) (list : List Tree) (span : Span) (read : List ℕ) (count : ℕ) → read ≡ bytes_at text head.span → count ≡ length list → places_of place read count ≡ None → (terms : Terms) → Say text (trees.call head (trees_of list) span trees.none) terms → Some span ≡ first_unfit (place ∷ []) terms
 call_unfit text place head list span read count is_read is_count of none say = absurd say
 call_unfit text place head list span read count is_read is_count of (word bytes at rest) say = absurd say
 call_unfit text place head list span read count is_read is_count of (number value at rest) say = absurd say

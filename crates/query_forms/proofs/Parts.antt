@@ -4,7 +4,7 @@ use Rattle.language_base.specs.declared.span.Span.{Span}
 use Rattle.query_trees.specs.declared.tree.Tree.{Tree, Leaf, Call'}
 use Rattle.query_trees.specs.Trees as trees
 use Rattle.query_trees.specs.Trees.{Trees, tree_before, first_of_two}
-use Rattle.query_forms.specs.declared.place.Place.{Place}
+use Rattle.query_forms.specs.declared.place.TermPlace.{TermPlace}
 use Rattle.query_forms.specs.Terms.{Terms, none, word, number, string, call, AreOf, Say}
 use Rattle.query_forms.specs.Forms.{fits_word, fits_number, fits_string, first_unfit}
 
@@ -59,7 +59,7 @@ first_of_two-None None = refl
 first_of_two-None (Some span) = refl
 
 -- the first unfit term is the first, or else the first unfit one behind it
-pub first_unfit_parts : (place : Place) (places : List Place) (terms : Terms) → first_unfit (place ∷ places) terms ≡ first_of_two (first_unfit (place ∷ []) (alone terms)) (first_unfit places (after terms))
+pub first_unfit_parts : (place : TermPlace) (places : List TermPlace) (terms : Terms) → first_unfit (place ∷ places) terms ≡ first_of_two (first_unfit (place ∷ []) (alone terms)) (first_unfit places (after terms))
 first_unfit_parts place [] none = refl
 first_unfit_parts place (following ∷ places) none = refl
 first_unfit_parts place places (word bytes span rest) = two_of_test (fits_word place bytes) span (first_unfit places rest)

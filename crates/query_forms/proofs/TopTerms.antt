@@ -10,8 +10,8 @@ use Rattle.query_trees.specs.Trees as trees
 use Rattle.query_trees.specs.Trees.{Trees, tree_before, trees_of}
 use Rattle.query_forms.specs.Terms.{Terms, none, word, number, string, call, bytes_at, Say}
 use Rattle.query_forms.specs.File.{first_place}
-use Rattle.query_forms.specs.declared.place.Place.{Place}
-use Rattle.query_forms.specs.declared.place.Place.TheVariants.{Mode, Column}
+use Rattle.query_forms.specs.declared.place.TermPlace.{TermPlace}
+use Rattle.query_forms.specs.declared.place.TermPlace.TheVariants.{Mode, Column}
 use Rattle.query_forms.specs.Tops.{is_call, arguments_in, stream_places, unfit_call, unfit_stream}
 use Rattle.query_forms.proofs.Calls.{count_said}
 use Rattle.query_forms.proofs.Parts.{alone, say_alone}
@@ -62,7 +62,7 @@ stream_at terms count =
     cond (nat_le 2 count && nat_le count 33) (unfit_call (codes "stream") (stream_places count) terms) (first_place terms)
 
 -- a call with as many arguments as a `stream` may have
-pub stream_read : (text : List ℕ) (list : List Tree) (terms : Terms) (places : List Place) (answer : Option Span) → Say text (trees_of list) (arguments_in terms) → 2 ≤ length list → length list ≤ 33 → places ≡ take (length list) (Mode ∷ replicate 32 Column) → answer ≡ unfit_call (codes "stream") places terms → answer ≡ unfit_stream terms
+pub stream_read : (text : List ℕ) (list : List Tree) (terms : Terms) (places : List TermPlace) (answer : Option Span) → Say text (trees_of list) (arguments_in terms) → 2 ≤ length list → length list ≤ 33 → places ≡ take (length list) (Mode ∷ replicate 32 Column) → answer ≡ unfit_call (codes "stream") places terms → answer ≡ unfit_stream terms
 unfolding stream_at
 stream_read text list terms places answer say some few are answers =
     let tested : (nat_le 2 (length list) && nat_le (length list) 33) ≡ true = grind (arith, nat_tests) in

@@ -3,20 +3,20 @@ use Rattle.std.specs.Prelude.{ℕ, ℤ, pos, Bool, true, false, ◌&&◌, ◌||�
 use Rattle.std.specs.Str.{bytes_eq}
 use Rattle.language_base.specs.declared.span.Span.{Span}
 use Rattle.query_trees.specs.Trees.{first_of_two}
-use Rattle.query_forms.specs.declared.place.Place.{Place}
-use Rattle.query_forms.specs.declared.place.Place.TheVariants.{Mode, Column, Kind, Query, Rate, Pred, Literal, Expr, Compare, Name, Number, Text, Digits}
+use Rattle.query_forms.specs.declared.place.TermPlace.{TermPlace}
+use Rattle.query_forms.specs.declared.place.TermPlace.TheVariants.{Mode, Column, Kind, Query, Rate, Pred, Literal, Expr, Compare, Name, Number, Text, Digits}
 use Rattle.query_forms.specs.Terms.{Terms, word, number, string, call, count_of}
 
 -- a head word and the places of its arguments
 pub record Form : Type 0 where
   pub head : List ℕ
-  pub arguments : List Place
+  pub arguments : List TermPlace
 
-abbrev form : List ℕ → List Place → Form
+abbrev form : List ℕ → List TermPlace → Form
 form head arguments = record { head = head; arguments = arguments }
 
 -- the calls that may stand at each place
-abbrev pub forms_at : Place → List Form
+abbrev pub forms_at : TermPlace → List Form
 forms_at Column = form (codes "col") (Name ∷ Kind ∷ []) ∷ []
 forms_at Kind = form (codes "fixed") (Digits ∷ []) ∷ []
 forms_at Query =
@@ -77,18 +77,18 @@ forms_at Compare =
 forms_at _ = []
 
 -- the places of the arguments of the first of these forms that has this head word and number of arguments
-abbrev pub places_in : List Form → List ℕ → ℕ → Option (List Place)
+abbrev pub places_in : List Form → List ℕ → ℕ → Option (List TermPlace)
 places_in [] head count = None
 places_in (first ∷ rest) head count =
     if bytes_eq first.head head && (length first.arguments == count) then Some first.arguments
     else places_in rest head count
 
 -- the places of the arguments, where a call of this head word with so many has a form of its place
-abbrev pub places_of : Place → List ℕ → ℕ → Option (List Place)
+abbrev pub places_of : TermPlace → List ℕ → ℕ → Option (List TermPlace)
 places_of place head count = places_in (forms_at place) head count
 
 -- the words that may stand at each place
-abbrev pub fits_word : Place → List ℕ → Bool
+abbrev pub fits_word : TermPlace → List ℕ → Bool
 fits_word Mode bytes = bytes_eq bytes (codes "plain") || bytes_eq bytes (codes "header")
 fits_word Kind bytes = bytes_eq bytes (codes "int") || bytes_eq bytes (codes "text")
 fits_word Query bytes = true
@@ -104,7 +104,7 @@ is_digits (pos n) = nat_le 1 n && nat_le n 9
 is_digits _ = false
 
 -- the numbers that may stand at each place
-abbrev pub fits_number : Place → ℤ → Bool
+abbrev pub fits_number : TermPlace → ℤ → Bool
 fits_number Literal value = true
 fits_number Expr value = true
 fits_number Number value = true
@@ -112,19 +112,19 @@ fits_number Digits value = is_digits value
 fits_number _ value = false
 
 -- whether a string may stand at the place
-abbrev pub fits_string : Place → Bool
+abbrev pub fits_string : TermPlace → Bool
 fits_string Literal = true
 fits_string Text = true
 fits_string _ = false
 
 -- the place of a term that has none of the forms of its place, or else what is unfit inside it
-abbrev pub unfit_in : Option (List Place) → Span → (List Place → Option Span) → Option Span
+abbrev pub unfit_in : Option (List TermPlace) → Span → (List TermPlace → Option Span) → Option Span
 unfit_in None span inside = Some span
 unfit_in (Some places) span inside = inside places
 
 -- The place of the first term, in text order, that has none of the forms of its place, where the terms
 -- themselves have these places. A term comes before its arguments.
-abbrev pub first_unfit : List Place → Terms → Option Span
+abbrev pub first_unfit : List TermPlace → Terms → Option Span
 first_unfit (place ∷ places) (word bytes span rest) =
     if fits_word place bytes then first_unfit places rest else Some span
 first_unfit (place ∷ places) (number value span rest) =

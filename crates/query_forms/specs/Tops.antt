@@ -3,8 +3,8 @@ use Rattle.std.specs.Prelude.{ℕ, ◌+◌, ◌-◌, Bool, false, ◌&&◌, ◌=
 use Rattle.std.specs.Str.{bytes_eq}
 use Rattle.language_base.specs.Limits.{max_columns}
 use Rattle.language_base.specs.declared.span.Span.{Span}
-use Rattle.query_forms.specs.declared.place.Place.{Place}
-use Rattle.query_forms.specs.declared.place.Place.TheVariants.{Mode, Column}
+use Rattle.query_forms.specs.declared.place.TermPlace.{TermPlace}
+use Rattle.query_forms.specs.declared.place.TermPlace.TheVariants.{Mode, Column}
 use Rattle.query_forms.specs.Terms.{Terms, none, call, count_of}
 use Rattle.query_forms.specs.Forms.{first_unfit}
 use Rattle.query_forms.specs.File.{first_place}
@@ -20,13 +20,13 @@ arguments_in (call head arguments span rest) = arguments
 arguments_in _ = none
 
 -- the first unfit term in the first, which is to be a call of this word with arguments at these places
-abbrev pub unfit_call : List ℕ → List Place → Terms → Option Span
+abbrev pub unfit_call : List ℕ → List TermPlace → Terms → Option Span
 unfit_call name places terms =
     if is_call name (length places) terms then first_unfit places (arguments_in terms)
     else first_place terms
 
 -- the places of so many arguments of a `stream`
-abbrev pub stream_places : ℕ → List Place
+abbrev pub stream_places : ℕ → List TermPlace
 stream_places count = Mode ∷ replicate (count - 1) Column
 
 -- the first unfit term in the first, which is to be a `stream` with a mode and 1 to `max_columns` columns

@@ -4,7 +4,7 @@ ghost use Rattle.query_trees.specs.Trees.{trees_of};
 ghost use Rattle.query_forms.specs.File.{at_end, unfit_body, unfit_file};
 ghost use Rattle.query_forms.specs.Terms.{AreOf, Say, Terms};
 
-use crate::place::Place;
+use crate::place::TermPlace;
 use crate::tops::{first_place, is_call, unfit_call, unfit_stream};
 use language_base::Span;
 use query_trees::Tree;
@@ -35,10 +35,10 @@ fn unfit_body(text: &[u8], trees: &[Tree], end: u32) -> Option<Span>
     let mut tops = trees.iter();
     'tops: while let Some(top) = tops.next() {
         if is_call(text, b"main", 1, top) {
-            let unfit = unfit_call(text, b"main", &[Place::Query], top);
+            let unfit = unfit_call(text, b"main", &[TermPlace::Query], top);
             return unfit.or(first_place(tops.as_slice()));
         }
-        if let Some(span) = unfit_call(text, b"let", &[Place::Name, Place::Query], top) {
+        if let Some(span) = unfit_call(text, b"let", &[TermPlace::Name, TermPlace::Query], top) {
             return Some(span);
         }
     }

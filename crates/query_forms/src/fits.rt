@@ -5,44 +5,48 @@ ghost use Rattle.query_tokens.specs.Raw.{IsRaw};
 ghost use Rattle.query_tokens.specs.declared.token.TokenKind.TheVariants.{Number};
 ghost use Rattle.query_forms.specs.Forms.{fits_number, fits_string, fits_word};
 
-use crate::place::Place;
+use crate::place::TermPlace;
 use query_tokens::number_value;
 
 /// Whether a word may stand at the place.
-pub fn fits_word(place: Place, word: &[u8]) -> bool
+pub fn fits_word(place: TermPlace, word: &[u8]) -> bool
     ensures { result ≡ fits_word place word.now }
 {
     match place {
-        Place::Mode => word == b"plain".as_slice() || word == b"header".as_slice(),
-        Place::Kind => word == b"int".as_slice() || word == b"text".as_slice(),
-        Place::Rate => word == b"eps".as_slice(),
-        Place::Pred => word == b"any".as_slice(),
-        Place::Query | Place::Expr | Place::Name => true,
-        Place::Column
-        | Place::Literal
-        | Place::Compare
-        | Place::Number
-        | Place::Text
-        | Place::Digits => false,
+        TermPlace::Mode => word == b"plain".as_slice() || word == b"header".as_slice(),
+        TermPlace::Kind => word == b"int".as_slice() || word == b"text".as_slice(),
+        TermPlace::Rate => word == b"eps".as_slice(),
+        TermPlace::Pred => word == b"any".as_slice(),
+        TermPlace::Query | TermPlace::Expr | TermPlace::Name => true,
+        TermPlace::Column
+        | TermPlace::Literal
+        | TermPlace::Compare
+        | TermPlace::Number
+        | TermPlace::Text
+        | TermPlace::Digits => false,
     }
 }
 
 /// Whether a string may stand at the place.
-pub fn fits_text(place: Place) -> bool
+pub fn fits_text(place: TermPlace) -> bool
     ensures { result ≡ fits_string place }
 {
-    matches!(place, Place::Literal | Place::Text)
+    matches!(place, TermPlace::Literal | TermPlace::Text)
 }
 
 /// Whether the number that these bytes write may stand at the place.
-pub fn fits_number(place: Place, raw: &[u8]) -> bool
+pub fn fits_number(place: TermPlace, raw: &[u8]) -> bool
     requires { IsRaw Number raw.now }
     ensures { result ≡ fits_number place (signed_digits_value 10 raw.now) }
 {
     match place {
-        Place::Literal | Place::Expr | Place::Number => true,
-        Place::Digits => matches!(number_value(raw), Some(1..=9)),
-        Place::Mode | Place::Column | Place::Kind | Place::Query | Place::Rate => false,
-        Place::Pred | Place::Compare | Place::Name | Place::Text => false,
+        TermPlace::Literal | TermPlace::Expr | TermPlace::Number => true,
+        TermPlace::Digits => matches!(number_value(raw), Some(1..=9)),
+        TermPlace::Mode
+        | TermPlace::Column
+        | TermPlace::Kind
+        | TermPlace::Query
+        | TermPlace::Rate => false,
+        TermPlace::Pred | TermPlace::Compare | TermPlace::Name | TermPlace::Text => false,
     }
 }

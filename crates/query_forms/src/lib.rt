@@ -19,4 +19,4 @@ pub use forms::places_of;
 pub use large::first_large;
 pub use laws::one_list_of_terms;
 pub use part::bytes_at;
-pub use place::Place;
+pub use place::TermPlace;

@@ -2,7 +2,7 @@
 
 /// What a term is, by its place in the file.
 #[derive(Clone, Copy, Debug, PartialEq, Eq)]
-pub enum Place {
+pub enum TermPlace {
     /// How the stream's lines begin.
     Mode,
     /// A column of the stream.

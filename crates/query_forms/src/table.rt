@@ -4,8 +4,8 @@ ghost use Rattle.query_forms.specs.Forms.{forms_at};
 ghost use Rattle.query_forms.specs.Shown.{shown};
 
 use crate::form::Form;
-use crate::place::Place;
-use crate::place::Place::*;
+use crate::place::TermPlace;
+use crate::place::TermPlace::*;
 
 const COLUMN: &[Form] = &[Form(b"col", &[Name, Kind])];
 
@@ -71,7 +71,7 @@ const COMPARE: &[Form] = &[
     Form(b"ne", &[Expr, Expr]),
 ];
 
-pub fn forms_at(place: Place) -> &'static [Form]
+pub fn forms_at(place: TermPlace) -> &'static [Form]
     ensures { map shown result.now ≡ forms_at place }
 {
     match place {

@@ -6,13 +6,13 @@ ghost use Rattle.query_forms.specs.Terms.{AreOf, Say, Terms};
 ghost use Rattle.query_forms.specs.Tops.{arguments_in, is_call, unfit_call, unfit_stream};
 
 use crate::part::bytes_at;
-use crate::place::Place;
-use crate::place::Place::{Column, Mode};
+use crate::place::TermPlace;
+use crate::place::TermPlace::{Column, Mode};
 use crate::unfit::first_unfit;
 use language_base::Span;
 use query_trees::Tree;
 
-const STREAM: [Place; 33] = [
+const STREAM: [TermPlace; 33] = [
     Mode, Column, Column, Column, Column, Column, Column, Column, Column, Column, Column, Column,
     Column, Column, Column, Column, Column, Column, Column, Column, Column, Column, Column, Column,
     Column, Column, Column, Column, Column, Column, Column, Column, Column,
@@ -65,7 +65,7 @@ pub fn is_call(text: &[u8], name: &[u8], count: usize, tree: &Tree) -> bool
 }
 
 // The first unfit term in the tree, which is to be such a call, with arguments at these places.
-pub fn unfit_call(text: &[u8], name: &[u8], places: &[Place], tree: &Tree) -> Option<Span>
+pub fn unfit_call(text: &[u8], name: &[u8], places: &[TermPlace], tree: &Tree) -> Option<Span>
     requires { AreOf text.now (tree_before tree.now none) }
     ensures { (terms : Terms) → Say text.now (tree_before tree.now none) terms →
         result ≡ unfit_call name.now places.now terms }

@@ -7,12 +7,12 @@ ghost use Rattle.query_forms.specs.Terms.{AreOf, IsTokenOf, Say, Terms};
 use crate::fits::{fits_number, fits_text, fits_word};
 use crate::forms::places_of;
 use crate::part::bytes_at;
-use crate::place::Place;
+use crate::place::TermPlace;
 use language_base::Span;
 use query_tokens::{Token, TokenKind};
 use query_trees::Tree;
 
-fn unfit_leaf(text: &[u8], place: Place, token: Token) -> Option<Span>
+fn unfit_leaf(text: &[u8], place: TermPlace, token: Token) -> Option<Span>
     requires { IsTokenOf text.now token }
     ensures { (terms : Terms) → Say text.now (leaf token none) terms →
         result ≡ first_unfit (place ∷ []) terms }
@@ -29,7 +29,7 @@ fn unfit_leaf(text: &[u8], place: Place, token: Token) -> Option<Span>
 
 // The same of one term.
 #[cycle(unfit)]
-pub fn unfit(text: &[u8], place: Place, tree: &Tree) -> Option<Span>
+pub fn unfit(text: &[u8], place: TermPlace, tree: &Tree) -> Option<Span>
     requires { AreOf text.now (tree_before tree.now none) }
     ensures { (terms : Terms) → Say text.now (tree_before tree.now none) terms →
         result ≡ first_unfit (place ∷ []) terms }
@@ -47,7 +47,7 @@ pub fn unfit(text: &[u8], place: Place, tree: &Tree) -> Option<Span>
 
 // The first of the terms that has none of the forms of its place.
 #[cycle(unfit)]
-pub fn first_unfit(text: &[u8], places: &[Place], trees: &[Tree]) -> Option<Span>
+pub fn first_unfit(text: &[u8], places: &[TermPlace], trees: &[Tree]) -> Option<Span>
     requires { AreOf text.now (trees_of trees.now) }
     ensures { (terms : Terms) → Say text.now (trees_of trees.now) terms →
         result ≡ first_unfit places.now terms }

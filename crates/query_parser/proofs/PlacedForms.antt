@@ -1,7 +1,7 @@
 -- The forms and numbers of terms do not depend on their places.
 use Rattle.std.proofs.Common.{◌≡◌, ℕ, ◌+◌, List, [], ◌∷◌, Option, Some, None, refl, ap, ◌∙◌}
 use Rattle.language_base.specs.declared.span.Span.{Span}
-use Rattle.query_forms.specs.declared.place.Place.{Place}
+use Rattle.query_forms.specs.declared.place.TermPlace.{TermPlace}
 use Rattle.query_forms.specs.Terms.{Terms, none, word, number, string, call, count_of}
 use Rattle.query_forms.specs.Forms.{places_of, fits_word, fits_number, fits_string, unfit_in, first_unfit}
 use Rattle.query_forms.specs.File.{first_place, is_within, first_large}
@@ -41,14 +41,14 @@ first_large-placed (call head arguments span rest) gap at within =
     first_of_two-both _ _ (first_large-placed arguments 2 (inner_at at head) parts.0) (first_large-placed rest gap _ parts.1)
 
 -- what is inside a call fits at another place too
-unfit_in-none : (forms : Option (List Place)) (span other : Span) (inside others : List Place → Option Span)
-    → ((places : List Place) → inside places ≡ None → others places ≡ None)
+unfit_in-none : (forms : Option (List TermPlace)) (span other : Span) (inside others : List TermPlace → Option Span)
+    → ((places : List TermPlace) → inside places ≡ None → others places ≡ None)
     → unfit_in forms span inside ≡ None → unfit_in forms other others ≡ None
 unfit_in-none None span other inside others fits e = absurd (Some-no_none span e)
 unfit_in-none (Some places) span other inside others fits e = fits places e
 
 -- terms that have their forms
-pub first_unfit-placed : (terms : Terms) (places : List Place) (gap at : ℕ) → first_unfit places terms ≡ None
+pub first_unfit-placed : (terms : Terms) (places : List TermPlace) (gap at : ℕ) → first_unfit places terms ≡ None
     → first_unfit places (placed gap at terms) ≡ None
 first_unfit-placed none [] gap at fit = refl
 first_unfit-placed none (place ∷ places) gap at fit = refl

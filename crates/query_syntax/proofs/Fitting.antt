@@ -3,7 +3,7 @@ use Rattle.std.proofs.Common.{◌≡◌, inl, inr, ℕ, ◌==◌, ◌&&◌, Bool
 use Rattle.std.specs.Str.{bytes_eq}
 use Rattle.std.proofs.lemmas.Bool.Decides.{nat_tests}
 use Rattle.language_base.specs.declared.span.Span.{Span}
-use Rattle.query_forms.specs.declared.place.Place.{Place}
+use Rattle.query_forms.specs.declared.place.TermPlace.{TermPlace}
 use Rattle.query_forms.specs.Terms.{Terms, none, call, count_of}
 use Rattle.query_forms.specs.Forms.{Form, first_unfit, forms_at, places_in, places_of, unfit_in, fits_word, fits_number, fits_string}
 use Rattle.query_tokens.proofs.Parts.{branch_taken}
@@ -33,7 +33,7 @@ count_of_terms [] = refl
 count_of_terms (term ∷ rest) = omega (arith, count_before term (terms_of rest), count_of_terms rest)
 
 -- of a first term and others, where none is unfit, each is fit by itself
-pub first_fits : (place : Place) (places : List Place) (term : Term) (rest : Terms) → first_unfit (place ∷ places) (term_before term rest) ≡ None
+pub first_fits : (place : TermPlace) (places : List TermPlace) (term : Term) (rest : Terms) → first_unfit (place ∷ places) (term_before term rest) ≡ None
     → (first_unfit (place ∷ []) (term_before term none) ≡ None) × (first_unfit places rest ≡ None)
 first_fits place places (Word bytes span) rest fit =
     let parts = chosen-none (fits_word place bytes) (first_unfit places rest) span fit in
@@ -50,13 +50,13 @@ first_fits place places (Call' head shape arguments span) rest fit =
     (first_of_two-both inside None parts.0 refl, parts.1)
 
 -- the place of an argument
-abbrev pub place_at : List Place → ℕ → Option Place
+abbrev pub place_at : List TermPlace → ℕ → Option TermPlace
 place_at [] index = None
 place_at (place ∷ places) zero = Some place
 place_at (place ∷ places) (suc index) = place_at places index
 
 -- each of the terms has a form of its place
-pub item_fits : (places : List Place) (list : List Term) (one : Term) (index : ℕ) (place : Place) → AllFit places list
+pub item_fits : (places : List TermPlace) (list : List Term) (one : Term) (index : ℕ) (place : TermPlace) → AllFit places list
     → index < length list → one ≡ get_or list index one → place_at places index ≡ Some place → Fits place one
 item_fits places [] one index place all within is at = absurd (omega arith)
 item_fits [] (first ∷ list) one index place all within is at = absurd (cc)
@@ -69,13 +69,13 @@ item_fits (p ∷ places) (first ∷ list) one (suc index) place all within is at
     (omega arith) is at
 
 -- where a call is not unfit, it has a form
-pub form_at : (place : Place) (head : List ℕ) (span : Span) (inner : Terms) (places : Option (List Place))
-    → unfit_in places span (λ ps. first_unfit ps inner) ≡ None → (ps : List Place) × (places ≡ Some ps) × (first_unfit ps inner ≡ None)
+pub form_at : (place : TermPlace) (head : List ℕ) (span : Span) (inner : Terms) (places : Option (List TermPlace))
+    → unfit_in places span (λ ps. first_unfit ps inner) ≡ None → (ps : List TermPlace) × (places ≡ Some ps) × (first_unfit ps inner ≡ None)
 form_at place head span inner None fit = absurd (Some-no_none span fit)
 form_at place head span inner (Some ps) fit = (ps, refl, fit)
 
 -- a form that is found for a call has as many places as the call has arguments
-pub places_count : (forms : List Form) (word : List ℕ) (count : ℕ) (places : List Place) → places_in forms word count ≡ Some places → count ≡ length places
+pub places_count : (forms : List Form) (word : List ℕ) (count : ℕ) (places : List TermPlace) → places_in forms word count ≡ Some places → count ≡ length places
 places_count [] word count places is = absurd (cc)
 places_count (first ∷ rest) word count places is =
     elim (branch_taken (bytes_eq first.head word && (length first.arguments == count)) (Some first.arguments) (places_in rest word count) places is) [
@@ -88,7 +88,7 @@ places_count (first ∷ rest) word count places is =
     ]
 
 -- a call that fits its place has a form of it
-pub call_form : (place : Place) (term : Term) (word : List ℕ) (arguments : Arguments) (span : Span) → Fits place term
+pub call_form : (place : TermPlace) (term : Term) (word : List ℕ) (arguments : Arguments) (span : Span) → Fits place term
     → term ≡ Call word arguments span → HasForm place word arguments.terms.items
 call_form place term word arguments span fits is =
     let list = arguments.terms.items in

@@ -4,7 +4,7 @@ use Rattle.std.specs.List.{AllByRecursion}
 use Rattle.std.specs.Option.{option_or}
 use Rattle.std.specs.Str.{bytes_eq}
 use Rattle.std.proofs.lemmas.Slice.Eq.{bytes_eq-Decides}
-use Rattle.query_forms.specs.declared.place.Place.{Place}
+use Rattle.query_forms.specs.declared.place.TermPlace.{TermPlace}
 use Rattle.query_forms.specs.Forms.{Form, forms_at, places_in}
 use Rattle.query_parser.specs.declared.term.Term.{Term}
 use Rattle.query_syntax.specs.Fits.{AllFit, HasForm}
@@ -15,7 +15,7 @@ use Rattle.query_syntax.proofs.Fitting.{both_tests}
 abbrev pub form_of : {H : Type 0} → Row H → Form
 form_of row = record { head = row.word; arguments = row.places }
 
-module _ (H : Type 0) (word_of : H → List ℕ) (places_of : H → List Place) where
+module _ (H : Type 0) (word_of : H → List ℕ) (places_of : H → List TermPlace) where
   -- the row has the word and the places of what it is
   abbrev pub IsOf : Row H → Type 0
   IsOf row = (row.word ≡ word_of row.is) × (row.places ≡ places_of row.is)
@@ -57,7 +57,7 @@ module _ (H : Type 0) (word_of : H → List ℕ) (places_of : H → List Place) 
       missing_at true none after = absurd (cc)
       missing_at false none after = after none
 
-  module _ (place : Place) (rows : List (Row H)) (word : List ℕ) (arguments : List Term) where
+  module _ (place : TermPlace) (rows : List (Row H)) (word : List ℕ) (arguments : List Term) where
     -- a call with a form is found, and its arguments stand at the places of what it is
     pub head_found : (head : H) → AllByRecursion IsOf rows → map form_of rows ≡ forms_at place → HasForm place word arguments
         → Some head ≡ head_in rows word (length arguments) → (word ≡ word_of head) × AllFit (places_of head) arguments
@@ -93,7 +93,7 @@ head_in_two (first ∷ rows) others word count =
     (head_in others word count) (head_in (rows ++ others) word count) (head_in_two rows others word count)
 
 -- where a place has one form of a call, a call with a form has that one
-pub one_form : (place : Place) (written : List ℕ) (places : List Place) (word : List ℕ) (arguments : List Term)
+pub one_form : (place : TermPlace) (written : List ℕ) (places : List TermPlace) (word : List ℕ) (arguments : List Term)
     → record { head = written; arguments = places } ∷ [] ≡ forms_at place → HasForm place word arguments
     → (word ≡ written) × AllFit places arguments
 one_form place written places word arguments table has =
@@ -108,7 +108,7 @@ one_form place written places word arguments table has =
         head_found (Unit {0}) (λ _. written) (λ _. places) place rows word arguments head ((refl, refl), tt) table has found
 
 -- a form that is found is that of a call that is found
-pub form_found : (H : Type 0) (word_of : H → List ℕ) (places_of : H → List Place) (rows : List (Row H)) (word : List ℕ) (count : ℕ) (places : List Place)
+pub form_found : (H : Type 0) (word_of : H → List ℕ) (places_of : H → List TermPlace) (rows : List (Row H)) (word : List ℕ) (count : ℕ) (places : List TermPlace)
     → AllByRecursion (IsOf H word_of places_of) rows → places_in (map form_of rows) word count ≡ Some places
     → (head : H) × (word ≡ word_of head) × (places ≡ places_of head)
 form_found H word_of places_of rows word count places are found = by_head (head_in rows word count) refl

@@ -4,8 +4,8 @@ use Rattle.std.specs.List.{AllByRecursion}
 use Rattle.std.specs.Str.{bytes_eq}
 use Rattle.std.proofs.lemmas.Slice.Eq.{bytes_eq-Decides}
 use Rattle.language_base.specs.declared.span.Span.{Span}
-use Rattle.query_forms.specs.declared.place.Place.{Place}
-use Rattle.query_forms.specs.declared.place.Place.TheVariants as place
+use Rattle.query_forms.specs.declared.place.TermPlace.{TermPlace}
+use Rattle.query_forms.specs.declared.place.TermPlace.TheVariants as place
 use Rattle.query_forms.specs.Terms.{Terms, none, word, number, string, call, count_of}
 use Rattle.query_forms.specs.Forms.{first_unfit, forms_at, places_in, places_of, unfit_in, fits_word, fits_number, fits_string}
 use Rattle.query_parser.proofs.OptionCases.{chosen-none, first_of_two-none}
@@ -61,7 +61,7 @@ comparison_before test rest =
     call (compare_word test.compare) (expression_before test.left (expression_before test.right none)) test.span rest
 
 -- a tree that may stand at the place is written so before the rest
-abbrev pub IsTree : Place → Terms → Terms → Type 0
+abbrev pub IsTree : TermPlace → Terms → Terms → Type 0
 IsTree place.Mode terms rest = (tree : Mode) × (terms ≡ mode_before tree rest)
 IsTree place.Column terms rest = (tree : Column) × (terms ≡ column_before tree rest)
 IsTree place.Kind terms rest = (tree : Kind) × (terms ≡ kind_before tree rest)
@@ -77,7 +77,7 @@ IsTree place.Text terms rest = (tree : Text) × (terms ≡ text_before tree rest
 IsTree place.Digits terms rest = (tree : Digits) × (terms ≡ digits_before tree rest)
 
 -- trees of these places, one behind the other
-abbrev pub AreTrees : List Place → Terms → Type 0
+abbrev pub AreTrees : List TermPlace → Terms → Type 0
 AreTrees [] terms = terms ≡ none
 AreTrees (place ∷ places) terms = (rest : Terms) × IsTree place terms rest × AreTrees places rest
 
@@ -86,7 +86,7 @@ known : (bytes written : List ℕ) (span : Span) (rest : Terms) → bytes_eq byt
 known bytes written span rest is = ap (λ b. word b span rest) ((bytes_eq-Decides bytes written).0 is)
 
 -- a word that fits
-word_tree : (at : Place) (bytes : List ℕ) (span : Span) (rest : Terms) → fits_word at bytes ≡ true → IsTree at (word bytes span rest) rest
+word_tree : (at : TermPlace) (bytes : List ℕ) (span : Span) (rest : Terms) → fits_word at bytes ≡ true → IsTree at (word bytes span rest) rest
 word_tree place.Mode bytes span rest fits = by_test (bytes_eq bytes (codes "plain")) refl fits
   where
     by_test : (plain : Bool) → bytes_eq bytes (codes "plain") ≡ plain → (plain || bytes_eq bytes (codes "header")) ≡ true
@@ -107,7 +107,7 @@ word_tree place.Name bytes span rest fits = (record { bytes = bytes; span = span
 word_tree _ bytes span rest fits = absurd (cc)
 
 -- a number that fits
-number_tree : (at : Place) (value : ℤ) (span : Span) (rest : Terms) → fits_number at value ≡ true → IsTree at (number value span rest) rest
+number_tree : (at : TermPlace) (value : ℤ) (span : Span) (rest : Terms) → fits_number at value ≡ true → IsTree at (number value span rest) rest
 number_tree place.Literal value span rest fits = (literal.Number (record { value = value; span = span }), refl)
 number_tree place.Expr value span rest fits = (e.number (record { value = value; span = span }), refl)
 number_tree place.Number value span rest fits = (record { value = value; span = span }, refl)
@@ -116,7 +116,7 @@ number_tree place.Digits (negsuc n) span rest fits = absurd (cc)
 number_tree _ value span rest fits = absurd (cc)
 
 -- a string that fits
-string_tree : (at : Place) (bytes : List ℕ) (span : Span) (rest : Terms) → fits_string at ≡ true → IsTree at (string bytes span rest) rest
+string_tree : (at : TermPlace) (bytes : List ℕ) (span : Span) (rest : Terms) → fits_string at ≡ true → IsTree at (string bytes span rest) rest
 string_tree place.Literal bytes span rest fits = (literal.Text (record { bytes = bytes; span = span }), refl)
 string_tree place.Text bytes span rest fits = (record { bytes = bytes; span = span }, refl)
 string_tree _ bytes span rest fits = absurd (cc)
@@ -227,10 +227,10 @@ kind_tree arguments span (_, (n, is-n), end) =
     (kind.Fixed n span, with _ span arguments _ (is-n ∙ ap (digits_before n) end))
 
 -- a call of a table's row
-row_tree : (H Tree : Type 0) (word_of : H → List ℕ) (places_of_head : H → List Place) (before : Tree → Terms → Terms) (rows : List (Row H))
+row_tree : (H Tree : Type 0) (word_of : H → List ℕ) (places_of_head : H → List TermPlace) (before : Tree → Terms → Terms) (rows : List (Row H))
     → AllByRecursion (IsOf H word_of places_of_head) rows
     → ((head : H) (arguments : Terms) (span : Span) → AreTrees (places_of_head head) arguments → Makes Tree before (word_of head) arguments span)
-    → (head_word : List ℕ) (arguments : Terms) (span : Span) (rest : Terms) (places : List Place)
+    → (head_word : List ℕ) (arguments : Terms) (span : Span) (rest : Terms) (places : List TermPlace)
     → places_in (map form_of rows) head_word (count_of arguments) ≡ Some places → AreTrees places arguments
     → (tree : Tree) × (call head_word arguments span rest ≡ before tree rest)
 row_tree H Tree word_of places_of_head before rows are makes head_word arguments span rest places found trees =
@@ -239,7 +239,7 @@ row_tree H Tree word_of places_of_head before rows are makes head_word arguments
     (tree.0, ap (λ w. call w arguments span rest) head.1 ∙ tree.1 rest)
 
 -- a call that has a form of its place
-call_tree : (at : Place) (head_word : List ℕ) (arguments : Terms) (span : Span) (rest : Terms) (places : List Place)
+call_tree : (at : TermPlace) (head_word : List ℕ) (arguments : Terms) (span : Span) (rest : Terms) (places : List TermPlace)
     → places_of at head_word (count_of arguments) ≡ Some places → AreTrees places arguments → IsTree at (call head_word arguments span rest) rest
 call_tree place.Expr head_word arguments span rest places found trees =
     row_tree _ _ expression_word expression_places expression_before expressions expressions_are expression_tree head_word arguments span rest places found trees
@@ -260,7 +260,7 @@ call_tree place.Kind head_word arguments span rest places found trees =
 call_tree _ head_word arguments span rest places found trees = absurd (cc)
 
 -- terms at places, none of which is unfit
-pub some_trees : (places : List Place) (terms : Terms) → count_of terms ≡ length places → first_unfit places terms ≡ None → AreTrees places terms
+pub some_trees : (places : List TermPlace) (terms : Terms) → count_of terms ≡ length places → first_unfit places terms ≡ None → AreTrees places terms
 some_trees [] none many fit = refl
 some_trees [] (word bytes span rest) many fit = absurd (omega (arith, many))
 some_trees [] (number value span rest) many fit = absurd (omega (arith, many))

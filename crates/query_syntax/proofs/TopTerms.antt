@@ -7,8 +7,8 @@ use Rattle.std.proofs.lemmas.List.Elements.{All-nil, All-cons}
 use Rattle.std.proofs.lemmas.Slice.Eq.{bytes_eq-Decides}
 use Rattle.language_base.specs.Limits.{max_columns}
 use Rattle.language_base.specs.declared.span.Span.{Span}
-use Rattle.query_forms.specs.declared.place.Place.{Place}
-use Rattle.query_forms.specs.declared.place.Place.TheVariants.{Mode, Column, Query, Name}
+use Rattle.query_forms.specs.declared.place.TermPlace.{TermPlace}
+use Rattle.query_forms.specs.declared.place.TermPlace.TheVariants.{Mode, Column, Query, Name}
 use Rattle.query_forms.specs.Terms.{Terms, none, call, count_of}
 use Rattle.query_forms.specs.File.{first_place, unfit_body, unfit_file}
 use Rattle.query_forms.specs.Forms.{first_unfit}
@@ -103,7 +103,7 @@ tops end (stream ∷ body) fit =
     }
 
 -- a call of a word, whose arguments fit
-called : (word written : List ℕ) (places : List Place) (list : List Term) (span : Span)
+called : (word written : List ℕ) (places : List TermPlace) (list : List Term) (span : Span)
     → unfit_call written places (call word (terms_of list) span none) ≡ None → (word ≡ written) × AllFit places list
 called word written places list span fit =
     let inner = terms_of list in
@@ -113,7 +113,7 @@ called word written places list span fit =
     ((bytes_eq-Decides word written).0 tests.0, record { as_many = sym (count_of_terms list) ∙ many; fit = parts.1 })
 
 -- a top term that is a call
-pub top_call : (term : Term) (written : List ℕ) (places : List Place) (word : List ℕ) (arguments : Arguments) (span : Span) → FitsTop written places term
+pub top_call : (term : Term) (written : List ℕ) (places : List TermPlace) (word : List ℕ) (arguments : Arguments) (span : Span) → FitsTop written places term
     → term ≡ Call word arguments span → (word ≡ written) × AllFit places arguments.terms.items
 top_call term written places word arguments span fits is =
     called word written places arguments.terms.items span

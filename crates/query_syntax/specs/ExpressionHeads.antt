@@ -1,7 +1,7 @@
 -- For the prover. The calls that are expressions and comparisons.
 use Rattle.std.specs.Prelude.{ℕ, List, [], ◌∷◌, codes}
-use Rattle.query_forms.specs.declared.place.Place.{Place}
-use Rattle.query_forms.specs.declared.place.Place.TheVariants as place
+use Rattle.query_forms.specs.declared.place.TermPlace.{TermPlace}
+use Rattle.query_forms.specs.declared.place.TermPlace.TheVariants as place
 use Rattle.language_base.specs.declared.unary.UnaryOp.TheVariants.{Neg, Abs}
 use Rattle.language_base.specs.declared.binary.BinaryOp.TheVariants.{Add, Sub, Mul, Div, Rem, Min, Max}
 use Rattle.language_base.specs.declared.compare.Compare.{Compare}
@@ -23,7 +23,7 @@ expression_word (head.Extremum extremum) = extremum_word extremum
 expression_word head.Get = codes "tget"
 
 -- and the places of its arguments
-abbrev pub expression_places : ExpressionHead → List Place
+abbrev pub expression_places : ExpressionHead → List TermPlace
 expression_places (head.Unary operator) = place.Expr ∷ []
 expression_places (head.Binary operator) = place.Expr ∷ place.Expr ∷ []
 expression_places head.If = place.Compare ∷ place.Expr ∷ place.Expr ∷ []
@@ -32,7 +32,7 @@ expression_places (head.Extremum extremum) = place.Name ∷ place.Expr ∷ []
 expression_places head.Get = place.Name ∷ place.Text ∷ place.Expr ∷ []
 
 -- the places of the operands of a comparison
-abbrev pub compare_places : Compare → List Place
+abbrev pub compare_places : Compare → List TermPlace
 compare_places compare = place.Expr ∷ place.Expr ∷ []
 
 -- one of the calls that are expressions

@@ -1,7 +1,7 @@
 -- For the prover. The calls that are predicates.
 use Rattle.std.specs.Prelude.{ℕ, List, [], ◌∷◌, codes}
-use Rattle.query_forms.specs.declared.place.Place.{Place}
-use Rattle.query_forms.specs.declared.place.Place.TheVariants as place
+use Rattle.query_forms.specs.declared.place.TermPlace.{TermPlace}
+use Rattle.query_forms.specs.declared.place.TermPlace.TheVariants as place
 use Rattle.query_syntax.specs.declared.operator.Equality.TheVariants as equality
 use Rattle.query_syntax.specs.declared.operator.Order.TheVariants as order
 use Rattle.query_syntax.specs.declared.operator.Connective.TheVariants.{And, Or}
@@ -20,7 +20,7 @@ predicate_word (head.Joined connective) = connective_word connective
 predicate_word head.Not = codes "not"
 
 -- and the places of its arguments
-abbrev pub predicate_places : PredicateHead → List Place
+abbrev pub predicate_places : PredicateHead → List TermPlace
 predicate_places (head.Equality equality) = place.Name ∷ place.Literal ∷ []
 predicate_places (head.Order order) = place.Name ∷ place.Number ∷ []
 predicate_places head.Between = place.Name ∷ place.Number ∷ place.Number ∷ []

@@ -1,7 +1,7 @@
 -- For the prover. The calls that are queries.
 use Rattle.std.specs.Prelude.{ℕ, List, [], ◌∷◌, codes}
-use Rattle.query_forms.specs.declared.place.Place.{Place}
-use Rattle.query_forms.specs.declared.place.Place.TheVariants as place
+use Rattle.query_forms.specs.declared.place.TermPlace.{TermPlace}
+use Rattle.query_forms.specs.declared.place.TermPlace.TheVariants as place
 use Rattle.query_syntax.specs.declared.query_head.QueryHead.{QueryHead}
 use Rattle.query_syntax.specs.declared.query_head.QueryHead.TheVariants.{Atom, Eps, Or, Split, Iter, Combine, Apply, Compose, Collect}
 use Rattle.query_syntax.specs.Rows.{Row, row}
@@ -19,7 +19,7 @@ query_word Compose = codes "compose"
 query_word Collect = codes "collect"
 
 -- and the places of its arguments
-abbrev pub query_places : QueryHead → List Place
+abbrev pub query_places : QueryHead → List TermPlace
 query_places Atom = place.Pred ∷ place.Expr ∷ []
 query_places Eps = place.Number ∷ []
 query_places Or = place.Query ∷ place.Query ∷ []

@@ -1,7 +1,7 @@
 -- For the prover. The calls that are rates.
 use Rattle.std.specs.Prelude.{ℕ, List, [], ◌∷◌, codes}
-use Rattle.query_forms.specs.declared.place.Place.{Place}
-use Rattle.query_forms.specs.declared.place.Place.TheVariants as place
+use Rattle.query_forms.specs.declared.place.TermPlace.{TermPlace}
+use Rattle.query_forms.specs.declared.place.TermPlace.TheVariants as place
 use Rattle.query_syntax.specs.declared.operator.Join.TheVariants.{Seq, Alt}
 use Rattle.query_syntax.specs.declared.rate_head.RateHead.{RateHead}
 use Rattle.query_syntax.specs.declared.rate_head.RateHead.TheVariants.{Item, Joined, Star}
@@ -15,7 +15,7 @@ rate_word (Joined join) = join_word join
 rate_word Star = codes "star"
 
 -- and the places of its arguments
-abbrev pub rate_places : RateHead → List Place
+abbrev pub rate_places : RateHead → List TermPlace
 rate_places Item = place.Pred ∷ []
 rate_places (Joined join) = place.Rate ∷ place.Rate ∷ []
 rate_places Star = place.Rate ∷ []

@@ -1,15 +1,15 @@
 -- For the prover. The calls that may stand at a place, each with what it is.
 use Rattle.std.specs.Prelude.{ℕ, ◌&&◌, ◌==◌, List, [], ◌∷◌, length, Option, Some, None, if◌then◌else◌}
 use Rattle.std.specs.Str.{bytes_eq}
-use Rattle.query_forms.specs.declared.place.Place.{Place}
+use Rattle.query_forms.specs.declared.place.TermPlace.{TermPlace}
 
 -- what a call is, its head word and the places of its arguments
 pub record Row (H : Type 0) : Type 0 where
   pub is : H
   pub word : List ℕ
-  pub places : List Place
+  pub places : List TermPlace
 
-abbrev pub row : {H : Type 0} → H → List ℕ → List Place → Row H
+abbrev pub row : {H : Type 0} → H → List ℕ → List TermPlace → Row H
 row is word places = record { is = is; word = word; places = places }
 
 -- what a call with this head word and so many arguments is, by the first row that has them

@@ -1,14 +1,14 @@
 -- For the prover. The top terms of a file, as they fit.
 use Rattle.std.specs.Prelude.{◌≡◌, ℕ, List, [], ◌∷◌, ◌++◌, All, codes, None}
-use Rattle.query_forms.specs.declared.place.Place.{Place}
-use Rattle.query_forms.specs.declared.place.Place.TheVariants.{Query, Name}
+use Rattle.query_forms.specs.declared.place.TermPlace.{TermPlace}
+use Rattle.query_forms.specs.declared.place.TermPlace.TheVariants.{Query, Name}
 use Rattle.query_forms.specs.Terms.{none}
 use Rattle.query_forms.specs.Tops.{unfit_call, unfit_stream}
 use Rattle.query_parser.specs.declared.term.Term.{Term}
 use Rattle.query_parser.specs.Plain.{term_before}
 
 -- the term is a call of this word whose arguments have forms of these places
-pub record FitsTop (word : List ℕ) (places : List Place) (term : Term) : Type 0 where
+pub record FitsTop (word : List ℕ) (places : List TermPlace) (term : Term) : Type 0 where
   pub fit : unfit_call word places (term_before term none) ≡ None
 
 -- the term is a `stream`

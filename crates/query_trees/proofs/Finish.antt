@@ -5,8 +5,8 @@ use Rattle.language_base.specs.declared.span.Span.{Span}
 use Rattle.query_tokens.specs.declared.token.Token.{Token}
 use Rattle.query_tokens.specs.declared.token.TokenKind.{TokenKind}
 use Rattle.query_tokens.specs.declared.token.TokenKind.TheVariants.{Word, Number, Text, Open, Close, Comma}
-use Rattle.query_trees.specs.declared.place.Place.{Place}
-use Rattle.query_trees.specs.declared.place.Place.TheVariants.{AfterTerm, AfterWord, Argument}
+use Rattle.query_trees.specs.declared.place.ReaderState.{ReaderState}
+use Rattle.query_trees.specs.declared.place.ReaderState.TheVariants.{AfterTerm, AfterWord, Argument}
 use Rattle.query_trees.specs.Steps.{step, walk, ends, begin, continue_inside, continue_calls, call_or_continue}
 use Rattle.query_trees.specs.Terms.{IsLeaf, AreMore, AreArguments, AreTerms}
 use Rattle.query_trees.specs.Trees.{Trees, none, leaf, call}
@@ -48,7 +48,7 @@ pub record Opens (calls : ℕ) (tokens : List Token) : Type 0 where
   pub finishes : FinishesCall calls more
 
 -- what may stand behind a place
-abbrev pub FinishesFrom : Place → List Token → Type 0
+abbrev pub FinishesFrom : ReaderState → List Token → Type 0
 FinishesFrom (AfterTerm calls) tokens = Finishes calls tokens
 FinishesFrom (AfterWord calls) tokens = Finishes calls tokens ⊎ Opens calls tokens
 FinishesFrom (Argument calls) tokens = FinishesCall calls tokens
@@ -173,7 +173,7 @@ inner_close close tokens calls closes finishes = record {
 }
 
 -- a walk that comes to the end from this place, over these tokens
-abbrev Comes : List Token → Option Place → Type 0
+abbrev Comes : List Token → Option ReaderState → Type 0
 Comes tokens place = ends (walk place tokens) ≡ true
 
 -- no walk without a place comes to the end
@@ -182,7 +182,7 @@ comes-none tokens comes = let e = walk-none tokens in absurd (cc)
 
 -- what the rest of the tokens is, by the place behind the first
 abbrev Rest : List Token → Type 0
-Rest tokens = (place : Place) → Comes tokens (Some place) → FinishesFrom place tokens
+Rest tokens = (place : ReaderState) → Comes tokens (Some place) → FinishesFrom place tokens
 
 -- from a place outside of calls
 top-finish :
@@ -244,7 +244,7 @@ word-finish token tokens calls rest Comma is comes = inl (term-finish token toke
 
 -- over one token
 step-finish :
-    (token : Token) (tokens : List Token) → Rest tokens → (place : Place)
+    (token : Token) (tokens : List Token) → Rest tokens → (place : ReaderState)
     → Comes tokens (step place token.kind) → FinishesFrom place (token ∷ tokens)
 step-finish token tokens rest (AfterTerm calls) comes = term-finish token tokens calls rest token.kind refl comes
 step-finish token tokens rest (AfterWord calls) comes = word-finish token tokens calls rest token.kind refl comes
@@ -252,7 +252,7 @@ step-finish token tokens rest (Argument calls) comes =
     argument-finish token tokens calls rest token.kind refl (rw add-one at comes)
 
 -- at the end
-end-finish : (place : Place) → ends (Some place) ≡ true → FinishesFrom place []
+end-finish : (place : ReaderState) → ends (Some place) ≡ true → FinishesFrom place []
 end-finish (AfterTerm zero) comes = (none, refl)
 end-finish (AfterTerm (suc calls)) comes = let e = eqb-suc-zero calls in absurd (cc)
 end-finish (AfterWord zero) comes = inl (none, refl)
@@ -260,6 +260,6 @@ end-finish (AfterWord (suc calls)) comes = let e = eqb-suc-zero calls in absurd 
 end-finish (Argument calls) comes = absurd (cc)
 
 -- what is read to the end is what may stand there
-pub walk-finish : (tokens : List Token) (place : Place) → ends (walk (Some place) tokens) ≡ true → FinishesFrom place tokens
+pub walk-finish : (tokens : List Token) (place : ReaderState) → ends (walk (Some place) tokens) ≡ true → FinishesFrom place tokens
 walk-finish [] place comes = end-finish place comes
 walk-finish (token ∷ tokens) place comes = step-finish token tokens (walk-finish tokens) place comes

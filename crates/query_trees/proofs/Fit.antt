@@ -2,8 +2,8 @@
 use Rattle.std.proofs.Common.{◌≡◌, inl, inr, ℕ, suc, true, List, ◌∷◌, ◌++◌, Option, Some, refl, ap, ◌∙◌, add-one, append_assoc}
 use Rattle.query_tokens.specs.declared.token.Token.{Token}
 use Rattle.query_tokens.specs.declared.token.TokenKind.TheVariants.{Open, Close}
-use Rattle.query_trees.specs.declared.place.Place.{Place}
-use Rattle.query_trees.specs.declared.place.Place.TheVariants.{AfterTerm, AfterWord, Argument}
+use Rattle.query_trees.specs.declared.place.ReaderState.{ReaderState}
+use Rattle.query_trees.specs.declared.place.ReaderState.TheVariants.{AfterTerm, AfterWord, Argument}
 use Rattle.query_trees.specs.Steps.{step, walk, ends}
 use Rattle.query_trees.specs.Terms.{IsLeaf, AreMore, AreArguments, AreTerms}
 use Rattle.query_trees.specs.Trees.{Trees, none, leaf, call}
@@ -11,13 +11,13 @@ use Rattle.query_trees.proofs.Places.{IsInside, IsInside-term, IsInside-word, Is
 
 -- a step over a token of this kind
 pub walk-step :
-    (place : Place) (token : Token) (rest : List Token) (next : Option Place)
+    (place : ReaderState) (token : Token) (rest : List Token) (next : Option ReaderState)
     → step place token.kind ≡ next → walk (Some place) (token ∷ rest) ≡ walk next rest
 walk-step place token rest next e = rw e refl
 
 -- what stands behind an argument, and the end of the call
 more-walk :
-    (arguments : Trees) (others : List Token) (place : Place) (calls : ℕ) (close : Token) (rest : List Token)
+    (arguments : Trees) (others : List Token) (place : ReaderState) (calls : ℕ) (close : Token) (rest : List Token)
     → ((more : List Token) → AreArguments arguments more
     → walk (Some (Argument calls)) (more ++ close ∷ rest) ≡ walk (Some (AfterTerm calls)) rest)
     → IsInside place calls → AreMore (AreArguments arguments) arguments others → close.kind ≡ Close
@@ -32,14 +32,14 @@ more-walk (call head inner span after) others place calls close rest ih inside (
 -- a place behind a leaf, inside of one call more than `calls`
 leaf-inside :
     (token : Token) (calls : ℕ) → IsLeaf token
-    → (place : Place) × (step (Argument calls) token.kind ≡ Some place) × IsInside place calls
+    → (place : ReaderState) × (step (Argument calls) token.kind ≡ Some place) × IsInside place calls
 leaf-inside token calls (inl word) = (AfterWord (suc calls), rw (word, add-one) refl, IsInside-word calls)
 leaf-inside token calls (inr (inl number)) = (AfterTerm (suc calls), rw (number, add-one) refl, IsInside-term calls)
 leaf-inside token calls (inr (inr text)) = (AfterTerm (suc calls), rw (text, add-one) refl, IsInside-term calls)
 
 -- from a word to the end of its call
 call-walk :
-    (head open_ close : Token) (inner rest : List Token) (place : Place) (calls : ℕ)
+    (head open_ close : Token) (inner rest : List Token) (place : ReaderState) (calls : ℕ)
     → step place head.kind ≡ Some (AfterWord calls) → open_.kind ≡ Open
     → walk (Some (Argument calls)) (inner ++ close ∷ rest) ≡ walk (Some (AfterTerm calls)) rest
     → walk (Some place) (head ∷ open_ ∷ inner ++ close ∷ rest) ≡ walk (Some (AfterTerm calls)) rest
@@ -68,15 +68,15 @@ arguments-walk (call head arguments span others) tokens calls close rest (more, 
 
 -- a place behind a leaf, outside of calls
 leaf-outside :
-    (token : Token) (place : Place) → IsLeaf token → IsOutside place
-    → (next : Place) × (step place token.kind ≡ Some next) × IsOutside next
+    (token : Token) (place : ReaderState) → IsLeaf token → IsOutside place
+    → (next : ReaderState) × (step place token.kind ≡ Some next) × IsOutside next
 leaf-outside token place (inl word) outside = (AfterWord 0, rw word outside.word, IsOutside-word)
 leaf-outside token place (inr (inl number)) outside = (AfterTerm 0, rw number outside.number, IsOutside-term)
 leaf-outside token place (inr (inr text)) outside = (AfterTerm 0, rw text outside.text, IsOutside-term)
 
 -- a text of terms may end where they do
 pub terms-end :
-    (trees : Trees) (tokens : List Token) (place : Place) → AreTerms trees tokens → IsOutside place
+    (trees : Trees) (tokens : List Token) (place : ReaderState) → AreTerms trees tokens → IsOutside place
     → ends (walk (Some place) tokens) ≡ true
 terms-end none tokens place are outside = rw are outside.end
 terms-end (leaf token others) tokens place (more, split, is_leaf, are) outside =

@@ -5,8 +5,8 @@ use Rattle.language_base.specs.declared.span.Span.{Span}
 use Rattle.query_tokens.specs.declared.token.Token.{Token}
 use Rattle.query_tokens.specs.declared.token.TokenKind.{TokenKind}
 use Rattle.query_tokens.specs.declared.token.TokenKind.TheVariants.{Word, Close}
-use Rattle.query_trees.specs.declared.place.Place.{Place}
-use Rattle.query_trees.specs.declared.place.Place.TheVariants.{AfterTerm, AfterWord, Argument}
+use Rattle.query_trees.specs.declared.place.ReaderState.{ReaderState}
+use Rattle.query_trees.specs.declared.place.ReaderState.TheVariants.{AfterTerm, AfterWord, Argument}
 use Rattle.query_trees.specs.Steps.{step, walk, ends, after, start, may_end}
 use Rattle.query_trees.specs.Terms.{AreTerms, BeginTerms, IsMisplaced, IsCutShort, IsNoList}
 use Rattle.query_trees.specs.Trees.{Trees}
@@ -25,7 +25,7 @@ closes zero = []
 closes (suc calls) = some_token Close ∷ closes calls
 
 -- tokens that may follow a place
-ending : Place → List Token
+ending : ReaderState → List Token
 ending (AfterTerm calls) = closes calls
 ending (AfterWord calls) = closes calls
 ending (Argument calls) = some_token Word ∷ closes (suc calls)
@@ -45,7 +45,7 @@ word-end (suc calls) =
     ap ends (walk-step (AfterWord (suc calls)) (some_token Close) (closes calls) _ (continue_calls-suc calls Close)) ∙ closes-end calls
 
 -- from each place some tokens lead to the end
-ending-ends : (place : Place) → ends (walk (Some place) (ending place)) ≡ true
+ending-ends : (place : ReaderState) → ends (walk (Some place) (ending place)) ≡ true
 unfolding ending some_token
 ending-ends (AfterTerm calls) = closes-end calls
 ending-ends (AfterWord calls) = word-end calls
@@ -53,7 +53,7 @@ ending-ends (Argument calls) =
     ap ends (walk-step (Argument calls) (some_token Word) (closes (suc calls)) (Some (AfterWord (suc calls))) (rw add-one refl)) ∙ word-end (suc calls)
 
 -- a walk that has come to a place begins terms
-pub begins : (front : List Token) (place : Place) → walk start front ≡ Some place → BeginTerms front
+pub begins : (front : List Token) (place : ReaderState) → walk start front ≡ Some place → BeginTerms front
 begins front place at =
     let joined = fold-append after start front (ending place) in
     let ended : ends (walk start (front ++ ending place)) ≡ true =
@@ -71,7 +71,7 @@ begins-none front at (more, trees, are) =
 
 -- the first token that may not follow is misplaced
 pub misplaced :
-    (tokens front rest : List Token) (token : Token) (place : Place) → tokens ≡ front ++ token ∷ rest
+    (tokens front rest : List Token) (token : Token) (place : ReaderState) → tokens ≡ front ++ token ∷ rest
     → walk start front ≡ Some place → step place token.kind ≡ None → IsMisplaced tokens token
 misplaced tokens front rest token place split at lost =
     let joined = fold-append after start front (token ∷ []) in
@@ -85,7 +85,7 @@ misplaced tokens front rest token place split at lost =
 
 -- a text that may not end where it does is cut short
 pub cut_short :
-    (tokens : List Token) (place : Place) → walk start tokens ≡ Some place → may_end place ≡ false → IsCutShort tokens
+    (tokens : List Token) (place : ReaderState) → walk start tokens ≡ Some place → may_end place ≡ false → IsCutShort tokens
 cut_short tokens place at no_end = record {
   begins = begins tokens place at;
   no_terms = λ trees are. let ended = terms-end trees tokens (AfterTerm 0) are IsOutside-term in
@@ -94,7 +94,7 @@ cut_short tokens place at no_end = record {
 
 -- a text that may end where it does has terms
 pub terms :
-    (tokens : List Token) (place : Place) → walk start tokens ≡ Some place → may_end place ≡ true
+    (tokens : List Token) (place : ReaderState) → walk start tokens ≡ Some place → may_end place ≡ true
     → (trees : Trees) × AreTerms trees tokens
 terms tokens place at end = walk-finish tokens (AfterTerm 0) (ap ends at ∙ end)
 
@@ -103,20 +103,20 @@ abbrev pub AreListOrNone : List Token → ℕ → Type 0
 AreListOrNone tokens end = ((trees : Trees) × AreTerms trees tokens) ⊎ ((span : Span) × IsNoList tokens end span)
 
 -- so it is where a reader has come to the end
-at_end : (tokens : List Token) (end : ℕ) (place : Place) (may : Bool) → walk start tokens ≡ Some place → may_end place ≡ may
+at_end : (tokens : List Token) (end : ℕ) (place : ReaderState) (may : Bool) → walk start tokens ≡ Some place → may_end place ≡ may
     → AreListOrNone tokens end
 at_end tokens end place true at is = inl (terms tokens place at is)
 at_end tokens end place false at is = inr (record { from = end; to = end }, inr (cut_short tokens place at is, refl))
 
 -- where it has come to a token, and goes on behind those over which it can step
-at_token : (tokens front rest : List Token) (end : ℕ) (token : Token) (place : Place) (next : Option Place) → tokens ≡ front ++ token ∷ rest
+at_token : (tokens front rest : List Token) (end : ℕ) (token : Token) (place : ReaderState) (next : Option ReaderState) → tokens ≡ front ++ token ∷ rest
     → walk start front ≡ Some place → step place token.kind ≡ next
-    → ((beyond : Place) → next ≡ Some beyond → AreListOrNone tokens end) → AreListOrNone tokens end
+    → ((beyond : ReaderState) → next ≡ Some beyond → AreListOrNone tokens end) → AreListOrNone tokens end
 at_token tokens front rest end token place None split at lost on = inr (token.span, inl (token, misplaced tokens front rest token place split at lost, refl))
 at_token tokens front rest end token place (Some next) split at goes on = on next refl
 
 -- where it has come to any place
-none_after : (tokens front rest : List Token) (end : ℕ) (place : Place) → tokens ≡ front ++ rest
+none_after : (tokens front rest : List Token) (end : ℕ) (place : ReaderState) → tokens ≡ front ++ rest
     → walk start front ≡ Some place → AreListOrNone tokens end
 none_after tokens front [] end place split at =
     at_end tokens end place (may_end place) (ap (walk start) (split ∙ append-nil front) ∙ at) refl

@@ -4,8 +4,8 @@ use Rattle.std.proofs.Math.Dec.{eqb-suc-zero}
 use Rattle.query_tokens.specs.declared.token.Token.{Token}
 use Rattle.query_tokens.specs.declared.token.TokenKind.{TokenKind}
 use Rattle.query_tokens.specs.declared.token.TokenKind.TheVariants.{Word, Number, Text, Close, Comma}
-use Rattle.query_trees.specs.declared.place.Place.{Place}
-use Rattle.query_trees.specs.declared.place.Place.TheVariants.{AfterTerm, AfterWord, Argument}
+use Rattle.query_trees.specs.declared.place.ReaderState.{ReaderState}
+use Rattle.query_trees.specs.declared.place.ReaderState.TheVariants.{AfterTerm, AfterWord, Argument}
 use Rattle.query_trees.specs.Steps.{continue_inside, continue_calls, step, walk, may_end}
 
 -- behind a term of some call
@@ -18,7 +18,7 @@ walk-none [] = refl
 walk-none (token ∷ tokens) = walk-none tokens
 
 -- a place inside of one call more than `calls` where a term has ended
-pub record IsInside (place : Place) (calls : ℕ) : Type 0 where
+pub record IsInside (place : ReaderState) (calls : ℕ) : Type 0 where
   pub comma : step place Comma ≡ Some (Argument calls)
   pub close : step place Close ≡ Some (AfterTerm calls)
 
@@ -31,7 +31,7 @@ pub IsInside-word : (calls : ℕ) → IsInside (AfterWord (suc calls)) calls
 IsInside-word calls = record { comma = continue_calls-suc calls Comma; close = continue_calls-suc calls Close }
 
 -- a place outside of calls where a term has ended
-pub record IsOutside (place : Place) : Type 0 where
+pub record IsOutside (place : ReaderState) : Type 0 where
   pub word : step place Word ≡ Some (AfterWord 0)
   pub number : step place Number ≡ Some (AfterTerm 0)
   pub text : step place Text ≡ Some (AfterTerm 0)

@@ -3,7 +3,7 @@ ghost use Rattle.std.specs.Prelude.{IfOk, IfErr};
 ghost use Rattle.query_trees.specs.Terms.{AreTerms, IsNoList};
 ghost use Rattle.query_trees.specs.Trees.{Trees};
 
-use crate::place::{Place, may_end, step};
+use crate::place::{ReaderState, may_end, step};
 use language_base::Span;
 use query_tokens::Token;
 
@@ -12,7 +12,7 @@ pub(crate) fn check(tokens: &[Token], end: u32) -> Result<(), Span>
     ensures terms { IfOk result (λ _. (trees : Trees) × AreTerms trees tokens.now) }
     ensures no_list { IfErr result (IsNoList tokens.now end) }
 {
-    let mut place = Place::AfterTerm(0);
+    let mut place = ReaderState::AfterTerm(0);
     'tokens: for token in tokens {
         match step(place, token.kind) {
             Some(next) => place = next,

@@ -12,7 +12,7 @@ use query_tokens::TokenKind;
 
 /// What comes before this point, with the number of open calls.
 #[derive(Clone, Copy)]
-pub(crate) enum Place {
+pub(crate) enum ReaderState {
     /// At the start, or after a term.
     AfterTerm(usize),
     /// After a word, which may have arguments.
@@ -23,32 +23,32 @@ pub(crate) enum Place {
 }
 
 /// The place after a token with which a term begins.
-fn begin(calls: usize, kind: TokenKind) -> Option<Place>
+fn begin(calls: usize, kind: TokenKind) -> Option<ReaderState>
     ensures next { result ≡ begin calls kind }
     ensures few { IfSome result (λ next. calls_of next ≤ calls) }
 {
     match kind {
-        TokenKind::Word => Some(Place::AfterWord(calls)),
-        TokenKind::Number | TokenKind::Text => Some(Place::AfterTerm(calls)),
+        TokenKind::Word => Some(ReaderState::AfterWord(calls)),
+        TokenKind::Number | TokenKind::Text => Some(ReaderState::AfterTerm(calls)),
         TokenKind::Open | TokenKind::Close | TokenKind::Comma => None,
     }
 }
 
 /// The place after a token that comes after an argument. One more call is open than the number
 /// says.
-fn continue_inside(calls: usize, kind: TokenKind) -> Option<Place>
+fn continue_inside(calls: usize, kind: TokenKind) -> Option<ReaderState>
     ensures next { result ≡ continue_inside calls kind }
     ensures few { IfSome result (λ next. calls_of next ≤ calls) }
 {
     match kind {
-        TokenKind::Comma => Some(Place::Argument(calls)),
-        TokenKind::Close => Some(Place::AfterTerm(calls)),
+        TokenKind::Comma => Some(ReaderState::Argument(calls)),
+        TokenKind::Close => Some(ReaderState::AfterTerm(calls)),
         TokenKind::Word | TokenKind::Number | TokenKind::Text | TokenKind::Open => None,
     }
 }
 
 /// The place after a token that comes after a term.
-fn continue_calls(calls: usize, kind: TokenKind) -> Option<Place>
+fn continue_calls(calls: usize, kind: TokenKind) -> Option<ReaderState>
     ensures next { result ≡ continue_calls calls kind }
     ensures few { IfSome result (λ next. calls_of next ≤ calls + 1) }
 {
@@ -60,12 +60,12 @@ fn continue_calls(calls: usize, kind: TokenKind) -> Option<Place>
 }
 
 /// The place after a token that comes after a word.
-fn call_or_continue(calls: usize, kind: TokenKind) -> Option<Place>
+fn call_or_continue(calls: usize, kind: TokenKind) -> Option<ReaderState>
     ensures next { result ≡ call_or_continue calls kind }
     ensures few { IfSome result (λ next. calls_of next ≤ calls + 1) }
 {
     match kind {
-        TokenKind::Open => Some(Place::Argument(calls)),
+        TokenKind::Open => Some(ReaderState::Argument(calls)),
         TokenKind::Word
         | TokenKind::Number
         | TokenKind::Text
@@ -75,25 +75,25 @@ fn call_or_continue(calls: usize, kind: TokenKind) -> Option<Place>
 }
 
 /// The place after a token of this kind, if it may come.
-pub(crate) fn step(place: Place, kind: TokenKind) -> Option<Place>
+pub(crate) fn step(place: ReaderState, kind: TokenKind) -> Option<ReaderState>
     requires few { calls_of place < 2 ^ 63 }
     ensures next { result ≡ step place kind }
     ensures few { IfSome result (λ next. calls_of next ≤ calls_of place + 1) }
 {
     match place {
-        Place::AfterTerm(calls) => continue_calls(calls, kind),
-        Place::AfterWord(calls) => call_or_continue(calls, kind),
-        Place::Argument(calls) => begin(calls + 1, kind),
+        ReaderState::AfterTerm(calls) => continue_calls(calls, kind),
+        ReaderState::AfterWord(calls) => call_or_continue(calls, kind),
+        ReaderState::Argument(calls) => begin(calls + 1, kind),
     }
 }
 
 /// Whether the text may end there.
-pub(crate) fn may_end(place: Place) -> bool
+pub(crate) fn may_end(place: ReaderState) -> bool
     ensures { result ≡ may_end place }
 {
     match place {
-        Place::AfterTerm(calls) => calls == 0,
-        Place::AfterWord(calls) => calls == 0,
-        Place::Argument(_) => false,
+        ReaderState::AfterTerm(calls) => calls == 0,
+        ReaderState::AfterWord(calls) => calls == 0,
+        ReaderState::Argument(_) => false,
     }
 }

@@ -6,8 +6,10 @@ ghost use Rattle.query_trees.specs.Trees.{Trees, call, tree_before, trees_of};
 
 use crate::assertions::same;
 use language_base::Span;
-use query_forms::Place::*;
-use query_forms::{Place, first_large, fits_number, fits_text, fits_word, places_of, unfit_file};
+use query_forms::TermPlace::*;
+use query_forms::{
+    TermPlace, first_large, fits_number, fits_text, fits_word, places_of, unfit_file,
+};
 use query_tokens::{Token, TokenKind};
 use query_trees::Tree;
 use std::alloc::{AllocError, Global};
@@ -62,7 +64,7 @@ fn call_with_both(
 }
 
 // The calls of the language, as its definition lists them.
-const CALLS: &[(Place, &[u8], &[Place])] = &[
+const CALLS: &[(TermPlace, &[u8], &[TermPlace])] = &[
     (Column, b"col", &[Name, Kind]),
     (Kind, b"fixed", &[Digits]),
     (Query, b"atom", &[Pred, Expr]),

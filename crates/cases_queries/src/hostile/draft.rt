@@ -2,7 +2,7 @@
 
 use crate::hostile::case::Case;
 use crate::hostile::draws::Draws;
-use crate::hostile::grammar::{Grammar, Mark, Part, Place, Rule};
+use crate::hostile::grammar::{ByteRange, Grammar, Mark, Part, Rule};
 use crate::hostile::spoil::{Spoil, rarity};
 use std::alloc::{AllocError, Global};
 
@@ -101,7 +101,7 @@ impl Draft {
         }
     }
 
-    fn write(&mut self, grammar: &Grammar, place: Place) -> Result<(), AllocError> {
+    fn write(&mut self, grammar: &Grammar, place: ByteRange) -> Result<(), AllocError> {
         let bytes = grammar.bytes_at(place);
         match self.spoil() {
             None | Some(Spoil::Miss) => self.bytes.extend_from_slice(bytes),

@@ -27,7 +27,7 @@ pub(crate) struct Alternative {
 
 #[derive(Clone, Copy)]
 pub(crate) enum Part {
-    Bytes(Place),
+    Bytes(ByteRange),
     /// A rule by its place in the grammar.
     Rule(usize),
     Mark(Mark),
@@ -35,7 +35,7 @@ pub(crate) enum Part {
 
 /// Where bytes lie among those of all parts.
 #[derive(Clone, Copy)]
-pub(crate) struct Place {
+pub(crate) struct ByteRange {
     from: usize,
     to: usize,
 }
@@ -81,10 +81,10 @@ impl Grammar {
         let from = self.texts.len();
         self.texts.extend_from_slice(bytes)?;
         let to = self.texts.len();
-        Ok(Part::Bytes(Place { from, to }))
+        Ok(Part::Bytes(ByteRange { from, to }))
     }
 
-    pub(crate) fn bytes_at(&self, place: Place) -> &[u8] {
+    pub(crate) fn bytes_at(&self, place: ByteRange) -> &[u8] {
         self.texts.get(place.from..place.to).unwrap_or(&[])
     }
 }
