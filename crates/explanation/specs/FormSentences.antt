@@ -1,8 +1,8 @@
 -- Statement. The sentence for the forms of what has to stand at a place. The words are constants of
 -- the code.
 use Rattle.std.specs.Prelude.{ℕ, List}
-use Rattle.query_forms.specs.declared.place.TermPlace.{TermPlace}
-use Rattle.query_forms.specs.declared.place.TermPlace.TheVariants.{Mode, Column, Kind, Query, Rate, Pred, Literal, Expr, Compare, Name, Number, Text, Digits}
+use Rattle.query_forms.specs.declared.term_place.TermPlace.{TermPlace}
+use Rattle.query_forms.specs.declared.term_place.TermPlace.TheVariants.{Mode, Column, Kind, Query, Rate, Pred, Literal, Expr, Compare, Name, Number, Text, Digits}
 use Rattle.explanation.specs.declared.form_sentence.TheConstants as words
 use Rattle.explanation.specs.declared.standing.Standing.{Standing}
 use Rattle.explanation.specs.declared.standing.Standing.TheVariants.{Top, In, Nothing}

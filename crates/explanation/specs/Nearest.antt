@@ -6,8 +6,8 @@ use Rattle.std.specs.Borrow.{Bor}
 use Rattle.std.specs.Char.{is_ascii_uppercase}
 use Rattle.std.specs.List.{list_any}
 use Rattle.std.specs.Str.{bytes_eq}
-use Rattle.query_forms.specs.declared.place.TermPlace.{TermPlace}
-use Rattle.query_forms.specs.declared.place.TermPlace.TheVariants as place
+use Rattle.query_forms.specs.declared.term_place.TermPlace.{TermPlace}
+use Rattle.query_forms.specs.declared.term_place.TermPlace.TheVariants as place
 use Rattle.explanation.specs.declared.nearest.TheConstants.{LOWER_CASE}
 use Rattle.explanation.specs.declared.nearest_words.TheConstants as words
 use Rattle.explanation.specs.declared.standing.Standing.{Standing}

@@ -11,8 +11,8 @@ use Rattle.csv.specs.declared.parser.Action.{Action}
 use Rattle.csv.specs.declared.parser.Action.TheVariants as act
 use Rattle.item_schema.specs.CutLines.{ends_field, is_break, is_kept, mark, place_after, texts_at, texts_in}
 use Rattle.item_schema.specs.declared.column.Column.{Column}
-use Rattle.item_schema.specs.declared.place.QuoteState.{QuoteState}
-use Rattle.item_schema.specs.declared.place.QuoteState.TheVariants.{Front, Plain, Quoted, Closed}
+use Rattle.item_schema.specs.declared.quote_state.QuoteState.{QuoteState}
+use Rattle.item_schema.specs.declared.quote_state.QuoteState.TheVariants.{Front, Plain, Quoted, Closed}
 use Rattle.item_schema.specs.declared.stop.Cause.TheVariants as cause
 use Rattle.item_schema.specs.Reading.{fields_of, item_of, item_of_record, record_of, skip}
 

@@ -6,8 +6,8 @@ use Rattle.std.proofs.lemmas.Bool.Decides.{nat_tests}
 use Rattle.std.proofs.lemmas.Grind.{common_steps}
 use Rattle.std.proofs.lemmas.List.{drop_all}
 use Rattle.item_schema.specs.CutLines.{ends_field, is_comma, is_kept, is_quote, place_after, texts_at, texts_in, texts_of}
-use Rattle.item_schema.specs.declared.place.QuoteState.{QuoteState}
-use Rattle.item_schema.specs.declared.place.QuoteState.TheVariants.{Front, Plain, Quoted, Closed}
+use Rattle.item_schema.specs.declared.quote_state.QuoteState.{QuoteState}
+use Rattle.item_schema.specs.declared.quote_state.QuoteState.TheVariants.{Front, Plain, Quoted, Closed}
 use Rattle.item_schema.proofs.Cuts.{before_first-none}
 use Rattle.item_schema.proofs.Fields.{drop-next}
 

@@ -7,7 +7,7 @@ use Rattle.std.proofs.lemmas.Bool.Decides.{nat_tests}
 use Rattle.std.proofs.lemmas.Grind.{common_steps}
 use Rattle.item_schema.specs.CutLines.{is_break, is_comma, is_quote, texts_at, texts_in}
 use Rattle.item_schema.specs.LineParts.{is_special, split_of}
-use Rattle.item_schema.specs.declared.place.QuoteState.TheVariants.{Plain}
+use Rattle.item_schema.specs.declared.quote_state.QuoteState.TheVariants.{Plain}
 use Rattle.item_schema.proofs.Cuts.{All-none, before_first-none, is_found}
 use Rattle.item_schema.proofs.FieldTexts.{front_plain, texts_end, texts_more, texts_none}
 

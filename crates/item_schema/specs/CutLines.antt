@@ -1,7 +1,7 @@
 -- Statement. The texts of a line: what stands between its commas, but for those between quotes.
 use Rattle.std.specs.Prelude.{ℕ, Bool, true, false, ◌==◌, ◌||◌, not, if◌then◌else◌, List, [], ◌∷◌, ◌++◌, Option, None, Some}
-use Rattle.item_schema.specs.declared.place.QuoteState.{QuoteState}
-use Rattle.item_schema.specs.declared.place.QuoteState.TheVariants.{Front, Plain, Quoted, Closed}
+use Rattle.item_schema.specs.declared.quote_state.QuoteState.{QuoteState}
+use Rattle.item_schema.specs.declared.quote_state.QuoteState.TheVariants.{Front, Plain, Quoted, Closed}
 
 -- a comma
 abbrev pub is_comma : ℕ → Bool

@@ -7,7 +7,7 @@ ghost use Rattle.item_schema.specs.CutLines.{is_break, texts_in, texts_of};
 ghost use Rattle.item_schema.specs.Reading.{IsStopOf, fields_of};
 
 use crate::field::{push_field, read_field};
-use crate::place::QuoteState;
+use crate::quote_state::QuoteState;
 use crate::text::first_text;
 use crate::{Column, Item, ItemStop, Schema};
 use std::alloc::Global;

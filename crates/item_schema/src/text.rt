@@ -3,7 +3,7 @@ ghost use Rattle.std.specs.Prelude.{◌≡◌, [], ◌∷◌, IfOk};
 ghost use Rattle.std.specs.Option.{option_copied};
 ghost use Rattle.item_schema.specs.CutLines.{texts_at, texts_in, texts_of};
 ghost use Rattle.item_schema.specs.Texts.{bytes_of};
-ghost use Rattle.item_schema.specs.declared.place.QuoteState.TheVariants.{Quoted};
+ghost use Rattle.item_schema.specs.declared.quote_state.QuoteState.TheVariants.{Quoted};
 
 use crate::cut::cut_at;
 use std::alloc::{AllocError, Global};

@@ -8,7 +8,7 @@ use Rattle.language_base.specs.declared.span.Span.{Span}
 use Rattle.query_trees.specs.declared.tree.Tree.{Tree, Leaf, Call'}
 use Rattle.query_trees.specs.Trees as trees
 use Rattle.query_trees.specs.Trees.{Trees, tree_before, trees_of, first_of_two}
-use Rattle.query_forms.specs.declared.place.TermPlace.TheVariants.{Column, Query, Name}
+use Rattle.query_forms.specs.declared.term_place.TermPlace.TheVariants.{Column, Query, Name}
 use Rattle.query_forms.specs.Terms.{Terms, none, word, number, string, call, count_of, AreOf, Say}
 use Rattle.query_forms.specs.Forms.{first_unfit}
 use Rattle.query_forms.specs.File.{first_place, is_let, unfit_body, unfit_file}

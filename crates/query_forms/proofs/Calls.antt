@@ -5,7 +5,7 @@ use Rattle.query_tokens.specs.declared.token.Token.{Token}
 use Rattle.query_trees.specs.declared.tree.Tree.{Tree, Leaf, Call'}
 use Rattle.query_trees.specs.Trees as trees
 use Rattle.query_trees.specs.Trees.{Trees, tree_before, trees_of, first_of_two}
-use Rattle.query_forms.specs.declared.place.TermPlace.{TermPlace}
+use Rattle.query_forms.specs.declared.term_place.TermPlace.{TermPlace}
 use Rattle.query_forms.specs.Terms.{Terms, none, word, number, string, call, bytes_at, count_of, Say}
 use Rattle.query_forms.specs.Forms.{places_of, unfit_in, first_unfit}
 use Rattle.query_forms.proofs.Parts.{after, say_after, first_of_two-None}

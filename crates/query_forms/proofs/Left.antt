@@ -4,7 +4,7 @@ use Rattle.language_base.specs.declared.span.Span.{Span}
 use Rattle.query_trees.specs.declared.tree.Tree.{Tree}
 use Rattle.query_trees.specs.Trees as trees
 use Rattle.query_trees.specs.Trees.{tree_before, trees_of, first_of_two}
-use Rattle.query_forms.specs.declared.place.TermPlace.{TermPlace}
+use Rattle.query_forms.specs.declared.term_place.TermPlace.{TermPlace}
 use Rattle.query_forms.specs.Terms.{Terms, AreOf, Say}
 use Rattle.query_forms.specs.Forms.{first_unfit}
 use Rattle.query_forms.proofs.Parts.{alone, after, say_alone, say_after, first_unfit_parts, of_alone, of_after, weight, weight_before}

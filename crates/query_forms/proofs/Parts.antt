@@ -4,7 +4,7 @@ use Rattle.language_base.specs.declared.span.Span.{Span}
 use Rattle.query_trees.specs.declared.tree.Tree.{Tree, Leaf, Call'}
 use Rattle.query_trees.specs.Trees as trees
 use Rattle.query_trees.specs.Trees.{Trees, tree_before, first_of_two}
-use Rattle.query_forms.specs.declared.place.TermPlace.{TermPlace}
+use Rattle.query_forms.specs.declared.term_place.TermPlace.{TermPlace}
 use Rattle.query_forms.specs.Terms.{Terms, none, word, number, string, call, AreOf, Say}
 use Rattle.query_forms.specs.Forms.{fits_word, fits_number, fits_string, first_unfit}
 

@@ -10,8 +10,8 @@ use Rattle.query_trees.specs.Trees as trees
 use Rattle.query_trees.specs.Trees.{Trees, tree_before, trees_of}
 use Rattle.query_forms.specs.Terms.{Terms, none, word, number, string, call, bytes_at, Say}
 use Rattle.query_forms.specs.File.{first_place}
-use Rattle.query_forms.specs.declared.place.TermPlace.{TermPlace}
-use Rattle.query_forms.specs.declared.place.TermPlace.TheVariants.{Mode, Column}
+use Rattle.query_forms.specs.declared.term_place.TermPlace.{TermPlace}
+use Rattle.query_forms.specs.declared.term_place.TermPlace.TheVariants.{Mode, Column}
 use Rattle.query_forms.specs.Tops.{is_call, arguments_in, stream_places, unfit_call, unfit_stream}
 use Rattle.query_forms.proofs.Calls.{count_said}
 use Rattle.query_forms.proofs.Parts.{alone, say_alone}

@@ -3,8 +3,8 @@ use Rattle.std.specs.Prelude.{ℕ, ℤ, pos, Bool, true, false, ◌&&◌, ◌||�
 use Rattle.std.specs.Str.{bytes_eq}
 use Rattle.language_base.specs.declared.span.Span.{Span}
 use Rattle.query_trees.specs.Trees.{first_of_two}
-use Rattle.query_forms.specs.declared.place.TermPlace.{TermPlace}
-use Rattle.query_forms.specs.declared.place.TermPlace.TheVariants.{Mode, Column, Kind, Query, Rate, Pred, Literal, Expr, Compare, Name, Number, Text, Digits}
+use Rattle.query_forms.specs.declared.term_place.TermPlace.{TermPlace}
+use Rattle.query_forms.specs.declared.term_place.TermPlace.TheVariants.{Mode, Column, Kind, Query, Rate, Pred, Literal, Expr, Compare, Name, Number, Text, Digits}
 use Rattle.query_forms.specs.Terms.{Terms, word, number, string, call, count_of}
 
 -- a head word and the places of its arguments

@@ -3,8 +3,8 @@ use Rattle.std.specs.Prelude.{ℕ, ◌+◌, ◌-◌, Bool, false, ◌&&◌, ◌=
 use Rattle.std.specs.Str.{bytes_eq}
 use Rattle.language_base.specs.Limits.{max_columns}
 use Rattle.language_base.specs.declared.span.Span.{Span}
-use Rattle.query_forms.specs.declared.place.TermPlace.{TermPlace}
-use Rattle.query_forms.specs.declared.place.TermPlace.TheVariants.{Mode, Column}
+use Rattle.query_forms.specs.declared.term_place.TermPlace.{TermPlace}
+use Rattle.query_forms.specs.declared.term_place.TermPlace.TheVariants.{Mode, Column}
 use Rattle.query_forms.specs.Terms.{Terms, none, call, count_of}
 use Rattle.query_forms.specs.Forms.{first_unfit}
 use Rattle.query_forms.specs.File.{first_place}

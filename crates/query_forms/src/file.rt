@@ -4,7 +4,7 @@ ghost use Rattle.query_trees.specs.Trees.{trees_of};
 ghost use Rattle.query_forms.specs.File.{at_end, unfit_body, unfit_file};
 ghost use Rattle.query_forms.specs.Terms.{AreOf, Say, Terms};
 
-use crate::place::TermPlace;
+use crate::term_place::TermPlace;
 use crate::tops::{first_place, is_call, unfit_call, unfit_stream};
 use language_base::Span;
 use query_trees::Tree;

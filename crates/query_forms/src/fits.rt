@@ -5,7 +5,7 @@ ghost use Rattle.query_tokens.specs.Raw.{IsRaw};
 ghost use Rattle.query_tokens.specs.declared.token.TokenKind.TheVariants.{Number};
 ghost use Rattle.query_forms.specs.Forms.{fits_number, fits_string, fits_word};
 
-use crate::place::TermPlace;
+use crate::term_place::TermPlace;
 use query_tokens::number_value;
 
 /// Whether a word may stand at the place.

@@ -1,5 +1,5 @@
 //! A form of a call.
-use crate::place::TermPlace;
+use crate::term_place::TermPlace;
 
 // A head word and the places of its arguments.
 pub struct Form(pub &'static [u8], pub &'static [TermPlace]);

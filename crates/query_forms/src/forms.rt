@@ -4,8 +4,8 @@ ghost use Rattle.query_forms.specs.Forms.{places_in, places_of};
 ghost use Rattle.query_forms.specs.Shown.{shown};
 
 use crate::form::Form;
-use crate::place::TermPlace;
 use crate::table::forms_at;
+use crate::term_place::TermPlace;
 
 /// The places of the arguments of a call with this head word and so many of them.
 pub fn places_of(place: TermPlace, head: &[u8], count: usize) -> Option<&'static [TermPlace]>

@@ -8,8 +8,8 @@ mod forms;
 mod large;
 mod laws;
 mod part;
-mod place;
 mod table;
+mod term_place;
 mod tops;
 mod unfit;
 
@@ -19,4 +19,4 @@ pub use forms::places_of;
 pub use large::first_large;
 pub use laws::one_list_of_terms;
 pub use part::bytes_at;
-pub use place::TermPlace;
+pub use term_place::TermPlace;

@@ -4,8 +4,8 @@ ghost use Rattle.query_forms.specs.Forms.{forms_at};
 ghost use Rattle.query_forms.specs.Shown.{shown};
 
 use crate::form::Form;
-use crate::place::TermPlace;
-use crate::place::TermPlace::*;
+use crate::term_place::TermPlace;
+use crate::term_place::TermPlace::*;
 
 const COLUMN: &[Form] = &[Form(b"col", &[Name, Kind])];
 

@@ -6,8 +6,8 @@ ghost use Rattle.query_forms.specs.Terms.{AreOf, Say, Terms};
 ghost use Rattle.query_forms.specs.Tops.{arguments_in, is_call, unfit_call, unfit_stream};
 
 use crate::part::bytes_at;
-use crate::place::TermPlace;
-use crate::place::TermPlace::{Column, Mode};
+use crate::term_place::TermPlace;
+use crate::term_place::TermPlace::{Column, Mode};
 use crate::unfit::first_unfit;
 use language_base::Span;
 use query_trees::Tree;

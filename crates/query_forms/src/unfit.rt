@@ -7,7 +7,7 @@ ghost use Rattle.query_forms.specs.Terms.{AreOf, IsTokenOf, Say, Terms};
 use crate::fits::{fits_number, fits_text, fits_word};
 use crate::forms::places_of;
 use crate::part::bytes_at;
-use crate::place::TermPlace;
+use crate::term_place::TermPlace;
 use language_base::Span;
 use query_tokens::{Token, TokenKind};
 use query_trees::Tree;

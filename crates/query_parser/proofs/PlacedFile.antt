@@ -2,7 +2,7 @@
 use Rattle.std.proofs.Common.{◌≡◌, ℕ, ◌+◌, ◌-◌, Bool, true, false, cond, [], ◌∷◌, Option, Some, None, replicate}
 use Rattle.language_base.specs.declared.span.Span.{Span}
 use Rattle.query_trees.specs.Trees.{first_of_two}
-use Rattle.query_forms.specs.declared.place.TermPlace.TheVariants.{Mode, Column, Query, Name}
+use Rattle.query_forms.specs.declared.term_place.TermPlace.TheVariants.{Mode, Column, Query, Name}
 use Rattle.query_forms.specs.Terms.{Terms, none, word, number, string, call, count_of}
 use Rattle.query_forms.specs.Forms.{first_unfit}
 use Rattle.query_forms.specs.File.{at_end, first_place, is_stream, is_let, is_main, unfit_body, unfit_file}

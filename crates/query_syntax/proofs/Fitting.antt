@@ -3,7 +3,7 @@ use Rattle.std.proofs.Common.{◌≡◌, inl, inr, ℕ, ◌==◌, ◌&&◌, Bool
 use Rattle.std.specs.Str.{bytes_eq}
 use Rattle.std.proofs.lemmas.Bool.Decides.{nat_tests}
 use Rattle.language_base.specs.declared.span.Span.{Span}
-use Rattle.query_forms.specs.declared.place.TermPlace.{TermPlace}
+use Rattle.query_forms.specs.declared.term_place.TermPlace.{TermPlace}
 use Rattle.query_forms.specs.Terms.{Terms, none, call, count_of}
 use Rattle.query_forms.specs.Forms.{Form, first_unfit, forms_at, places_in, places_of, unfit_in, fits_word, fits_number, fits_string}
 use Rattle.query_tokens.proofs.Parts.{branch_taken}

@@ -7,7 +7,7 @@ use Rattle.std.proofs.lemmas.Slice.Eq.{bytes_eq-Decides}
 use Rattle.language_base.specs.Limits.{max_columns}
 use Rattle.language_base.specs.declared.span.Span.{Span}
 use Rattle.query_trees.specs.Trees.{first_of_two}
-use Rattle.query_forms.specs.declared.place.TermPlace.TheVariants as place
+use Rattle.query_forms.specs.declared.term_place.TermPlace.TheVariants as place
 use Rattle.query_forms.specs.Terms.{Terms, none, word, number, string, call, count_of}
 use Rattle.query_forms.specs.File.{first_place, is_stream, is_let, is_main, unfit_body, unfit_file}
 use Rattle.query_forms.specs.Forms.{first_unfit}

@@ -7,8 +7,8 @@ use Rattle.std.proofs.lemmas.List.Elements.{All-nil, All-cons}
 use Rattle.std.proofs.lemmas.Slice.Eq.{bytes_eq-Decides}
 use Rattle.language_base.specs.Limits.{max_columns}
 use Rattle.language_base.specs.declared.span.Span.{Span}
-use Rattle.query_forms.specs.declared.place.TermPlace.{TermPlace}
-use Rattle.query_forms.specs.declared.place.TermPlace.TheVariants.{Mode, Column, Query, Name}
+use Rattle.query_forms.specs.declared.term_place.TermPlace.{TermPlace}
+use Rattle.query_forms.specs.declared.term_place.TermPlace.TheVariants.{Mode, Column, Query, Name}
 use Rattle.query_forms.specs.Terms.{Terms, none, call, count_of}
 use Rattle.query_forms.specs.File.{first_place, unfit_body, unfit_file}
 use Rattle.query_forms.specs.Forms.{first_unfit}

@@ -6,7 +6,7 @@ use Rattle.std.proofs.lemmas.Bool.Decides.{nat_tests}
 use Rattle.language_base.specs.Limits.{max_columns}
 use Rattle.language_base.specs.declared.span.Span.{Span}
 use Rattle.query_trees.specs.Trees.{first_of_two}
-use Rattle.query_forms.specs.declared.place.TermPlace.TheVariants as place
+use Rattle.query_forms.specs.declared.term_place.TermPlace.TheVariants as place
 use Rattle.query_forms.specs.Terms.{Terms, none, number, count_of}
 use Rattle.query_forms.specs.File.{is_stream, unfit_body, unfit_file}
 use Rattle.query_forms.specs.Forms.{first_unfit, is_digits, places_of, unfit_in}

@@ -1,7 +1,7 @@
 -- For the prover. The calls that are expressions and comparisons.
 use Rattle.std.specs.Prelude.{ℕ, List, [], ◌∷◌, codes}
-use Rattle.query_forms.specs.declared.place.TermPlace.{TermPlace}
-use Rattle.query_forms.specs.declared.place.TermPlace.TheVariants as place
+use Rattle.query_forms.specs.declared.term_place.TermPlace.{TermPlace}
+use Rattle.query_forms.specs.declared.term_place.TermPlace.TheVariants as place
 use Rattle.language_base.specs.declared.unary.UnaryOp.TheVariants.{Neg, Abs}
 use Rattle.language_base.specs.declared.binary.BinaryOp.TheVariants.{Add, Sub, Mul, Div, Rem, Min, Max}
 use Rattle.language_base.specs.declared.compare.Compare.{Compare}

@@ -1,6 +1,6 @@
 -- For the prover. Terms that have a form of their places.
 use Rattle.std.specs.Prelude.{◌≡◌, ℕ, List, [], ◌∷◌, length, Some, None}
-use Rattle.query_forms.specs.declared.place.TermPlace.{TermPlace}
+use Rattle.query_forms.specs.declared.term_place.TermPlace.{TermPlace}
 use Rattle.query_forms.specs.Terms.{none}
 use Rattle.query_forms.specs.Forms.{first_unfit, places_of}
 use Rattle.query_parser.specs.declared.term.Term.{Term}

@@ -1,7 +1,7 @@
 -- For the prover. The calls that are predicates.
 use Rattle.std.specs.Prelude.{ℕ, List, [], ◌∷◌, codes}
-use Rattle.query_forms.specs.declared.place.TermPlace.{TermPlace}
-use Rattle.query_forms.specs.declared.place.TermPlace.TheVariants as place
+use Rattle.query_forms.specs.declared.term_place.TermPlace.{TermPlace}
+use Rattle.query_forms.specs.declared.term_place.TermPlace.TheVariants as place
 use Rattle.query_syntax.specs.declared.operator.Equality.TheVariants as equality
 use Rattle.query_syntax.specs.declared.operator.Order.TheVariants as order
 use Rattle.query_syntax.specs.declared.operator.Connective.TheVariants.{And, Or}

@@ -1,7 +1,7 @@
 -- For the prover. The calls that are queries.
 use Rattle.std.specs.Prelude.{ℕ, List, [], ◌∷◌, codes}
-use Rattle.query_forms.specs.declared.place.TermPlace.{TermPlace}
-use Rattle.query_forms.specs.declared.place.TermPlace.TheVariants as place
+use Rattle.query_forms.specs.declared.term_place.TermPlace.{TermPlace}
+use Rattle.query_forms.specs.declared.term_place.TermPlace.TheVariants as place
 use Rattle.query_syntax.specs.declared.query_head.QueryHead.{QueryHead}
 use Rattle.query_syntax.specs.declared.query_head.QueryHead.TheVariants.{Atom, Eps, Or, Split, Iter, Combine, Apply, Compose, Collect}
 use Rattle.query_syntax.specs.Rows.{Row, row}

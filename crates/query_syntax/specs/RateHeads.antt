@@ -1,7 +1,7 @@
 -- For the prover. The calls that are rates.
 use Rattle.std.specs.Prelude.{ℕ, List, [], ◌∷◌, codes}
-use Rattle.query_forms.specs.declared.place.TermPlace.{TermPlace}
-use Rattle.query_forms.specs.declared.place.TermPlace.TheVariants as place
+use Rattle.query_forms.specs.declared.term_place.TermPlace.{TermPlace}
+use Rattle.query_forms.specs.declared.term_place.TermPlace.TheVariants as place
 use Rattle.query_syntax.specs.declared.operator.Join.TheVariants.{Seq, Alt}
 use Rattle.query_syntax.specs.declared.rate_head.RateHead.{RateHead}
 use Rattle.query_syntax.specs.declared.rate_head.RateHead.TheVariants.{Item, Joined, Star}

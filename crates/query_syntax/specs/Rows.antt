@@ -1,7 +1,7 @@
 -- For the prover. The calls that may stand at a place, each with what it is.
 use Rattle.std.specs.Prelude.{ℕ, ◌&&◌, ◌==◌, List, [], ◌∷◌, length, Option, Some, None, if◌then◌else◌}
 use Rattle.std.specs.Str.{bytes_eq}
-use Rattle.query_forms.specs.declared.place.TermPlace.{TermPlace}
+use Rattle.query_forms.specs.declared.term_place.TermPlace.{TermPlace}
 
 -- what a call is, its head word and the places of its arguments
 pub record Row (H : Type 0) : Type 0 where

@@ -1,7 +1,7 @@
 -- For the prover. The top terms of a file, as they fit.
 use Rattle.std.specs.Prelude.{◌≡◌, ℕ, List, [], ◌∷◌, ◌++◌, All, codes, None}
-use Rattle.query_forms.specs.declared.place.TermPlace.{TermPlace}
-use Rattle.query_forms.specs.declared.place.TermPlace.TheVariants.{Query, Name}
+use Rattle.query_forms.specs.declared.term_place.TermPlace.{TermPlace}
+use Rattle.query_forms.specs.declared.term_place.TermPlace.TheVariants.{Query, Name}
 use Rattle.query_forms.specs.Terms.{none}
 use Rattle.query_forms.specs.Tops.{unfit_call, unfit_stream}
 use Rattle.query_parser.specs.declared.term.Term.{Term}

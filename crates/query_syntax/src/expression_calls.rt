@@ -1,6 +1,6 @@
 //! The expressions that calls write, from their arguments.
 ghost use Rattle.std.specs.Prelude.{◌≡◌, [], ◌∷◌, IfOk, codes};
-ghost use Rattle.query_forms.specs.declared.place.TermPlace.TheVariants as place;
+ghost use Rattle.query_forms.specs.declared.term_place.TermPlace.TheVariants as place;
 ghost use Rattle.query_forms.specs.Terms.{Terms, call, none};
 ghost use Rattle.query_parser.specs.Plain.{term_before, terms_of};
 ghost use Rattle.query_syntax.specs.Calls.{IsCall};

@@ -1,6 +1,6 @@
 //! Names, numbers and strings from the terms that write them.
 ghost use Rattle.std.specs.Prelude.{◌≡◌, IfOk};
-ghost use Rattle.query_forms.specs.declared.place.TermPlace.TheVariants as place;
+ghost use Rattle.query_forms.specs.declared.term_place.TermPlace.TheVariants as place;
 ghost use Rattle.query_forms.specs.Terms.{Terms};
 ghost use Rattle.query_parser.specs.Plain.{term_before};
 ghost use Rattle.query_syntax.specs.Fits.{Fits};

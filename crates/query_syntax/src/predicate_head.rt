@@ -1,6 +1,6 @@
 //! The calls that are predicates, by their head words.
 ghost use Rattle.std.specs.Prelude.{◌≡◌};
-ghost use Rattle.query_forms.specs.declared.place.TermPlace.TheVariants as place;
+ghost use Rattle.query_forms.specs.declared.term_place.TermPlace.TheVariants as place;
 ghost use Rattle.query_syntax.specs.Fits.{AllFit, HasForm};
 ghost use Rattle.query_syntax.specs.PredicateHeads.{predicate_places, predicate_word, predicates};
 ghost use Rattle.query_syntax.specs.Rows.{head_in};

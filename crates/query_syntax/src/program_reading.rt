@@ -1,6 +1,6 @@
 //! A whole file from its terms.
 ghost use Rattle.std.specs.Prelude.{◌≡◌, [], ◌∷◌, All, IfOk};
-ghost use Rattle.query_forms.specs.declared.place.TermPlace.TheVariants as place;
+ghost use Rattle.query_forms.specs.declared.term_place.TermPlace.TheVariants as place;
 ghost use Rattle.query_forms.specs.Terms.{Terms, none};
 ghost use Rattle.query_parser.specs.Plain.{term_before, terms_of};
 ghost use Rattle.query_syntax.specs.Files.{all_before, let_before, main_before, program_terms};

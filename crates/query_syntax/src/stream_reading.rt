@@ -1,6 +1,6 @@
 //! A stream from the term that writes it.
 ghost use Rattle.std.specs.Prelude.{◌≡◌, ◌≤◌, All, IfOk, codes, length};
-ghost use Rattle.query_forms.specs.declared.place.TermPlace.TheVariants as place;
+ghost use Rattle.query_forms.specs.declared.term_place.TermPlace.TheVariants as place;
 ghost use Rattle.query_forms.specs.Terms.{Terms, none};
 ghost use Rattle.query_forms.specs.Tops.{stream_places};
 ghost use Rattle.query_parser.specs.Plain.{term_before, terms_of};

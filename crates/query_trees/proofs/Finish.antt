@@ -5,8 +5,8 @@ use Rattle.language_base.specs.declared.span.Span.{Span}
 use Rattle.query_tokens.specs.declared.token.Token.{Token}
 use Rattle.query_tokens.specs.declared.token.TokenKind.{TokenKind}
 use Rattle.query_tokens.specs.declared.token.TokenKind.TheVariants.{Word, Number, Text, Open, Close, Comma}
-use Rattle.query_trees.specs.declared.place.ReaderState.{ReaderState}
-use Rattle.query_trees.specs.declared.place.ReaderState.TheVariants.{AfterTerm, AfterWord, Argument}
+use Rattle.query_trees.specs.declared.reader_state.ReaderState.{ReaderState}
+use Rattle.query_trees.specs.declared.reader_state.ReaderState.TheVariants.{AfterTerm, AfterWord, Argument}
 use Rattle.query_trees.specs.Steps.{step, walk, ends, begin, continue_inside, continue_calls, call_or_continue}
 use Rattle.query_trees.specs.Terms.{IsLeaf, AreMore, AreArguments, AreTerms}
 use Rattle.query_trees.specs.Trees.{Trees, none, leaf, call}

@@ -5,8 +5,8 @@ use Rattle.language_base.specs.declared.span.Span.{Span}
 use Rattle.query_tokens.specs.declared.token.Token.{Token}
 use Rattle.query_tokens.specs.declared.token.TokenKind.{TokenKind}
 use Rattle.query_tokens.specs.declared.token.TokenKind.TheVariants.{Word, Close}
-use Rattle.query_trees.specs.declared.place.ReaderState.{ReaderState}
-use Rattle.query_trees.specs.declared.place.ReaderState.TheVariants.{AfterTerm, AfterWord, Argument}
+use Rattle.query_trees.specs.declared.reader_state.ReaderState.{ReaderState}
+use Rattle.query_trees.specs.declared.reader_state.ReaderState.TheVariants.{AfterTerm, AfterWord, Argument}
 use Rattle.query_trees.specs.Steps.{step, walk, ends, after, start, may_end}
 use Rattle.query_trees.specs.Terms.{AreTerms, BeginTerms, IsMisplaced, IsCutShort, IsNoList}
 use Rattle.query_trees.specs.Trees.{Trees}

@@ -3,7 +3,7 @@ ghost use Rattle.std.specs.Prelude.{IfOk, IfErr};
 ghost use Rattle.query_trees.specs.Terms.{AreTerms, IsNoList};
 ghost use Rattle.query_trees.specs.Trees.{Trees};
 
-use crate::place::{ReaderState, may_end, step};
+use crate::reader_state::{ReaderState, may_end, step};
 use language_base::Span;
 use query_tokens::Token;
 

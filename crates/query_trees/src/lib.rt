@@ -5,9 +5,9 @@ mod build;
 mod check;
 mod closing;
 mod law;
-mod place;
 mod read;
 mod reader;
+mod reader_state;
 mod stop;
 mod tree;
 

@@ -1,6 +1,6 @@
 use Rattle.std.proofs.Common.{◌≡◌, [], length}
 use Rattle.item_schema.specs.CutLines.{texts_at}
-use Rattle.item_schema.specs.declared.place.QuoteState.TheVariants.{Quoted}
+use Rattle.item_schema.specs.declared.quote_state.QuoteState.TheVariants.{Quoted}
 use Rattle.item_schema.proofs.text.copied_text.Given as goal
 
 -- the text so far, and the bytes that are left

@@ -1,5 +1,5 @@
 use Rattle.std.proofs.Common.{refl, sym, ◌∙◌}
-use Rattle.query_forms.specs.declared.place.TermPlace.TheVariants.{Compare}
+use Rattle.query_forms.specs.declared.term_place.TermPlace.TheVariants.{Compare}
 use Rattle.query_syntax.specs.ExpressionHeads.{compare_places, comparisons}
 use Rattle.query_syntax.specs.Words.{compare_word}
 use Rattle.query_syntax.proofs.TableRows.{comparisons_are}

@@ -1,5 +1,5 @@
 use Rattle.std.proofs.Common.{refl, sym, ◌∙◌}
-use Rattle.query_forms.specs.declared.place.TermPlace.TheVariants.{Expr}
+use Rattle.query_forms.specs.declared.term_place.TermPlace.TheVariants.{Expr}
 use Rattle.query_syntax.specs.ExpressionHeads.{expression_word, expression_places, expressions}
 use Rattle.query_syntax.proofs.TableRows.{expressions_are}
 use Rattle.query_syntax.proofs.Heads.{head_found, head_missing}

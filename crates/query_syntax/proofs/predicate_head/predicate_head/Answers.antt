@@ -1,5 +1,5 @@
 use Rattle.std.proofs.Common.{refl, sym, ◌∙◌}
-use Rattle.query_forms.specs.declared.place.TermPlace.TheVariants.{Pred}
+use Rattle.query_forms.specs.declared.term_place.TermPlace.TheVariants.{Pred}
 use Rattle.query_syntax.specs.PredicateHeads.{predicate_word, predicate_places, predicates}
 use Rattle.query_syntax.proofs.TableRows.{predicates_are}
 use Rattle.query_syntax.proofs.Heads.{head_found, head_missing}

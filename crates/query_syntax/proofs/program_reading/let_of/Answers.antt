@@ -1,5 +1,5 @@
 use Rattle.std.proofs.Common.{[], ◌∷◌, codes, sym, ap, ◌∙◌}
-use Rattle.query_forms.specs.declared.place.TermPlace.TheVariants.{Name, Query}
+use Rattle.query_forms.specs.declared.term_place.TermPlace.TheVariants.{Name, Query}
 use Rattle.query_parser.specs.Plain.{terms_of}
 use Rattle.query_syntax.proofs.Fitting.{call_written}
 use Rattle.query_syntax.proofs.TopTerms.{top_call}

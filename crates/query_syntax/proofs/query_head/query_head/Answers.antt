@@ -1,5 +1,5 @@
 use Rattle.std.proofs.Common.{refl, sym, ◌∙◌}
-use Rattle.query_forms.specs.declared.place.TermPlace.TheVariants.{Query}
+use Rattle.query_forms.specs.declared.term_place.TermPlace.TheVariants.{Query}
 use Rattle.query_syntax.specs.QueryHeads.{query_word, query_places, queries}
 use Rattle.query_syntax.proofs.TableRows.{queries_are}
 use Rattle.query_syntax.proofs.Heads.{head_found, head_missing}

@@ -1,5 +1,5 @@
 use Rattle.std.proofs.Common.{refl, sym, ◌∙◌}
-use Rattle.query_forms.specs.declared.place.TermPlace.TheVariants.{Rate}
+use Rattle.query_forms.specs.declared.term_place.TermPlace.TheVariants.{Rate}
 use Rattle.query_syntax.specs.RateHeads.{rate_word, rate_places, rates}
 use Rattle.query_syntax.proofs.TableRows.{rates_are}
 use Rattle.query_syntax.proofs.Heads.{head_found}

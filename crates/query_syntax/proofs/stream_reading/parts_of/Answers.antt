@@ -1,5 +1,5 @@
 use Rattle.std.proofs.Common.{[], ◌∷◌, codes, refl, arith}
-use Rattle.query_forms.specs.declared.place.TermPlace.TheVariants.{Column, Kind, Name}
+use Rattle.query_forms.specs.declared.term_place.TermPlace.TheVariants.{Column, Kind, Name}
 use Rattle.query_syntax.proofs.Fitting.{item_fits}
 use Rattle.query_syntax.proofs.Heads.{one_form}
 use Rattle.query_syntax.proofs.stream_reading.parts_of.Goals as goal
