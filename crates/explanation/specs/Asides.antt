@@ -86,7 +86,7 @@ abbrev pub aside_for : Rule → Program → Refusal → Option Aside
 aside_for rule.Name program refusal = use_inside
     (values_for (culprit_on_items program refusal) (culprit_on_values program refusal))
     program refusal.span
-aside_for rule.Type_ program refusal = use_inside
+aside_for rule.Mismatch program refusal = use_inside
     (values_for (culprit_on_items program refusal) (culprit_on_values program refusal))
     program refusal.span
 aside_for rule.Nested program refusal = use_inside (Some Collections) program refusal.span

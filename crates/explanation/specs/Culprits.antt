@@ -40,7 +40,7 @@ kinds_in_atom _ predicate value =
 abbrev pub in_atom : Rule → Scope → Predicate → Expression → Option Culprit
 in_atom rule.Name scope predicate value =
     first_of (unknown_column scope predicate) (unknown_name scope value)
-in_atom rule.Type_ scope predicate value = kinds_in_atom scope predicate value
+in_atom rule.Mismatch scope predicate value = kinds_in_atom scope predicate value
 in_atom _ scope predicate value = None
 
 -- in an expression over the values of operands
@@ -61,7 +61,7 @@ abbrev pub in_keys : Rule → Scope → Name → Predicate → Rate → Option C
 in_keys rule.Name scope key sync rate =
     first_of (unless_known scope key)
     (first_of (unknown_column scope sync) (unknown_item scope rate))
-in_keys rule.Type_ scope key sync rate = kinds_in_keys scope key sync rate
+in_keys rule.Mismatch scope key sync rate = kinds_in_keys scope key sync rate
 in_keys _ scope key sync rate = None
 
 -- in a node without its operands

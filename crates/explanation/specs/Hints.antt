@@ -89,7 +89,7 @@ hint_at rule.Token text span byte = token_hint text span.from byte
 hint_at rule.Term text span byte = piece_hint byte
 hint_at rule.Name text span byte =
     if bytes_eq (term_at text span) (codes "eps") then Some EmptyWord else None
-hint_at rule.Type_ text span byte = type_hint (head_of (term_at text span))
+hint_at rule.Mismatch text span byte = type_hint (head_of (term_at text span))
 hint_at rule.Cells text span byte =
     if bytes_eq (head_of (term_at text span)) (codes "compose") then Some ValueCells else None
 hint_at rule.Empty text span byte =

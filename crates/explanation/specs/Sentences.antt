@@ -3,7 +3,7 @@
 use Rattle.std.specs.Prelude.{ℕ, List, [], length, nat_lt, Option, None, Some, if◌then◌else◌}
 use Rattle.language_base.specs.declared.refusal.Refusal.{Refusal}
 use Rattle.language_base.specs.declared.rule.Rule.{Rule}
-use Rattle.language_base.specs.declared.rule.Rule.TheVariants.{Long, Token, Term, Depth, Form, Name, Nested, Size, Literal, Type_, Cells, Empty, Choice, Split, Iter, Reach, Rates, Compose}
+use Rattle.language_base.specs.declared.rule.Rule.TheVariants.{Long, Token, Term, Depth, Form, Name, Nested, Size, Literal, Mismatch, Cells, Empty, Choice, Split, Iter, Reach, Rates, Compose}
 use Rattle.explanation.specs.declared.limit.Limit.{Limit}
 use Rattle.explanation.specs.declared.limit.Limit.TheVariants.{Nodes, Positions, Slots}
 use Rattle.explanation.specs.declared.mending.TheConstants as mended
@@ -20,7 +20,7 @@ broken_where Name = broken.NAME.now
 broken_where Nested = broken.NESTED.now
 broken_where Size = broken.SIZE.now
 broken_where Literal = broken.LITERAL.now
-broken_where Type_ = broken.TYPE.now
+broken_where Mismatch = broken.TYPE.now
 broken_where Cells = broken.CELLS.now
 broken_where Empty = broken.EMPTY.now
 broken_where Choice = broken.CHOICE.now
@@ -64,7 +64,7 @@ mended_by Name = mended.NAME.now
 mended_by Nested = mended.NESTED.now
 mended_by Size = mended.SIZE.now
 mended_by Literal = mended.LITERAL.now
-mended_by Type_ = mended.TYPE.now
+mended_by Mismatch = mended.TYPE.now
 mended_by Cells = mended.CELLS.now
 mended_by Empty = mended.EMPTY.now
 mended_by Choice = mended.CHOICE.now

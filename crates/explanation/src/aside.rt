@@ -31,7 +31,7 @@ pub(crate) fn aside_of(
     ensures { IfOk result (λ aside. aside ≡ aside_of (plain_program program.now) refusal) }
 {
     match refusal.rule {
-        Rule::Name | Rule::Type_ => {
+        Rule::Name | Rule::Mismatch => {
             let on_items = culprit_on_items(alloc, program, refusal)?;
             let inside = values_for(on_items, culprit_on_values(program, refusal));
             use_inside(alloc, inside, program, refusal.span)

@@ -65,7 +65,7 @@ pub(crate) fn mended_by(rule: Rule) -> &'static str
         Rule::Nested => NESTED,
         Rule::Size => SIZE,
         Rule::Literal => LITERAL,
-        Rule::Type_ => TYPE,
+        Rule::Mismatch => TYPE,
         Rule::Cells => CELLS,
         Rule::Empty => EMPTY,
         Rule::Choice => CHOICE,

@@ -59,7 +59,7 @@ fn in_atom(
 {
     match rule {
         Rule::Name => unknown_column(scope, predicate).or(unknown_name(scope, value)),
-        Rule::Type_ => kinds_in_atom(scope, predicate, value),
+        Rule::Mismatch => kinds_in_atom(scope, predicate, value),
         _ => None,
     }
 }
@@ -100,7 +100,7 @@ fn in_keys(
             let tests = unknown_column(scope, sync).or(unknown_item(scope, rate));
             unless_known(scope, key).or(tests)
         }
-        Rule::Type_ => kinds_in_keys(scope, key, sync, rate),
+        Rule::Mismatch => kinds_in_keys(scope, key, sync, rate),
         _ => None,
     }
 }

@@ -27,7 +27,7 @@ fn hint_at(rule: Rule, text: &[u8], span: Span, byte: u8) -> Option<Hint>
         Rule::Token => token_hint(text, span.from as usize, byte),
         Rule::Term => piece_hint(byte),
         Rule::Name => (term_at(text, span) == b"eps".as_slice()).then_some(Hint::EmptyWord),
-        Rule::Type_ => type_hint(head_of(term_at(text, span))),
+        Rule::Mismatch => type_hint(head_of(term_at(text, span))),
         Rule::Cells => {
             (head_of(term_at(text, span)) == b"compose".as_slice()).then_some(Hint::ValueCells)
         }

@@ -108,7 +108,7 @@ fn broken_where(rule: Rule) -> &'static str
         Rule::Nested => NESTED,
         Rule::Size => SIZE,
         Rule::Literal => LITERAL,
-        Rule::Type_ => TYPE,
+        Rule::Mismatch => TYPE,
         Rule::Cells => CELLS,
         Rule::Empty => EMPTY,
         Rule::Choice => CHOICE,

@@ -1,7 +1,7 @@
 -- Statement. The rules of the language by their numbers.
 use Rattle.std.specs.Prelude.{ℕ}
 use Rattle.language_base.specs.declared.rule.Rule.{Rule}
-use Rattle.language_base.specs.declared.rule.Rule.TheVariants.{Long, Token, Term, Depth, Form, Name, Nested, Size, Literal, Type_, Cells, Empty, Choice, Split, Iter, Reach, Rates, Compose}
+use Rattle.language_base.specs.declared.rule.Rule.TheVariants.{Long, Token, Term, Depth, Form, Name, Nested, Size, Literal, Mismatch, Cells, Empty, Choice, Split, Iter, Reach, Rates, Compose}
 
 -- the number of each rule
 abbrev pub number_of : Rule → ℕ
@@ -14,7 +14,7 @@ number_of Name = 6
 number_of Nested = 7
 number_of Size = 8
 number_of Literal = 9
-number_of Type_ = 10
+number_of Mismatch = 10
 number_of Cells = 11
 number_of Empty = 12
 number_of Choice = 13

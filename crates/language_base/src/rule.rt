@@ -24,7 +24,7 @@ pub enum Rule {
     /// A number is not between -2^63 and 2^63-1.
     Literal,
     /// A test or an expression does not fit the types of its columns and values.
-    Type_,
+    Mismatch,
     /// The predicates distinguish too many kinds of items.
     Cells,
     /// No item meets a predicate.

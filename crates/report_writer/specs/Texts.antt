@@ -11,7 +11,7 @@ use Rattle.item_schema.specs.declared.stop.Cause.TheVariants as cause
 use Rattle.item_schema.specs.declared.stop.Skip.{Skip}
 use Rattle.language_base.specs.declared.refusal.Refusal.{Refusal}
 use Rattle.language_base.specs.declared.rule.Rule.{Rule}
-use Rattle.language_base.specs.declared.rule.Rule.TheVariants.{Long, Token, Term, Depth, Form, Name, Nested, Size, Literal, Type_, Cells, Empty, Choice, Split, Iter, Reach, Rates, Compose}
+use Rattle.language_base.specs.declared.rule.Rule.TheVariants.{Long, Token, Term, Depth, Form, Name, Nested, Size, Literal, Mismatch, Cells, Empty, Choice, Split, Iter, Reach, Rates, Compose}
 
 -- a number, or why there is none
 abbrev pub scalar_text : Scalar → List ℕ
@@ -83,7 +83,7 @@ rule_name Name = codes "name"
 rule_name Nested = codes "nested"
 rule_name Size = codes "size"
 rule_name Literal = codes "literal"
-rule_name Type_ = codes "type"
+rule_name Mismatch = codes "type"
 rule_name Cells = codes "cells"
 rule_name Empty = codes "empty"
 rule_name Choice = codes "choice"

@@ -29,7 +29,7 @@ fn rule_name(rule: Rule) -> &'static str
         Rule::Nested => "nested",
         Rule::Size => "size",
         Rule::Literal => "literal",
-        Rule::Type_ => "type",
+        Rule::Mismatch => "type",
         Rule::Cells => "cells",
         Rule::Empty => "empty",
         Rule::Choice => "choice",

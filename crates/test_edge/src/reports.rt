@@ -110,7 +110,7 @@ fn a_skip_names_its_cause_and_column(rt: HostRuntime) -> Result<(), Fail> {
 fn a_refusal_names_its_rule_and_place(rt: HostRuntime) -> Result<(), Fail> {
     for (rule, from, to, wanted) in [
         (Rule::Token, 32, 33, "refused token 32..33\n"),
-        (Rule::Type_, 0, 65536, "refused type 0..65536\n"),
+        (Rule::Mismatch, 0, 65536, "refused type 0..65536\n"),
         (Rule::Compose, 5, 5, "refused compose 5..5\n"),
     ] {
         let span = Span { from, to };

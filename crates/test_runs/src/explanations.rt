@@ -86,12 +86,12 @@ const HINTS: &[(Rule, &str, &str)] = &[
         "The query of the empty word has its value: eps(0).",
     ),
     (
-        Rule::Type_,
+        Rule::Mismatch,
         "or(a, b)",
         "One of the two queries gives a table, and the other one a number.",
     ),
     (
-        Rule::Type_,
+        Rule::Mismatch,
         "apply(a, x)",
         "tsum, tcount, tmax, tmin and tget take a table, and all operators take numbers.",
     ),
@@ -276,13 +276,13 @@ const NAMES: &[(Rule, &str, (u32, u32), &str)] = &[
         "Not known here: m",
     ),
     (
-        Rule::Type_,
+        Rule::Mismatch,
         "stream(plain, col(t, text), col(n, int))\nmain(atom(gt(t, 1), n))",
         (46, 63),
         "A column of texts, where a number is taken; declare it int where it has numbers: t",
     ),
     (
-        Rule::Type_,
+        Rule::Mismatch,
         "stream(plain, col(t, text), col(n, int))\nmain(or(eps(1), atom(not(eq(n, \"t\")), t)))",
         (57, 81),
         "A column of numbers, where a text is taken; drop the quotes, or declare it text: n",
@@ -312,19 +312,19 @@ const NAMES: &[(Rule, &str, (u32, u32), &str)] = &[
         "Not known here: o",
     ),
     (
-        Rule::Type_,
+        Rule::Mismatch,
         "stream(plain, col(t, text), col(n, int))\nmain(collect(n, any, item(any), eps(1)))",
         (46, 80),
         "A column of numbers, where a key is taken; declare it text: n",
     ),
     (
-        Rule::Type_,
+        Rule::Mismatch,
         "stream(plain, col(t, text), col(n, int))\nmain(atom(any, add(n, tsum(n))))",
         (46, 72),
         "A column of items, where a table is taken: n",
     ),
     (
-        Rule::Type_,
+        Rule::Mismatch,
         "stream(plain, col(t, text), col(n, int))\nmain(compose(atom(any, n), atom(gt(value, 1), 2)))",
         (68, 89),
         "Of another kind than is taken here: value",
@@ -385,7 +385,7 @@ const SECOND_PLACES: &[(Rule, &str, (u32, u32), &str)] = &[
         "The right side of a compose reads values of the left, in one column called value.\nNot known here: m\nq:3:22 (the column in bytes): the let is used here, inside of another query\n    main(compose(eps(1), top))\n                         ^^^",
     ),
     (
-        Rule::Type_,
+        Rule::Mismatch,
         "stream(plain, col(t, text), col(n, int))\nlet(top, atom(any, tsum(value)))\nmain(compose(eps(1), top))",
         (50, 72),
         "Of another kind than is taken here: value\nq:3:22 (the column in bytes): the let is used here, inside of another query\n    main(compose(eps(1), top))\n                         ^^^",

@@ -1,7 +1,7 @@
 -- What an atom is resolved to.
 use Rattle.std.proofs.Common.{◌≡◌, true, false, List, Option, Some, None, Ok, Err, refl, ◌∙◌, ap, subst}
 use Rattle.item_schema.specs.declared.column.Column.{Column}
-use Rattle.language_base.specs.declared.rule.Rule.TheVariants.{Name, Type_}
+use Rattle.language_base.specs.declared.rule.Rule.TheVariants.{Name, Mismatch}
 use Rattle.language_base.specs.declared.span.Span.{Span}
 use Rattle.predicate_cells.specs.Fits.{fits}
 use Rattle.predicate_cells.specs.Predicates as plain
@@ -56,7 +56,7 @@ module _ (nesting : Nesting) (columns : List Column) (predicate : p.Predicate) (
     module _ (value : values.Expression) (named : Some value ≡ expression_over (of_item columns) tree) where
       -- a test is of another kind than its column
       pub unfit : fits columns pred ≡ false
-          → resolved nesting columns (q.atom predicate tree span) ≡ Err (refusal Type_ span)
+          → resolved nesting columns (q.atom predicate tree span) ≡ Err (refusal Mismatch span)
       unfolding resolved
       unfit is = rw (← tested, ← named, is) refl
 
@@ -64,12 +64,12 @@ module _ (nesting : Nesting) (columns : List Column) (predicate : p.Predicate) (
           (are : names ≡ types.of_columns columns) where
         -- the expression is not well typed
         mistyped : is_typed (types.of_columns columns) value ≡ false
-            → resolved nesting columns (q.atom predicate tree span) ≡ Err (refusal Type_ span)
+            → resolved nesting columns (q.atom predicate tree span) ≡ Err (refusal Mismatch span)
         unfolding resolved
         mistyped is = rw (← tested, ← named, fit, is) refl
 
         pub ill_typed : ((type : ValueType) → HasType names value type → ⊥)
-            → resolved nesting columns (q.atom predicate tree span) ≡ Err (refusal Type_ span)
+            → resolved nesting columns (q.atom predicate tree span) ≡ Err (refusal Mismatch span)
         ill_typed none =
             mistyped (subst (λ (t : Types). is_typed t value ≡ false) are (untyped names value numbers none))
 

@@ -6,7 +6,7 @@ use Rattle.std.proofs.lemmas.Bool.{and_parts}
 use Rattle.std.proofs.lemmas.Result.{IfErr-weaker, IfOk-weaker}
 use Rattle.item_schema.specs.Layout.{is_read}
 use Rattle.item_schema.specs.declared.column.Column.{Column}
-use Rattle.language_base.specs.declared.rule.Rule.TheVariants.{Name, Nested, Type_}
+use Rattle.language_base.specs.declared.rule.Rule.TheVariants.{Name, Nested, Mismatch}
 use Rattle.language_base.specs.declared.span.Span.{Span}
 use Rattle.predicate_cells.specs.Fits.{fits, has_texts}
 use Rattle.predicate_cells.specs.Predicates as plain
@@ -84,7 +84,7 @@ module _ (nesting : Nesting) (columns : List Column) (key : leaf.Name) (sync : p
           module _ (may : may_collect nesting ≡ true) where
             -- a column is of another kind than is asked of it
             pub unfit_parts : parts_fit ≡ false
-                → resolved nesting columns (q.collect key sync rate f span) ≡ Err (refusal Type_ span)
+                → resolved nesting columns (q.collect key sync rate f span) ≡ Err (refusal Mismatch span)
             unfolding resolved
             unfit_parts unfit = rw (is.resolved, ← keyed, ← tested, ← rated, may, unfit) refl
 

@@ -1,6 +1,6 @@
 -- Inside of a collection and on a stream of values there is no collection.
 use Rattle.std.proofs.Common.{List, IfOk}
-use Rattle.language_base.specs.declared.rule.Rule.TheVariants.{Name, Type_}
+use Rattle.language_base.specs.declared.rule.Rule.TheVariants.{Name, Mismatch}
 use Rattle.item_schema.specs.declared.column.Column.{Column}
 use Rattle.predicate_cells.specs.Fits.{fits}
 use Rattle.value_ops.specs.declared.value.ValueType.TheVariants.{Number}
@@ -24,37 +24,37 @@ none_inside columns (q.name name) = tt
 none_inside columns (q.atom predicate value span) =
     after_any HasNoCollect (found Name span (resolved_over columns predicate)) _ (λ pred.
     after_any HasNoCollect (found Name span (expression_over (of_item columns) value)) _ (λ expression.
-    after_any HasNoCollect (provided Type_ span (fits columns pred)) _ (λ tests.
-    after_any HasNoCollect (provided Type_ span (is_typed (types.of_columns columns) expression)) _ (λ typed. tt))))
+    after_any HasNoCollect (provided Mismatch span (fits columns pred)) _ (λ tests.
+    after_any HasNoCollect (provided Mismatch span (is_typed (types.of_columns columns) expression)) _ (λ typed. tt))))
 none_inside columns (q.eps number span) = tt
 none_inside columns (q.or left right span) =
     after HasNoCollect (resolved inside columns left) _ (none_inside columns left) (λ f in_f.
     after HasNoCollect (resolved inside columns right) _ (none_inside columns right) (λ g in_g.
-    after_any HasNoCollect (provided Type_ span (same_type (type_of columns g) (type_of columns f))) _ (λ typed.
+    after_any HasNoCollect (provided Mismatch span (same_type (type_of columns g) (type_of columns f))) _ (λ typed.
     (in_f, in_g))))
 none_inside columns (q.split left right value span) =
     after HasNoCollect (resolved inside columns left) _ (none_inside columns left) (λ f in_f.
     after HasNoCollect (resolved inside columns right) _ (none_inside columns right) (λ g in_g.
     after_any HasNoCollect (found Name span (expression_over of_two value)) _ (λ expression.
     after_any HasNoCollect
-    (provided Type_ span (is_typed (types.of_two (type_of columns f) (type_of columns g)) expression)) _ (λ typed.
+    (provided Mismatch span (is_typed (types.of_two (type_of columns f) (type_of columns g)) expression)) _ (λ typed.
     (in_f, in_g)))))
 none_inside columns (q.iter operand first step span) =
     after HasNoCollect (resolved inside columns operand) _ (none_inside columns operand) (λ f in_f.
     after_any HasNoCollect (found Name span (expression_over of_two step)) _ (λ expression.
-    after_any HasNoCollect (provided Type_ span (is_number (types.of_two Number (type_of columns f)) expression)) _
+    after_any HasNoCollect (provided Mismatch span (is_number (types.of_two Number (type_of columns f)) expression)) _
     (λ typed. in_f)))
 none_inside columns (q.combine left right value span) =
     after HasNoCollect (resolved inside columns left) _ (none_inside columns left) (λ f in_f.
     after HasNoCollect (resolved inside columns right) _ (none_inside columns right) (λ g in_g.
     after_any HasNoCollect (found Name span (expression_over of_two value)) _ (λ expression.
     after_any HasNoCollect
-    (provided Type_ span (is_typed (types.of_two (type_of columns f) (type_of columns g)) expression)) _ (λ typed.
+    (provided Mismatch span (is_typed (types.of_two (type_of columns f) (type_of columns g)) expression)) _ (λ typed.
     (in_f, in_g)))))
 none_inside columns (q.apply operand value span) =
     after HasNoCollect (resolved inside columns operand) _ (none_inside columns operand) (λ f in_f.
     after_any HasNoCollect (found Name span (expression_over of_one value)) _ (λ expression.
-    after_any HasNoCollect (provided Type_ span (is_typed (types.of_one (type_of columns f)) expression)) _
+    after_any HasNoCollect (provided Mismatch span (is_typed (types.of_one (type_of columns f)) expression)) _
     (λ typed. in_f)))
 none_inside columns (q.compose left right span) =
     after HasNoCollect (resolved inside columns left) _ (none_inside columns left) (λ f in_f.

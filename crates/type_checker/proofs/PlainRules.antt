@@ -4,7 +4,7 @@ use Rattle.std.proofs.Common.{◌≡◌, ◌&&◌, Bool, true, false, List, Opti
 use Rattle.std.specs.List.{list_all}
 use Rattle.language_base.specs.declared.refusal.Refusal.{Refusal}
 use Rattle.language_base.specs.declared.rule.Rule.{Rule}
-use Rattle.language_base.specs.declared.rule.Rule.TheVariants.{Cells, Compose, Empty, Name, Nested, Rates, Reach, Size, Type_}
+use Rattle.language_base.specs.declared.rule.Rule.TheVariants.{Cells, Compose, Empty, Name, Nested, Rates, Reach, Size, Mismatch}
 use Rattle.language_base.specs.declared.span.Span.{Span}
 use Rattle.item_schema.specs.Layout.{Layout}
 use Rattle.item_schema.specs.declared.column.Column.{Column}
@@ -68,8 +68,8 @@ after_name span (Some value) next each = each value
 after_name span None next each = λ forbids. forbids
 
 after_type : {B : Type 0} (span : Span) (passes : Bool) (next : Unit {0} → Result B Refusal)
-    → ((done : Unit {0}) → StopsPlainly (next done)) → StopsPlainly (provided Type_ span passes >>= next)
-after_type span passes next each = after_test Type_ (λ forbids. forbids) span passes next each
+    → ((done : Unit {0}) → StopsPlainly (next done)) → StopsPlainly (provided Mismatch span passes >>= next)
+after_type span passes next each = after_test Mismatch (λ forbids. forbids) span passes next each
 
 -- names and types
 resolved_plain : (nesting : Nesting) (columns : List Column) (tree : Query)

@@ -2,7 +2,7 @@
 use Rattle.std.proofs.Common.{◌≡◌, Bool, true, false, List, Ok, Err, FitsSigned, refl, sym, ◌∙◌, ap, subst}
 use Rattle.std.specs.Int.{w64}
 use Rattle.item_schema.specs.declared.column.Column.{Column}
-use Rattle.language_base.specs.declared.rule.Rule.TheVariants.{Name, Type_}
+use Rattle.language_base.specs.declared.rule.Rule.TheVariants.{Name, Mismatch}
 use Rattle.language_base.specs.declared.span.Span.{Span}
 use Rattle.query_model.specs.Queries.{Qre, eps, choice, split, iter, combine, apply, plain_of}
 use Rattle.query_model.specs.QueryTypes as types
@@ -60,24 +60,24 @@ module _ (nesting : Nesting) (columns : List Column) where
   module _ (f g : q.Query) (left right : Typed) (is_left : IsMade nesting columns f left)
       (is_right : IsMade nesting columns g right) (span : Span) where
     or_step : resolved nesting columns (q.or f g span)
-        ≡ (provided Type_ span (same_type (type_of columns (plain_of right.query.value.shape))
+        ≡ (provided Mismatch span (same_type (type_of columns (plain_of right.query.value.shape))
         (type_of columns (plain_of left.query.value.shape)))
         >>= (λ (typed : Unit {0}). Ok (choice (plain_of left.query.value.shape) (plain_of right.query.value.shape))))
     unfolding resolved
     or_step = rw (is_left.resolved, is_right.resolved) refl
 
     or_tested : (same : Bool) → same_type right.ty left.ty ≡ same
-        → resolved nesting columns (q.or f g span) ≡ (provided Type_ span same
+        → resolved nesting columns (q.or f g span) ≡ (provided Mismatch span same
         >>= (λ (typed : Unit {0}). Ok (choice (plain_of left.query.value.shape) (plain_of right.query.value.shape))))
     or_tested same is =
         let same' : same_type (type_of columns (plain_of right.query.value.shape))
         (type_of columns (plain_of left.query.value.shape)) ≡ same
         = rw (← is_right.typed.type, ← is_left.typed.type) is in
-        or_step ∙ ap (λ (b : Bool). provided Type_ span b
+        or_step ∙ ap (λ (b : Bool). provided Mismatch span b
         >>= (λ (typed : Unit {0}). Ok (choice (plain_of left.query.value.shape) (plain_of right.query.value.shape)))) same'
 
     pub or_refused : same_type right.ty left.ty ≡ false → IsRefused nesting columns (q.or f g span)
-        (Refused (refusal Type_ span))
+        (Refused (refusal Mismatch span))
     or_refused differ = or_tested false differ
 
     pub or_made : (made : Typed) → same_type right.ty left.ty ≡ true

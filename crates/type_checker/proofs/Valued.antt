@@ -1,6 +1,6 @@
 -- What the passes over an expression find, from its names and its types.
 use Rattle.std.proofs.Common.{◌≡◌, true, false, Some, None, Ok, Err, refl}
-use Rattle.language_base.specs.declared.rule.Rule.TheVariants.{Name, Type_}
+use Rattle.language_base.specs.declared.rule.Rule.TheVariants.{Name, Mismatch}
 use Rattle.language_base.specs.declared.span.Span.{Span}
 use Rattle.query_model.specs.Queries.{Qre}
 use Rattle.query_syntax.specs.Expressions as e
@@ -26,16 +26,16 @@ module _ (scope : Scope) (types : Types) (tree : e.Expression) (span : Span) whe
   module _ (value : Expression) (named : Some value ≡ expression_over scope tree) where
     -- the types do not fit
     fails : is_typed types value ≡ false → (make : Expression → Qre)
-        → typed_then scope types tree span make ≡ Err (refusal Type_ span)
+        → typed_then scope types tree span make ≡ Err (refusal Mismatch span)
     fails is make = rw (← named, is) refl
 
     pub fails_number : is_number types value ≡ false → (make : Expression → Qre)
-        → number_then scope types tree span make ≡ Err (refusal Type_ span)
+        → number_then scope types tree span make ≡ Err (refusal Mismatch span)
     fails_number is make = rw (← named, is) refl
 
     pub unfit : HasFittingNumbers value → ((type : ValueType) → HasType types value type → ⊥) →
         (make : Expression → Qre)
-        → typed_then scope types tree span make ≡ Err (refusal Type_ span)
+        → typed_then scope types tree span make ≡ Err (refusal Mismatch span)
     unfit fits none make = fails (untyped types value fits none) make
 
     -- they fit

@@ -3,7 +3,7 @@ use Rattle.std.specs.Prelude.{◌≡◌, ◌&&◌, Bool, true, List, Some, Resul
 use Rattle.std.specs.List.{list_all}
 use Rattle.item_schema.specs.declared.column.Column.{Column}
 use Rattle.language_base.specs.declared.refusal.Refusal.{Refusal}
-use Rattle.language_base.specs.declared.rule.Rule.TheVariants.{Name, Type_}
+use Rattle.language_base.specs.declared.rule.Rule.TheVariants.{Name, Mismatch}
 use Rattle.language_base.specs.declared.span.Span.{Span}
 use Rattle.predicate_cells.specs.Fits.{fits, has_texts}
 use Rattle.predicate_cells.specs.Plain as predicates
@@ -130,7 +130,7 @@ abbrev pub typed_then : Scope → Types → e.Expression → Span → (Expressio
     → Result Qre Refusal
 typed_then scope types tree span make =
     found Name span (expression_over scope tree) >>= (λ (expression : Expression).
-    provided Type_ span (is_typed types expression) >>= (λ (typed : Unit {0}).
+    provided Mismatch span (is_typed types expression) >>= (λ (typed : Unit {0}).
     Ok (make expression)))
 
 -- what an expression that is a number is made to
@@ -138,7 +138,7 @@ abbrev pub number_then : Scope → Types → e.Expression → Span → (Expressi
     → Result Qre Refusal
 number_then scope types tree span make =
     found Name span (expression_over scope tree) >>= (λ (expression : Expression).
-    provided Type_ span (is_number types expression) >>= (λ (typed : Unit {0}).
+    provided Mismatch span (is_number types expression) >>= (λ (typed : Unit {0}).
     Ok (make expression)))
 
 -- the expression is resolved to this one, which has this type

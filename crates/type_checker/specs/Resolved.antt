@@ -5,7 +5,7 @@
 use Rattle.std.specs.Prelude.{Bool, ◌&&◌, true, false, List, Result, Ok, Err}
 use Rattle.std.specs.List.{list_all}
 use Rattle.language_base.specs.declared.refusal.Refusal.{Refusal}
-use Rattle.language_base.specs.declared.rule.Rule.TheVariants.{Name, Nested, Type_}
+use Rattle.language_base.specs.declared.rule.Rule.TheVariants.{Name, Nested, Mismatch}
 use Rattle.item_schema.specs.declared.column.Column.{Column}
 use Rattle.value_ops.specs.declared.value.ValueType.{ValueType}
 use Rattle.value_ops.specs.declared.value.ValueType.TheVariants.{Number, Table}
@@ -44,38 +44,38 @@ resolved nesting columns (q.name name) = Err (refusal Name name.span)
 resolved nesting columns (q.atom predicate value span) = do
   pred ← found Name span (resolved_over columns predicate)
   expression ← found Name span (expression_over (of_item columns) value)
-  tests ← provided Type_ span (fits columns pred)
-  typed ← provided Type_ span (is_typed (types.of_columns columns) expression)
+  tests ← provided Mismatch span (fits columns pred)
+  typed ← provided Mismatch span (is_typed (types.of_columns columns) expression)
   Ok (atom pred expression)
 resolved nesting columns (q.eps number span) = Ok (eps number.value)
 resolved nesting columns (q.or left right span) = do
   f ← resolved nesting columns left
   g ← resolved nesting columns right
-  typed ← provided Type_ span (same_type (type_of columns g) (type_of columns f))
+  typed ← provided Mismatch span (same_type (type_of columns g) (type_of columns f))
   Ok (choice f g)
 resolved nesting columns (q.split left right value span) = do
   f ← resolved nesting columns left
   g ← resolved nesting columns right
   expression ← found Name span (expression_over of_two value)
-  typed ← provided Type_ span (is_typed (types.of_two (type_of columns f) (type_of columns g))
+  typed ← provided Mismatch span (is_typed (types.of_two (type_of columns f) (type_of columns g))
       expression)
   Ok (split f g expression)
 resolved nesting columns (q.iter operand first step span) = do
   f ← resolved nesting columns operand
   expression ← found Name span (expression_over of_two step)
-  typed ← provided Type_ span (is_number (types.of_two Number (type_of columns f)) expression)
+  typed ← provided Mismatch span (is_number (types.of_two Number (type_of columns f)) expression)
   Ok (iter f first.value expression)
 resolved nesting columns (q.combine left right value span) = do
   f ← resolved nesting columns left
   g ← resolved nesting columns right
   expression ← found Name span (expression_over of_two value)
-  typed ← provided Type_ span (is_typed (types.of_two (type_of columns f) (type_of columns g))
+  typed ← provided Mismatch span (is_typed (types.of_two (type_of columns f) (type_of columns g))
       expression)
   Ok (combine f g expression)
 resolved nesting columns (q.apply operand value span) = do
   f ← resolved nesting columns operand
   expression ← found Name span (expression_over of_one value)
-  typed ← provided Type_ span (is_typed (types.of_one (type_of columns f)) expression)
+  typed ← provided Mismatch span (is_typed (types.of_one (type_of columns f)) expression)
   Ok (apply f expression)
 resolved nesting columns (q.compose left right span) = do
   f ← resolved nesting columns left
@@ -87,6 +87,6 @@ resolved nesting columns (q.collect key sync rate operand span) = do
   pred ← found Name span (resolved_over columns sync)
   words ← found Name span (rate_over columns rate)
   nested ← provided Nested span (may_collect nesting)
-  typed ← provided Type_ span (has_texts columns column && (fits columns pred
+  typed ← provided Mismatch span (has_texts columns column && (fits columns pred
       && list_all (fits columns) (preds_of words)))
   Ok (collect column pred words f)

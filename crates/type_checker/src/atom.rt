@@ -137,7 +137,7 @@ fn type_of_atom(
         → IsRefused nesting (columns_of items.now) (q.atom test tree span) stop) }
 {
     if !pred.fits(items.schema) {
-        return Err(CheckStop::refused(Rule::Type_, span));
+        return Err(CheckStop::refused(Rule::Mismatch, span));
     }
     let types = Types {
         fields: items.types,
@@ -146,6 +146,6 @@ fn type_of_atom(
     };
     match value.type_in(&types) {
         Some(ty) => Ok(ty),
-        None => Err(CheckStop::refused(Rule::Type_, span)),
+        None => Err(CheckStop::refused(Rule::Mismatch, span)),
     }
 }

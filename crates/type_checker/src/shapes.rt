@@ -117,7 +117,7 @@ fn choice(alloc: Global, left: Typed, right: Typed, span: Span) -> Result<Typed,
     ensures refused { IfErr result (IsRefusedOverTwo (λ f g. q.or f g span) left right) }
 {
     if !same_type(right.ty, left.ty) {
-        return Err(CheckStop::refused(Rule::Type_, span));
+        return Err(CheckStop::refused(Rule::Mismatch, span));
     }
     let shape = Shape::Or(left.query, right.query);
     Ok(Typed::new(alloc, shape, span, left.ty)?)

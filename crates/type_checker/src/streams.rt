@@ -140,7 +140,7 @@ fn keep_parts(nesting: Nesting, schema: &Schema, parts: &Parts, span: Span) -> R
         return Err(CheckStop::refused(Rule::Nested, span));
     }
     if !parts_fit(schema, parts) {
-        return Err(CheckStop::refused(Rule::Type_, span));
+        return Err(CheckStop::refused(Rule::Mismatch, span));
     }
     Ok(())
 }

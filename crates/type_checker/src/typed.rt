@@ -35,7 +35,7 @@ pub fn value_over(
     };
     match value.type_in(types) {
         Some(ty) => Ok((value, ty)),
-        None => Err(CheckStop::refused(Rule::Type_, span)),
+        None => Err(CheckStop::refused(Rule::Mismatch, span)),
     }
 }
 
@@ -57,7 +57,7 @@ pub fn number_over(
         return Err(CheckStop::refused(Rule::Name, span));
     };
     if !is_number(types, &value) {
-        return Err(CheckStop::refused(Rule::Type_, span));
+        return Err(CheckStop::refused(Rule::Mismatch, span));
     }
     Ok(value)
 }
