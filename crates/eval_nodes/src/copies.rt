@@ -20,7 +20,7 @@ use value_ops::Value;
 
 /// A node that keeps the same for the query.
 #[cycle(copy)]
-pub fn copy(query: &Query, node: &Node, alloc: Global) -> Result<Node, AllocError>
+pub fn copy_of_node(query: &Query, node: &Node, alloc: Global) -> Result<Node, AllocError>
     ensures { IfOk result (λ copy. IsCopy seen_of (plain_of query.now.shape)
         (holding_of node.now.state) (holding_of copy.state)) }
 {
@@ -42,7 +42,7 @@ pub(crate) fn boxed_copy(query: &Query, node: &Node, alloc: Global) -> Result<Bo
     ensures { IfOk result (λ copy. IsCopy seen_of (plain_of query.now.shape)
         (holding_of node.now.state) (holding_of copy.value.state)) }
 {
-    Ok(Box::new(alloc, copy(query, node, alloc)?)?)
+    Ok(Box::new(alloc, copy_of_node(query, node, alloc)?)?)
 }
 
 /// A copy of a runner: its position, its answer and a copy of its node.
@@ -59,7 +59,7 @@ pub fn copy_of_runner(
         Some(value) => Some(value.try_copy(alloc)?),
         None => None,
     };
-    let node = copy(query, &runner.node, alloc)?;
+    let node = copy_of_node(query, &runner.node, alloc)?;
     Ok(Progress {
         node,
         position: runner.position,

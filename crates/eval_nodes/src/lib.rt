@@ -16,7 +16,7 @@ mod node_counts;
 mod progress;
 
 pub use cells::{has_no_collect, stream_cells};
-pub use copies::{copy, copy_of_runner};
+pub use copies::{copy_of_node, copy_of_runner};
 pub use counts::{size_of_runner, stored};
 pub use emptying::clear;
 pub use live::is_live;

@@ -8,7 +8,7 @@ ghost use Rattle.test_engines.specs.TestedQueries as tested;
 
 use crate::assertions::same;
 use crate::given::{difference, item};
-use eval_nodes::{Node, copy, is_live, stored};
+use eval_nodes::{Node, copy_of_node, is_live, stored};
 use eval_tree::{Hit, start, step};
 use item_schema::Item;
 use query_model::Query;
@@ -149,7 +149,7 @@ fn stored_in_both(alloc: Global, query: &Query, node: &mut Node) -> Result<(u64,
 {
     hit_at_first(alloc, query, node)?;
     hit_after(alloc, query, node, 1, 9)?;
-    let other = Box::new(alloc, copy(query, node, alloc)?)?;
+    let other = Box::new(alloc, copy_of_node(query, node, alloc)?)?;
     Ok((stored(query, node), stored(query, &other)))
 }
 

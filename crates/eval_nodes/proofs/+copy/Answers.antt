@@ -118,22 +118,22 @@ copies::copied_tracks-starts-preserved t c =
       before.2,
     )
 
-pub copies::copy-returns-in-Or : goal.copies::copy-returns-in-Or
-copies::copy-returns-in-Or t c =
+pub copies::copy_of_node-returns-in-Or : goal.copies::copy_of_node-returns-in-Or
+copies::copy_of_node-returns-in-Or t c =
     copied_for _ _ (holding_of c.args.node.now.state) _ (λ copy is. is)
     (ap plain_of c.in-Or.is
     ∙ of_both choice _ _ _ _ (same_query _ _ c.deref.ensures) (same_query _ _ c.deref-in-Or.ensures))
     c.copy_of_choice.result c.copy_of_choice.ensures
 
-pub copies::copy-returns-in-Apply : goal.copies::copy-returns-in-Apply
-copies::copy-returns-in-Apply t c =
+pub copies::copy_of_node-returns-in-Apply : goal.copies::copy_of_node-returns-in-Apply
+copies::copy_of_node-returns-in-Apply t c =
     let e = values.plain_of c.in-Apply.field-1 in
     copied_for _ _ (holding_of c.args.node.now.state) _ (λ copy is. is e)
     (ap plain_of c.in-Apply.is ∙ ap (λ f. apply f e) (same_query _ _ c.deref-in-Apply.ensures))
     c.copy_of_apply.result c.copy_of_apply.ensures
 
-pub copies::copy-returns-in-Split : goal.copies::copy-returns-in-Split
-copies::copy-returns-in-Split t c =
+pub copies::copy_of_node-returns-in-Split : goal.copies::copy_of_node-returns-in-Split
+copies::copy_of_node-returns-in-Split t c =
     let e = values.plain_of c.in-Split.field-2 in
     copied_for _ _ (holding_of c.args.node.now.state) _ (λ copy is. is e)
     (ap plain_of c.in-Split.is
@@ -141,8 +141,8 @@ copies::copy-returns-in-Split t c =
     (same_query _ _ c.deref-in-Split-2.ensures))
     c.copy_of_split.result c.copy_of_split.ensures
 
-pub copies::copy-returns-in-Combine : goal.copies::copy-returns-in-Combine
-copies::copy-returns-in-Combine t c =
+pub copies::copy_of_node-returns-in-Combine : goal.copies::copy_of_node-returns-in-Combine
+copies::copy_of_node-returns-in-Combine t c =
     let e = values.plain_of c.in-Combine.field-2 in
     copied_for _ _ (holding_of c.args.node.now.state) _ (λ copy is. is e)
     (ap plain_of c.in-Combine.is
@@ -150,22 +150,22 @@ copies::copy-returns-in-Combine t c =
     (same_query _ _ c.deref-in-Combine-2.ensures))
     c.copy_of_combine.result c.copy_of_combine.ensures
 
-pub copies::copy-returns-in-Iter : goal.copies::copy-returns-in-Iter
-copies::copy-returns-in-Iter t c =
+pub copies::copy_of_node-returns-in-Iter : goal.copies::copy_of_node-returns-in-Iter
+copies::copy_of_node-returns-in-Iter t c =
     let e = values.plain_of c.in-Iter.field-2 in
     copied_for _ _ (holding_of c.args.node.now.state) _ (λ copy is. is c.in-Iter.field-1 e)
     (ap plain_of c.in-Iter.is ∙ ap (λ f. iter f c.in-Iter.field-1 e) (same_query _ _ c.deref-in-Iter.ensures))
     c.copy_of_iter.result c.copy_of_iter.ensures
 
-pub copies::copy-returns-in-Compose : goal.copies::copy-returns-in-Compose
-copies::copy-returns-in-Compose t c =
+pub copies::copy_of_node-returns-in-Compose : goal.copies::copy_of_node-returns-in-Compose
+copies::copy_of_node-returns-in-Compose t c =
     copied_for _ _ (holding_of c.args.node.now.state) _ (λ copy is. is)
     (ap plain_of c.in-Compose.is
     ∙ of_both compose _ _ _ _ (same_query _ _ c.deref-in-Compose.ensures) (same_query _ _ c.deref-in-Compose-2.ensures))
     c.copy_of_compose.result c.copy_of_compose.ensures
 
-pub copies::copy-returns-in-Collect : goal.copies::copy-returns-in-Collect
-copies::copy-returns-in-Collect t c =
+pub copies::copy_of_node-returns-in-Collect : goal.copies::copy_of_node-returns-in-Collect
+copies::copy_of_node-returns-in-Collect t c =
     let sync = predicates.plain_of c.in-Collect.field-1 in
     let rate = rates.plain_of c.in-Collect.field-2 in
     copied_for _ _ (holding_of c.args.node.now.state) _ (λ copy is. is c.in-Collect.field-0 sync rate)

@@ -37,8 +37,8 @@ invariant-copies::copied_tracks-starts l =
     × (l.i-end ≡ length l.tracks.tracks)
 
 -- how deep the query is; at one query those that call others stand above them
-abbrev pub decreases-copies::copy : goal.decreases-copies::copy
-decreases-copies::copy l = 6 * size-Query l.query.now
+abbrev pub decreases-copies::copy_of_node : goal.decreases-copies::copy_of_node
+decreases-copies::copy_of_node l = 6 * size-Query l.query.now
 
 abbrev pub decreases-copies::boxed_copy : goal.decreases-copies::boxed_copy
 decreases-copies::boxed_copy l = 6 * size-Query l.query.now + 1
