@@ -7,7 +7,7 @@ ghost use Rattle.ambiguity_check.specs.Meetings.{AreMeetings};
 
 use crate::graph::{Graph, Move, Moves, Phase};
 use crate::meetings::meetings;
-use crate::reach::reach;
+use crate::reachability::reach;
 use crate::readings::{after, all_after, all_onward, onward, row};
 use rate_expr::Positions;
 use rate_expr::masks::has;

@@ -8,7 +8,7 @@ mod level;
 mod marks;
 mod meetings;
 mod overlaps;
-mod reach;
+mod reachability;
 mod readings;
 mod search;
 mod splits;

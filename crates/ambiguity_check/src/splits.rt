@@ -12,7 +12,7 @@ ghost use Rattle.ambiguity_check.specs.Marked.{IsMarked};
 use crate::graph::{Graph, Move, Moves, Phase};
 use crate::marks::Marks;
 use crate::meetings::meetings;
-use crate::reach::reach;
+use crate::reachability::reach;
 use crate::readings::{after, all_after, row};
 use rate_expr::Positions;
 use rate_expr::masks::{has, overlap};

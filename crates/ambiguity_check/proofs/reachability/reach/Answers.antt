@@ -1,6 +1,6 @@
 use Rattle.std.proofs.Common.{◌+◌}
 use Rattle.ambiguity_check.proofs.Searches.{level_over}
-use Rattle.ambiguity_check.proofs.reach.reach.Goals as goal
+use Rattle.ambiguity_check.proofs.reachability.reach.Goals as goal
 
 pub levels-init : goal.levels-init
 levels-init g c = (1, c.in_ok-search.ensures)

@@ -2,7 +2,7 @@ use Rattle.std.proofs.Common.{ℕ, ◌+◌}
 use Rattle.std.specs.Prelude.{sum}
 use Rattle.ambiguity_check.specs.Levels.{IsLevel}
 use Rattle.ambiguity_check.specs.Marked.{room}
-use Rattle.ambiguity_check.proofs.reach.reach.Given as goal
+use Rattle.ambiguity_check.proofs.reachability.reach.Given as goal
 
 abbrev pub invariant-levels : goal.invariant-levels
 invariant-levels g l = (items : ℕ)
