@@ -11,7 +11,7 @@ use Rattle.ambiguity_check.specs.declared.graph.Phase.{Phase}
 use Rattle.ambiguity_check.specs.declared.graph.Phase.TheVariants.{Together, Parted, Rejoined}
 use Rattle.ambiguity_check.specs.Marked.{IsInRow}
 use Rattle.ambiguity_example.specs.Known.{Adds}
-use Rattle.ambiguity_example.specs.declared.reached.Reached.{Reached}
+use Rattle.ambiguity_example.specs.declared.reached_nodes.Reached.{Reached}
 
 -- nothing is in the empty list
 pub none_in : {A : Type 0} (x : A) → Contains [] x → ⊥

@@ -8,8 +8,8 @@ use Rattle.rate_expr.specs.Readings.{AreDisjoint, HaveOneSplit, HasOneFactoring}
 use Rattle.symbolic_nfa.specs.Automata.{Automaton}
 use Rattle.ambiguity_example.specs.Asks.{Asks, columns_of}
 use Rattle.ambiguity_example.specs.Shows.{Shown, Question, choice, split, iter, IsKept, IsShortestShown}
-use Rattle.ambiguity_example.specs.declared.ask.Ask.{Ask}
-use Rattle.ambiguity_example.specs.declared.ask.Ask.TheVariants.{Choice, Split, Iter}
+use Rattle.ambiguity_example.specs.declared.question.Ask.{Ask}
+use Rattle.ambiguity_example.specs.declared.question.Ask.TheVariants.{Choice, Split, Iter}
 
 -- what is found answers each question that is asked
 abbrev pub Answers : Ask → Option Shown → Type 0

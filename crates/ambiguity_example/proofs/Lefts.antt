@@ -9,7 +9,7 @@ use Rattle.ambiguity_check.specs.Marked.{row_of, IsMarked, IsInRow}
 use Rattle.ambiguity_check.specs.Walks.{phases, rank}
 use Rattle.ambiguity_example.proofs.Added.{adds_as, adds_both}
 use Rattle.ambiguity_example.specs.Known.{Adds}
-use Rattle.ambiguity_example.specs.declared.reached.Reached.{Reached}
+use Rattle.ambiguity_example.specs.declared.reached_nodes.Reached.{Reached}
 
 module _ (level : List ℕ) (phase : Phase) (items : ℕ) (old : List Reached) where
   -- the nodes of the phase with a lower place on the left

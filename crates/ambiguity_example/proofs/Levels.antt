@@ -13,7 +13,7 @@ use Rattle.ambiguity_check.specs.Walks.{IsWalk}
 use Rattle.ambiguity_example.proofs.Added.{at_level, none_in, one_in}
 use Rattle.ambiguity_example.specs.Known.{AreKnown, Adds, Rises}
 use Rattle.ambiguity_example.specs.WalkLists.{GoesAlong, IsWalkOf}
-use Rattle.ambiguity_example.specs.declared.reached.Reached.{Reached}
+use Rattle.ambiguity_example.specs.declared.reached_nodes.Reached.{Reached}
 
 -- a list has its first element, and those of the rest
 first_in : (x : Reached) (xs : List Reached) → Contains (x ∷ xs) x

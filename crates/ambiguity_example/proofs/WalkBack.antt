@@ -11,7 +11,7 @@ use Rattle.ambiguity_check.specs.Walks.{IsWalk, later}
 use Rattle.ambiguity_example.proofs.Added.{at_level, none_in, only_in}
 use Rattle.ambiguity_example.specs.Known.{AreKnown, Rises}
 use Rattle.ambiguity_example.specs.WalkLists.{GoesAlong, IsWalkOf}
-use Rattle.ambiguity_example.specs.declared.reached.Reached.{Reached}
+use Rattle.ambiguity_example.specs.declared.reached_nodes.Reached.{Reached}
 
 -- of those that rise, each with fewer items than one is in front of it
 rises_after : (xs ys : List Reached) → Rises (xs ++ ys) → Rises ys

@@ -3,8 +3,8 @@ use Rattle.std.specs.Prelude.{◌≡◌, List}
 use Rattle.item_schema.specs.declared.column.Column.{Column}
 use Rattle.rate_expr.specs.Paths.{AreOf}
 use Rattle.ambiguity_example.specs.Shows.{Question, choice, split, iter}
-use Rattle.ambiguity_example.specs.declared.ask.Ask.{Ask}
-use Rattle.ambiguity_example.specs.declared.ask.Ask.TheVariants.{Choice, Split, Iter}
+use Rattle.ambiguity_example.specs.declared.question.Ask.{Ask}
+use Rattle.ambiguity_example.specs.declared.question.Ask.TheVariants.{Choice, Split, Iter}
 
 -- the automata are of the rates of the question
 abbrev pub Asks : Ask → Question → Type 0

@@ -4,7 +4,7 @@ use Rattle.std.specs.List.{Contains}
 use Rattle.ambiguity_check.specs.declared.graph.Node.{Node}
 use Rattle.ambiguity_check.specs.Lengths.{EndsAfter}
 use Rattle.ambiguity_check.specs.Levels.{IsShortest}
-use Rattle.ambiguity_example.specs.declared.reached.Reached.{Reached}
+use Rattle.ambiguity_example.specs.declared.reached_nodes.Reached.{Reached}
 
 -- the `nodes` are appended to the others, each with this number of items
 pub record Adds (nodes : Node → Type 0) (items : ℕ) (old new : List Reached) : Type 0 where

@@ -1,24 +1,24 @@
 //! A shortest word that two rates share, or that a rate reads in two ways.
 #![tactic(auto)]
 
-mod ask;
-mod confirming;
+mod confirmation;
 mod cuts;
-mod cutting;
-mod ending;
-mod factoring;
-mod finding;
-mod meeting;
-mod reached;
-mod reading;
-mod sharing;
-mod shown;
-mod splitting;
+mod level_ends;
+mod membership;
+mod node_items;
+mod pieces;
+mod question;
+mod reached_nodes;
+mod shared_words;
+mod shortest_example;
 mod turns;
+mod two_factorings;
+mod two_readings;
+mod two_splits;
 mod walk;
 
-pub use ask::Ask;
-pub use confirming::confirm;
+pub use confirmation::confirm;
 pub use cuts::Cuts;
-pub use finding::example;
-pub use shown::Example;
+pub use question::Ask;
+pub use shortest_example::example;
+pub use two_readings::Example;

@@ -6,8 +6,8 @@ ghost use Rattle.ambiguity_check.specs.Walks.{IsIn, IsOf};
 ghost use Rattle.ambiguity_example.specs.Known.{AreKnown, IsFirstEnd};
 ghost use Rattle.ambiguity_example.specs.WalkLists.{IsWalkOf, IsShortestWalk};
 
-use crate::ending::end_in;
-use crate::reached::{Reached, add_level};
+use crate::level_ends::end_in;
+use crate::reached_nodes::{Reached, add_level};
 use ambiguity_check::{Graph, Move, Moves, Node, Search};
 use rate_expr::masks::{has, only};
 use std::alloc::{AllocError, Global};

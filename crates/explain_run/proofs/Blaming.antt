@@ -7,7 +7,7 @@ use Rattle.query_syntax.specs.Files.{program_terms}
 use Rattle.query_syntax.specs.Programs.{Program}
 use Rattle.ambiguity_example.specs.Asks.{Asks, columns_of}
 use Rattle.ambiguity_example.specs.Shows.{IsShortestShown, Question, Shown}
-use Rattle.ambiguity_example.specs.declared.ask.Ask.{Ask}
+use Rattle.ambiguity_example.specs.declared.question.Ask.{Ask}
 use Rattle.drawn_example.specs.Drawings.{drawing, readers_of}
 use Rattle.type_checker.specs.Blames.{IsAskOf, IsBlameOf, ambiguity_of, refusal_of}
 use Rattle.type_checker.specs.declared.blame.Blame.{Blame}

@@ -4,7 +4,7 @@ use Rattle.std.specs.declared.alloc.AllocError.{AllocError}
 use Rattle.std.specs.Prelude.{MatchOption}
 use Rattle.ambiguity_example.specs.Asks.{Asks, ShareCells, columns_of}
 use Rattle.ambiguity_example.specs.Shows.{IsKept, IsShortestShown, Question, Shown}
-use Rattle.ambiguity_example.specs.declared.ask.Ask.{Ask}
+use Rattle.ambiguity_example.specs.declared.question.Ask.{Ask}
 use Rattle.item_schema.specs.declared.column.Column.{Column}
 use Rattle.language_base.specs.declared.refusal.Refusal.{Refusal}
 use Rattle.report_writer.specs.Examples.{example_text}

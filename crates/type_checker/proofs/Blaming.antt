@@ -15,8 +15,8 @@ use Rattle.value_ops.specs.Expressions.{Expression}
 use Rattle.ambiguity_example.specs.Asks.{Asks, ShareCells, columns_of}
 use Rattle.ambiguity_example.specs.Shows as shows
 use Rattle.ambiguity_example.specs.Shows.{Question}
-use Rattle.ambiguity_example.specs.declared.ask.Ask.{Ask}
-use Rattle.ambiguity_example.specs.declared.ask.Ask.TheVariants as ask
+use Rattle.ambiguity_example.specs.declared.question.Ask.{Ask}
+use Rattle.ambiguity_example.specs.declared.question.Ask.TheVariants as ask
 use Rattle.type_checker.specs.Blames.{IsAskOf, ambiguity_of, question_of, refusal_of}
 use Rattle.type_checker.specs.Findings.{AreOperands, IsAutomatonOf, IsBrokenAt}
 use Rattle.type_checker.specs.Steps.{refusal}

@@ -5,8 +5,8 @@ use Rattle.std.specs.List.{AllByRecursion}
 use Rattle.ambiguity_example.specs.Asks.{Asks, ShareCells, columns_of}
 use Rattle.ambiguity_example.specs.Shows as shows
 use Rattle.ambiguity_example.specs.Shows.{Question}
-use Rattle.ambiguity_example.specs.declared.ask.Ask.{Ask}
-use Rattle.ambiguity_example.specs.declared.ask.Ask.TheVariants as ask
+use Rattle.ambiguity_example.specs.declared.question.Ask.{Ask}
+use Rattle.ambiguity_example.specs.declared.question.Ask.TheVariants as ask
 use Rattle.language_base.specs.declared.refusal.Refusal.{Refusal}
 use Rattle.language_base.specs.declared.rule.Rule.{Rule}
 use Rattle.language_base.specs.declared.rule.Rule.TheVariants as rule

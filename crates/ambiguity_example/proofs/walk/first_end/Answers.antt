@@ -5,7 +5,7 @@ use Rattle.ambiguity_check.specs.Marked.{IsMarked}
 use Rattle.ambiguity_check.specs.Walks.{IsIn}
 use Rattle.ambiguity_example.specs.Known.{Adds, AreKnown}
 use Rattle.ambiguity_example.proofs.Levels.{NoneBelow, known_next, known_none, none_next, none_ever}
-use Rattle.ambiguity_example.specs.declared.reached.Reached.{Reached}
+use Rattle.ambiguity_example.specs.declared.reached_nodes.Reached.{Reached}
 use Rattle.ambiguity_example.proofs.walk.first_end.Goals as goal
 
 pub levels-init : goal.levels-init
