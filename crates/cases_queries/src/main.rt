@@ -2,7 +2,7 @@
 //! word has two readings, and through hostile cases, and reports what is found in each.
 #![tactic(auto)]
 
-mod accepted;
+mod acceptance;
 mod hostile;
 mod spelling;
 mod tables;

@@ -2,15 +2,15 @@
 //! has that is found for each, and which changed examples are examples as well.
 
 mod case;
-mod confirmed;
-mod cutting;
-mod found;
+mod confirmation;
+mod cut_changes;
+mod findings;
 mod items;
 mod readings;
 mod stop;
 
 use crate::why::case::Case;
-use crate::why::found::push_found;
+use crate::why::findings::push_found;
 use crate::why::stop::Stop;
 use std::alloc::Global;
 use std::{fs, io};

@@ -1,9 +1,9 @@
 //! Cases as they are drawn.
 
 use crate::hostile::case::Case;
+use crate::hostile::damage::{Spoil, rarity};
 use crate::hostile::draws::Draws;
 use crate::hostile::grammar::{ByteRange, Grammar, Mark, Part, Rule};
-use crate::hostile::spoil::{Spoil, rarity};
 use std::alloc::{AllocError, Global};
 
 /// More parts than a case has.

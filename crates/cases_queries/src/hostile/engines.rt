@@ -5,7 +5,7 @@ ghost use Rattle.cases_queries.specs.Kept.{is_within};
 
 use crate::hostile::answers::Answers;
 use crate::hostile::bound::bound_of;
-use crate::hostile::kept::Bound;
+use crate::hostile::memory::Bound;
 use crate::hostile::stop::{Finding, Stop};
 use crate::hostile::transcripts::{Transcript, transcript_of};
 use eval_runner::Runner;

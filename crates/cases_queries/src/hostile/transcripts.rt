@@ -3,7 +3,7 @@ ghost use Rattle.std.specs.Prelude.{◌≡◌, ◌≤◌, ◌<◌, ◌+◌, ◌^
 ghost use Rattle.query_model.specs.Queries.{plain_of};
 ghost use Rattle.sqre_run.specs.Sessions.{IsReady};
 
-use crate::hostile::kept::Kept;
+use crate::hostile::memory::Kept;
 use crate::hostile::texts::Texts;
 use io_edge::{Line, Lines, SteadySource};
 use query_model::{Checked, Follower};

@@ -1,6 +1,6 @@
 //! Queries with the runner and with the search side by side, and where the answers differ.
 
-use crate::accepted::checked;
+use crate::acceptance::checked;
 use crate::tables::pair::{Seen, side_by_side};
 use crate::tables::stop::Stop;
 use query_model::Checked;

@@ -1,6 +1,6 @@
 //! How queries are judged.
 
-use crate::accepted::checked;
+use crate::acceptance::checked;
 use crate::tables::refusal::refused;
 use std::alloc::{AllocError, Global};
 use type_checker::CheckStop;

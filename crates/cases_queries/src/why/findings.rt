@@ -7,7 +7,7 @@ ghost use Rattle.type_checker.specs.Judgments.{IsJudgmentOf};
 ghost use Rattle.type_checker.specs.Nodes.{Node};
 
 use crate::why::case::Case;
-use crate::why::confirmed::push_confirmed;
+use crate::why::confirmation::push_confirmed;
 use crate::why::stop::Stop;
 use ambiguity_example::{Ask, example};
 use language_base::Span;

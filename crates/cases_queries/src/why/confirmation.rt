@@ -3,7 +3,7 @@ ghost use Rattle.ambiguity_example.specs.Asks.{ShareCells, columns_of};
 ghost use Rattle.rate_expr.specs.Words.{IsWordOf};
 ghost use Rattle.std.specs.Prelude.{◌<◌, length};
 
-use crate::why::cutting::{moved, moved_up};
+use crate::why::cut_changes::{moved, moved_up};
 use crate::why::items::{copied, without};
 use crate::why::readings::Readings;
 use ambiguity_example::{Ask, Cuts, Example, confirm};

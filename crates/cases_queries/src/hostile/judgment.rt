@@ -2,7 +2,7 @@
 ghost use Rattle.std.specs.Prelude.{◌≡◌, ◌⊎◌, OnOk};
 ghost use Rattle.cases_queries.specs.Outcomes.{IsSame};
 
-use crate::accepted::checked;
+use crate::acceptance::checked;
 use crate::hostile::answers::{Answers, is_bound, is_drill};
 use crate::hostile::call::{Outcome, asked, run, run_slowly};
 use crate::hostile::case::Case;
