@@ -8,7 +8,7 @@ mod cell_case;
 mod cell_report;
 mod decision;
 mod entry;
-mod equal;
+mod equality;
 mod finding;
 mod items;
 mod levels;
@@ -71,7 +71,7 @@ impl Report {
             Report::Cells => cell_report::report(alloc, table),
             Report::Questions => question::report(alloc, table),
             Report::Pairs => pairs::report(alloc, table),
-            Report::Equal => equal::report(alloc, table),
+            Report::Equal => equality::report(alloc, table),
         }
     }
 }
