@@ -4,11 +4,11 @@
 
 mod automaton;
 mod cells;
+mod construction;
 mod copies;
 mod counts;
-mod emptying;
-mod live;
-mod make;
+mod empty_nodes;
+mod liveness;
 mod new_nodes;
 mod node;
 mod node_copies;
@@ -18,7 +18,7 @@ mod progress;
 pub use cells::{has_no_collect, stream_cells};
 pub use copies::{copy_of_node, copy_of_runner};
 pub use counts::{size_of_runner, stored};
-pub use emptying::clear;
-pub use live::is_live;
+pub use empty_nodes::clear;
+pub use liveness::is_live;
 pub use node::{Node, State};
 pub use progress::Progress;

@@ -13,7 +13,7 @@ ghost use Rattle.eval_nodes.specs.Plain.{holding_of, seen_of};
 ghost use Rattle.eval_nodes.specs.Streams.{CanReadWith};
 
 use crate::automaton::no_tracks;
-use crate::make::idle_runners;
+use crate::construction::idle_runners;
 use crate::{Node, State};
 use iter_eval::Chain;
 use memory_bound::places;

@@ -133,8 +133,8 @@ node::Node::new-returns-in-Collect-clause-sound t c =
     (subst (λ (shape : Shape). slots_of (plain_of shape) ≤ max_slots) c.in-Collect.is c.requires.small))
     (ap plain_of c.in-Collect.is) c.new_collect.result c.new_collect.ensures
 
-pub make::idle_runners-rest-requires : goal.make::idle_runners-rest-requires
-make::idle_runners-rest-requires t c =
+pub construction::idle_runners-rest-requires : goal.construction::idle_runners-rest-requires
+construction::idle_runners-rest-requires t c =
     let before = c.idle.invariant in
     let none = ap length before.0 in
     let count = before.1 in
@@ -142,8 +142,8 @@ make::idle_runners-rest-requires t c =
     let some = c.idle-test.true in
     omega (arith, none, count, room, some)
 
-pub make::idle_runners-idle-preserved : goal.make::idle_runners-idle-preserved
-make::idle_runners-idle-preserved t c =
+pub construction::idle_runners-idle-preserved : goal.construction::idle_runners-idle-preserved
+construction::idle_runners-idle-preserved t c =
     let before = c.idle.invariant in
     let q = plain_of c.args.query.now.shape in
     let one = roll-Progress (record { node = c.in_ok-node.node; position = 0; answer = None }) in

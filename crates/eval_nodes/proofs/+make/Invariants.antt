@@ -11,8 +11,8 @@ use Rattle.eval_nodes.specs.Plain.{seen_of}
 use Rattle.eval_nodes.proofs.+make.Given as goal
 
 -- so many have been made
-abbrev pub invariant-make::idle_runners-idle : goal.invariant-make::idle_runners-idle
-invariant-make::idle_runners-idle l =
+abbrev pub invariant-construction::idle_runners-idle : goal.invariant-construction::idle_runners-idle
+invariant-construction::idle_runners-idle l =
     (l.runners.live ≡ []) × (length l.runners.idle ≡ l.counter) × (l.runners.room ≡ l.count)
     × ((columns : List Column) → AllByRecursion (IsSoundOf seen_of columns (plain_of l.query.shape)) l.runners.idle)
     × AllByRecursion (KeepsFew seen_of (stored_in seen_of (plain_of l.query.shape)) (slots_of (plain_of l.query.shape)))
@@ -25,8 +25,8 @@ decreases-node::Node::new l = 3 * size-Query l.query.now
 abbrev pub decreases-node::Node::boxed : goal.decreases-node::Node::boxed
 decreases-node::Node::boxed l = 3 * size-Query l.query.now + 1
 
-abbrev pub decreases-make::idle_runners : goal.decreases-make::idle_runners
-decreases-make::idle_runners l = 3 * size-Query l.query.now + 1
+abbrev pub decreases-construction::idle_runners : goal.decreases-construction::idle_runners
+decreases-construction::idle_runners l = 3 * size-Query l.query.now + 1
 
 abbrev pub decreases-new_nodes::new_choice : goal.decreases-new_nodes::new_choice
 decreases-new_nodes::new_choice l = 3 * max (size-Query l.first.now) (size-Query l.second.now) + 2

@@ -14,7 +14,7 @@ use Rattle.eval_nodes.proofs.Cleared.{cleared_as, next_cleared, none_kept}
 use Rattle.eval_nodes.proofs.Clearing.{clear_apply, clear_choice, clear_collect, clear_combine, clear_compose, clear_eps, clear_iter, clear_split}
 use Rattle.eval_nodes.proofs.HeldRunners.{fed_is, runners_are}
 use Rattle.eval_nodes.proofs.NewParts.{of_both}
-use Rattle.eval_nodes.proofs.emptying.+clear.Goals as goal
+use Rattle.eval_nodes.proofs.empty_nodes.+clear.Goals as goal
 
 pub clear-returns-in-Atom : goal.clear-returns-in-Atom
 clear-returns-in-Atom t c =

@@ -1,6 +1,6 @@
 use Rattle.std.proofs.Common.{◌+◌, ◌*◌, max}
 use Rattle.query_model.specs.declared.query.Query.{size-Query}
-use Rattle.eval_nodes.proofs.live.+is_live.Given as goal
+use Rattle.eval_nodes.proofs.liveness.+is_live.Given as goal
 
 -- how deep the query is, and above it the node of its shape
 abbrev pub decreases-is_live : goal.decreases-is_live

@@ -5,7 +5,7 @@ use Rattle.eval_nodes.specs.Holdings.{atom_held}
 use Rattle.eval_nodes.specs.Plain.{holding_of, seen_of}
 use Rattle.eval_nodes.proofs.Cleared.{cleared_as}
 use Rattle.eval_nodes.proofs.Clearing.{clear_atom}
-use Rattle.eval_nodes.proofs.emptying.clear_atom.Goals as goal
+use Rattle.eval_nodes.proofs.empty_nodes.clear_atom.Goals as goal
 
 pub returns-in-Atom : goal.returns-in-Atom
 unfolding roll-State out-State denote.Hole.Carrier.roll denote.Hole.Carrier.out

@@ -1,6 +1,6 @@
 use Rattle.std.proofs.Common.{sym}
 use Rattle.eval_nodes.proofs.Reading.{outer_more, outer_there}
-use Rattle.eval_nodes.proofs.live.has_outer.Goals as goal
+use Rattle.eval_nodes.proofs.liveness.has_outer.Goals as goal
 
 pub returns-then-entry-start : goal.returns-then-entry-start
 returns-then-entry-start c =

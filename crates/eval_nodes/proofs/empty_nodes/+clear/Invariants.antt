@@ -3,7 +3,7 @@ use Rattle.query_model.specs.declared.query.Query.{size-Query}
 use Rattle.query_model.specs.Queries.{plain_of}
 use Rattle.eval_nodes.specs.Cleared.{AreCleared}
 use Rattle.eval_nodes.specs.Plain.{seen_of}
-use Rattle.eval_nodes.proofs.emptying.+clear.Given as goal
+use Rattle.eval_nodes.proofs.empty_nodes.+clear.Given as goal
 
 abbrev pub invariant-clear_idle-idle : goal.invariant-clear_idle-idle
 invariant-clear_idle-idle l =

@@ -7,7 +7,7 @@ use Rattle.eval_nodes.specs.Plain.{holding_of}
 use Rattle.eval_nodes.proofs.Same.{same_query}
 use Rattle.eval_nodes.proofs.Lived.{lives_read, none_empty, read_as}
 use Rattle.eval_nodes.proofs.NewParts.{of_both}
-use Rattle.eval_nodes.proofs.live.+is_live.Goals as goal
+use Rattle.eval_nodes.proofs.liveness.+is_live.Goals as goal
 
 pub is_live-returns-in-Atom : goal.is_live-returns-in-Atom
 is_live-returns-in-Atom t c =

@@ -6,7 +6,7 @@ use Rattle.eval_nodes.specs.Live.{live_of}
 use Rattle.eval_nodes.specs.Plain.{holding_of}
 use Rattle.eval_nodes.proofs.HeldTracks.{tracked_is}
 use Rattle.eval_nodes.proofs.CollectLiving.{place_read}
-use Rattle.eval_nodes.proofs.live.is_live_in_collect.Goals as goal
+use Rattle.eval_nodes.proofs.liveness.is_live_in_collect.Goals as goal
 
 pub returns-in-Collect : goal.returns-in-Collect
 returns-in-Collect c = λ column sync rate inner.
