@@ -2,9 +2,9 @@
 //! one.
 #![tactic(auto)]
 
-mod follow;
+mod follower;
+mod initial_state;
 mod laws;
-mod opening;
 mod runner;
 
 pub use laws::a_runner_keeps_its_slots_for_each_key;

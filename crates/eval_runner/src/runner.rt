@@ -2,7 +2,7 @@
 ghost use Rattle.std.specs.Prelude.{◌≡◌};
 ghost use Rattle.query_model.specs.Queries.{plain_of};
 
-use crate::opening::open;
+use crate::initial_state::open;
 use eval_nodes::Progress;
 use eval_tree::renew;
 use query_model::Checked;

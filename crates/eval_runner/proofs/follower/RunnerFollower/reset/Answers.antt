@@ -4,7 +4,7 @@ use Rattle.query_model.specs.declared.query.Query.{Query}
 use Rattle.query_model.specs.Queries.{plain_of}
 use Rattle.query_model.specs.Rules.{HasNoCollect}
 use Rattle.eval_runner.specs.Laws.{follows_sound}
-use Rattle.eval_runner.proofs.follow.RunnerFollower.reset.Goals as goal
+use Rattle.eval_runner.proofs.follower.RunnerFollower.reset.Goals as goal
 
 pub begin_anew-requires-clause-no_collect : goal.begin_anew-requires-clause-no_collect
 begin_anew-requires-clause-no_collect c =

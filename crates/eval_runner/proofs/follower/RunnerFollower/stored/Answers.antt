@@ -4,7 +4,7 @@ use Rattle.eval_nodes.specs.Plain.{seen_of}
 use Rattle.eval_tree.proofs.StoredFew.{runner_few}
 use Rattle.eval_tree.proofs.StoredTracks.{read_texts}
 use Rattle.eval_runner.specs.Following.{columns_of, kept_of, query_of}
-use Rattle.eval_runner.proofs.follow.RunnerFollower.stored.Goals as goal
+use Rattle.eval_runner.proofs.follower.RunnerFollower.stored.Goals as goal
 
 pub returns-clause-few : goal.returns-clause-few
 returns-clause-few c = λ word follows.

@@ -10,7 +10,7 @@ use Rattle.eval_nodes.specs.Streams.{AreColumnsOf, CanBeMade}
 use Rattle.eval_nodes.proofs.Made.{composes_few}
 use Rattle.eval_nodes.proofs.Served.{seen_cells}
 use Rattle.eval_tree.proofs.Carried.{begun}
-use Rattle.eval_runner.proofs.opening.open.Goals as goal
+use Rattle.eval_runner.proofs.initial_state.open.Goals as goal
 
 pub start-requires : goal.start-requires
 start-requires c =

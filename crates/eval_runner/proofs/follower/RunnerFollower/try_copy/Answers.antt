@@ -6,7 +6,7 @@ use Rattle.eval_nodes.specs.Plain.{seen_of}
 use Rattle.eval_runner.specs.Following.{columns_of, query_of}
 use Rattle.eval_runner.proofs.RunnerSteps.{found_sound}
 use Rattle.eval_runner.proofs.RunnerCopies.{copied_at, copied_kept, copied_soundly}
-use Rattle.eval_runner.proofs.follow.RunnerFollower.try_copy.Goals as goal
+use Rattle.eval_runner.proofs.follower.RunnerFollower.try_copy.Goals as goal
 
 pub returns-clause-words : goal.returns-clause-words
 returns-clause-words c = λ word follows.

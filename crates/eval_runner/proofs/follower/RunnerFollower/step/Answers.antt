@@ -7,7 +7,7 @@ use Rattle.eval_nodes.specs.Plain.{seen_of}
 use Rattle.eval_tree.specs.Feeds.{CanCarry, IsCarried}
 use Rattle.eval_runner.proofs.RunnerSteps.{carried, carry_next, found_sound}
 use Rattle.eval_runner.proofs.NumberRunners.{runner_carries}
-use Rattle.eval_runner.proofs.follow.RunnerFollower.step.Goals as goal
+use Rattle.eval_runner.proofs.follower.RunnerFollower.step.Goals as goal
 
 pub carry-requires : goal.carry-requires
 carry-requires c =

@@ -1,7 +1,7 @@
 //! How the runner follows a word.
 
 use crate::Runner;
-use crate::opening::open;
+use crate::initial_state::open;
 use eval_nodes::{Progress, copy_of_runner, has_no_collect, size_of_runner};
 use eval_tree::carry;
 use item_schema::Item;
