@@ -7,7 +7,7 @@ ghost use Rattle.eval_tree.specs.Calls.{HasStarted, HasStepped, found_in};
 ghost use Rattle.eval_tree.specs.Steps.{CanStart, CanStep};
 
 use crate::Hit;
-use crate::lefts::apply_to;
+use crate::left_values::apply_to;
 use crate::steps::{start_into, step_into};
 use eval_nodes::{Node, State};
 use item_schema::Item;

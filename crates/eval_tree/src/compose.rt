@@ -8,7 +8,7 @@ ghost use Rattle.eval_tree.specs.Calls.{HasStarted, HasStepped, found_in};
 ghost use Rattle.eval_tree.specs.Steps.{CanStart, CanStep};
 
 use crate::Hit;
-use crate::feeds::{feed, pass_on};
+use crate::right_runners::{feed, pass_on};
 use crate::steps::{start_into, step_into};
 use compose_eval::Instances;
 use eval_nodes::{Node, Progress, State, is_live};

@@ -11,9 +11,9 @@ ghost use Rattle.eval_tree.specs.Operands.{Continues};
 ghost use Rattle.eval_tree.specs.Steps.{CanStart, CanStep};
 
 use crate::Hit;
-use crate::folds::{continue_from, continue_if_new};
 use crate::operands::step_and_end;
 use crate::steps::start_only;
+use crate::values_so_far::{continue_from, continue_if_new};
 use eval_nodes::{Node, State, is_live};
 use item_schema::Item;
 use iter_eval::Chain;

@@ -8,7 +8,7 @@ ghost use Rattle.eval_tree.specs.Collects.{CanPush, IsPushed};
 ghost use Rattle.eval_tree.specs.OutOfMemory.{IsKeyLeft, IsLeft};
 ghost use Rattle.eval_tree.specs.Pushes.{AllCarried, HasKey, IsKeyPushed};
 
-use crate::feeds::carry;
+use crate::right_runners::carry;
 use eval_nodes::{Progress, copy_of_runner};
 use item_schema::Item;
 use map_collect::Keys;

@@ -6,7 +6,7 @@ ghost use Rattle.eval_nodes.specs.Plain.{holding_of, seen_of};
 ghost use Rattle.eval_tree.specs.Operands.{CanEnd, CanJoin, EndsNumbers, HasEnded, HasJoined, JoinsNumbers};
 
 use crate::Hit;
-use crate::lefts::{end_waiting, join_to};
+use crate::left_values::{end_waiting, join_to};
 use crate::steps::{start_into, step_into};
 use eval_nodes::Node;
 use item_schema::Item;

@@ -14,7 +14,7 @@ ghost use Rattle.eval_tree.specs.declared.hit.Hit.{Hit};
 
 use crate::Hit;
 use crate::hit::put_if_none;
-use crate::lefts::{wait, wait_if_new};
+use crate::left_values::{wait, wait_if_new};
 use crate::operands::{start_and_join, step_and_end};
 use crate::steps::{start_into, step_into};
 use eval_nodes::{Node, State, is_live};

@@ -393,83 +393,83 @@ pub compose::step_compose-unreachable-requires : goal.compose::step_compose-unre
 compose::step_compose-unreachable-requires = Compose.compose::step_compose-unreachable-requires
 
 -- the runners of its right operand
-pub feeds::renew-start_into-requires : goal.feeds::renew-start_into-requires
-feeds::renew-start_into-requires = Runner.feeds::renew-start_into-requires
+pub right_runners::renew-start_into-requires : goal.right_runners::renew-start_into-requires
+right_runners::renew-start_into-requires = Runner.right_runners::renew-start_into-requires
 
-pub feeds::renew-returns-clause-renewed : goal.feeds::renew-returns-clause-renewed
-feeds::renew-returns-clause-renewed = Runner.feeds::renew-returns-clause-renewed
+pub right_runners::renew-returns-clause-renewed : goal.right_runners::renew-returns-clause-renewed
+right_runners::renew-returns-clause-renewed = Runner.right_runners::renew-returns-clause-renewed
 
-pub feeds::carry-step_into-requires : goal.feeds::carry-step_into-requires
-feeds::carry-step_into-requires = Runner.feeds::carry-step_into-requires
+pub right_runners::carry-step_into-requires : goal.right_runners::carry-step_into-requires
+right_runners::carry-step_into-requires = Runner.right_runners::carry-step_into-requires
 
-pub feeds::carry-returns-clause-carried : goal.feeds::carry-returns-clause-carried
-feeds::carry-returns-clause-carried = Runner.feeds::carry-returns-clause-carried
+pub right_runners::carry-returns-clause-carried : goal.right_runners::carry-returns-clause-carried
+right_runners::carry-returns-clause-carried = Runner.right_runners::carry-returns-clause-carried
 
-pub feeds::deliver-carry-requires : goal.feeds::deliver-carry-requires
-feeds::deliver-carry-requires = Runner.feeds::deliver-carry-requires
+pub right_runners::deliver-carry-requires : goal.right_runners::deliver-carry-requires
+right_runners::deliver-carry-requires = Runner.right_runners::deliver-carry-requires
 
-pub feeds::deliver-returns-in_ok-value-in-Some-clause-delivered : goal.feeds::deliver-returns-in_ok-value-in-Some-clause-delivered
-feeds::deliver-returns-in_ok-value-in-Some-clause-delivered = Runner.feeds::deliver-returns-in_ok-value-in-Some-clause-delivered
+pub right_runners::deliver-returns-in_ok-value-in-Some-clause-delivered : goal.right_runners::deliver-returns-in_ok-value-in-Some-clause-delivered
+right_runners::deliver-returns-in_ok-value-in-Some-clause-delivered = Runner.right_runners::deliver-returns-in_ok-value-in-Some-clause-delivered
 
-pub feeds::deliver-returns-in-None-clause-delivered : goal.feeds::deliver-returns-in-None-clause-delivered
-feeds::deliver-returns-in-None-clause-delivered = Runner.feeds::deliver-returns-in-None-clause-delivered
+pub right_runners::deliver-returns-in-None-clause-delivered : goal.right_runners::deliver-returns-in-None-clause-delivered
+right_runners::deliver-returns-in-None-clause-delivered = Runner.right_runners::deliver-returns-in-None-clause-delivered
 
-pub feeds::begin-renew-requires : goal.feeds::begin-renew-requires
-feeds::begin-renew-requires = Runner.feeds::begin-renew-requires
+pub right_runners::begin-renew-requires : goal.right_runners::begin-renew-requires
+right_runners::begin-renew-requires = Runner.right_runners::begin-renew-requires
 
-pub feeds::begin-deliver-requires : goal.feeds::begin-deliver-requires
-feeds::begin-deliver-requires = Runner.feeds::begin-deliver-requires
+pub right_runners::begin-deliver-requires : goal.right_runners::begin-deliver-requires
+right_runners::begin-deliver-requires = Runner.right_runners::begin-deliver-requires
 
-pub feeds::begin-returns-in-Some-clause-begun : goal.feeds::begin-returns-in-Some-clause-begun
-feeds::begin-returns-in-Some-clause-begun = Runner.feeds::begin-returns-in-Some-clause-begun
+pub right_runners::begin-returns-in-Some-clause-begun : goal.right_runners::begin-returns-in-Some-clause-begun
+right_runners::begin-returns-in-Some-clause-begun = Runner.right_runners::begin-returns-in-Some-clause-begun
 
-pub feeds::begin-returns-in-None-clause-begun : goal.feeds::begin-returns-in-None-clause-begun
-feeds::begin-returns-in-None-clause-begun = Runner.feeds::begin-returns-in-None-clause-begun
+pub right_runners::begin-returns-in-None-clause-begun : goal.right_runners::begin-returns-in-None-clause-begun
+right_runners::begin-returns-in-None-clause-begun = Runner.right_runners::begin-returns-in-None-clause-begun
 
-pub feeds::pass_on-deliver-requires : goal.feeds::pass_on-deliver-requires
-feeds::pass_on-deliver-requires = Runner.feeds::pass_on-deliver-requires
+pub right_runners::pass_on-deliver-requires : goal.right_runners::pass_on-deliver-requires
+right_runners::pass_on-deliver-requires = Runner.right_runners::pass_on-deliver-requires
 
-pub feeds::pass_on-returns-in-Some-place-clause-passed : goal.feeds::pass_on-returns-in-Some-place-clause-passed
-feeds::pass_on-returns-in-Some-place-clause-passed = Runner.feeds::pass_on-returns-in-Some-place-clause-passed
+pub right_runners::pass_on-returns-in-Some-place-clause-passed : goal.right_runners::pass_on-returns-in-Some-place-clause-passed
+right_runners::pass_on-returns-in-Some-place-clause-passed = Runner.right_runners::pass_on-returns-in-Some-place-clause-passed
 
-pub feeds::feed-begin-requires : goal.feeds::feed-begin-requires
-feeds::feed-begin-requires = Runner.feeds::feed-begin-requires
+pub right_runners::feed-begin-requires : goal.right_runners::feed-begin-requires
+right_runners::feed-begin-requires = Runner.right_runners::feed-begin-requires
 
-pub feeds::feed-returns-then-idle-eq0-clause-fed : goal.feeds::feed-returns-then-idle-eq0-clause-fed
-feeds::feed-returns-then-idle-eq0-clause-fed = Runner.feeds::feed-returns-then-idle-eq0-clause-fed
+pub right_runners::feed-returns-then-idle-eq0-clause-fed : goal.right_runners::feed-returns-then-idle-eq0-clause-fed
+right_runners::feed-returns-then-idle-eq0-clause-fed = Runner.right_runners::feed-returns-then-idle-eq0-clause-fed
 
-pub feeds::feed-returns-then-live-clause-fed : goal.feeds::feed-returns-then-live-clause-fed
-feeds::feed-returns-then-live-clause-fed = Runner.feeds::feed-returns-then-live-clause-fed
+pub right_runners::feed-returns-then-live-clause-fed : goal.right_runners::feed-returns-then-live-clause-fed
+right_runners::feed-returns-then-live-clause-fed = Runner.right_runners::feed-returns-then-live-clause-fed
 
-pub feeds::feed-returns-else-live-clause-fed : goal.feeds::feed-returns-else-live-clause-fed
-feeds::feed-returns-else-live-clause-fed = Runner.feeds::feed-returns-else-live-clause-fed
+pub right_runners::feed-returns-else-live-clause-fed : goal.right_runners::feed-returns-else-live-clause-fed
+right_runners::feed-returns-else-live-clause-fed = Runner.right_runners::feed-returns-else-live-clause-fed
 
-pub feeds::renew-returns-in_err-start_into-clause-no_memory :
-    goal.feeds::renew-returns-in_err-start_into-clause-no_memory
-feeds::renew-returns-in_err-start_into-clause-no_memory = Runner.feeds::renew-returns-in_err-start_into-clause-no_memory
+pub right_runners::renew-returns-in_err-start_into-clause-no_memory :
+    goal.right_runners::renew-returns-in_err-start_into-clause-no_memory
+right_runners::renew-returns-in_err-start_into-clause-no_memory = Runner.right_runners::renew-returns-in_err-start_into-clause-no_memory
 
-pub feeds::carry-returns-in_err-step_into-clause-no_memory : goal.feeds::carry-returns-in_err-step_into-clause-no_memory
-feeds::carry-returns-in_err-step_into-clause-no_memory = Runner.feeds::carry-returns-in_err-step_into-clause-no_memory
+pub right_runners::carry-returns-in_err-step_into-clause-no_memory : goal.right_runners::carry-returns-in_err-step_into-clause-no_memory
+right_runners::carry-returns-in_err-step_into-clause-no_memory = Runner.right_runners::carry-returns-in_err-step_into-clause-no_memory
 
-pub feeds::deliver-returns-in_err-carry-clause-no_memory : goal.feeds::deliver-returns-in_err-carry-clause-no_memory
-feeds::deliver-returns-in_err-carry-clause-no_memory = Runner.feeds::deliver-returns-in_err-carry-clause-no_memory
+pub right_runners::deliver-returns-in_err-carry-clause-no_memory : goal.right_runners::deliver-returns-in_err-carry-clause-no_memory
+right_runners::deliver-returns-in_err-carry-clause-no_memory = Runner.right_runners::deliver-returns-in_err-carry-clause-no_memory
 
-pub feeds::deliver-returns-in_err-value-in-Some-clause-no_memory :
-    goal.feeds::deliver-returns-in_err-value-in-Some-clause-no_memory
-feeds::deliver-returns-in_err-value-in-Some-clause-no_memory =
-    Runner.feeds::deliver-returns-in_err-value-in-Some-clause-no_memory
+pub right_runners::deliver-returns-in_err-value-in-Some-clause-no_memory :
+    goal.right_runners::deliver-returns-in_err-value-in-Some-clause-no_memory
+right_runners::deliver-returns-in_err-value-in-Some-clause-no_memory =
+    Runner.right_runners::deliver-returns-in_err-value-in-Some-clause-no_memory
 
-pub feeds::begin-returns-in_err-renew-clause-no_memory : goal.feeds::begin-returns-in_err-renew-clause-no_memory
-feeds::begin-returns-in_err-renew-clause-no_memory = Runner.feeds::begin-returns-in_err-renew-clause-no_memory
+pub right_runners::begin-returns-in_err-renew-clause-no_memory : goal.right_runners::begin-returns-in_err-renew-clause-no_memory
+right_runners::begin-returns-in_err-renew-clause-no_memory = Runner.right_runners::begin-returns-in_err-renew-clause-no_memory
 
-pub feeds::begin-returns-in-Some-clause-no_memory : goal.feeds::begin-returns-in-Some-clause-no_memory
-feeds::begin-returns-in-Some-clause-no_memory = Runner.feeds::begin-returns-in-Some-clause-no_memory
+pub right_runners::begin-returns-in-Some-clause-no_memory : goal.right_runners::begin-returns-in-Some-clause-no_memory
+right_runners::begin-returns-in-Some-clause-no_memory = Runner.right_runners::begin-returns-in-Some-clause-no_memory
 
-pub feeds::pass_on-returns-in-Some-place-clause-no_memory : goal.feeds::pass_on-returns-in-Some-place-clause-no_memory
-feeds::pass_on-returns-in-Some-place-clause-no_memory = Runner.feeds::pass_on-returns-in-Some-place-clause-no_memory
+pub right_runners::pass_on-returns-in-Some-place-clause-no_memory : goal.right_runners::pass_on-returns-in-Some-place-clause-no_memory
+right_runners::pass_on-returns-in-Some-place-clause-no_memory = Runner.right_runners::pass_on-returns-in-Some-place-clause-no_memory
 
-pub feeds::feed-returns-in_err-begin-clause-no_memory : goal.feeds::feed-returns-in_err-begin-clause-no_memory
-feeds::feed-returns-in_err-begin-clause-no_memory = Runner.feeds::feed-returns-in_err-begin-clause-no_memory
+pub right_runners::feed-returns-in_err-begin-clause-no_memory : goal.right_runners::feed-returns-in_err-begin-clause-no_memory
+right_runners::feed-returns-in_err-begin-clause-no_memory = Runner.right_runners::feed-returns-in_err-begin-clause-no_memory
 
 -- a collect
 pub collect::start_collect-begin_at-requires : goal.collect::start_collect-begin_at-requires

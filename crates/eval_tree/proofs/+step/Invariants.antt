@@ -40,23 +40,23 @@ decreases-operands::step_and_end l = 8 * size-Query l.operand.now + 1
 abbrev pub decreases-operands::start_and_join : goal.decreases-operands::start_and_join
 decreases-operands::start_and_join l = 8 * size-Query l.operand.now + 1
 
-abbrev pub decreases-feeds::carry : goal.decreases-feeds::carry
-decreases-feeds::carry l = 8 * size-Query l.query.now + 1
+abbrev pub decreases-right_runners::carry : goal.decreases-right_runners::carry
+decreases-right_runners::carry l = 8 * size-Query l.query.now + 1
 
-abbrev pub decreases-feeds::renew : goal.decreases-feeds::renew
-decreases-feeds::renew l = 8 * size-Query l.query.now + 1
+abbrev pub decreases-right_runners::renew : goal.decreases-right_runners::renew
+decreases-right_runners::renew l = 8 * size-Query l.query.now + 1
 
-abbrev pub decreases-feeds::deliver : goal.decreases-feeds::deliver
-decreases-feeds::deliver l = 8 * size-Query l.query.now + 2
+abbrev pub decreases-right_runners::deliver : goal.decreases-right_runners::deliver
+decreases-right_runners::deliver l = 8 * size-Query l.query.now + 2
 
-abbrev pub decreases-feeds::begin : goal.decreases-feeds::begin
-decreases-feeds::begin l = 8 * size-Query l.query.now + 3
+abbrev pub decreases-right_runners::begin : goal.decreases-right_runners::begin
+decreases-right_runners::begin l = 8 * size-Query l.query.now + 3
 
-abbrev pub decreases-feeds::pass_on : goal.decreases-feeds::pass_on
-decreases-feeds::pass_on l = 8 * size-Query l.query.now + 3
+abbrev pub decreases-right_runners::pass_on : goal.decreases-right_runners::pass_on
+decreases-right_runners::pass_on l = 8 * size-Query l.query.now + 3
 
-abbrev pub decreases-feeds::feed : goal.decreases-feeds::feed
-decreases-feeds::feed l = 8 * size-Query l.query.now + 4
+abbrev pub decreases-right_runners::feed : goal.decreases-right_runners::feed
+decreases-right_runners::feed l = 8 * size-Query l.query.now + 4
 
 abbrev pub decreases-keys::push_to_key : goal.decreases-keys::push_to_key
 decreases-keys::push_to_key l = 8 * size-Query l.query.now + 2

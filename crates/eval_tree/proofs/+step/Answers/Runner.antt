@@ -18,7 +18,7 @@ use Rattle.eval_tree.specs.Numbers.{BeginsNumbers, CarriesNumbers, PassesNumbers
 use Rattle.eval_tree.proofs.NumbersAllowed.{begun_carries, cleared_starts, last_begins, place_decides, runner_renews, runner_steps}
 use Rattle.eval_tree.proofs.NumbersTyped.{answer_no_table}
 use Rattle.eval_tree.proofs.+step.Goals as goal
-use Rattle.eval_tree.proofs.+step.Goals.{feeds::feed-then-idle-eq0-via-then-idle-eq0, feeds::feed-then-idle-eq0-via-else-idle-eq0+then-is_some}
+use Rattle.eval_tree.proofs.+step.Goals.{right_runners::feed-then-idle-eq0-via-then-idle-eq0, right_runners::feed-then-idle-eq0-via-else-idle-eq0+then-is_some}
 
 -- what is said of a place that is there, and where there is none
 there_is : (place : Option ℕ) (P : ℕ → Type 0) → is_some place ≡ true → IfSome place P → (i : ℕ) × P i
@@ -29,8 +29,8 @@ there_is_none : (place : Option ℕ) (A : Type 0) → is_some place ≡ false �
 there_is_none None A none is = is
 there_is_none (Some i) A none is = absurd (false≢true (sym none))
 
-pub feeds::renew-start_into-requires : goal.feeds::renew-start_into-requires
-feeds::renew-start_into-requires t c = (
+pub right_runners::renew-start_into-requires : goal.right_runners::renew-start_into-requires
+right_runners::renew-start_into-requires t c = (
   search rules,
   (
     refl,
@@ -39,32 +39,32 @@ feeds::renew-start_into-requires t c = (
   ),
 )
 
-pub feeds::renew-returns-clause-renewed : goal.feeds::renew-returns-clause-renewed
-feeds::renew-returns-clause-renewed t c =
+pub right_runners::renew-returns-clause-renewed : goal.right_runners::renew-returns-clause-renewed
+right_runners::renew-returns-clause-renewed t c =
     begun_anew seen_of (plain_of c.args.query.now.shape) c.args.runner.now _ (holding_of c.clear.new.node.state)
     c.start_into.new.hit c.requires.columns c.requires.no_collect c.requires.sound c.clear.ensures
     c.in_ok-start_into.ensures.word c.in_ok-start_into.ensures.sound refl c.value_of.ensures
 
-pub feeds::carry-step_into-requires : goal.feeds::carry-step_into-requires
-feeds::carry-step_into-requires t c = (
+pub right_runners::carry-step_into-requires : goal.right_runners::carry-step_into-requires
+right_runners::carry-step_into-requires t c = (
   search rules,
   (refl, step_carried seen_of (plain_of c.args.query.now.shape) c.args.runner.now c.args.item.now c.requires),
 )
 
-pub feeds::carry-returns-clause-carried : goal.feeds::carry-returns-clause-carried
-feeds::carry-returns-clause-carried t c =
+pub right_runners::carry-returns-clause-carried : goal.right_runners::carry-returns-clause-carried
+right_runners::carry-returns-clause-carried t c =
     carried_on seen_of (plain_of c.args.query.now.shape) c.args.runner.now _ c.args.item.now c.step_into.new.hit
     c.in_ok-step_into.ensures.word c.in_ok-step_into.ensures.sound refl c.value_of.ensures
 
-pub feeds::deliver-carry-requires : goal.feeds::deliver-carry-requires
-feeds::deliver-carry-requires t c = (
+pub right_runners::deliver-carry-requires : goal.right_runners::deliver-carry-requires
+right_runners::deliver-carry-requires t c = (
   search rules,
   subst (CanCarry seen_of (plain_of c.args.query.now.shape) c.args.runner.now)
       (sym (c.from_value.ensures ∙ ap item_of c.into_parts-start.ensures.value)) c.requires.can,
 )
 
-pub feeds::deliver-returns-in_ok-value-in-Some-clause-delivered : goal.feeds::deliver-returns-in_ok-value-in-Some-clause-delivered
-feeds::deliver-returns-in_ok-value-in-Some-clause-delivered t c = record {
+pub right_runners::deliver-returns-in_ok-value-in-Some-clause-delivered : goal.right_runners::deliver-returns-in_ok-value-in-Some-clause-delivered
+right_runners::deliver-returns-in_ok-value-in-Some-clause-delivered t c = record {
   carried = subst (λ (item : List Field). IsCarried seen_of (plain_of c.args.query.now.shape) c.args.runner.now item
       c.carry-2.new.runner) (c.from_value.ensures ∙ ap item_of c.into_parts-start.ensures.value)
       c.in_ok-carry.ensures.carried;
@@ -74,22 +74,22 @@ feeds::deliver-returns-in_ok-value-in-Some-clause-delivered t c = record {
       ∙ ap (λ (start : ℕ). hit_at start c.carry-2.new.runner.answer) c.into_parts-start.ensures.start;
 }
 
-pub feeds::deliver-returns-in-None-clause-delivered : goal.feeds::deliver-returns-in-None-clause-delivered
-feeds::deliver-returns-in-None-clause-delivered t c = record {
+pub right_runners::deliver-returns-in-None-clause-delivered : goal.right_runners::deliver-returns-in-None-clause-delivered
+right_runners::deliver-returns-in-None-clause-delivered t c = record {
   carried = subst (λ (item : List Field). IsCarried seen_of (plain_of c.args.query.now.shape) c.args.runner.now item
       c.carry-2.new.runner) (c.from_value.ensures ∙ ap item_of c.into_parts-start.ensures.value)
       c.in_ok-carry.ensures.carried;
   answers = c.requires.none ∙ ap (hit_at c.args.left.start) (sym c.in-None.is);
 }
 
-pub feeds::begin-renew-requires : goal.feeds::begin-renew-requires
-feeds::begin-renew-requires t c = (
+pub right_runners::begin-renew-requires : goal.right_runners::begin-renew-requires
+right_runners::begin-renew-requires t c = (
   search rules,
   renew_allowed seen_of (plain_of c.args.query.now.shape) c.args.runner.now c.args.left c.requires.can,
 )
 
-pub feeds::begin-deliver-requires : goal.feeds::begin-deliver-requires
-feeds::begin-deliver-requires t c = (
+pub right_runners::begin-deliver-requires : goal.right_runners::begin-deliver-requires
+right_runners::begin-deliver-requires t c = (
   search rules,
   (
     c.requires.none,
@@ -99,20 +99,20 @@ feeds::begin-deliver-requires t c = (
   ),
 )
 
-pub feeds::begin-returns-in-Some-clause-begun : goal.feeds::begin-returns-in-Some-clause-begun
-feeds::begin-returns-in-Some-clause-begun t c =
+pub right_runners::begin-returns-in-Some-clause-begun : goal.right_runners::begin-returns-in-Some-clause-begun
+right_runners::begin-returns-in-Some-clause-begun t c =
     where_ok c.deliver.result _ _ (λ done delivered. subst (λ (left : Option Hit).
     IsBegun seen_of (plain_of c.args.query.now.shape) c.args.runner.now left c.deliver.new.runner c.deliver.new.hit)
     (sym c.in-Some.is)
     (c.renew.new.runner, c.in_ok-renew.ensures.renewed, delivered)) c.deliver.ensures.delivered
 
-pub feeds::begin-returns-in-None-clause-begun : goal.feeds::begin-returns-in-None-clause-begun
-feeds::begin-returns-in-None-clause-begun t c =
+pub right_runners::begin-returns-in-None-clause-begun : goal.right_runners::begin-returns-in-None-clause-begun
+right_runners::begin-returns-in-None-clause-begun t c =
     subst (λ (left : Option Hit). IsBegun seen_of (plain_of c.args.query.now.shape) c.args.runner.now left
     c.renew.new.runner c.args.hit.now) (sym c.in-None.is) (c.in_ok-renew.ensures.renewed, c.requires.none)
 
-pub feeds::pass_on-deliver-requires : goal.feeds::pass_on-deliver-requires
-feeds::pass_on-deliver-requires t c = (
+pub right_runners::pass_on-deliver-requires : goal.right_runners::pass_on-deliver-requires
+right_runners::pass_on-deliver-requires t c = (
   search rules,
   (
     c.requires.none,
@@ -123,8 +123,8 @@ feeds::pass_on-deliver-requires t c = (
   ),
 )
 
-pub feeds::pass_on-returns-in-Some-place-clause-passed : goal.feeds::pass_on-returns-in-Some-place-clause-passed
-feeds::pass_on-returns-in-Some-place-clause-passed t c =
+pub right_runners::pass_on-returns-in-Some-place-clause-passed : goal.right_runners::pass_on-returns-in-Some-place-clause-passed
+right_runners::pass_on-returns-in-Some-place-clause-passed t c =
     where_ok c.deliver.result _ _ (λ done delivers. subst (λ (left : Option Hit).
     PassesOn seen_of (plain_of c.args.query.now.shape) c.args.runners.now left (record {
       live = with_follower c.args.runners.now.live c.in-Some-place.place c.deliver.new.runner;
@@ -135,8 +135,8 @@ feeds::pass_on-returns-in-Some-place-clause-passed t c =
     c.follower_mut.result.now c.deliver.new.runner c.deliver.new.hit c.in-Some-place.ensures.there c.follower_mut.ensures.value delivers)))
     c.deliver.ensures.delivered
 
-pub feeds::feed-begin-requires : goal.feeds::feed-begin-requires
-feeds::feed-begin-requires t c = (
+pub right_runners::feed-begin-requires : goal.right_runners::feed-begin-requires
+right_runners::feed-begin-requires t c = (
   search rules,
   (
     c.requires.none,
@@ -145,24 +145,24 @@ feeds::feed-begin-requires t c = (
   ),
 )
 
-pub feeds::feed-returns-then-idle-eq0-clause-fed : goal.feeds::feed-returns-then-idle-eq0-clause-fed
-feeds::feed-returns-then-idle-eq0-clause-fed t c =
+pub right_runners::feed-returns-then-idle-eq0-clause-fed : goal.right_runners::feed-returns-then-idle-eq0-clause-fed
+right_runners::feed-returns-then-idle-eq0-clause-fed t c =
     let count = c.idle.ensures in
     subst (λ (hit : Option Hit). Feeds seen_of (plain_of c.args.query.now.shape) c.args.runners.now c.args.live c.args.at
     c.args.left c.args.runners.now hit) (sym c.requires.none)
     (elim c.then-idle-eq0.branch [
-      | feeds::feed-then-idle-eq0-via-then-idle-eq0 w ↦
+      | right_runners::feed-then-idle-eq0-via-then-idle-eq0 w ↦
           feeds_none seen_of (plain_of c.args.query.now.shape) c.args.runners.now c.args.live c.args.at c.args.left
           (λ has. let some = has.idle in let none = w.if-idle-eq0.true in omega (arith, some, none, count))
-      | feeds::feed-then-idle-eq0-via-else-idle-eq0+then-is_some w ↦
+      | right_runners::feed-then-idle-eq0-via-else-idle-eq0+then-is_some w ↦
           feeds_none seen_of (plain_of c.args.query.now.shape) c.args.runners.now c.args.live c.args.at c.args.left
           (λ has. let found = there_is w.place.result (λ i. IsAt c.args.runners.now.live i c.args.at)
           (sym w.is_some.ensures ∙ w.if-is_some.true) w.place.ensures.there in
           fed_already c.args.runners.now.live found.0 c.args.at found.1 has.fresh)
     ])
 
-pub feeds::feed-returns-then-live-clause-fed : goal.feeds::feed-returns-then-live-clause-fed
-feeds::feed-returns-then-live-clause-fed t c =
+pub right_runners::feed-returns-then-live-clause-fed : goal.right_runners::feed-returns-then-live-clause-fed
+right_runners::feed-returns-then-live-clause-fed t c =
     let old = c.args.runners.now in
     let count = c.idle.ensures in
     let last = c.idle-last.ensures in
@@ -176,8 +176,8 @@ feeds::feed-returns-then-live-clause-fed t c =
     c.begin.new.hit c.resting_mut.result.now c.begin.new.runner c.if-live.true has (ap (λ (n : ℕ). n - 1) last)
     c.resting_mut.ensures.value c.in_ok-begin.ensures.begun c.wake.ensures.wakes c.wake.ensures.room
 
-pub feeds::feed-returns-else-live-clause-fed : goal.feeds::feed-returns-else-live-clause-fed
-feeds::feed-returns-else-live-clause-fed t c =
+pub right_runners::feed-returns-else-live-clause-fed : goal.right_runners::feed-returns-else-live-clause-fed
+right_runners::feed-returns-else-live-clause-fed t c =
     let old = c.args.runners.now in
     let count = c.idle.ensures in
     let last = c.idle-last.ensures in
@@ -191,29 +191,29 @@ feeds::feed-returns-else-live-clause-fed t c =
     c.resting_mut.result.now c.begin.new.runner c.if-live.false has (ap (λ (n : ℕ). n - 1) last)
     c.resting_mut.ensures.value c.in_ok-begin.ensures.begun
 
-pub feeds::renew-returns-in_err-start_into-clause-no_memory :
-    goal.feeds::renew-returns-in_err-start_into-clause-no_memory
-feeds::renew-returns-in_err-start_into-clause-no_memory t c = λ free.
+pub right_runners::renew-returns-in_err-start_into-clause-no_memory :
+    goal.right_runners::renew-returns-in_err-start_into-clause-no_memory
+right_runners::renew-returns-in_err-start_into-clause-no_memory t c = λ free.
     absurd (false≢true (c.in_err-start_into.ensures.no_memory
     (cleared_starts seen_of (plain_of c.args.query.now.shape) c.args.runner.now None
     (holding_of c.clear.new.node.state) free c.clear.ensures)))
 
-pub feeds::carry-returns-in_err-step_into-clause-no_memory :
-    goal.feeds::carry-returns-in_err-step_into-clause-no_memory
-feeds::carry-returns-in_err-step_into-clause-no_memory t c = λ free.
+pub right_runners::carry-returns-in_err-step_into-clause-no_memory :
+    goal.right_runners::carry-returns-in_err-step_into-clause-no_memory
+right_runners::carry-returns-in_err-step_into-clause-no_memory t c = λ free.
     absurd (false≢true (c.in_err-step_into.ensures.no_memory
     (runner_steps seen_of (plain_of c.args.query.now.shape) c.args.runner.now c.args.item.now free)))
 
-pub feeds::deliver-returns-in_err-carry-clause-no_memory :
-    goal.feeds::deliver-returns-in_err-carry-clause-no_memory
-feeds::deliver-returns-in_err-carry-clause-no_memory t c = λ free.
+pub right_runners::deliver-returns-in_err-carry-clause-no_memory :
+    goal.right_runners::deliver-returns-in_err-carry-clause-no_memory
+right_runners::deliver-returns-in_err-carry-clause-no_memory t c = λ free.
     absurd (false≢true (c.in_err-carry.ensures.no_memory
     (subst (CarriesNumbers seen_of (plain_of c.args.query.now.shape) c.args.runner.now)
     (sym (c.from_value.ensures ∙ ap item_of c.into_parts-start.ensures.value)) free)))
 
-pub feeds::deliver-returns-in_err-value-in-Some-clause-no_memory :
-    goal.feeds::deliver-returns-in_err-value-in-Some-clause-no_memory
-feeds::deliver-returns-in_err-value-in-Some-clause-no_memory t c = λ free.
+pub right_runners::deliver-returns-in_err-value-in-Some-clause-no_memory :
+    goal.right_runners::deliver-returns-in_err-value-in-Some-clause-no_memory
+right_runners::deliver-returns-in_err-value-in-Some-clause-no_memory t c = λ free.
     absurd (false≢true (c.in_err-value-in-Some.ensures.no_memory
     (answer_no_table seen_of (plain_of c.args.query.now.shape) c.args.runner.now c.carry-2.new.runner
     (item_of c.args.left.value) _ free
@@ -221,32 +221,32 @@ feeds::deliver-returns-in_err-value-in-Some-clause-no_memory t c = λ free.
     c.carry-2.new.runner)
     (c.from_value.ensures ∙ ap item_of c.into_parts-start.ensures.value) c.in_ok-carry.ensures.carried) c.in-Some.is)))
 
-pub feeds::begin-returns-in_err-renew-clause-no_memory :
-    goal.feeds::begin-returns-in_err-renew-clause-no_memory
-feeds::begin-returns-in_err-renew-clause-no_memory t c = λ free.
+pub right_runners::begin-returns-in_err-renew-clause-no_memory :
+    goal.right_runners::begin-returns-in_err-renew-clause-no_memory
+right_runners::begin-returns-in_err-renew-clause-no_memory t c = λ free.
     absurd (false≢true (c.in_err-renew.ensures.no_memory
     (runner_renews seen_of (plain_of c.args.query.now.shape) c.args.runner.now c.args.left free)))
 
-pub feeds::begin-returns-in-Some-clause-no_memory :
-    goal.feeds::begin-returns-in-Some-clause-no_memory
-feeds::begin-returns-in-Some-clause-no_memory t c = λ free.
+pub right_runners::begin-returns-in-Some-clause-no_memory :
+    goal.right_runners::begin-returns-in-Some-clause-no_memory
+right_runners::begin-returns-in-Some-clause-no_memory t c = λ free.
     c.deliver.ensures.no_memory
     (begun_carries seen_of (plain_of c.args.query.now.shape) c.args.runner.now c.renew.new.runner c.in-Some.left
     (subst (BeginsNumbers seen_of (plain_of c.args.query.now.shape) c.args.runner.now) c.in-Some.is free)
     c.in_ok-renew.ensures.renewed)
 
-pub feeds::pass_on-returns-in-Some-place-clause-no_memory :
-    goal.feeds::pass_on-returns-in-Some-place-clause-no_memory
-feeds::pass_on-returns-in-Some-place-clause-no_memory t c = λ free.
+pub right_runners::pass_on-returns-in-Some-place-clause-no_memory :
+    goal.right_runners::pass_on-returns-in-Some-place-clause-no_memory
+right_runners::pass_on-returns-in-Some-place-clause-no_memory t c = λ free.
     c.deliver.ensures.no_memory
     (place_decides seen_of (plain_of c.args.query.now.shape) c.args.runners.now c.in-Some.left c.in-Some-place.place
     c.follower_mut.result.now
     (subst (PassesNumbers seen_of (plain_of c.args.query.now.shape) c.args.runners.now) c.in-Some.is free)
     c.follower_mut.ensures.value)
 
-pub feeds::feed-returns-in_err-begin-clause-no_memory :
-    goal.feeds::feed-returns-in_err-begin-clause-no_memory
-feeds::feed-returns-in_err-begin-clause-no_memory t c = λ free.
+pub right_runners::feed-returns-in_err-begin-clause-no_memory :
+    goal.right_runners::feed-returns-in_err-begin-clause-no_memory
+right_runners::feed-returns-in_err-begin-clause-no_memory t c = λ free.
     absurd (false≢true (c.in_err-begin.ensures.no_memory
     (last_begins seen_of (plain_of c.args.query.now.shape) c.args.runners.now c.args.left _ c.resting_mut.result.now
     free
