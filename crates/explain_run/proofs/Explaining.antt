@@ -13,7 +13,7 @@ use Rattle.type_checker.specs.declared.blame.Blame.{Blame}
 use Rattle.type_checker.proofs.Judging.{blame_refused}
 use Rattle.explain_run.specs.Appended.{IsFound, found_text}
 use Rattle.explain_run.specs.Explained.{Explains, ExplainsProgram, IsAccepted}
-use Rattle.explain_run.specs.declared.found.Found.{Found}
+use Rattle.explain_run.specs.declared.findings.Found.{Found}
 
 -- a text that writes no program
 pub explains_unread : (name text shown : List ℕ) (refusal : Refusal) → IsRefused text refusal

@@ -8,8 +8,8 @@ use Rattle.separating_word.specs.Telling.{separation_text}
 use Rattle.type_checker.specs.Blames.{ForbidsTwoReadings}
 use Rattle.explain_run.specs.Apart.{SeparatesMain, alone}
 use Rattle.explain_run.specs.TwoReadings.{DrawsWhy}
-use Rattle.explain_run.specs.declared.found.Found.{Found}
-use Rattle.explain_run.specs.declared.found.Found.TheVariants.{Apart, Nothing, Readings}
+use Rattle.explain_run.specs.declared.findings.Found.{Found}
+use Rattle.explain_run.specs.declared.findings.Found.TheVariants.{Apart, Nothing, Readings}
 
 -- What is found for the refusal of a text that is this program. For a combination whose operands do
 -- not have the same words these are lines that distinguish them in the text that has it as its main

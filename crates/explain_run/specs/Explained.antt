@@ -9,7 +9,7 @@ use Rattle.explanation.specs.Explanations.{program_explanation, text_explanation
 use Rattle.sqre_run.specs.Compiled.{Compiles}
 use Rattle.type_checker.specs.Judged.{accepted, refused}
 use Rattle.explain_run.specs.Appended.{IsFound, found_text}
-use Rattle.explain_run.specs.declared.found.Found.{Found}
+use Rattle.explain_run.specs.declared.findings.Found.{Found}
 
 -- a run compiles the text to a query
 abbrev pub IsAccepted : List ℕ → Type 0

@@ -1,11 +1,11 @@
 //! Reads and judges a query as a run of it does, and explains its refusal.
 #![tactic(auto)]
 
-mod alone;
-mod apart;
 mod call;
-mod explained;
-mod found;
+mod distinction;
+mod explanations;
+mod findings;
+mod part_text;
 mod query;
 mod readings;
 mod status;

@@ -6,7 +6,7 @@ ghost use Rattle.query_syntax.specs.Plain.{plain_program};
 ghost use Rattle.type_checker.specs.Judgments.{IsJudgmentOf};
 ghost use Rattle.explain_run.specs.Explained.{Explains, IsAccepted};
 
-use crate::explained::{blame_explained, refusal_explained};
+use crate::explanations::{blame_explained, refusal_explained};
 use explanation::text_explanation;
 use language_base::Bytes;
 use query_parser::ReadStop;

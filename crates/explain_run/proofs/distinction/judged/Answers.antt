@@ -3,7 +3,7 @@ use Rattle.query_syntax.specs.Plain.{plain_program}
 use Rattle.query_syntax.proofs.WithinLimits.{stream_within}
 use Rattle.sqre_run.specs.Compiled as compiled
 use Rattle.type_checker.specs.Judged.{accepted}
-use Rattle.explain_run.proofs.apart.judged.Goals as goal
+use Rattle.explain_run.proofs.distinction.judged.Goals as goal
 
 pub check-requires : goal.check-requires
 check-requires c = stream_within _ (plain_program c.args.program.now) c.requires.has.fit

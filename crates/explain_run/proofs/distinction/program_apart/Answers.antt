@@ -2,7 +2,7 @@ use Rattle.std.proofs.lemmas.Result.{IfOk-weaker}
 use Rattle.std.proofs.Common.{sym, ap, ◌∙◌}
 use Rattle.query_syntax.specs.Plain.{plain_expression, plain_program, plain_query}
 use Rattle.explain_run.proofs.Parting.{main_of}
-use Rattle.explain_run.proofs.apart.program_apart.Goals as goal
+use Rattle.explain_run.proofs.distinction.program_apart.Goals as goal
 
 pub returns-in-Combine : goal.returns-in-Combine
 returns-in-Combine c =

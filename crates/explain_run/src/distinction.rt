@@ -10,8 +10,8 @@ ghost use Rattle.type_checker.specs.Judged.{accepted};
 ghost use Rattle.explain_run.specs.Apart.{SeparatesFrom, SeparatesMain, SeparatesParts, SeparatesTexts};
 ghost use Rattle.explain_run.specs.Appended.{IsFound};
 
-use crate::alone::alone;
-use crate::found::Found;
+use crate::findings::Found;
+use crate::part_text::alone;
 use language_base::{Refusal, Rule, Span};
 use query_model::Checked;
 use query_parser::ReadStop;

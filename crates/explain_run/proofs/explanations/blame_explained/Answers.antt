@@ -1,10 +1,10 @@
 use Rattle.std.proofs.lemmas.Result.{IfOk-weaker}
 use Rattle.query_syntax.specs.Plain.{plain_program}
 use Rattle.type_checker.specs.Blames.{refusal_of}
-use Rattle.explain_run.specs.declared.found.Found.TheVariants.{Readings}
+use Rattle.explain_run.specs.declared.findings.Found.TheVariants.{Readings}
 use Rattle.explain_run.proofs.Blaming.{draws_why}
 use Rattle.explain_run.proofs.Explaining.{explains_found}
-use Rattle.explain_run.proofs.explained.blame_explained.Goals as goal
+use Rattle.explain_run.proofs.explanations.blame_explained.Goals as goal
 
 pub drawn_readings-requires : goal.drawn_readings-requires
 drawn_readings-requires c = (plain_program c.args.program.now, c.requires.blamed)

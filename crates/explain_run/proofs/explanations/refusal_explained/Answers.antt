@@ -2,7 +2,7 @@ use Rattle.std.proofs.lemmas.Result.{IfOk-weaker}
 use Rattle.std.proofs.Common.{refl}
 use Rattle.query_syntax.specs.Plain.{plain_program}
 use Rattle.explain_run.proofs.Explaining.{explains_found}
-use Rattle.explain_run.proofs.explained.refusal_explained.Goals as goal
+use Rattle.explain_run.proofs.explanations.refusal_explained.Goals as goal
 
 pub returns : goal.returns
 returns c =

@@ -8,8 +8,8 @@ ghost use Rattle.type_checker.specs.Blames.{ForbidsTwoReadings, IsBlameOf, refus
 ghost use Rattle.explain_run.specs.Appended.{found_text};
 ghost use Rattle.explain_run.specs.Explained.{ExplainsProgram};
 
-use crate::apart::found_apart;
-use crate::found::{Found, push_found};
+use crate::distinction::found_apart;
+use crate::findings::{Found, push_found};
 use crate::readings::drawn_readings;
 use explanation::program_explanation;
 use language_base::{Bytes, Refusal};
