@@ -4,8 +4,8 @@ use Rattle.std.specs.Prelude.{ℕ, List}
 use Rattle.query_forms.specs.declared.term_place.TermPlace.{TermPlace}
 use Rattle.query_forms.specs.declared.term_place.TermPlace.TheVariants.{Mode, Column, Kind, Query, Rate, Pred, Literal, Expr, Compare, Name, Number, Text, Digits}
 use Rattle.explanation.specs.declared.form_sentence.TheConstants as words
-use Rattle.explanation.specs.declared.standing.Standing.{Standing}
-use Rattle.explanation.specs.declared.standing.Standing.TheVariants.{Top, In, Nothing}
+use Rattle.explanation.specs.declared.expectation.Standing.{Standing}
+use Rattle.explanation.specs.declared.expectation.Standing.TheVariants.{Top, In, Nothing}
 
 -- the forms of a place in a call
 unfoldable pub forms_of_place : TermPlace → List ℕ

@@ -8,10 +8,10 @@ use Rattle.std.specs.List.{list_any}
 use Rattle.std.specs.Str.{bytes_eq}
 use Rattle.query_forms.specs.declared.term_place.TermPlace.{TermPlace}
 use Rattle.query_forms.specs.declared.term_place.TermPlace.TheVariants as place
-use Rattle.explanation.specs.declared.nearest.TheConstants.{LOWER_CASE}
+use Rattle.explanation.specs.declared.suggestion.TheConstants.{LOWER_CASE}
 use Rattle.explanation.specs.declared.nearest_words.TheConstants as words
-use Rattle.explanation.specs.declared.standing.Standing.{Standing}
-use Rattle.explanation.specs.declared.standing.Standing.TheVariants.{Top, In, Nothing}
+use Rattle.explanation.specs.declared.expectation.Standing.{Standing}
+use Rattle.explanation.specs.declared.expectation.Standing.TheVariants.{Top, In, Nothing}
 
 -- rows of texts as lists of their bytes
 abbrev pub shown_row : List (Bor (List ℕ)) → List (List ℕ)

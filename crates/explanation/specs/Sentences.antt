@@ -6,7 +6,7 @@ use Rattle.language_base.specs.declared.rule.Rule.{Rule}
 use Rattle.language_base.specs.declared.rule.Rule.TheVariants.{Long, Token, Term, Depth, Form, Name, Nested, Size, Literal, Mismatch, Cells, Empty, Choice, Split, Iter, Reach, Rates, Compose}
 use Rattle.explanation.specs.declared.limit.Limit.{Limit}
 use Rattle.explanation.specs.declared.limit.Limit.TheVariants.{Nodes, Positions, Slots}
-use Rattle.explanation.specs.declared.mending.TheConstants as mended
+use Rattle.explanation.specs.declared.remedy.TheConstants as mended
 use Rattle.explanation.specs.declared.rule_sentence.TheConstants as broken
 
 -- how the rule is broken

@@ -7,8 +7,8 @@ use Rattle.query_forms.specs.declared.term_place.TermPlace.{TermPlace}
 use Rattle.query_forms.specs.declared.term_place.TermPlace.TheVariants as place
 use Rattle.explanation.specs.Calls.{call_at, level_of}
 use Rattle.explanation.specs.declared.calls.Word.{Word}
-use Rattle.explanation.specs.declared.standing.Standing.{Standing}
-use Rattle.explanation.specs.declared.standing.Standing.TheVariants.{Top, In, Nothing}
+use Rattle.explanation.specs.declared.expectation.Standing.{Standing}
+use Rattle.explanation.specs.declared.expectation.Standing.TheVariants.{Top, In, Nothing}
 
 -- the bytes of a word
 abbrev pub word_in : List ℕ → Word → List ℕ

@@ -5,15 +5,15 @@ ghost use Rattle.explanation.specs.Nearest.{nearest_to};
 
 use crate::calls::{Word, call_at, level_of};
 use crate::culprit_line::push_named;
+use crate::expectation::{Standing, standing_at};
 use crate::form_sentence::forms_of;
 use crate::hint::Hint;
 use crate::hint_sentence::hint_sentence;
 use crate::limit::Limit;
-use crate::mending::mended_by;
-use crate::nearest::nearest_to;
 use crate::recognizers::{hint_of, word_at};
+use crate::remedy::mended_by;
 use crate::rule_sentence::broken_in;
-use crate::standing::{Standing, standing_at};
+use crate::suggestion::nearest_to;
 use language_base::{Refusal, Rule, Span};
 use place_in_text::bytes_between;
 use std::alloc::AllocError;

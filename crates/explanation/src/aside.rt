@@ -4,7 +4,7 @@ ghost use Rattle.query_syntax.specs.Plain.{plain_predicate, plain_program, plain
 ghost use Rattle.explanation.specs.Asides.{aside_of, lack_at, lack_of, test_in, test_of, use_inside, values_for};
 
 use crate::culprit::Culprit;
-use crate::finding::{culprit_on_items, culprit_on_values, query_at};
+use crate::culprit_search::{culprit_on_items, culprit_on_values, query_at};
 use crate::spots::is_at;
 use crate::uses::{Inside, first_use};
 use language_base::{Refusal, Rule, Span};

@@ -2,7 +2,7 @@
 ghost use Rattle.std.specs.Prelude.{◌≡◌};
 ghost use Rattle.explanation.specs.FormSentences.{forms_of, forms_of_place};
 
-use crate::standing::Standing;
+use crate::expectation::Standing;
 use query_forms::TermPlace;
 
 const TOP: &str = "\

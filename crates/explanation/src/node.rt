@@ -7,7 +7,7 @@ ghost use Rattle.explanation.specs.Scopes.{plain_scope};
 use crate::culprit::Culprit;
 use crate::misfit::{misfit_item, misfit_read, misfit_test, unless_key};
 use crate::scope::{Scope, unless_known};
-use crate::unknown::{unknown_column, unknown_item, unknown_name};
+use crate::unknown_names::{unknown_column, unknown_item, unknown_name};
 use language_base::{Rule, Span};
 use query_syntax::{Expression, Name, Predicate, Query, Rate};
 

@@ -8,7 +8,7 @@ use crate::advice::push_advice;
 use crate::aside::{Aside, aside_of};
 use crate::culprit::Culprit;
 use crate::culprit_line::push_culprit;
-use crate::finding::culprit_of;
+use crate::culprit_search::culprit_of;
 use crate::limit::{Limit, limit_of};
 use language_base::{Bytes, Refusal, Span};
 use place_in_text::{Position, locate, push_marked_line};

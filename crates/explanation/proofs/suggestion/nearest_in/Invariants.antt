@@ -1,6 +1,6 @@
 use Rattle.std.proofs.Common.{◌≡◌, drop}
 use Rattle.explanation.specs.Nearest.{nearest_in, shown_rows}
-use Rattle.explanation.proofs.nearest.nearest_in.Given as goal
+use Rattle.explanation.proofs.suggestion.nearest_in.Given as goal
 
 -- the rows that are left decide
 abbrev pub invariant-rows : goal.invariant-rows

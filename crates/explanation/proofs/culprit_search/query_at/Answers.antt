@@ -2,7 +2,7 @@ use Rattle.std.proofs.Common.{option_copied, option_map, sym, ap, ◌∙◌}
 use Rattle.query_syntax.specs.Plain.{plain_let, plain_query}
 use Rattle.explanation.specs.Culprits.{query_or}
 use Rattle.explanation.proofs.LetPlaces.{query_found}
-use Rattle.explanation.proofs.finding.query_at.Goals as goal
+use Rattle.explanation.proofs.culprit_search.query_at.Goals as goal
 
 pub returns-in-Some : goal.returns-in-Some
 returns-in-Some c =

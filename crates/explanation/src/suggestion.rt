@@ -2,10 +2,10 @@
 ghost use Rattle.std.specs.Prelude.{◌≡◌, None, Some, MatchOption};
 ghost use Rattle.explanation.specs.Nearest.{has_forms, has_upper, has_words, nearest_in, nearest_to, rows_at, rows_of, said_in, shown_row, shown_rows};
 
+use crate::expectation::Standing;
 use crate::nearest_words::{
     COMPARISONS, EXPRESSIONS, KINDS, NUMBERS, PREDICATES, QUERIES, RATES, TOPS,
 };
-use crate::standing::Standing;
 use query_forms::TermPlace;
 
 const LOWER_CASE: &str = "The words of all forms are written in lower case.";

@@ -1,8 +1,8 @@
 use Rattle.std.proofs.Common.{◌≡◌, ℕ, ◌+◌, suc, List, ap, arith, ◌∙◌}
 use Rattle.explanation.specs.Standing.{argument_of, standing_in, word_in}
 use Rattle.explanation.specs.declared.calls.Call.{Call}
-use Rattle.explanation.specs.declared.standing.Standing.{Standing}
-use Rattle.explanation.proofs.standing.standing_in.Goals as goal
+use Rattle.explanation.specs.declared.expectation.Standing.{Standing}
+use Rattle.explanation.proofs.expectation.standing_in.Goals as goal
 
 pub levels-preserved : goal.levels-preserved
 levels-preserved c =
