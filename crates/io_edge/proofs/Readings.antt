@@ -15,7 +15,7 @@ use Rattle.io_edge.specs.Answered.{shown_by}
 use Rattle.io_edge.specs.Reported.{IsQuiet}
 use Rattle.io_edge.specs.Limits.{max_count, max_line}
 use Rattle.io_edge.specs.Steps.{Cuts, Joins, Reaches, Refills}
-use Rattle.io_edge.specs.declared.under_way.Answer.{Answer}
+use Rattle.io_edge.specs.declared.partial_line.Answer.{Answer}
 use Rattle.io_edge.proofs.LineLaws.{lines_from-piece, lines_from-stands, ended_by_lf-stands}
 
 -- all bytes taken go into the line under way

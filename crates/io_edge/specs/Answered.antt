@@ -3,8 +3,8 @@ use Rattle.std.specs.Prelude.{ℕ, List, []}
 use Rattle.io_edge.specs.Lines.{Shown, text, long}
 use Rattle.io_edge.specs.declared.lines.LinePlace.{LinePlace}
 use Rattle.io_edge.specs.declared.lines.LinePlace.TheVariants.{Nowhere, InChunk, InBuffer}
-use Rattle.io_edge.specs.declared.under_way.Answer.{Answer}
-use Rattle.io_edge.specs.declared.under_way.Answer.TheVariants.{Whole, Long}
+use Rattle.io_edge.specs.declared.partial_line.Answer.{Answer}
+use Rattle.io_edge.specs.declared.partial_line.Answer.TheVariants.{Whole, Long}
 
 -- the bytes of a whole line, and none of a long one
 abbrev pub shown_by : Answer → List ℕ → Shown

@@ -2,7 +2,7 @@
 use Rattle.std.specs.Prelude.{◌≡◌, ◌<◌, ◌≤◌, ◌+◌, true, [], ◌++◌, replicate, vec_len, vec_capacity, if◌then◌else◌}
 use Rattle.io_edge.specs.Limits.{max_count, max_line}
 use Rattle.io_edge.specs.Started.{Started}
-use Rattle.io_edge.specs.declared.under_way.UnderWay.TheInside.{Inside}
+use Rattle.io_edge.specs.declared.partial_line.UnderWay.TheInside.{Inside}
 
 -- the bytes kept, and a zero for each byte that was only counted; a line that was answered is no
 -- longer under way

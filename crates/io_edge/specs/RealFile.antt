@@ -3,8 +3,8 @@
 use Rattle.std.specs.Prelude.{◌≡◌, ◌<◌, ℕ, Bool, false, List, Option, Some, None, Result, Ok, is_some}
 use Rattle.io_edge.specs.Counts.{CountsFault, CountsEnd}
 use Rattle.io_edge.specs.Readers.{left_of}
-use Rattle.io_edge.specs.declared.opened.Opened.{Opened}
-use Rattle.io_edge.specs.declared.opened.Opened.TheVariants.{Input, File}
+use Rattle.io_edge.specs.declared.input.Opened.{Opened}
+use Rattle.io_edge.specs.declared.input.Opened.TheVariants.{Input, File}
 
 -- the bytes that are left in what was opened, if they are known
 abbrev pub left_in : {I F : Type 0} → (I → Option (List ℕ)) → (F → Option (List ℕ)) → Opened I F

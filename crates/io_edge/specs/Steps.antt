@@ -5,7 +5,7 @@ use Rattle.io_edge.specs.Lines.{Shown, NoLf}
 use Rattle.io_edge.specs.Reading.{Reading, count_of, Shows, CutAt, Answers, Ends, Waits}
 use Rattle.io_edge.specs.Answered.{shown_by}
 use Rattle.io_edge.specs.Limits.{max_count}
-use Rattle.io_edge.specs.declared.under_way.Answer.{Answer}
+use Rattle.io_edge.specs.declared.partial_line.Answer.{Answer}
 use Rattle.io_edge.specs.declared.lines.LineStop.{LineStop}
 use Rattle.io_edge.specs.declared.lines.LineStop.TheVariants.{Failed, Limit}
 

@@ -5,7 +5,7 @@ ghost use Rattle.std.specs.Io.KnownBytes.{ReadConsumes};
 ghost use Rattle.io_edge.specs.Counts.{EndsByEnd, FailsByFault};
 ghost use Rattle.io_edge.specs.RealFile.{ReadsFile, source_of};
 
-use crate::opened::{Opened, open};
+use crate::input::{Opened, open};
 use crate::{Failed, Source};
 use std::alloc::{AllocError, Global};
 use std::marker::Model;

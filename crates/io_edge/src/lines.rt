@@ -13,7 +13,7 @@ ghost use Rattle.io_edge.specs.Reading.{count_of, Ends};
 ghost use Rattle.io_edge.specs.Answered.{shown_by};
 
 use crate::chunk::Chunk;
-use crate::under_way::{Answer, MAX_LINE, UnderWay};
+use crate::partial_line::{Answer, MAX_LINE, UnderWay};
 use crate::{Failed, Source};
 use std::alloc::{AllocError, Global};
 use std::marker::Model;

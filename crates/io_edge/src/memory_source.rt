@@ -6,7 +6,7 @@ ghost use Rattle.io_edge.specs.Counts.{FailsByFault, EndsByEnd};
 ghost use Rattle.io_edge.specs.Memory.{ReadsHeld};
 
 use crate::cuts::room_at_call;
-use crate::remaining::Remaining;
+use crate::remaining_bytes::Remaining;
 use crate::{Failed, Source};
 use std::alloc::{AllocError, Global};
 use std::marker::Model;

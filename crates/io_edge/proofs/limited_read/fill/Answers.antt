@@ -1,6 +1,6 @@
 use Rattle.std.proofs.Common.{rules, arith, ◌≡◌, ◌≤◌, length, ◌-◌, length-drop}
 use Rattle.io_edge.proofs.Fillings.{Consumes-put_piece}
-use Rattle.io_edge.proofs.to_limit.fill.Goals as goal
+use Rattle.io_edge.proofs.limited_read.fill.Goals as goal
 
 pub pieces-preserved : goal.pieces-preserved
 pieces-preserved g c =

@@ -1,6 +1,6 @@
 use Rattle.std.proofs.Common.{◌≡◌, ◌≤◌, ◌-◌, take, length}
 use Rattle.std.specs.Io.KnownBytes.{Consumes}
-use Rattle.io_edge.proofs.to_limit.fill.Given as goal
+use Rattle.io_edge.proofs.limited_read.fill.Given as goal
 
 -- what was taken so far stands at the front of the room, with no end and no fault on the way
 abbrev pub invariant-pieces : goal.invariant-pieces

@@ -1,6 +1,6 @@
 use Rattle.std.proofs.Common.{◌≡◌, length, arith, length-take}
 use Rattle.io_edge.proofs.Copies.{copied_front}
-use Rattle.io_edge.proofs.remaining.Remaining.give.Goals as goal
+use Rattle.io_edge.proofs.remaining_bytes.Remaining.give.Goals as goal
 
 pub returns-clause-bytes : goal.returns-clause-bytes
 returns-clause-bytes c =
