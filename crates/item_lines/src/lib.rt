@@ -5,9 +5,9 @@ mod field_text;
 mod laws;
 mod line;
 mod number_text;
-mod plain;
+mod plain_lines;
 mod quotes;
 
 pub use laws::shown_lines_are_read_to_their_items;
 pub use line::shown_line;
-pub use plain::is_shown;
+pub use plain_lines::is_shown;

@@ -5,7 +5,7 @@ ghost use Rattle.item_schema.specs.Layout.{has_digits};
 ghost use Rattle.item_lines.specs.Lines.{line_of, shown_line};
 
 use crate::field_text::push_field;
-use crate::plain::is_shown;
+use crate::plain_lines::is_shown;
 use item_schema::{Column, Item, Schema};
 use language_base::Bytes;
 use std::alloc::{AllocError, Global};
