@@ -6,6 +6,7 @@ mod cut;
 mod cut_line;
 mod field;
 mod item;
+mod item_reader;
 mod laws;
 mod layout;
 mod number;
@@ -13,7 +14,6 @@ mod number_line;
 mod parts;
 mod plain_line;
 mod quote_state;
-mod reading;
 mod row;
 mod schema;
 mod stop;
@@ -21,11 +21,11 @@ mod text;
 
 pub use column::{Column, Kind};
 pub use item::Item;
+pub use item_reader::read_item;
 pub use laws::{
     lines_are_cut_outside_quotes, lines_are_skipped_for_their_texts,
     lines_have_items_of_their_columns, lines_write_their_items,
 };
 pub use layout::are_columns;
-pub use reading::read_item;
 pub use schema::Schema;
 pub use stop::{Cause, ItemStop, Skip};

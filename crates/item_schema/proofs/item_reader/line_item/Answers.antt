@@ -3,8 +3,8 @@ use Rattle.std.proofs.lemmas.Bool.Decides.{nat_tests}
 use Rattle.item_schema.specs.CutLines.{texts_in}
 use Rattle.item_schema.specs.Reading.{fields_of, item_of}
 use Rattle.item_schema.proofs.CutLines.{cut_item_of, uncut_item_of}
-use Rattle.item_schema.proofs.reading.line_item.Goals as goal
-use Rattle.item_schema.proofs.reading.line_item.Goals.{then-not-is_empty+else-commas-columns, else-not-is_empty}
+use Rattle.item_schema.proofs.item_reader.line_item.Goals as goal
+use Rattle.item_schema.proofs.item_reader.line_item.Goals.{then-not-is_empty+else-commas-columns, else-not-is_empty}
 
 -- a line of as many texts as there are columns has the item of its texts
 cut : (c : goal.After-item)

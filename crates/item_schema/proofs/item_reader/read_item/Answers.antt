@@ -1,7 +1,7 @@
 use Rattle.std.proofs.lemmas.Result.{IfOk-weaker}
 use Rattle.value_ops.proofs.Texts.{text_from_bytes}
 use Rattle.item_schema.proofs.Items.{item_is_of}
-use Rattle.item_schema.proofs.reading.read_item.Goals as goal
+use Rattle.item_schema.proofs.item_reader.read_item.Goals as goal
 
 pub returns-in-Some-clause-of_schema : goal.returns-in-Some-clause-of_schema
 returns-in-Some-clause-of_schema c =
