@@ -7,7 +7,7 @@ mod line;
 mod marked_line;
 mod part;
 mod position;
-mod shown;
+mod shown_bytes;
 mod window;
 
 pub use laws::windows_hold_their_places;

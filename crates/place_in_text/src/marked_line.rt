@@ -2,7 +2,7 @@
 ghost use Rattle.std.specs.Prelude.{◌≡◌, ◌++◌, OnOk};
 ghost use Rattle.place_in_text.specs.Windows.{marked_line, marks_line, shown_line, window_lines};
 
-use crate::shown::{push_shown, push_times};
+use crate::shown_bytes::{push_shown, push_times};
 use crate::window::window_at;
 use std::alloc::{AllocError, Global};
 

@@ -1,7 +1,7 @@
 use Rattle.std.proofs.Common.{◌≡◌, ◌++◌, take}
 use Rattle.std.specs.Prelude.{map}
 use Rattle.place_in_text.specs.Shown.{shown_byte}
-use Rattle.place_in_text.proofs.shown.push_shown.Given as goal
+use Rattle.place_in_text.proofs.shown_bytes.push_shown.Given as goal
 
 -- the bytes so far
 abbrev pub invariant-bytes : goal.invariant-bytes
