@@ -10,7 +10,7 @@ use Rattle.predicate_cells.specs.Cells.{Partition, IsIn, cell_of}
 use Rattle.predicate_cells.specs.Truth.{number_of, text_of}
 use Rattle.plain_items.specs.Becoming.{AreHalves, BecomesPlain, IsPut, StaysWith, number_field, with_sign}
 use Rattle.plain_items.specs.Plain.{plain_text}
-use Rattle.plain_items.specs.declared.putting.Form.{Form}
+use Rattle.plain_items.specs.declared.replacement.Form.{Form}
 use Rattle.plain_items.proofs.Halving.{abs_with_sign, with_own_sign, with_sign_zero, nearest}
 use Rattle.plain_items.proofs.Plainness.{get_set_same, get_set_other, set_own, plain_number, plain_at_text, plain_without}
 

@@ -16,8 +16,8 @@ use Rattle.predicate_cells.proofs.CellsBelow.{cell_from_below}
 use Rattle.predicate_cells.proofs.Counts.{count_by-le}
 use Rattle.predicate_cells.proofs.SameClass.{at_most}
 use Rattle.plain_items.specs.Becoming.{number_field}
-use Rattle.plain_items.specs.declared.putting.Form.{Form}
-use Rattle.plain_items.specs.declared.putting.Form.TheVariants as form
+use Rattle.plain_items.specs.declared.replacement.Form.{Form}
+use Rattle.plain_items.specs.declared.replacement.Form.TheVariants as form
 
 fits_between : (low mid high : ℤ) → FitsSigned w64 low → FitsSigned w64 high
     → int_le low mid ≡ true → int_le mid high ≡ true → FitsSigned w64 mid

@@ -6,7 +6,7 @@ use Rattle.std.proofs.lemmas.Int.{ints}
 use Rattle.value_ops.specs.declared.field.Field.{Field}
 use Rattle.predicate_cells.specs.Cells.{Partition, IsIn}
 use Rattle.plain_items.specs.Becoming.{number_field, with_sign}
-use Rattle.plain_items.specs.declared.putting.Form.{Form}
+use Rattle.plain_items.specs.declared.replacement.Form.{Form}
 use Rattle.plain_items.proofs.Fields.{between}
 
 pub abs_with_sign : (number : ℤ) (n : ℕ) → unsigned_abs (with_sign number n) ≡ n

@@ -14,8 +14,8 @@ use Rattle.predicate_cells.specs.Cells.{Partition, IsIn}
 use Rattle.predicate_cells.specs.Truth.{number_of, text_of, number_in, text_in}
 use Rattle.plain_items.specs.Becoming.{number_field}
 use Rattle.plain_items.specs.Plain.{IsPlainAt, plain_text}
-use Rattle.plain_items.specs.declared.putting.Form.{Form}
-use Rattle.plain_items.specs.declared.putting.Form.TheVariants as form
+use Rattle.plain_items.specs.declared.replacement.Form.{Form}
+use Rattle.plain_items.specs.declared.replacement.Form.TheVariants as form
 use Rattle.plain_items.proofs.Fields.{AreOfKind, mixed, same_kinds}
 
 module _ {A : Type 0} where

@@ -6,8 +6,8 @@ use Rattle.value_ops.specs.declared.scalar.Scalar.TheVariants as scalar
 use Rattle.value_ops.specs.declared.value.Value.TheVariants as value
 use Rattle.predicate_cells.specs.Cells.{Partition, IsIn, cell_of}
 use Rattle.plain_items.specs.Plain.{IsPlainAt}
-use Rattle.plain_items.specs.declared.putting.Form.{Form}
-use Rattle.plain_items.specs.declared.putting.Form.TheVariants as form
+use Rattle.plain_items.specs.declared.replacement.Form.{Form}
+use Rattle.plain_items.specs.declared.replacement.Form.TheVariants as form
 
 -- a number as a field
 abbrev pub number_field : Form → ℤ → Field

@@ -1,8 +1,8 @@
 //! The plainest item of a cell, for a person to read.
 #![tactic(auto)]
 
-mod choosing;
-mod near_zero;
-mod putting;
+mod choice;
+mod nearest_number;
+mod replacement;
 
-pub use choosing::plain_item;
+pub use choice::plain_item;

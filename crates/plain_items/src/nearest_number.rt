@@ -3,7 +3,7 @@ ghost use Rattle.std.specs.Prelude.{◌≡◌, ◌<◌, ◌^◌, Some, pos, slic
 ghost use Rattle.item_schema.specs.Items.{IsItemOf};
 ghost use Rattle.plain_items.specs.Becoming.{BecomesPlain, StaysWith, number_field, with_sign};
 
-use crate::putting::{Form, put_number};
+use crate::replacement::{Form, put_number};
 use item_schema::Item;
 use predicate_cells::Cells;
 use std::alloc::{AllocError, Global};

@@ -1,6 +1,6 @@
 use Rattle.std.proofs.Common.{◌≡◌, take}
 use Rattle.std.specs.Prelude.{slice_set}
-use Rattle.plain_items.proofs.putting.with_field.Given as goal
+use Rattle.plain_items.proofs.replacement.with_field.Given as goal
 
 -- the fields so far
 abbrev pub invariant-fields : goal.invariant-fields

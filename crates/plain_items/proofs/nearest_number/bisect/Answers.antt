@@ -1,7 +1,7 @@
 use Rattle.std.proofs.Common.{SFits, arith, rules, w64}
 use Rattle.std.proofs.lemmas.Int.{to_z-of_z}
 use Rattle.plain_items.proofs.Becomes.{halves_begin, halves_nearer, halves_farther, halves_end}
-use Rattle.plain_items.proofs.near_zero.bisect.Goals as goal
+use Rattle.plain_items.proofs.nearest_number.bisect.Goals as goal
 
 pub halves-init : goal.halves-init
 halves-init c =

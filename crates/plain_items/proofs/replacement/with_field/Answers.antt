@@ -2,8 +2,8 @@ use Rattle.std.proofs.Common.{◌≡◌, ◌∙◌, ◌+◌, ◌<◌, ℕ, List,
 use Rattle.std.proofs.Math.ListN.{set, length-set}
 use Rattle.std.proofs.lemmas.List.{take_more, get_or-set_same, get_or-set_other}
 use Rattle.value_ops.specs.declared.field.Field.{Field}
-use Rattle.plain_items.proofs.putting.with_field.Goals as goal
-use Rattle.plain_items.proofs.putting.with_field.Goals.{then-at-column, else-at-column}
+use Rattle.plain_items.proofs.replacement.with_field.Goals as goal
+use Rattle.plain_items.proofs.replacement.with_field.Goals.{then-at-column, else-at-column}
 
 module _ (xs : List Field) (place at : ℕ) (field : Field) (within : at < length xs) where
   -- in the column stands the field

@@ -1,6 +1,6 @@
 use Rattle.std.proofs.Common.{◌≤◌, length, ap, ◌∙◌, arith}
 use Rattle.plain_items.proofs.Columns.{in_more, plain_all, plain_more}
-use Rattle.plain_items.proofs.choosing.plain_item.Goals as goal
+use Rattle.plain_items.proofs.choice.plain_item.Goals as goal
 
 pub columns-preserved : goal.columns-preserved
 columns-preserved c = record {

@@ -4,7 +4,7 @@ use Rattle.std.proofs.lemmas.Option.{slice_get_past}
 use Rattle.value_ops.specs.declared.field.Field.TheVariants as field
 use Rattle.value_ops.specs.declared.value.Value.TheVariants as value
 use Rattle.plain_items.proofs.Becomes.{becomes_nothing, becomes_text, found_in}
-use Rattle.plain_items.proofs.choosing.make_plain.Goals as goal
+use Rattle.plain_items.proofs.choice.make_plain.Goals as goal
 
 pub returns-in_ok-put_text-in-Some-Text : goal.returns-in_ok-put_text-in-Some-Text
 returns-in_ok-put_text-in-Some-Text c =

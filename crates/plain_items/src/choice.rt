@@ -5,8 +5,8 @@ ghost use Rattle.plain_items.specs.Becoming.{BecomesPlain};
 ghost use Rattle.plain_items.specs.Plain.{IsPlain};
 ghost use Rattle.predicate_cells.specs.Cells.{IsIn, cell_count};
 
-use crate::near_zero::bring_near_zero;
-use crate::putting::{Form, put_text};
+use crate::nearest_number::bring_near_zero;
+use crate::replacement::{Form, put_text};
 use item_schema::Item;
 use predicate_cells::Cells;
 use std::alloc::{AllocError, Global};

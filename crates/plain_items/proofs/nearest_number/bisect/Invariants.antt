@@ -1,6 +1,6 @@
 use Rattle.std.proofs.Common.{◌-◌}
 use Rattle.plain_items.specs.Becoming.{AreHalves}
-use Rattle.plain_items.proofs.near_zero.bisect.Given as goal
+use Rattle.plain_items.proofs.nearest_number.bisect.Given as goal
 
 -- the number of the one magnitude stands in the column, and that of the other may not
 abbrev pub invariant-halves : goal.invariant-halves
