@@ -2,21 +2,21 @@
 #![tactic(auto)]
 
 mod file;
-mod fits;
 mod form;
 mod forms;
-mod large;
+mod large_numbers;
 mod laws;
+mod leaf_forms;
 mod part;
 mod table;
 mod term_place;
 mod tops;
-mod unfit;
+mod unfit_terms;
 
 pub use file::unfit_file;
-pub use fits::{fits_number, fits_text, fits_word};
 pub use forms::places_of;
-pub use large::first_large;
+pub use large_numbers::first_large;
 pub use laws::one_list_of_terms;
+pub use leaf_forms::{fits_number, fits_text, fits_word};
 pub use part::bytes_at;
 pub use term_place::TermPlace;

@@ -8,7 +8,7 @@ ghost use Rattle.query_forms.specs.Tops.{arguments_in, is_call, unfit_call, unfi
 use crate::part::bytes_at;
 use crate::term_place::TermPlace;
 use crate::term_place::TermPlace::{Column, Mode};
-use crate::unfit::first_unfit;
+use crate::unfit_terms::first_unfit;
 use language_base::Span;
 use query_trees::Tree;
 

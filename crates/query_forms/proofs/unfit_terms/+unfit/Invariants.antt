@@ -2,7 +2,7 @@ use Rattle.std.proofs.Common.{◌+◌}
 use Rattle.query_trees.specs.Trees.{none, tree_before, trees_of}
 use Rattle.query_forms.proofs.Left.{Left}
 use Rattle.query_forms.proofs.Parts.{weight}
-use Rattle.query_forms.proofs.unfit.+unfit.Given as goal
+use Rattle.query_forms.proofs.unfit_terms.+unfit.Given as goal
 
 abbrev pub decreases-unfit : goal.decreases-unfit
 decreases-unfit l = weight (tree_before l.tree.now none)

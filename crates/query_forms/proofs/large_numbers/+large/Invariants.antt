@@ -2,7 +2,7 @@ use Rattle.std.proofs.Common.{◌+◌, drop}
 use Rattle.query_trees.specs.Trees.{none, tree_before, trees_of}
 use Rattle.query_forms.proofs.Larges.{Left}
 use Rattle.query_forms.proofs.Parts.{weight}
-use Rattle.query_forms.proofs.large.+large.Given as goal
+use Rattle.query_forms.proofs.large_numbers.+large.Given as goal
 
 abbrev pub decreases-large_in : goal.decreases-large_in
 decreases-large_in l = weight (tree_before l.tree.now none)

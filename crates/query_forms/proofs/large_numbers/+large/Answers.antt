@@ -3,7 +3,7 @@ use Rattle.query_trees.specs.Trees.{none, call, tree_before, trees_of}
 use Rattle.query_forms.proofs.Larges.{Left-at, Left-found, Left-lighter, Left-next, Left-of_text, call_large}
 use Rattle.query_forms.proofs.Parts.{weight}
 use Rattle.query_forms.proofs.Trees.{call_before}
-use Rattle.query_forms.proofs.large.+large.Goals as goal
+use Rattle.query_forms.proofs.large_numbers.+large.Goals as goal
 
 pub first_large-large_in-requires : goal.first_large-large_in-requires
 first_large-large_in-requires t c =

@@ -4,7 +4,7 @@ use Rattle.query_forms.proofs.Calls.{call_fits, call_unfit}
 use Rattle.query_forms.proofs.Left.{Left-of_text, Left-lighter, Left-next, Left-found}
 use Rattle.query_forms.proofs.Parts.{weight}
 use Rattle.query_forms.proofs.Trees.{call_before}
-use Rattle.query_forms.proofs.unfit.+unfit.Goals as goal
+use Rattle.query_forms.proofs.unfit_terms.+unfit.Goals as goal
 
 pub first_unfit-unfit-requires : goal.first_unfit-unfit-requires
 first_unfit-unfit-requires t c =

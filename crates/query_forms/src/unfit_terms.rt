@@ -4,8 +4,8 @@ ghost use Rattle.query_trees.specs.Trees.{leaf, none, tree_before, trees_of};
 ghost use Rattle.query_forms.specs.Forms.{first_unfit};
 ghost use Rattle.query_forms.specs.Terms.{AreOf, IsTokenOf, Say, Terms};
 
-use crate::fits::{fits_number, fits_text, fits_word};
 use crate::forms::places_of;
+use crate::leaf_forms::{fits_number, fits_text, fits_word};
 use crate::part::bytes_at;
 use crate::term_place::TermPlace;
 use language_base::Span;
