@@ -2,7 +2,7 @@
 #![tactic(auto)]
 
 mod cells;
-mod checked;
+mod checked_query;
 mod copies;
 mod follower;
 mod laws;
@@ -10,7 +10,7 @@ mod query;
 mod query_rates;
 
 pub use cells::cells_of;
-pub use checked::Checked;
+pub use checked_query::Checked;
 pub use follower::Follower;
 pub use language_base::{Refusal, Rule, Span};
 pub use laws::{
