@@ -1,11 +1,11 @@
 //! A query text read to its terms, or refused by its first broken rule; and a file printed.
 #![tactic(auto)]
 
-mod convert;
+mod conversion;
 mod file;
 mod laws;
-mod print;
-mod read;
+mod printer;
+mod reader;
 mod stop;
 mod string_text;
 mod term;
@@ -13,7 +13,7 @@ mod term_text;
 
 pub use file::File;
 pub use laws::one_reading;
-pub use print::print_file;
-pub use read::read_file;
+pub use printer::print_file;
+pub use reader::read_file;
 pub use stop::ReadStop;
 pub use term::{Term, Terms};

@@ -1,7 +1,7 @@
 use Rattle.std.proofs.Common.{arith}
 use Rattle.query_parser.specs.Reading.{long, token}
 use Rattle.query_parser.proofs.Faults.{fault_within}
-use Rattle.query_parser.proofs.read.tokens_of.Goals as goal
+use Rattle.query_parser.proofs.reader.tokens_of.Goals as goal
 
 pub returns-then-text-gt-MAX_TEXT-clause-stopped : goal.returns-then-text-gt-MAX_TEXT-clause-stopped
 returns-then-text-gt-MAX_TEXT-clause-stopped c = rw c.refused.ensures (long c.if-text-gt-MAX_TEXT.true)

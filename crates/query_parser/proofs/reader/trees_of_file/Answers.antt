@@ -1,6 +1,6 @@
 use Rattle.query_parser.proofs.Passes.{readable, form_refused, literal_refused}
 use Rattle.query_trees.specs.Trees.{trees_of}
-use Rattle.query_parser.proofs.read.trees_of_file.Goals as goal
+use Rattle.query_parser.proofs.reader.trees_of_file.Goals as goal
 
 pub unfit_file-requires : goal.unfit_file-requires
 unfit_file-requires c =

@@ -1,7 +1,7 @@
 use Rattle.query_trees.specs.declared.tree.Tree.TheViews.{the_lemmas}
 use Rattle.std.proofs.Common.{rules, ◌∙◌}
 use Rattle.query_parser.proofs.Saying.{tokens_at, tokens_inside, sayable_at, sayable_inside, say_call, say_more}
-use Rattle.query_parser.proofs.convert.+convert.Goals as goal
+use Rattle.query_parser.proofs.conversion.+convert.Goals as goal
 
 pub term_of-terms_of-requires : goal.term_of-terms_of-requires
 term_of-terms_of-requires t c =

@@ -7,7 +7,7 @@ ghost use Rattle.query_parser.specs.Plain.{terms_of};
 ghost use Rattle.query_parser.specs.Reading.{HasTokens, IsFileOf};
 ghost use Rattle.query_parser.specs.Stop.{IsStopAt};
 
-use crate::convert::terms_of;
+use crate::conversion::terms_of;
 use crate::{File, ReadStop};
 use language_base::{Refusal, Rule, Span};
 use query_forms::{first_large, unfit_file};

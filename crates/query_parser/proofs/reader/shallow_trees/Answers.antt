@@ -1,5 +1,5 @@
 use Rattle.query_parser.specs.Reading.{term, depth}
-use Rattle.query_parser.proofs.read.shallow_trees.Goals as goal
+use Rattle.query_parser.proofs.reader.shallow_trees.Goals as goal
 
 pub returns-in-Err-NoList-clause-stopped : goal.returns-in-Err-NoList-clause-stopped
 returns-in-Err-NoList-clause-stopped c =

@@ -2,7 +2,7 @@ use Rattle.query_parser.proofs.Passes.{readable, passed_sayable, passed_file, by
 use Rattle.query_trees.specs.Trees.{trees_of}
 use Rattle.query_parser.specs.Plain.{terms_of}
 use Rattle.query_parser.proofs.IsFile.{is_file}
-use Rattle.query_parser.proofs.read.read_file.Goals as goal
+use Rattle.query_parser.proofs.reader.read_file.Goals as goal
 
 pub terms_of-requires-clause-tokens : goal.terms_of-requires-clause-tokens
 terms_of-requires-clause-tokens c =
