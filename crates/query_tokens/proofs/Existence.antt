@@ -6,8 +6,8 @@ use Rattle.std.proofs.lemmas.List.{length-append, length-drop}
 use Rattle.query_tokens.specs.declared.token.Token.{Token}
 use Rattle.query_tokens.specs.declared.token.TokenKind.{TokenKind}
 use Rattle.query_tokens.specs.declared.token.TokenKind.TheVariants.{Word, Number, Text, Open, Close, Comma}
-use Rattle.query_tokens.specs.declared.reading.Next.{Next}
-use Rattle.query_tokens.specs.declared.reading.Next.TheVariants.{Token as AToken, End, Fault}
+use Rattle.query_tokens.specs.declared.token_reader.Next.{Next}
+use Rattle.query_tokens.specs.declared.token_reader.Next.TheVariants.{Token as AToken, End, Fault}
 use Rattle.query_tokens.specs.Raw.{is_word_byte, IsRaw, BeginsNoBlank}
 use Rattle.query_tokens.specs.Tokens.{AreTokens, FaultAfter}
 use Rattle.query_tokens.specs.Front.{kind_of, kind_at, number_len, BlankUpTo, IsBlankLength, Begins, IsLength, IsFirst}

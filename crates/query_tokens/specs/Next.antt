@@ -1,8 +1,8 @@
 -- For the prover. What comes after the blank at a place of a text.
 use Rattle.std.specs.Prelude.{◌≤◌, ◌<◌, ℕ, ◌+◌, ◌-◌, List, length, drop}
 use Rattle.query_tokens.specs.declared.token.Token.{Token}
-use Rattle.query_tokens.specs.declared.reading.Next.{Next}
-use Rattle.query_tokens.specs.declared.reading.Next.TheVariants.{Token as AToken, End, Fault}
+use Rattle.query_tokens.specs.declared.token_reader.Next.{Next}
+use Rattle.query_tokens.specs.declared.token_reader.Next.TheVariants.{Token as AToken, End, Fault}
 use Rattle.query_tokens.specs.Raw.{IsBlankToEnd}
 use Rattle.query_tokens.specs.Tokens.{Stands, FailsAt}
 

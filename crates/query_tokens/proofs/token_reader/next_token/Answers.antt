@@ -1,7 +1,7 @@
 use Rattle.std.proofs.Common.{◌<◌, length, drop, arith}
 use Rattle.std.proofs.lemmas.List.{take_rest, drop-drop, length-drop}
 use Rattle.query_tokens.proofs.Steps.{blank_within, fails_at, stands_at}
-use Rattle.query_tokens.proofs.reading.next_token.Goals as goal
+use Rattle.query_tokens.proofs.token_reader.next_token.Goals as goal
 
 pub returns-in_default : goal.returns-in_default
 returns-in_default c =

@@ -2,7 +2,7 @@ use Rattle.std.proofs.Common.{◌≡◌, [], ◌∷◌, ◌++◌, arith}
 use Rattle.std.proofs.lemmas.List.{append-nil, length-drop}
 use Rattle.std.proofs.lemmas.Grind.{common_steps}
 use Rattle.query_tokens.proofs.Steps.{tokens_more, fault_more}
-use Rattle.query_tokens.proofs.reading.read_tokens.Goals as goal
+use Rattle.query_tokens.proofs.token_reader.read_tokens.Goals as goal
 
 pub returns-in-End-clause-tokens : goal.returns-in-End-clause-tokens
 returns-in-End-clause-tokens c =

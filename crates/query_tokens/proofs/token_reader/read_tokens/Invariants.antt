@@ -1,7 +1,7 @@
 use Rattle.std.proofs.Common.{ℕ, ◌-◌, ◌≤◌, List, ◌++◌, length, drop}
 use Rattle.query_tokens.specs.declared.token.Token.{Token}
 use Rattle.query_tokens.specs.Tokens.{AreTokens, FaultAfter}
-use Rattle.query_tokens.proofs.reading.read_tokens.Given as goal
+use Rattle.query_tokens.proofs.token_reader.read_tokens.Given as goal
 
 -- whatever tokens follow here, the text has those before and these; and so for a fault
 abbrev pub invariant-tokens : goal.invariant-tokens
