@@ -1,17 +1,17 @@
 //! The terms of a query text, as trees of its tokens.
 #![tactic(auto)]
 
-mod build;
-mod check;
-mod closing;
+mod builder;
+mod calls;
 mod law;
-mod read;
 mod reader;
 mod reader_state;
 mod stop;
+mod term_span;
+mod token_pass;
 mod tree;
 
+pub use calls::read_trees;
 pub use law::one_list_of_terms;
-pub use read::read_trees;
 pub use stop::TreeStop;
 pub use tree::Tree;

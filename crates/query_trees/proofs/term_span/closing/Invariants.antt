@@ -1,7 +1,7 @@
 -- the tokens behind, inside of so many calls, give what all of them give
 use Rattle.std.proofs.Common.{◌≡◌, ◌≤◌, drop}
 use Rattle.query_trees.specs.Ends.{closing}
-use Rattle.query_trees.proofs.closing.closing.Given as goal
+use Rattle.query_trees.proofs.term_span.closing.Given as goal
 
 abbrev pub invariant-tokens : goal.invariant-tokens
 invariant-tokens l = record {

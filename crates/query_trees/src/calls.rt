@@ -4,9 +4,9 @@ ghost use Rattle.query_trees.specs.Stops.{IsStopAt};
 ghost use Rattle.query_trees.specs.Terms.{AreTerms};
 ghost use Rattle.query_trees.specs.Trees.{trees_of, first_deep};
 
-use crate::check::check;
 use crate::reader::Reader;
 use crate::stop::TreeStop;
+use crate::token_pass::check;
 use crate::tree::Tree;
 use query_tokens::Token;
 use std::alloc::Global;

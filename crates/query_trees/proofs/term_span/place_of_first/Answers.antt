@@ -1,5 +1,5 @@
 use Rattle.query_trees.proofs.EndLemmas.{place-found, end-found}
-use Rattle.query_trees.proofs.closing.place_of_first.Goals as goal
+use Rattle.query_trees.proofs.term_span.place_of_first.Goals as goal
 
 pub returns-in_err-close-in-Open : goal.returns-in_err-close-in-Open
 returns-in_err-close-in-Open c = λ trees others is.

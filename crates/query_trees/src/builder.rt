@@ -3,9 +3,9 @@ ghost use Rattle.std.specs.Prelude.{◌≡◌, ◌<◌, [], ◌∷◌, ◌++◌,
 ghost use Rattle.query_trees.specs.Reads.{FirstIsDeep, ReadsFirst, ReadsInCall, ReadsAll};
 ghost use Rattle.query_trees.specs.declared.stop.TreeStop.TheVariants.{Memory};
 
-use crate::closing::place_of_first;
 use crate::reader::Reader;
 use crate::stop::TreeStop;
+use crate::term_span::place_of_first;
 use crate::tree::Tree;
 use language_base::Span;
 use query_tokens::TokenKind;

@@ -2,7 +2,7 @@ use Rattle.std.proofs.Common.{◌++◌, ◌∙◌, refl, sym, ap, inl, inr, take
 use Rattle.std.proofs.lemmas.List.{take-append-drop, take_all}
 use Rattle.query_tokens.specs.declared.token.Token.{Token}
 use Rattle.query_trees.proofs.NoList.{misplaced, cut_short, terms}
-use Rattle.query_trees.proofs.check.check.Goals as goal
+use Rattle.query_trees.proofs.token_pass.check.Goals as goal
 
 pub returns-in-None-clause-no_list : goal.returns-in-None-clause-no_list
 returns-in-None-clause-no_list c =
