@@ -17,7 +17,7 @@ use Rattle.rate_equal.specs.Letters.{AreLetters, IsLetter, IsLetterOf}
 use Rattle.rate_equal.specs.Pairs.{AreReached, AreWaysOnFrom, IsExplored, IsGrown, IsReached}
 use Rattle.rate_equal.specs.Reach.{max_reach, ReachPairs}
 use Rattle.rate_equal.specs.Targets.{AreFound, AreKnown, HasTargets, IsTarget, target}
-use Rattle.rate_equal.specs.declared.known.Known.{Known}
+use Rattle.rate_equal.specs.declared.known_sets.Known.{Known}
 use Rattle.rate_equal.specs.declared.letters.Letter.{Letter}
 use Rattle.rate_equal.specs.declared.pair.Pair.{Pair}
 use Rattle.rate_equal.proofs.Added.{contains_found, found_grown}

@@ -7,7 +7,7 @@ use Rattle.rate_equal.specs.Narrowed.{AreStatesWithin}
 use Rattle.rate_equal.specs.Pairs.{IsGrown}
 use Rattle.rate_equal.specs.PlaceSets.{HasPlace}
 use Rattle.rate_equal.specs.Reach.{max_reach}
-use Rattle.rate_equal.specs.declared.known.Known.{Known}
+use Rattle.rate_equal.specs.declared.known_sets.Known.{Known}
 use Rattle.rate_equal.specs.declared.letters.Letter.{Letter}
 use Rattle.rate_equal.specs.declared.pair.Pair.{Pair}
 

@@ -16,25 +16,25 @@
 //! ones are derived from the known targets (`known`, `narrow`).
 #![tactic(auto)]
 
-mod add;
-mod admit;
+mod addition;
+mod admission;
 mod alphabet;
-mod equal;
-mod going;
+mod equality;
+mod extension;
 mod holders;
-mod known;
+mod known_sets;
 mod letters;
-mod narrow;
 mod pair;
 mod pattern;
 mod places;
+mod restriction;
 mod rows;
 mod search;
-mod sift;
+mod sieve;
 mod stop;
 mod targets;
 mod trail;
 mod twins;
 
-pub use equal::{all_but_empty, same};
+pub use equality::{all_but_empty, same};
 pub use stop::EqualStop;

@@ -11,7 +11,7 @@ ghost use Rattle.rate_equal.specs.Trails.{GoesAlong, IsTrailOf};
 
 use crate::alphabet::Alphabet;
 use crate::holders::Holders;
-use crate::known::Known;
+use crate::known_sets::Known;
 use crate::pair::Pair;
 use crate::stop::EqualStop;
 use crate::targets::targets;

@@ -1,5 +1,0 @@
-use Rattle.std.proofs.Common.{◌<◌, IfSome, length}
-use Rattle.rate_equal.proofs.known.narrowest.Given as goal
-
-abbrev pub invariant-known : goal.invariant-known
-invariant-known l = IfSome l.best (λ place. place < length l.known)
