@@ -2,8 +2,8 @@
 //! words are read.
 #![tactic(auto)]
 
-mod build;
-mod joined;
+mod construction;
+mod joins;
 mod laws;
 mod links;
 pub mod masks;

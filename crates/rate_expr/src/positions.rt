@@ -11,7 +11,7 @@ ghost use Rattle.rate_expr.specs.Rates.{empty, one, size_of};
 ghost use Rattle.rate_expr.specs.Sets.{AreSets};
 ghost use Rattle.rate_expr.specs.Shared.{listed, AreShared};
 
-use crate::build::add;
+use crate::construction::add;
 use crate::links::{append, link};
 use crate::part::Part;
 use crate::rate::Rate;

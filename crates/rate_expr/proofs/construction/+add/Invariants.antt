@@ -1,6 +1,6 @@
 use Rattle.std.proofs.Common.{◌+◌, ◌*◌, max}
 use Rattle.rate_expr.specs.declared.rate.Rate.{size-Rate}
-use Rattle.rate_expr.proofs.build.+add.Given as goal
+use Rattle.rate_expr.proofs.construction.+add.Given as goal
 
 -- how deep the rate is, and that of two parts below that of the whole
 abbrev pub decreases-add : goal.decreases-add
