@@ -6,8 +6,8 @@ use Rattle.query_model.specs.Denotation.{Den}
 use Rattle.query_model.specs.Monitors.{Monitor}
 use Rattle.query_model.specs.Queries.{Qre}
 use Rattle.separating_word.specs.Separations.{HasNoneOn, HasValueOn}
-use Rattle.separating_word.specs.declared.reading.Finding.{Finding}
-use Rattle.separating_word.specs.declared.reading.Finding.TheVariants as finding
+use Rattle.separating_word.specs.declared.line_value.Finding.{Finding}
+use Rattle.separating_word.specs.declared.line_value.Finding.TheVariants as finding
 use Rattle.separating_word.specs.declared.separation.Side.{Side}
 use Rattle.separating_word.specs.declared.separation.Side.TheVariants.{Left, Right}
 

@@ -5,7 +5,7 @@ ghost use Rattle.separating_word.specs.Letters.{AreGathered, AreLetters, target}
 ghost use Rattle.separating_word.specs.Pairs.{ShareCells};
 
 use crate::automata::Automata;
-use crate::known::note;
+use crate::known_pairs::note;
 use indexmap::IndexSet;
 use std::alloc::{AllocError, Global};
 

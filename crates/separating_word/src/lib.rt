@@ -2,13 +2,13 @@
 #![tactic(auto)]
 
 mod automata;
-mod known;
+mod known_pairs;
 mod letters;
 mod line;
-mod reading;
+mod line_value;
 mod search;
 mod separation;
-mod telling;
+mod separation_text;
 
 pub use separation::{Separation, Side, distinguish};
-pub use telling::push_separation;
+pub use separation_text::push_separation;

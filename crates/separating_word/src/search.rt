@@ -8,7 +8,7 @@ ghost use Rattle.separating_word.specs.Pairs.{AreCellsOf, ShareCells};
 ghost use Rattle.separating_word.specs.Searched.{Agree, AreAmong, HaveItems, IsExpanded, IsReachedIn, IsSearched, IsSearchedOn, IsShortestApart, LeadsOn};
 
 use crate::automata::Automata;
-use crate::known::note;
+use crate::known_pairs::note;
 use crate::letters::{Letter, letters_of};
 use indexmap::IndexSet;
 use std::alloc::{AllocError, Global};

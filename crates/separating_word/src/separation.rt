@@ -7,7 +7,7 @@ ghost use Rattle.separating_word.specs.Findings.{HasValueAlone};
 ghost use Rattle.separating_word.specs.Separations.{IsShortest, Separates};
 
 use crate::line::lines_apart;
-use crate::reading::{Finding, finding_on};
+use crate::line_value::{Finding, finding_on};
 use language_base::Bytes;
 use query_model::Checked;
 use std::alloc::{AllocError, Global};

@@ -1,7 +1,7 @@
 use Rattle.std.proofs.Common.{take}
 use Rattle.rate_expr.specs.Words.{IsWordOf}
 use Rattle.separating_word.specs.Separations.{AreRead}
-use Rattle.separating_word.proofs.reading.items_of.Given as goal
+use Rattle.separating_word.proofs.line_value.items_of.Given as goal
 
 -- the items of the lines so far
 abbrev pub invariant-lines : goal.invariant-lines

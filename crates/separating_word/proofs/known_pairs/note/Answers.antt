@@ -1,7 +1,7 @@
 use Rattle.std.proofs.Common.{◌∙◌, rules, sym}
 use Rattle.std.proofs.lemmas.Bool.{not-false}
 use Rattle.separating_word.proofs.Putting.{is_put, was_there}
-use Rattle.separating_word.proofs.known.note.Goals as goal
+use Rattle.separating_word.proofs.known_pairs.note.Goals as goal
 
 pub returns-clause-put : goal.returns-clause-put
 returns-clause-put c = is_put _ _ _ _ c.in_ok-insert.ensures.unique (λ x y is. search rules)
