@@ -16,7 +16,7 @@ use Rattle.query_model.specs.Queries.{Qre, collect}
 use Rattle.query_model.specs.Rules.{bound}
 use Rattle.query_model.proofs.Keys.{kept_word, keys_are}
 use Rattle.query_model.proofs.Typed.{den_typed, on_keys}
-use Rattle.slow_eval.specs.declared.keyed.Keyed.{Keyed}
+use Rattle.slow_eval.specs.declared.keyed_answers.Keyed.{Keyed}
 use Rattle.slow_eval.specs.Answers.{AreAnswers, CanBeRead}
 use Rattle.slow_eval.specs.Fronts.{AreInRate}
 use Rattle.slow_eval.specs.Projections.{AreKeysOf, IsOnItems}

@@ -9,7 +9,7 @@ use Rattle.value_ops.specs.Entries.{value_at}
 use Rattle.value_ops.specs.declared.scalar.Scalar.{Scalar}
 use Rattle.value_ops.specs.declared.value.Value.{Value}
 use Rattle.value_ops.specs.declared.value.Value.TheVariants as value
-use Rattle.slow_eval.specs.declared.keyed.Keyed.{Keyed}
+use Rattle.slow_eval.specs.declared.keyed_answers.Keyed.{Keyed}
 use Rattle.slow_eval.specs.Tabled.{HaveAnswersAt, entries_at, entry_with, keys_in, scalar_of}
 
 -- what holds of all elements holds of the first ones

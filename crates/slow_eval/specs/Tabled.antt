@@ -9,7 +9,7 @@ use Rattle.rate_expr.specs.Words.{Word}
 use Rattle.query_model.specs.Denotation.{projection}
 use Rattle.query_model.specs.Following.{IsAnswer}
 use Rattle.query_model.specs.Queries.{Qre}
-use Rattle.slow_eval.specs.declared.keyed.Keyed.{Keyed}
+use Rattle.slow_eval.specs.declared.keyed_answers.Keyed.{Keyed}
 use Rattle.slow_eval.specs.Rows.{answer_at}
 
 -- an answer of the query on the items that each front of the word has for the key

@@ -8,7 +8,7 @@ ghost use Rattle.query_model.specs.Queries.{collect, plain_of};
 ghost use Rattle.slow_eval.specs.Answers.{AreAnswers, CanBeRead};
 ghost use Rattle.slow_eval.specs.Tabled.{IsKeyed, keys_in};
 
-use crate::keyed::{Keyed, tables};
+use crate::keyed_answers::{Keyed, tables};
 use crate::keys::{keys_of, on_items, projection};
 use crate::rates::fronts_in;
 use crate::search::answers_on_fronts;

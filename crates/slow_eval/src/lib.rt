@@ -3,15 +3,15 @@
 #![tactic(auto)]
 
 mod collection;
-mod derived;
-mod follow;
-mod keyed;
+mod derived_stream;
+mod follower;
+mod keyed_answers;
 mod keys;
+mod leaf_answers;
 mod pieces;
 mod places;
 mod rates;
 mod search;
-mod single;
 mod slow;
 
 pub use search::{answer_on, answers_on_fronts};

@@ -6,9 +6,9 @@ ghost use Rattle.slow_eval.specs.Answers.{AreAnswers, CanBeRead};
 ghost use Rattle.slow_eval.specs.Rests.{IsJoinedWithRest, IsTypedWithRest};
 ghost use Rattle.slow_eval.specs.Rows.{answer_at};
 
+use crate::leaf_answers::eps_answers;
 use crate::places::{copied, join, no_answers};
 use crate::search::answers_on_fronts;
-use crate::single::eps_answers;
 use item_schema::Item;
 use query_model::Query;
 use std::alloc::{AllocError, Global};

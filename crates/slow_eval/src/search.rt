@@ -6,10 +6,10 @@ ghost use Rattle.query_model.specs.Queries.{apply, choice, combine, compose, pla
 ghost use Rattle.slow_eval.specs.Answers.{AreAnswers, CanBeRead};
 
 use crate::collection::collect_answers;
-use crate::derived::{on_stream, stream_of};
+use crate::derived_stream::{on_stream, stream_of};
+use crate::leaf_answers::{atom_answers, eps_answers};
 use crate::pieces::{iter_answers, split_answers};
 use crate::places::{applied, combined, either};
-use crate::single::{atom_answers, eps_answers};
 use item_schema::Item;
 use query_model::{Query, Shape};
 use std::alloc::{AllocError, Global};

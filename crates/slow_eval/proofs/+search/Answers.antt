@@ -9,7 +9,7 @@ use Rattle.slow_eval.specs.Answers.{AreAnswers, CanBeRead}
 use Rattle.predicate_cells.specs.Plain as predicates
 use Rattle.rate_expr.specs.Plain as rates
 use Rattle.query_model.specs.Denotation.{Den, projection}
-use Rattle.slow_eval.specs.declared.keyed.Keyed.{Keyed}
+use Rattle.slow_eval.specs.declared.keyed_answers.Keyed.{Keyed}
 use Rattle.slow_eval.specs.Projections.{AreKeysOf, IsOnItems}
 use Rattle.slow_eval.specs.Rests.{IsTypedWithRest}
 use Rattle.slow_eval.specs.Streams.{stream_of}

@@ -1,7 +1,7 @@
 use Rattle.std.proofs.Common.{◌≡◌, ◌<◌, ℕ, false, cond, None, Some, length, take, get_or}
 use Rattle.value_ops.specs.declared.value.Value.TheVariants as value
 use Rattle.slow_eval.specs.Tabled.{entries_at}
-use Rattle.slow_eval.proofs.keyed.tables.Given as goal
+use Rattle.slow_eval.proofs.keyed_answers.tables.Given as goal
 
 abbrev pub invariant-places : goal.invariant-places
 invariant-places l = record {

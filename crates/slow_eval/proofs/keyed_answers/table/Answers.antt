@@ -4,8 +4,8 @@ use Rattle.value_ops.specs.Entries.{value_at}
 use Rattle.slow_eval.specs.Tabled.{entries_at}
 use Rattle.slow_eval.proofs.Joining.{read_answer}
 use Rattle.slow_eval.proofs.Tabling.{absent, answer_inside, entries_more, entries_same, entry_none, entry_some}
-use Rattle.slow_eval.proofs.keyed.table.Goals as goal
-use Rattle.slow_eval.proofs.keyed.table.Goals.{in-Some+in_ok-push, in_default}
+use Rattle.slow_eval.proofs.keyed_answers.table.Goals as goal
+use Rattle.slow_eval.proofs.keyed_answers.table.Goals.{in-Some+in_ok-push, in_default}
 
 pub push-requires : goal.push-requires
 push-requires c =

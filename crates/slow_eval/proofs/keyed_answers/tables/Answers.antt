@@ -1,7 +1,7 @@
 use Rattle.std.proofs.Common.{◌<◌, get_or, length}
-use Rattle.slow_eval.specs.declared.keyed.Keyed.{Keyed}
+use Rattle.slow_eval.specs.declared.keyed_answers.Keyed.{Keyed}
 use Rattle.slow_eval.proofs.Tabling.{all_take, distinct_take}
-use Rattle.slow_eval.proofs.keyed.tables.Goals as goal
+use Rattle.slow_eval.proofs.keyed_answers.tables.Goals as goal
 
 pub table-requires-clause-distinct : goal.table-requires-clause-distinct
 table-requires-clause-distinct c =

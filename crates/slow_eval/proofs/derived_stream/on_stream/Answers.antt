@@ -1,8 +1,8 @@
 use Rattle.std.proofs.Common.{rules, ◌<◌, ◌∙◌, ◌++◌, ◌+◌, ◌∷◌, [], length, sym, subst, ap, arith}
 use Rattle.slow_eval.proofs.Joining.{read_answer}
 use Rattle.slow_eval.proofs.Streaming.{IsOnStreamSoFar, items_inside, on_none, on_some}
-use Rattle.slow_eval.proofs.derived.on_stream.Goals as goal
-use Rattle.slow_eval.proofs.derived.on_stream.Goals.{in-Some+in_ok-copied-in-Some, in-None}
+use Rattle.slow_eval.proofs.derived_stream.on_stream.Goals as goal
+use Rattle.slow_eval.proofs.derived_stream.on_stream.Goals.{in-Some+in_ok-copied-in-Some, in-None}
 
 pub bounds-seconds-items : goal.bounds-seconds-items
 bounds-seconds-items c =

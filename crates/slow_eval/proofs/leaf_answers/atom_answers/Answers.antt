@@ -6,7 +6,7 @@ use Rattle.value_ops.specs.Expressions as values
 use Rattle.value_ops.specs.Typing.{HasType, types_of}
 use Rattle.predicate_cells.specs.Plain as predicates
 use Rattle.slow_eval.proofs.WellTyped.{atom_typed}
-use Rattle.slow_eval.proofs.single.atom_answers.Goals as goal
+use Rattle.slow_eval.proofs.leaf_answers.atom_answers.Goals as goal
 
 pub eval-requires : goal.eval-requires
 eval-requires c =
