@@ -14,7 +14,7 @@ use crate::blame_text::blame_text;
 use crate::command::command_of;
 use crate::engine::carry_out;
 use crate::query::{QueryStop, compile};
-use crate::refusing::refuse;
+use crate::refusal::refuse;
 use io_edge::{Sink, Source};
 use report_writer::refusal_text;
 use std::alloc::Global;

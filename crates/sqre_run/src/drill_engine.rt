@@ -5,7 +5,7 @@ ghost use Rattle.sqre_run.specs.Drilled.{drilled};
 ghost use Rattle.sqre_run.specs.Drilling.{IsDrillable};
 ghost use Rattle.sqre_run.specs.Meanings.{IsMeaning, Meaning};
 
-use crate::drilling::drill;
+use crate::drill_loop::drill;
 use eval_runner::Runner;
 use language_base::Bytes;
 use query_model::Checked;

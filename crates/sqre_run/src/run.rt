@@ -11,9 +11,9 @@ ghost use Rattle.sqre_run.specs.Running.{Running};
 ghost use Rattle.sqre_run.specs.Sessions.{IsReady};
 
 use crate::Status;
-use crate::handing::{end, flush_before_read, hand_over};
 use crate::line_texts::{line_text, long_text};
 use crate::session::Session;
+use crate::writer::{end, flush_before_read, hand_over};
 use io_edge::{Failed, Line, LineStop, Lines, Sink, Source};
 use query_model::{Checked, Follower};
 use std::alloc::{AllocError, Global};

@@ -1,7 +1,7 @@
 use Rattle.std.proofs.Common.{◌≡◌, true, sym, ap, ◌∙◌}
 use Rattle.item_schema.specs.Layout.{Layout}
 use Rattle.sqre_run.proofs.Taking.{header_taken}
-use Rattle.sqre_run.proofs.drilling.take_header.Goals as goal
+use Rattle.sqre_run.proofs.drill_loop.take_header.Goals as goal
 
 pub returns-clause-after : goal.returns-clause-after
 returns-clause-after g c =

@@ -15,7 +15,7 @@ use Rattle.sqre_run.specs.Output.{value_after}
 use Rattle.sqre_run.specs.Sessions.{IsAfter}
 use Rattle.sqre_run.proofs.Drills.{IsTally, drilled_lines-next, continues-next, tally_next, reported_of_bytes}
 use Rattle.sqre_run.proofs.Taking.{answer_after}
-use Rattle.sqre_run.proofs.drilling.drill.Goals as goal
+use Rattle.sqre_run.proofs.drill_loop.drill.Goals as goal
 
 -- there is a value where it is copied
 some_copied : {A : Type 0} (answer : Option (Bor A)) → is_some answer ≡ is_some (option_copied answer)

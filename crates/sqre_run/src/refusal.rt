@@ -4,7 +4,7 @@ ghost use Rattle.io_edge.specs.Counts.{FailsBy};
 ghost use Rattle.sqre_run.specs.Handed.{Refuses};
 
 use crate::Status;
-use crate::handing::end;
+use crate::writer::end;
 use io_edge::{Failed, Sink, write_all};
 use language_base::Bytes;
 use std::alloc::AllocError;

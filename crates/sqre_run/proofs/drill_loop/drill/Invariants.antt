@@ -7,7 +7,7 @@ use Rattle.sqre_run.specs.Meanings.{IsMeaning, Meaning}
 use Rattle.sqre_run.specs.Output.{value_after}
 use Rattle.sqre_run.specs.Sessions.{IsAfter, IsReady}
 use Rattle.sqre_run.proofs.Drills.{IsTally}
-use Rattle.sqre_run.proofs.drilling.drill.Given as goal
+use Rattle.sqre_run.proofs.drill_loop.drill.Given as goal
 
 -- the session has taken so many lines of the drill, and the values after them are counted
 abbrev pub invariant-items : goal.invariant-items

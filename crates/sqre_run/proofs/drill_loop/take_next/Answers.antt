@@ -1,6 +1,6 @@
 use Rattle.std.proofs.Common.{◌∙◌}
 use Rattle.sqre_run.proofs.Taking.{next_taken}
-use Rattle.sqre_run.proofs.drilling.take_next.Goals as goal
+use Rattle.sqre_run.proofs.drill_loop.take_next.Goals as goal
 
 pub returns-clause-takes : goal.returns-clause-takes
 returns-clause-takes g c =
