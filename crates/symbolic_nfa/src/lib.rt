@@ -4,7 +4,7 @@
 
 mod ends;
 mod laws;
-mod met;
+mod met_positions;
 mod nfa;
 mod ways_on;
 

@@ -17,7 +17,7 @@ ghost use Rattle.symbolic_nfa.specs.Automata.{AreDecided};
 ghost use Rattle.symbolic_nfa.specs.States.{AreWaysOn, Extends, IsAccepted, IsMetBy, Steps};
 
 use crate::ends::{before, ending_through};
-use crate::met::{met_by_cells, union_of};
+use crate::met_positions::{met_by_cells, union_of};
 use crate::ways_on::ways_on;
 use predicate_cells::Cells;
 use rate_expr::masks::{end_of, overlap};

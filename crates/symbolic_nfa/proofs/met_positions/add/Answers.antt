@@ -1,7 +1,7 @@
 use Rattle.std.proofs.Common.{arith}
 use Rattle.symbolic_nfa.proofs.Adding.{added-all, added-here, added-none, added-passed}
-use Rattle.symbolic_nfa.proofs.met.add.Goals as goal
-use Rattle.symbolic_nfa.proofs.met.add.Goals.{then-has, else-has}
+use Rattle.symbolic_nfa.proofs.met_positions.add.Goals as goal
+use Rattle.symbolic_nfa.proofs.met_positions.add.Goals.{then-has, else-has}
 
 pub cells-init : goal.cells-init
 cells-init c = added-none _ _ _

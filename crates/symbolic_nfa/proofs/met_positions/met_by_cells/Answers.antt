@@ -2,7 +2,7 @@ use Rattle.std.proofs.Common.{◌≡◌, ◌++◌, take, drop, length, ap, arith
 use Rattle.std.proofs.lemmas.Grind.{common_steps}
 use Rattle.std.specs.List.{Contains}
 use Rattle.symbolic_nfa.proofs.Meeting.{met-added, met-all, kept_decided}
-use Rattle.symbolic_nfa.proofs.met.met_by_cells.Goals as goal
+use Rattle.symbolic_nfa.proofs.met_positions.met_by_cells.Goals as goal
 
 pub mask-meeting-requires : goal.mask-meeting-requires
 mask-meeting-requires c =
