@@ -15,6 +15,8 @@ mod lines;
 #[cfg(test)]
 mod places;
 #[cfg(test)]
+mod prefixes;
+#[cfg(test)]
 mod reports;
 #[cfg(test)]
 mod resumed_source;
@@ -22,5 +24,3 @@ mod resumed_source;
 mod sinks;
 #[cfg(test)]
 mod sources;
-#[cfg(test)]
-mod taken;
