@@ -11,7 +11,7 @@ ghost use Rattle.test_engines.specs.Feeding.{TakesItems};
 ghost use Rattle.test_engines.specs.TestedQueries as tested;
 
 use crate::assertions::same;
-use crate::given::{query, total};
+use crate::fixtures::{query, total};
 use eval_runner::Runner;
 use item_schema::{Column, Item, Kind, Schema};
 use predicate_cells::Pred;

@@ -11,7 +11,7 @@ mod collects;
 #[cfg(test)]
 mod copies;
 #[cfg(test)]
-mod given;
+mod fixtures;
 #[cfg(test)]
 mod nodes;
 #[cfg(test)]

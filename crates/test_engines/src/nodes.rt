@@ -7,7 +7,7 @@ ghost use Rattle.eval_nodes.specs.Sound.{IsSound};
 ghost use Rattle.test_engines.specs.TestedQueries as tested;
 
 use crate::assertions::same;
-use crate::given::{difference, item};
+use crate::fixtures::{difference, item};
 use eval_nodes::{Node, copy_of_node, is_live, stored};
 use eval_tree::{Hit, start, step};
 use item_schema::Item;

@@ -7,7 +7,7 @@ ghost use Rattle.test_engines.specs.Feeding.{TakesItems};
 ghost use Rattle.test_engines.specs.TestedQueries as tested;
 
 use crate::assertions::same;
-use crate::given::{difference, excess, item, numbers, total_of_totals};
+use crate::fixtures::{difference, excess, item, numbers, total_of_totals};
 use eval_runner::Runner;
 use query_model::{Checked, Follower};
 use std::alloc::{AllocError, Global};

@@ -7,7 +7,7 @@ ghost use Rattle.query_model.specs.Queries.{atom, collect, compose, eps, plain_o
 ghost use Rattle.slow_eval.specs.Answers.{CanBeRead};
 
 use crate::assertions::same;
-use crate::given::{both, each, query};
+use crate::fixtures::{both, each, query};
 use item_schema::Item;
 use predicate_cells::Pred;
 use query_model::{Query, Shape};
