@@ -1,7 +1,7 @@
 // What no clause says: that automata and copies are made at all, and what they answer after a word.
 // The program cases_rates goes through a table of rates and words.
 use crate::assertions::{holds, same};
-use crate::given::{boxed, item, items, sets_of};
+use crate::fixtures::{boxed, item, items, sets_of};
 use crate::one_number::{any_item, cells_under, nfa_of, numbers};
 use item_schema::Item;
 use predicate_cells::{CellStop, Cells, Pred, Preds};

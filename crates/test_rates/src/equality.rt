@@ -3,7 +3,7 @@
 ghost use Rattle.std.specs.Prelude.{◌≡◌};
 
 use crate::assertions::same;
-use crate::given::item_and_items;
+use crate::fixtures::item_and_items;
 use crate::one_number::{Automata, automata_of};
 use rate_equal::all_but_empty;
 use std::alloc::Global;

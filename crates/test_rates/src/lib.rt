@@ -9,7 +9,7 @@ mod automata;
 #[cfg(test)]
 mod equality;
 #[cfg(test)]
-mod given;
+mod fixtures;
 #[cfg(test)]
 mod many_cells;
 #[cfg(test)]

@@ -1,6 +1,6 @@
 // Cells that no position distinguishes. A search by what the items of cells meet sees them as one.
 use crate::assertions::{holds, same};
-use crate::given::item;
+use crate::fixtures::item;
 use crate::one_number::{cells_under, nfa_of};
 use item_schema::{Column, Kind, Schema, are_columns};
 use predicate_cells::{CellStop, Cells, Pred, Preds};

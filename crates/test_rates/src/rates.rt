@@ -1,7 +1,7 @@
 // What no clause says: that positions, masks and copies are made at all. The masks were found by
 // hand. The program cases_rates goes through a table of rates and their sets.
 use crate::assertions::{holds, same};
-use crate::given::{boxed, held, item, sets_of};
+use crate::fixtures::{boxed, held, item, sets_of};
 use predicate_cells::Pred;
 use rate_expr::masks::{end_of, has, lowest, only, overlap, without_lowest};
 use rate_expr::{

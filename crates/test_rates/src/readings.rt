@@ -1,7 +1,7 @@
 // What no clause says: that answers and levels are found at all. The program cases_rates goes
 // through tables of rates and the answers on them.
 use crate::assertions::same;
-use crate::given::{Rates, boxed, item, item_and_items, items};
+use crate::fixtures::{Rates, boxed, item, item_and_items, items};
 use crate::one_number::{automata_of, nfa};
 use ambiguity_check::{Pairs, Phase, Search, Splits, disjoint, one_factoring, one_split};
 use predicate_cells::{CellStop, Pred};
