@@ -1,6 +1,6 @@
 // The commands that write one line. They read no item: the source of the items fails at once.
 use crate::assertions::same_at;
-use crate::given::{Given, SUM, outcome, sum_over};
+use crate::fixtures::{Given, SUM, outcome, sum_over};
 use sqre_run::Status;
 use std::alloc::{AllocError, Global};
 use std::process::Abort;

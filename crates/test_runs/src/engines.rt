@@ -1,6 +1,6 @@
 // Queries of several shapes: whichever engine runs one, the answers are those of the language.
 use crate::assertions::{same, same_at};
-use crate::given::{Given, outcome, run_of};
+use crate::fixtures::{Given, outcome, run_of};
 use sqre_run::Status;
 use std::test::Fail;
 

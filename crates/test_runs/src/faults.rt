@@ -1,7 +1,7 @@
 // A read or a write fails, at each place where it may. What is written are the answers to the whole
 // lines before it, or the bytes that the sink took. All reads are of one byte.
 use crate::assertions::{same, same_at};
-use crate::given::{Given, READS, SUM, outcome, run_of, sum_over};
+use crate::fixtures::{Given, READS, SUM, outcome, run_of, sum_over};
 use sqre_run::Status;
 use std::test::Fail;
 

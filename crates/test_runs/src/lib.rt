@@ -7,7 +7,7 @@ mod assertions;
 #[cfg(test)]
 mod commands;
 #[cfg(test)]
-mod compiled;
+mod compilation;
 #[cfg(test)]
 mod engines;
 #[cfg(test)]
@@ -15,11 +15,11 @@ mod explanations;
 #[cfg(test)]
 mod faults;
 #[cfg(test)]
-mod given;
-#[cfg(test)]
-mod handing;
+mod fixtures;
 #[cfg(test)]
 mod long_runs;
+#[cfg(test)]
+mod output_order;
 #[cfg(test)]
 mod reasons;
 #[cfg(test)]

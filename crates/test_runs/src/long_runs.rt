@@ -2,8 +2,8 @@
 ghost use Rattle.std.specs.Prelude.{◌≡◌, IfOk};
 
 use crate::assertions::same;
-use crate::compiled::compiled;
-use crate::given::{Given, SUM, outcome, run_of, sum_over};
+use crate::compilation::compiled;
+use crate::fixtures::{Given, SUM, outcome, run_of, sum_over};
 use eval_runner::Runner;
 use item_drill::Drill;
 use item_schema::{Column, Kind, Schema, read_item};

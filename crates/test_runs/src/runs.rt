@@ -1,7 +1,7 @@
 // What no clause says: that runs come to an end, and the very bytes that they write. The program
 // `cases_queries` shows more lines, queries and refusals.
 use crate::assertions::{same, same_at};
-use crate::given::{Given, SUM, outcome, run_of, sum_over, words_of};
+use crate::fixtures::{Given, SUM, outcome, run_of, sum_over, words_of};
 use io_edge::{MemorySource, SteadySink, SteadySource};
 use sqre_run::{Status, run_into_room, sqre};
 use std::alloc::{AllocError, Global};

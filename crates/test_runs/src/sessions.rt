@@ -1,6 +1,6 @@
 // A session with the engine that keeps the whole word: each reply, and the value after it.
 use crate::assertions::same;
-use crate::compiled::compiled;
+use crate::compilation::compiled;
 use item_schema::{Cause, Skip};
 use query_model::Follower;
 use slow_eval::Slow;

@@ -3,7 +3,7 @@
 ghost use Rattle.std.specs.Prelude.{◌-◌, None, Some};
 
 use crate::assertions::same_at;
-use crate::given::{SUM, words_of};
+use crate::fixtures::{SUM, words_of};
 use io_edge::{Failed, MemorySource, Sink, Source, SteadySource};
 use sqre_run::{Status, sqre};
 use std::alloc::{AllocError, Global};
