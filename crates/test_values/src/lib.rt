@@ -23,6 +23,6 @@ mod long_lines;
 #[cfg(test)]
 mod schemas;
 #[cfg(test)]
-mod shown;
+mod shown_lines;
 #[cfg(test)]
 mod tables;
