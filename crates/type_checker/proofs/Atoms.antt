@@ -18,7 +18,7 @@ use Rattle.type_checker.specs.Resolved.{Nesting, resolved}
 use Rattle.type_checker.specs.Scopes.{HasFittingNumbers}
 use Rattle.type_checker.specs.Steps.{found, refusal}
 use Rattle.type_checker.specs.Tests.{resolved_over}
-use Rattle.type_checker.specs.declared.naming.Typed.{Typed}
+use Rattle.type_checker.specs.declared.query_types.Typed.{Typed}
 use Rattle.type_checker.specs.declared.shapes.Items.{Items}
 use Rattle.type_checker.specs.declared.stop.CheckStop.{CheckStop}
 use Rattle.type_checker.specs.declared.stop.CheckStop.TheVariants.{Refused, Memory}

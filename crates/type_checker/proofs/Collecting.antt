@@ -25,7 +25,7 @@ use Rattle.type_checker.specs.Resolutions.{IsMadeOfInner, IsMade, IsRefused, IsR
 use Rattle.type_checker.specs.Resolved.{Nesting, inside, may_collect, outside, resolved}
 use Rattle.type_checker.specs.Steps.{found, refusal}
 use Rattle.type_checker.specs.Tests.{resolved_over}
-use Rattle.type_checker.specs.declared.naming.Typed.{Typed}
+use Rattle.type_checker.specs.declared.query_types.Typed.{Typed}
 use Rattle.type_checker.specs.declared.stop.CheckStop.{CheckStop}
 use Rattle.type_checker.specs.declared.stop.CheckStop.TheVariants.{Refused, Memory}
 use Rattle.type_checker.proofs.Composing.{made_inside}

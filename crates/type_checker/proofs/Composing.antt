@@ -11,7 +11,7 @@ use Rattle.type_checker.specs.Findings.{KeepsTypes, places_at, places_in}
 use Rattle.type_checker.specs.Nodes.{with_two}
 use Rattle.type_checker.specs.Resolutions.{IsMade, IsRefused}
 use Rattle.type_checker.specs.Resolved.{Nesting, inside, resolved}
-use Rattle.type_checker.specs.declared.naming.Typed.{Typed}
+use Rattle.type_checker.specs.declared.query_types.Typed.{Typed}
 use Rattle.type_checker.specs.declared.stop.CheckStop.{CheckStop}
 use Rattle.type_checker.specs.declared.stop.CheckStop.TheVariants.{Refused, Memory}
 use Rattle.type_checker.proofs.After.{of_value}

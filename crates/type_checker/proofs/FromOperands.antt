@@ -18,7 +18,7 @@ use Rattle.type_checker.specs.Nodes.{Places, alone, places_of, with_one, with_tw
 use Rattle.type_checker.specs.Resolutions.{IsMade, IsMadeOfOne, IsMadeOfTwo, IsRefused, IsRefusedOfTwo, IsRefusedOverOne, IsRefusedOverTwo}
 use Rattle.type_checker.specs.Resolved.{Nesting, resolved}
 use Rattle.type_checker.specs.Steps.{◌>>=◌}
-use Rattle.type_checker.specs.declared.naming.Typed.{Typed}
+use Rattle.type_checker.specs.declared.query_types.Typed.{Typed}
 use Rattle.type_checker.specs.declared.shapes.Joint.{Joint}
 use Rattle.type_checker.specs.declared.shapes.Joint.TheVariants.{Choice, Split, Combine}
 use Rattle.type_checker.specs.declared.stop.CheckStop.{CheckStop}

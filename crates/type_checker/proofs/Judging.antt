@@ -16,7 +16,7 @@ use Rattle.type_checker.specs.Nodes.{Node, Places, nodes_in, places_of}
 use Rattle.type_checker.specs.Passes.{IsMeasured}
 use Rattle.type_checker.specs.WordRules.{FirstBroken}
 use Rattle.type_checker.specs.declared.blame.Blame.{Blame}
-use Rattle.type_checker.specs.declared.measured.Measured.{Measured}
+use Rattle.type_checker.specs.declared.measurement.Measured.{Measured}
 use Rattle.type_checker.specs.declared.word_stop.WordStop.TheVariants.{Broken}
 use Rattle.type_checker.proofs.Clear.{clear_from}
 use Rattle.type_checker.proofs.FirstNodes.{first_refused}

@@ -33,7 +33,7 @@ use Rattle.type_checker.specs.Resolved.{outside, resolved}
 use Rattle.query_model.specs.Few.{has_few_cells}
 use Rattle.type_checker.specs.Sizes.{derives_many_cells, first_node, has_few_nodes, has_few_slots, has_many_positions}
 use Rattle.type_checker.specs.Steps.{◌>>=◌, because, provided, refusal, unless}
-use Rattle.type_checker.specs.declared.measured.Measured.{Measured}
+use Rattle.type_checker.specs.declared.measurement.Measured.{Measured}
 use Rattle.type_checker.specs.declared.stop.CheckStop.{CheckStop}
 use Rattle.type_checker.specs.declared.stop.CheckStop.TheVariants.{Refused, Memory}
 use Rattle.type_checker.proofs.Parted.{few_values}

@@ -13,7 +13,7 @@ use Rattle.type_checker.proofs.FromOperands.{first_of_two, joint_operands, secon
 use Rattle.type_checker.specs.Joints.{joint_node, pair_node}
 use Rattle.type_checker.specs.Resolutions.{IsMade, IsMadeOfTwo, IsRefused, IsRefusedOverTwo}
 use Rattle.type_checker.specs.Resolved.{Nesting}
-use Rattle.type_checker.specs.declared.naming.Typed.{Typed}
+use Rattle.type_checker.specs.declared.query_types.Typed.{Typed}
 use Rattle.type_checker.specs.declared.shapes.Joint.{Joint}
 use Rattle.type_checker.specs.declared.shapes.Joint.TheVariants.{Choice, Split, Combine}
 use Rattle.type_checker.specs.declared.shapes.Pair.{Pair}

@@ -18,7 +18,7 @@ use Rattle.type_checker.specs.Nodes.{alone, places_of, with_one, with_two}
 use Rattle.type_checker.specs.Resolutions.{IsRefused, IsMade, IsNumberOver, IsValueOver, number_then, typed_then}
 use Rattle.type_checker.specs.Resolved.{Nesting, resolved, same_type}
 use Rattle.type_checker.specs.Steps.{◌>>=◌, provided, refusal}
-use Rattle.type_checker.specs.declared.naming.Typed.{Typed}
+use Rattle.type_checker.specs.declared.query_types.Typed.{Typed}
 use Rattle.type_checker.specs.declared.stop.CheckStop.{CheckStop}
 use Rattle.type_checker.specs.declared.stop.CheckStop.TheVariants.{Refused, Memory}
 use Rattle.type_checker.proofs.FromOperands.{made_of, no_place, one_place, two_places}

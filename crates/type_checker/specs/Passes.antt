@@ -25,7 +25,7 @@ use Rattle.type_checker.specs.Sizes.{has_few_nodes}
 use Rattle.type_checker.specs.Steps.{◌>>=◌, because, provided, unless}
 use Rattle.type_checker.specs.declared.judgment.Judgment.{Judgment}
 use Rattle.type_checker.specs.declared.judgment.Judgment.TheVariants.{Accepted}
-use Rattle.type_checker.specs.declared.measured.Measured.{Measured}
+use Rattle.type_checker.specs.declared.measurement.Measured.{Measured}
 use Rattle.type_checker.specs.declared.stop.CheckStop.{CheckStop}
 
 -- the passes over the names of columns and lets, and over the nodes

@@ -19,8 +19,8 @@ ghost use Rattle.value_ops.specs.Typing.{HasType};
 
 use crate::CheckStop;
 use crate::expression::{Scope, expression_over};
-use crate::naming::Typed;
 use crate::predicate::named_pred;
+use crate::query_types::Typed;
 use crate::shapes::Items;
 use item_schema::Schema;
 use language_base::{Rule, Span};

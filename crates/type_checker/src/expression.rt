@@ -6,7 +6,7 @@ ghost use Rattle.type_checker.specs.Expressions.{named_in, table_form};
 ghost use Rattle.type_checker.specs.Scopes.{HasFittingNumbers, plain_scope};
 ghost use Rattle.value_ops.specs.Expressions.{binary, choice, entry, plain_of, unary};
 
-use crate::named::{extremum_with, named_in, read_over, summary_over};
+use crate::expression_names::{extremum_with, named_in, read_over, summary_over};
 use item_schema::Schema;
 use query_syntax::{BinaryOp, Comparison, Expression, Extremum, Name, Text, UnaryOp};
 use std::alloc::{AllocError, Global};

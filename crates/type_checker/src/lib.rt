@@ -2,21 +2,20 @@
 #![tactic(auto)]
 
 mod after_lets;
-mod apart;
 mod atom;
 mod blame;
-mod checking;
 mod columns;
+mod composed_cells;
 mod expression;
+mod expression_names;
 mod judgment;
 mod laws;
-mod measured;
-mod named;
-mod naming;
+mod measurement;
 mod nesting;
 mod predicate;
+mod query_types;
 mod rate;
-mod resolving;
+mod resolution;
 mod roots;
 mod shapes;
 mod sizes;
@@ -24,14 +23,15 @@ mod standing;
 mod stop;
 mod stream_schema;
 mod streams;
-mod typed;
+mod typed_expressions;
 mod values;
+mod verdict;
 mod word_rules;
 mod word_stop;
 mod words;
 
 pub use blame::{Ambiguity, Blame, Operands};
-pub use checking::{check, judge};
 pub use judgment::Judgment;
 pub use laws::{blame_refuses, one_verdict};
 pub use stop::CheckStop;
+pub use verdict::{check, judge};

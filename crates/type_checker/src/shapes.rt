@@ -13,8 +13,8 @@ ghost use Rattle.value_ops.specs.Shown.{shown_types};
 
 use crate::CheckStop;
 use crate::expression::Scope;
-use crate::naming::Typed;
-use crate::typed::{number_over, value_over};
+use crate::query_types::Typed;
+use crate::typed_expressions::{number_over, value_over};
 use item_schema::Schema;
 use language_base::{Rule, Span};
 use query_model::Shape;

@@ -14,9 +14,9 @@ ghost use Rattle.type_checker.specs.Resolved.{may_collect};
 
 use crate::CheckStop;
 use crate::columns::{column_named, has_texts};
-use crate::naming::Typed;
 use crate::nesting::Nesting;
 use crate::predicate::named_pred;
+use crate::query_types::Typed;
 use crate::rate::{all_fit, named_rate};
 use crate::shapes::Items;
 use item_schema::Schema;

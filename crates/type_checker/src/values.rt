@@ -8,7 +8,7 @@ ghost use Rattle.value_ops.specs.Expressions as values;
 ghost use Rattle.value_ops.specs.Shown.{shown_types};
 ghost use Rattle.value_ops.specs.Typing.{type_named};
 
-use crate::naming::types_of;
+use crate::query_types::types_of;
 use crate::shapes::{of_one, of_two};
 use item_schema::Schema;
 use query_model::{Query, Shape};
