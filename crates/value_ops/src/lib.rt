@@ -3,7 +3,7 @@
 
 mod copies;
 mod entries;
-mod eval;
+mod evaluator;
 mod expr;
 mod field;
 mod inputs;

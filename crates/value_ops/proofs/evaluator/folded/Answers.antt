@@ -3,7 +3,7 @@ use Rattle.std.proofs.Common.{◌∙◌, ap, sym}
 use Rattle.value_ops.specs.Entries.{values_of}
 use Rattle.value_ops.specs.Operators.{binary_of}
 use Rattle.value_ops.proofs.Folds.{fold_more}
-use Rattle.value_ops.proofs.eval.folded.Goals as goal
+use Rattle.value_ops.proofs.evaluator.folded.Goals as goal
 
 pub loop-i-preserved : goal.loop-i-preserved
 loop-i-preserved c =

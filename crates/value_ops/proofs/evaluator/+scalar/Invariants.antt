@@ -1,6 +1,6 @@
 use Rattle.std.proofs.Common.{◌+◌, ◌*◌, max}
 use Rattle.value_ops.specs.declared.expr.Expr.{size-Expr}
-use Rattle.value_ops.proofs.eval.+scalar.Given as goal
+use Rattle.value_ops.proofs.evaluator.+scalar.Given as goal
 
 -- how deep the expression is; those that look at parts of one stand above them
 abbrev pub decreases-scalar : goal.decreases-scalar
