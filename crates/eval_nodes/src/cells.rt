@@ -36,12 +36,12 @@ pub fn has_no_collect(query: &Query) -> bool
     match &query.shape {
         Shape::Atom(..) => true,
         Shape::Eps(_) => true,
-        Shape::Or(first, second) => has_no_collect(first) && has_no_collect(second),
-        Shape::Split(first, second, _) => has_no_collect(first) && has_no_collect(second),
+        Shape::Or(left, right) => has_no_collect(left) && has_no_collect(right),
+        Shape::Split(left, right, _) => has_no_collect(left) && has_no_collect(right),
         Shape::Apply(inner, _) => has_no_collect(inner),
-        Shape::Combine(first, second, _) => has_no_collect(first) && has_no_collect(second),
+        Shape::Combine(left, right, _) => has_no_collect(left) && has_no_collect(right),
         Shape::Iter(inner, ..) => has_no_collect(inner),
-        Shape::Compose(first, second) => has_no_collect(first) && has_no_collect(second),
+        Shape::Compose(left, right) => has_no_collect(left) && has_no_collect(right),
         Shape::Collect(..) => false,
     }
 }

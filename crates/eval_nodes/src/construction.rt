@@ -44,12 +44,12 @@ impl Node {
                 state: State::Atom(None),
             }),
             Shape::Eps(_) => Ok(Node { state: State::Eps }),
-            Shape::Or(first, second) => new_choice(alloc, first, second, cells),
+            Shape::Or(left, right) => new_choice(alloc, left, right, cells),
             Shape::Apply(inner, _) => new_apply(alloc, inner, cells),
-            Shape::Split(first, second, _) => new_split(alloc, first, second, cells),
-            Shape::Combine(first, second, _) => new_combine(alloc, first, second, cells),
+            Shape::Split(left, right, _) => new_split(alloc, left, right, cells),
+            Shape::Combine(left, right, _) => new_combine(alloc, left, right, cells),
             Shape::Iter(inner, ..) => new_iter(alloc, inner, cells),
-            Shape::Compose(first, second) => new_compose(alloc, first, second, cells),
+            Shape::Compose(left, right) => new_compose(alloc, left, right, cells),
             Shape::Collect(_, _, rate, _) => new_collect(alloc, rate, cells),
         }
     }

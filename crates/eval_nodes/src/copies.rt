@@ -27,12 +27,12 @@ pub fn copy_of_node(query: &Query, node: &Node, alloc: Global) -> Result<Node, A
     match &query.shape {
         Shape::Atom(..) => Ok(copy_of_atom(node)),
         Shape::Eps(_) => Ok(Node { state: State::Eps }),
-        Shape::Or(first, second) => copy_of_choice(first, second, node, alloc),
+        Shape::Or(left, right) => copy_of_choice(left, right, node, alloc),
         Shape::Apply(inner, _) => copy_of_apply(inner, node, alloc),
-        Shape::Split(first, second, _) => copy_of_split(first, second, node, alloc),
-        Shape::Combine(first, second, _) => copy_of_combine(first, second, node, alloc),
+        Shape::Split(left, right, _) => copy_of_split(left, right, node, alloc),
+        Shape::Combine(left, right, _) => copy_of_combine(left, right, node, alloc),
         Shape::Iter(inner, ..) => copy_of_iter(inner, node, alloc),
-        Shape::Compose(first, second) => copy_of_compose(first, second, node, alloc),
+        Shape::Compose(left, right) => copy_of_compose(left, right, node, alloc),
         Shape::Collect(_, _, _, inner) => copy_of_collect(inner, node, alloc),
     }
 }

@@ -26,12 +26,12 @@ pub fn stored(query: &Query, node: &Node) -> u64
     match &query.shape {
         Shape::Atom(..) => size_of_atom(node),
         Shape::Eps(_) => 0,
-        Shape::Or(first, second) => size_of_choice(first, second, node),
+        Shape::Or(left, right) => size_of_choice(left, right, node),
         Shape::Apply(inner, _) => size_of_apply(inner, node),
-        Shape::Split(first, second, _) => size_of_split(first, second, node),
-        Shape::Combine(first, second, _) => size_of_combine(first, second, node),
+        Shape::Split(left, right, _) => size_of_split(left, right, node),
+        Shape::Combine(left, right, _) => size_of_combine(left, right, node),
         Shape::Iter(inner, ..) => size_of_iter(inner, node),
-        Shape::Compose(first, second) => size_of_compose(first, second, node),
+        Shape::Compose(left, right) => size_of_compose(left, right, node),
         Shape::Collect(_, _, _, inner) => size_of_collect(inner, node),
     }
 }

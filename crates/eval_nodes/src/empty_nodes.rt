@@ -19,12 +19,12 @@ pub fn clear(query: &Query, node: &mut Node)
     match &query.shape {
         Shape::Atom(..) => clear_atom(node),
         Shape::Eps(_) => {}
-        Shape::Or(first, second) => clear_choice(first, second, node),
+        Shape::Or(left, right) => clear_choice(left, right, node),
         Shape::Apply(inner, _) => clear_apply(inner, node),
-        Shape::Split(first, second, _) => clear_split(first, second, node),
-        Shape::Combine(first, second, _) => clear_combine(first, second, node),
+        Shape::Split(left, right, _) => clear_split(left, right, node),
+        Shape::Combine(left, right, _) => clear_combine(left, right, node),
         Shape::Iter(inner, ..) => clear_iter(inner, node),
-        Shape::Compose(first, second) => clear_compose(first, second, node),
+        Shape::Compose(left, right) => clear_compose(left, right, node),
         // Only the nodes of runners are emptied, and their queries have no collect.
         Shape::Collect(..) => {}
     }
@@ -43,13 +43,13 @@ fn clear_atom(node: &mut Node)
 
 #[cycle(clear)]
 #[inline(always)]
-fn clear_choice(first: &Query, second: &Query, node: &mut Node)
-    ensures { IsCleared seen_of (choice (plain_of first.now.shape) (plain_of second.now.shape))
+fn clear_choice(left: &Query, right: &Query, node: &mut Node)
+    ensures { IsCleared seen_of (choice (plain_of left.now.shape) (plain_of right.now.shape))
         (holding_of node.old.state) (holding_of node.new.state) }
 {
     if let State::Or(a, b) = &mut node.state {
-        clear(first, a);
-        clear(second, b);
+        clear(left, a);
+        clear(right, b);
     }
 }
 
@@ -68,28 +68,28 @@ fn clear_apply(inner: &Query, node: &mut Node)
 // No left value waits.
 #[cycle(clear)]
 #[inline(always)]
-fn clear_split(first: &Query, second: &Query, node: &mut Node)
+fn clear_split(left: &Query, right: &Query, node: &mut Node)
     ensures { (expression : Expression) → IsCleared seen_of
-        (split (plain_of first.now.shape) (plain_of second.now.shape) expression)
+        (split (plain_of left.now.shape) (plain_of right.now.shape) expression)
         (holding_of node.old.state) (holding_of node.new.state) }
 {
     if let State::Split(a, b, held) = &mut node.state {
-        clear(first, a);
-        clear(second, b);
+        clear(left, a);
+        clear(right, b);
         held.keep(|_| false);
     }
 }
 
 #[cycle(clear)]
 #[inline(always)]
-fn clear_combine(first: &Query, second: &Query, node: &mut Node)
+fn clear_combine(left: &Query, right: &Query, node: &mut Node)
     ensures { (expression : Expression) → IsCleared seen_of
-        (combine (plain_of first.now.shape) (plain_of second.now.shape) expression)
+        (combine (plain_of left.now.shape) (plain_of right.now.shape) expression)
         (holding_of node.old.state) (holding_of node.new.state) }
 {
     if let State::Combine(a, b) = &mut node.state {
-        clear(first, a);
-        clear(second, b);
+        clear(left, a);
+        clear(right, b);
     }
 }
 
@@ -110,14 +110,14 @@ fn clear_iter(inner: &Query, node: &mut Node)
 // All its runners are idle.
 #[cycle(clear)]
 #[inline(always)]
-fn clear_compose(first: &Query, second: &Query, node: &mut Node)
-    ensures { IsCleared seen_of (compose (plain_of first.now.shape) (plain_of second.now.shape))
+fn clear_compose(left: &Query, right: &Query, node: &mut Node)
+    ensures { IsCleared seen_of (compose (plain_of left.now.shape) (plain_of right.now.shape))
         (holding_of node.old.state) (holding_of node.new.state) }
 {
     if let State::Compose(a, runners) = &mut node.state {
-        clear(first, a);
+        clear(left, a);
         runners.keep(|_| false);
-        clear_idle(second, runners);
+        clear_idle(right, runners);
     }
 }
 

@@ -23,12 +23,12 @@ pub fn is_live(query: &Query, node: &Node, start: u64) -> bool
     match &query.shape {
         Shape::Atom(..) => is_live_in_atom(node, start),
         Shape::Eps(_) => false,
-        Shape::Or(first, second) => is_live_in_choice(first, second, node, start),
+        Shape::Or(left, right) => is_live_in_choice(left, right, node, start),
         Shape::Apply(inner, _) => is_live_in_apply(inner, node, start),
-        Shape::Split(first, ..) => is_live_in_split(first, node, start),
-        Shape::Combine(first, ..) => is_live_in_combine(first, node, start),
+        Shape::Split(left, ..) => is_live_in_split(left, node, start),
+        Shape::Combine(left, ..) => is_live_in_combine(left, node, start),
         Shape::Iter(..) => is_live_in_iter(node, start),
-        Shape::Compose(first, _) => is_live_in_compose(first, node, start),
+        Shape::Compose(left, _) => is_live_in_compose(left, node, start),
         Shape::Collect(..) => is_live_in_collect(node, start),
     }
 }
@@ -46,12 +46,12 @@ fn is_live_in_atom(node: &Node, start: u64) -> bool
 
 #[cycle(is_live)]
 #[inline(always)]
-fn is_live_in_choice(first: &Query, second: &Query, node: &Node, start: u64) -> bool
-    ensures { result ≡ live_of (choice (plain_of first.now.shape) (plain_of second.now.shape))
+fn is_live_in_choice(left: &Query, right: &Query, node: &Node, start: u64) -> bool
+    ensures { result ≡ live_of (choice (plain_of left.now.shape) (plain_of right.now.shape))
         (holding_of node.now.state) start }
 {
     match &node.state {
-        State::Or(a, b) => is_live(first, a, start) || is_live(second, b, start),
+        State::Or(a, b) => is_live(left, a, start) || is_live(right, b, start),
         _ => false,
     }
 }

@@ -29,19 +29,19 @@ pub(crate) fn copy_of_atom(node: &Node) -> Node
 
 #[cycle(copy)]
 pub(crate) fn copy_of_choice(
-    first: &Query,
-    second: &Query,
+    left: &Query,
+    right: &Query,
     node: &Node,
     alloc: Global,
 ) -> Result<Node, AllocError>
     ensures { IfOk result (λ copy. IsCopy seen_of
-        (choice (plain_of first.now.shape) (plain_of second.now.shape))
+        (choice (plain_of left.now.shape) (plain_of right.now.shape))
         (holding_of node.now.state) (holding_of copy.state)) }
 {
     match &node.state {
         State::Or(a, b) => {
-            let a = boxed_copy(first, a, alloc)?;
-            let b = boxed_copy(second, b, alloc)?;
+            let a = boxed_copy(left, a, alloc)?;
+            let b = boxed_copy(right, b, alloc)?;
             Ok(Node {
                 state: State::Or(a, b),
             })
@@ -52,19 +52,19 @@ pub(crate) fn copy_of_choice(
 
 #[cycle(copy)]
 pub(crate) fn copy_of_combine(
-    first: &Query,
-    second: &Query,
+    left: &Query,
+    right: &Query,
     node: &Node,
     alloc: Global,
 ) -> Result<Node, AllocError>
     ensures { IfOk result (λ copy. (expression : Expression) → IsCopy seen_of
-        (combine (plain_of first.now.shape) (plain_of second.now.shape) expression)
+        (combine (plain_of left.now.shape) (plain_of right.now.shape) expression)
         (holding_of node.now.state) (holding_of copy.state)) }
 {
     match &node.state {
         State::Combine(a, b) => {
-            let a = boxed_copy(first, a, alloc)?;
-            let b = boxed_copy(second, b, alloc)?;
+            let a = boxed_copy(left, a, alloc)?;
+            let b = boxed_copy(right, b, alloc)?;
             Ok(Node {
                 state: State::Combine(a, b),
             })
@@ -92,19 +92,19 @@ pub(crate) fn copy_of_apply(inner: &Query, node: &Node, alloc: Global) -> Result
 
 #[cycle(copy)]
 pub(crate) fn copy_of_split(
-    first: &Query,
-    second: &Query,
+    left: &Query,
+    right: &Query,
     node: &Node,
     alloc: Global,
 ) -> Result<Node, AllocError>
     ensures { IfOk result (λ copy. (expression : Expression) → IsCopy seen_of
-        (split (plain_of first.now.shape) (plain_of second.now.shape) expression)
+        (split (plain_of left.now.shape) (plain_of right.now.shape) expression)
         (holding_of node.now.state) (holding_of copy.state)) }
 {
     match &node.state {
         State::Split(a, b, held) => {
-            let a = boxed_copy(first, a, alloc)?;
-            let b = boxed_copy(second, b, alloc)?;
+            let a = boxed_copy(left, a, alloc)?;
+            let b = boxed_copy(right, b, alloc)?;
             let held = copied(alloc, held)?;
             Ok(Node {
                 state: State::Split(a, b, held),
@@ -134,19 +134,19 @@ pub(crate) fn copy_of_iter(inner: &Query, node: &Node, alloc: Global) -> Result<
 
 #[cycle(copy)]
 pub(crate) fn copy_of_compose(
-    first: &Query,
-    second: &Query,
+    left: &Query,
+    right: &Query,
     node: &Node,
     alloc: Global,
 ) -> Result<Node, AllocError>
     ensures { IfOk result (λ copy. IsCopy seen_of
-        (compose (plain_of first.now.shape) (plain_of second.now.shape))
+        (compose (plain_of left.now.shape) (plain_of right.now.shape))
         (holding_of node.now.state) (holding_of copy.state)) }
 {
     match &node.state {
         State::Compose(a, runners) => {
-            let a = boxed_copy(first, a, alloc)?;
-            let runners = copied_runners(second, runners, alloc)?;
+            let a = boxed_copy(left, a, alloc)?;
+            let runners = copied_runners(right, runners, alloc)?;
             Ok(Node {
                 state: State::Compose(a, runners),
             })

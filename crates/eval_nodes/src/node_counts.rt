@@ -22,13 +22,13 @@ pub(crate) fn size_of_atom(node: &Node) -> u64
 }
 
 #[cycle(stored)]
-pub(crate) fn size_of_choice(first: &Query, second: &Query, node: &Node) -> u64
+pub(crate) fn size_of_choice(left: &Query, right: &Query, node: &Node) -> u64
     ensures { result ≡ min (stored_in seen_of
-        (choice (plain_of first.now.shape) (plain_of second.now.shape))
+        (choice (plain_of left.now.shape) (plain_of right.now.shape))
         (holding_of node.now.state)) (2 ^ 64 - 1) }
 {
     match &node.state {
-        State::Or(a, b) => stored(first, a).saturating_add(stored(second, b)),
+        State::Or(a, b) => stored(left, a).saturating_add(stored(right, b)),
         _ => 0,
     }
 }
@@ -46,14 +46,14 @@ pub(crate) fn size_of_apply(inner: &Query, node: &Node) -> u64
 }
 
 #[cycle(stored)]
-pub(crate) fn size_of_split(first: &Query, second: &Query, node: &Node) -> u64
+pub(crate) fn size_of_split(left: &Query, right: &Query, node: &Node) -> u64
     ensures { (expression : Expression) → result ≡ min (stored_in seen_of
-        (split (plain_of first.now.shape) (plain_of second.now.shape) expression)
+        (split (plain_of left.now.shape) (plain_of right.now.shape) expression)
         (holding_of node.now.state)) (2 ^ 64 - 1) }
 {
     match &node.state {
         State::Split(a, b, held) => {
-            let operands = stored(first, a).saturating_add(stored(second, b));
+            let operands = stored(left, a).saturating_add(stored(right, b));
             operands.saturating_add(size_of_entries(held))
         }
         _ => 0,
@@ -61,13 +61,13 @@ pub(crate) fn size_of_split(first: &Query, second: &Query, node: &Node) -> u64
 }
 
 #[cycle(stored)]
-pub(crate) fn size_of_combine(first: &Query, second: &Query, node: &Node) -> u64
+pub(crate) fn size_of_combine(left: &Query, right: &Query, node: &Node) -> u64
     ensures { (expression : Expression) → result ≡ min (stored_in seen_of
-        (combine (plain_of first.now.shape) (plain_of second.now.shape) expression)
+        (combine (plain_of left.now.shape) (plain_of right.now.shape) expression)
         (holding_of node.now.state)) (2 ^ 64 - 1) }
 {
     match &node.state {
-        State::Combine(a, b) => stored(first, a).saturating_add(stored(second, b)),
+        State::Combine(a, b) => stored(left, a).saturating_add(stored(right, b)),
         _ => 0,
     }
 }

@@ -27,12 +27,12 @@ fn demand_of(query: &Query) -> Demand
     match &query.shape {
         Shape::Atom(..) => Demand::ITEM,
         Shape::Eps(_) => Demand::NOTHING,
-        Shape::Or(first, second) => demand_of(first).beside(demand_of(second)),
-        Shape::Split(first, second, _) => demand_of(first).then(demand_of(second)),
+        Shape::Or(left, right) => demand_of(left).beside(demand_of(right)),
+        Shape::Split(left, right, _) => demand_of(left).then(demand_of(right)),
         Shape::Iter(inner, ..) => demand_of(inner).repeated(),
-        Shape::Combine(first, second, _) => demand_of(first).beside(demand_of(second)),
+        Shape::Combine(left, right, _) => demand_of(left).beside(demand_of(right)),
         Shape::Apply(inner, _) => demand_of(inner),
-        Shape::Compose(first, second) => demand_of(first).read_by(demand_of(second)),
+        Shape::Compose(left, right) => demand_of(left).read_by(demand_of(right)),
         Shape::Collect(_, _, rate, inner) => demand_of(inner).along(rate.positions()),
     }
 }

@@ -24,8 +24,8 @@ impl Pred {
             Pred::EqText(column, text) => copy_of_eq_text(alloc, *column, text),
             Pred::NeText(column, text) => copy_of_ne_text(alloc, *column, text),
             Pred::IsNum(column) => Ok(Pred::IsNum(*column)),
-            Pred::And(first, second) => copy_of_and(alloc, first, second),
-            Pred::Or(first, second) => copy_of_or(alloc, first, second),
+            Pred::And(left, right) => copy_of_and(alloc, left, right),
+            Pred::Or(left, right) => copy_of_or(alloc, left, right),
             Pred::Not(inner) => copy_of_not(alloc, inner),
         }
     }
@@ -51,21 +51,21 @@ fn copy_of_ne_text(alloc: Global, column: u32, text: &Bytes) -> Result<Pred, All
 }
 
 #[cycle(copy)]
-fn copy_of_and(alloc: Global, first: &Pred, second: &Pred) -> Result<Pred, AllocError>
+fn copy_of_and(alloc: Global, left: &Pred, right: &Pred) -> Result<Pred, AllocError>
     ensures { IfOk result (λ copy.
-        plain_of copy ≡ conjunction (plain_of first.now) (plain_of second.now)) }
+        plain_of copy ≡ conjunction (plain_of left.now) (plain_of right.now)) }
 {
-    let first = first.boxed_copy(alloc)?;
-    Ok(Pred::And(first, second.boxed_copy(alloc)?))
+    let left = left.boxed_copy(alloc)?;
+    Ok(Pred::And(left, right.boxed_copy(alloc)?))
 }
 
 #[cycle(copy)]
-fn copy_of_or(alloc: Global, first: &Pred, second: &Pred) -> Result<Pred, AllocError>
+fn copy_of_or(alloc: Global, left: &Pred, right: &Pred) -> Result<Pred, AllocError>
     ensures { IfOk result (λ copy.
-        plain_of copy ≡ disjunction (plain_of first.now) (plain_of second.now)) }
+        plain_of copy ≡ disjunction (plain_of left.now) (plain_of right.now)) }
 {
-    let first = first.boxed_copy(alloc)?;
-    Ok(Pred::Or(first, second.boxed_copy(alloc)?))
+    let left = left.boxed_copy(alloc)?;
+    Ok(Pred::Or(left, right.boxed_copy(alloc)?))
 }
 
 #[cycle(copy)]

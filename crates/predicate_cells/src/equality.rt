@@ -26,8 +26,8 @@ impl Pred {
             Pred::EqText(column, text) => other.is_eq_text(*column, text),
             Pred::NeText(column, text) => other.is_ne_text(*column, text),
             Pred::IsNum(column) => other.asks_number(*column),
-            Pred::And(first, second) => other.is_and(first, second),
-            Pred::Or(first, second) => other.is_or(first, second),
+            Pred::And(left, right) => other.is_and(left, right),
+            Pred::Or(left, right) => other.is_or(left, right),
             Pred::Not(inner) => other.is_not(inner),
         }
     }

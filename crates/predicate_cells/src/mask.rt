@@ -40,8 +40,8 @@ pub(crate) fn truths_of(
         | Pred::EqText(column, _)
         | Pred::NeText(column, _)
         | Pred::IsNum(column) => column_truths(alloc, columns, pred, *column),
-        Pred::And(first, second) => truths_of_both(alloc, columns, first, second),
-        Pred::Or(first, second) => truths_of_either(alloc, columns, first, second),
+        Pred::And(left, right) => truths_of_both(alloc, columns, left, right),
+        Pred::Or(left, right) => truths_of_either(alloc, columns, left, right),
         Pred::Not(inner) => {
             let truths = truths_of(alloc, columns, inner)?;
             Ok(negated(truths))
@@ -53,15 +53,15 @@ pub(crate) fn truths_of(
 fn truths_of_both(
     alloc: Global,
     columns: &[Classes],
-    first: &Pred,
-    second: &Pred,
+    left: &Pred,
+    right: &Pred,
 ) -> Result<Vec<bool>, AllocError>
     requires { cells_in columns.now ≤ max_cells }
     ensures { IfOk result (λ truths. truths.items
-        ≡ map (holds (conjunction (plain_of first.now) (plain_of second.now))) (samples columns.now)) }
+        ≡ map (holds (conjunction (plain_of left.now) (plain_of right.now))) (samples columns.now)) }
 {
-    let truths = truths_of(alloc, columns, first)?;
-    let others = truths_of(alloc, columns, second)?;
+    let truths = truths_of(alloc, columns, left)?;
+    let others = truths_of(alloc, columns, right)?;
     Ok(both(truths, &others))
 }
 
@@ -69,15 +69,15 @@ fn truths_of_both(
 fn truths_of_either(
     alloc: Global,
     columns: &[Classes],
-    first: &Pred,
-    second: &Pred,
+    left: &Pred,
+    right: &Pred,
 ) -> Result<Vec<bool>, AllocError>
     requires { cells_in columns.now ≤ max_cells }
     ensures { IfOk result (λ truths. truths.items
-        ≡ map (holds (disjunction (plain_of first.now) (plain_of second.now))) (samples columns.now)) }
+        ≡ map (holds (disjunction (plain_of left.now) (plain_of right.now))) (samples columns.now)) }
 {
-    let truths = truths_of(alloc, columns, first)?;
-    let others = truths_of(alloc, columns, second)?;
+    let truths = truths_of(alloc, columns, left)?;
+    let others = truths_of(alloc, columns, right)?;
     Ok(either(truths, &others))
 }
 

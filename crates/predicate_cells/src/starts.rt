@@ -37,8 +37,8 @@ fn push_starts(pred: &Pred, column: u32, starts: &mut Vec<i64>) -> Result<(), Al
         Pred::Between(tested, low, high) if *tested == column => {
             push_interval(*low, *high, starts)
         }
-        Pred::And(first, second) | Pred::Or(first, second) => {
-            push_starts_of_both(first, second, column, starts)
+        Pred::And(left, right) | Pred::Or(left, right) => {
+            push_starts_of_both(left, right, column, starts)
         }
         Pred::Not(inner) => push_starts(inner, column, starts),
         _ => Ok(()),
@@ -47,16 +47,16 @@ fn push_starts(pred: &Pred, column: u32, starts: &mut Vec<i64>) -> Result<(), Al
 
 #[cycle(push)]
 fn push_starts_of_both(
-    first: &Pred,
-    second: &Pred,
+    left: &Pred,
+    right: &Pred,
     column: u32,
     starts: &mut Vec<i64>,
 ) -> Result<(), AllocError>
     ensures { OnOk result (starts.new.items ≡ starts.old.items ++ filter begins_class
-        (beginnings column (plain_of first.now) ++ beginnings column (plain_of second.now))) }
+        (beginnings column (plain_of left.now) ++ beginnings column (plain_of right.now))) }
 {
-    push_starts(first, column, starts)?;
-    push_starts(second, column, starts)
+    push_starts(left, column, starts)?;
+    push_starts(right, column, starts)
 }
 
 // A class begins at the first number of the interval, and another after its last number.

@@ -35,9 +35,9 @@ fn push_named<'p>(pred: &'p Pred, column: u32, named: &mut Vec<&'p [u8]>) -> Res
         Pred::EqText(tested, text) | Pred::NeText(tested, text) if *tested == column => {
             push_text(text.as_slice(), named)
         }
-        Pred::And(first, second) | Pred::Or(first, second) => {
-            push_named(first, column, named)?;
-            push_named(second, column, named)
+        Pred::And(left, right) | Pred::Or(left, right) => {
+            push_named(left, column, named)?;
+            push_named(right, column, named)
         }
         Pred::Not(inner) => push_named(inner, column, named),
         _ => Ok(()),

@@ -34,28 +34,28 @@ pub(crate) fn holds_in<R: Row>(pred: &Pred, row: &R) -> bool
         Pred::EqText(column, text) => is_text(row, *column, text),
         Pred::NeText(column, text) => !is_text(row, *column, text),
         &Pred::IsNum(column) => is_number(row, column),
-        Pred::And(first, second) => both_hold(first, second, row),
-        Pred::Or(first, second) => either_holds(first, second, row),
+        Pred::And(left, right) => both_hold(left, right, row),
+        Pred::Or(left, right) => either_holds(left, right, row),
         Pred::Not(inner) => !holds_in(inner, row),
     }
 }
 
 #[cycle(holds)]
 #[inline(always)]
-fn both_hold<R: Row>(first: &Pred, second: &Pred, row: &R) -> bool
+fn both_hold<R: Row>(left: &Pred, right: &Pred, row: &R) -> bool
     ensures { result
-        ≡ holds (conjunction (plain_of first.now) (plain_of second.now)) (R.fields row.now) }
+        ≡ holds (conjunction (plain_of left.now) (plain_of right.now)) (R.fields row.now) }
 {
-    holds_in(first, row) && holds_in(second, row)
+    holds_in(left, row) && holds_in(right, row)
 }
 
 #[cycle(holds)]
 #[inline(always)]
-fn either_holds<R: Row>(first: &Pred, second: &Pred, row: &R) -> bool
+fn either_holds<R: Row>(left: &Pred, right: &Pred, row: &R) -> bool
     ensures { result
-        ≡ holds (disjunction (plain_of first.now) (plain_of second.now)) (R.fields row.now) }
+        ≡ holds (disjunction (plain_of left.now) (plain_of right.now)) (R.fields row.now) }
 {
-    holds_in(first, row) || holds_in(second, row)
+    holds_in(left, row) || holds_in(right, row)
 }
 
 #[inline(always)]

@@ -29,8 +29,8 @@ fn fits_columns(pred: &Pred, columns: &[Column]) -> bool
         | Pred::Between(column, _, _)
         | Pred::IsNum(column) => has_numbers(columns, *column),
         Pred::EqText(column, _) | Pred::NeText(column, _) => has_texts(columns, *column),
-        Pred::And(first, second) | Pred::Or(first, second) => {
-            fits_columns(first, columns) && fits_columns(second, columns)
+        Pred::And(left, right) | Pred::Or(left, right) => {
+            fits_columns(left, columns) && fits_columns(right, columns)
         }
         Pred::Not(inner) => fits_columns(inner, columns),
     }

@@ -40,11 +40,9 @@ fn add_those_of(query: &Query, preds: &mut Preds) -> Result<(), AllocError>
     match &query.shape {
         Shape::Atom(pred, _) => add_once(pred, preds),
         Shape::Eps(_) => Ok(()),
-        Shape::Or(first, second)
-        | Shape::Split(first, second, _)
-        | Shape::Combine(first, second, _) => {
-            add_those_of(first, preds)?;
-            add_those_of(second, preds)
+        Shape::Or(left, right) | Shape::Split(left, right, _) | Shape::Combine(left, right, _) => {
+            add_those_of(left, preds)?;
+            add_those_of(right, preds)
         }
         Shape::Iter(inner, ..) | Shape::Apply(inner, _) | Shape::Compose(inner, _) => {
             add_those_of(inner, preds)
@@ -63,9 +61,9 @@ fn add_those_in(rate: &Rate, preds: &mut Preds) -> Result<(), AllocError>
     match rate {
         Rate::Empty => Ok(()),
         Rate::One(pred) => add_once(pred, preds),
-        Rate::Seq(first, second) | Rate::Alt(first, second) => {
-            add_those_in(first, preds)?;
-            add_those_in(second, preds)
+        Rate::Seq(left, right) | Rate::Alt(left, right) => {
+            add_those_in(left, preds)?;
+            add_those_in(right, preds)
         }
         Rate::Star(inner) => add_those_in(inner, preds),
     }

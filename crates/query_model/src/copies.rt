@@ -22,34 +22,34 @@ pub(crate) fn copy_of_atom(pred: &Pred, value: &Expr, alloc: Global) -> Result<S
 
 #[cycle(copy)]
 pub(crate) fn copy_of_choice(
-    first: &Query,
-    second: &Query,
+    left: &Query,
+    right: &Query,
     alloc: Global,
 ) -> Result<Shape, AllocError>
     ensures query { IfOk result (λ copy. plain_of copy
-        ≡ choice (plain_of first.now.shape) (plain_of second.now.shape)) }
-    ensures spans { IfOk result (λ copy. spans_of copy ≡ spans_of first.now.shape
-        ++ first.now.span ∷ spans_of second.now.shape ++ second.now.span ∷ []) }
+        ≡ choice (plain_of left.now.shape) (plain_of right.now.shape)) }
+    ensures spans { IfOk result (λ copy. spans_of copy ≡ spans_of left.now.shape
+        ++ left.now.span ∷ spans_of right.now.shape ++ right.now.span ∷ []) }
 {
-    let first = first.boxed_copy(alloc)?;
-    Ok(Shape::Or(first, second.boxed_copy(alloc)?))
+    let left = left.boxed_copy(alloc)?;
+    Ok(Shape::Or(left, right.boxed_copy(alloc)?))
 }
 
 #[cycle(copy)]
 pub(crate) fn copy_of_split(
-    first: &Query,
-    second: &Query,
+    left: &Query,
+    right: &Query,
     value: &Expr,
     alloc: Global,
 ) -> Result<Shape, AllocError>
-    ensures query { IfOk result (λ copy. plain_of copy ≡ split (plain_of first.now.shape)
-        (plain_of second.now.shape) (values.plain_of value.now)) }
-    ensures spans { IfOk result (λ copy. spans_of copy ≡ spans_of first.now.shape
-        ++ first.now.span ∷ spans_of second.now.shape ++ second.now.span ∷ []) }
+    ensures query { IfOk result (λ copy. plain_of copy ≡ split (plain_of left.now.shape)
+        (plain_of right.now.shape) (values.plain_of value.now)) }
+    ensures spans { IfOk result (λ copy. spans_of copy ≡ spans_of left.now.shape
+        ++ left.now.span ∷ spans_of right.now.shape ++ right.now.span ∷ []) }
 {
-    let first = first.boxed_copy(alloc)?;
-    let second = second.boxed_copy(alloc)?;
-    Ok(Shape::Split(first, second, value.try_copy(alloc)?))
+    let left = left.boxed_copy(alloc)?;
+    let right = right.boxed_copy(alloc)?;
+    Ok(Shape::Split(left, right, value.try_copy(alloc)?))
 }
 
 #[cycle(copy)]
@@ -70,19 +70,19 @@ pub(crate) fn copy_of_iter(
 
 #[cycle(copy)]
 pub(crate) fn copy_of_combine(
-    first: &Query,
-    second: &Query,
+    left: &Query,
+    right: &Query,
     value: &Expr,
     alloc: Global,
 ) -> Result<Shape, AllocError>
-    ensures query { IfOk result (λ copy. plain_of copy ≡ combine (plain_of first.now.shape)
-        (plain_of second.now.shape) (values.plain_of value.now)) }
-    ensures spans { IfOk result (λ copy. spans_of copy ≡ spans_of first.now.shape
-        ++ first.now.span ∷ spans_of second.now.shape ++ second.now.span ∷ []) }
+    ensures query { IfOk result (λ copy. plain_of copy ≡ combine (plain_of left.now.shape)
+        (plain_of right.now.shape) (values.plain_of value.now)) }
+    ensures spans { IfOk result (λ copy. spans_of copy ≡ spans_of left.now.shape
+        ++ left.now.span ∷ spans_of right.now.shape ++ right.now.span ∷ []) }
 {
-    let first = first.boxed_copy(alloc)?;
-    let second = second.boxed_copy(alloc)?;
-    Ok(Shape::Combine(first, second, value.try_copy(alloc)?))
+    let left = left.boxed_copy(alloc)?;
+    let right = right.boxed_copy(alloc)?;
+    Ok(Shape::Combine(left, right, value.try_copy(alloc)?))
 }
 
 #[cycle(copy)]
@@ -98,17 +98,17 @@ pub(crate) fn copy_of_apply(inner: &Query, value: &Expr, alloc: Global) -> Resul
 
 #[cycle(copy)]
 pub(crate) fn copy_of_compose(
-    first: &Query,
-    second: &Query,
+    left: &Query,
+    right: &Query,
     alloc: Global,
 ) -> Result<Shape, AllocError>
     ensures query { IfOk result (λ copy. plain_of copy
-        ≡ compose (plain_of first.now.shape) (plain_of second.now.shape)) }
-    ensures spans { IfOk result (λ copy. spans_of copy ≡ spans_of first.now.shape
-        ++ first.now.span ∷ spans_of second.now.shape ++ second.now.span ∷ []) }
+        ≡ compose (plain_of left.now.shape) (plain_of right.now.shape)) }
+    ensures spans { IfOk result (λ copy. spans_of copy ≡ spans_of left.now.shape
+        ++ left.now.span ∷ spans_of right.now.shape ++ right.now.span ∷ []) }
 {
-    let first = first.boxed_copy(alloc)?;
-    Ok(Shape::Compose(first, second.boxed_copy(alloc)?))
+    let left = left.boxed_copy(alloc)?;
+    Ok(Shape::Compose(left, right.boxed_copy(alloc)?))
 }
 
 #[cycle(copy)]

@@ -59,12 +59,12 @@ impl Query {
         match &self.shape {
             Shape::Atom(pred, _) => Rate::of_item(pred, alloc),
             Shape::Eps(_) => Ok(Rate::Empty),
-            Shape::Or(first, second) => rate_of_choice(first, second, alloc),
-            Shape::Split(first, second, _) => rate_of_split(first, second, alloc),
+            Shape::Or(left, right) => rate_of_choice(left, right, alloc),
+            Shape::Split(left, right, _) => rate_of_split(left, right, alloc),
             Shape::Iter(inner, _, _) => rate_of_iter(inner, alloc),
-            Shape::Combine(first, _, _) => first.rate(alloc),
+            Shape::Combine(left, _, _) => left.rate(alloc),
             Shape::Apply(inner, _) => inner.rate(alloc),
-            Shape::Compose(first, _) => first.rate(alloc),
+            Shape::Compose(left, _) => left.rate(alloc),
             Shape::Collect(_, _, rate, _) => rate.try_copy(alloc),
         }
     }
@@ -98,12 +98,12 @@ impl Query {
         match &self.shape {
             Shape::Atom(pred, value) => copy_of_atom(pred, value, alloc),
             Shape::Eps(number) => Ok(Shape::Eps(*number)),
-            Shape::Or(first, second) => copy_of_choice(first, second, alloc),
-            Shape::Split(first, second, value) => copy_of_split(first, second, value, alloc),
+            Shape::Or(left, right) => copy_of_choice(left, right, alloc),
+            Shape::Split(left, right, value) => copy_of_split(left, right, value, alloc),
             Shape::Iter(inner, number, value) => copy_of_iter(inner, *number, value, alloc),
-            Shape::Combine(first, second, value) => copy_of_combine(first, second, value, alloc),
+            Shape::Combine(left, right, value) => copy_of_combine(left, right, value, alloc),
             Shape::Apply(inner, value) => copy_of_apply(inner, value, alloc),
-            Shape::Compose(first, second) => copy_of_compose(first, second, alloc),
+            Shape::Compose(left, right) => copy_of_compose(left, right, alloc),
             Shape::Collect(key, sync, rate, inner) => {
                 copy_of_collect(*key, sync, rate, inner, alloc)
             }

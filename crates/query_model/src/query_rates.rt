@@ -10,29 +10,21 @@ use rate_expr::Rate;
 use std::alloc::{AllocError, Global};
 
 #[cycle(rate)]
-pub(crate) fn rate_of_choice(
-    first: &Query,
-    second: &Query,
-    alloc: Global,
-) -> Result<Rate, AllocError>
+pub(crate) fn rate_of_choice(left: &Query, right: &Query, alloc: Global) -> Result<Rate, AllocError>
     ensures { IfOk result (λ made. rates.plain_of made ≡ rate.choice
-        (rate_of (plain_of first.now.shape)) (rate_of (plain_of second.now.shape))) }
+        (rate_of (plain_of left.now.shape)) (rate_of (plain_of right.now.shape))) }
 {
-    let first = first.boxed_rate(alloc)?;
-    Ok(Rate::Alt(first, second.boxed_rate(alloc)?))
+    let left = left.boxed_rate(alloc)?;
+    Ok(Rate::Alt(left, right.boxed_rate(alloc)?))
 }
 
 #[cycle(rate)]
-pub(crate) fn rate_of_split(
-    first: &Query,
-    second: &Query,
-    alloc: Global,
-) -> Result<Rate, AllocError>
+pub(crate) fn rate_of_split(left: &Query, right: &Query, alloc: Global) -> Result<Rate, AllocError>
     ensures { IfOk result (λ made. rates.plain_of made ≡ rate.sequence
-        (rate_of (plain_of first.now.shape)) (rate_of (plain_of second.now.shape))) }
+        (rate_of (plain_of left.now.shape)) (rate_of (plain_of right.now.shape))) }
 {
-    let first = first.boxed_rate(alloc)?;
-    Ok(Rate::Seq(first, second.boxed_rate(alloc)?))
+    let left = left.boxed_rate(alloc)?;
+    Ok(Rate::Seq(left, right.boxed_rate(alloc)?))
 }
 
 #[cycle(rate)]

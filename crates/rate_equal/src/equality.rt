@@ -15,19 +15,19 @@ use std::alloc::Global;
 use symbolic_nfa::{Nfa, State};
 
 /// Whether each word is in both rates or in neither.
-pub fn same(alloc: Global, first: &Nfa, second: &Nfa) -> Result<bool, EqualStop>
-    requires { first.now.cells ≡ second.now.cells }
+pub fn same(alloc: Global, left: &Nfa, right: &Nfa) -> Result<bool, EqualStop>
+    requires { left.now.cells ≡ right.now.cells }
     ensures answer { IfOk result (λ answer. (r s : Regex)
-        → AreOf first.now.sets r → AreOf second.now.sets s → MatchBool answer
-        (AreEqual first.now.cells.layout.columns r s)
-        (HaveDifference first.now.cells.layout.columns r s)) }
-    ensures few { OnOk result (ReachPairs first.now.cells.layout.columns
-        first.now.sets second.now.sets (max_reach + 1) → ⊥) }
-    ensures too_many { result ≡ Err Reach → ReachPairs first.now.cells.layout.columns
-        first.now.sets second.now.sets (max_reach + 1) }
+        → AreOf left.now.sets r → AreOf right.now.sets s → MatchBool answer
+        (AreEqual left.now.cells.layout.columns r s)
+        (HaveDifference left.now.cells.layout.columns r s)) }
+    ensures few { OnOk result (ReachPairs left.now.cells.layout.columns
+        left.now.sets right.now.sets (max_reach + 1) → ⊥) }
+    ensures too_many { result ≡ Err Reach → ReachPairs left.now.cells.layout.columns
+        left.now.sets right.now.sets (max_reach + 1) }
 {
-    let pairs = reach(alloc, first, second)?;
-    Ok(agree(first, second, pairs.as_slice()))
+    let pairs = reach(alloc, left, right)?;
+    Ok(agree(left, right, pairs.as_slice()))
 }
 
 /// Whether every word of at least one item is in the rate.

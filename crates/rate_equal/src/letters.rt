@@ -44,12 +44,12 @@ impl Letter {
 }
 
 /// One letter for each two sets of positions that the items of some cell meet.
-pub(crate) fn letters(alloc: Global, first: &Nfa, second: &Nfa) -> Result<Vec<Letter>, AllocError>
-    requires { first.now.cells ≡ second.now.cells }
-    ensures letters { IfOk result (λ letters. AreLetters first.now second.now letters.items) }
+pub(crate) fn letters(alloc: Global, left: &Nfa, right: &Nfa) -> Result<Vec<Letter>, AllocError>
+    requires { left.now.cells ≡ right.now.cells }
+    ensures letters { IfOk result (λ letters. AreLetters left.now right.now letters.items) }
     ensures few { IfOk result (λ letters. length letters.items ≤ max_reach) }
 {
-    let mut letters = letters_of_cells(alloc, first, second)?;
+    let mut letters = letters_of_cells(alloc, left, right)?;
     // Pairs with more ways on should be found before those with fewer, since the targets along more
     // ways can be narrowed to fewer.
     letters.sort_unstable();

@@ -16,15 +16,15 @@ use std::alloc::{AllocError, Global};
 use symbolic_nfa::{Nfa, State};
 
 /// The pairs of states to which words lead, the initial one first.
-pub(crate) fn reach(alloc: Global, first: &Nfa, second: &Nfa) -> Result<IndexSet<Pair>, EqualStop>
-    requires { first.now.cells ≡ second.now.cells }
-    ensures all { IfOk result (λ pairs. AreAll first.now second.now pairs.keys) }
-    ensures too_many { result ≡ Err Reach → ReachPairs first.now.cells.layout.columns
-        first.now.sets second.now.sets (max_reach + 1) }
+pub(crate) fn reach(alloc: Global, left: &Nfa, right: &Nfa) -> Result<IndexSet<Pair>, EqualStop>
+    requires { left.now.cells ≡ right.now.cells }
+    ensures all { IfOk result (λ pairs. AreAll left.now right.now pairs.keys) }
+    ensures too_many { result ≡ Err Reach → ReachPairs left.now.cells.layout.columns
+        left.now.sets right.now.sets (max_reach + 1) }
 {
-    let alphabet = Alphabet::new(alloc, letters(alloc, first, second)?)?;
+    let alphabet = Alphabet::new(alloc, letters(alloc, left, right)?)?;
     let mut pairs = initial_pairs(alloc)?;
-    explore(alloc, first, second, &alphabet, &mut pairs)?;
+    explore(alloc, left, right, &alphabet, &mut pairs)?;
     Ok(pairs)
 }
 

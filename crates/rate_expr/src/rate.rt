@@ -41,8 +41,8 @@ impl Rate {
         match self {
             Rate::Empty => 0,
             Rate::One(_) => 1,
-            Rate::Seq(first, second) => first.positions().saturating_add(second.positions()),
-            Rate::Alt(first, second) => first.positions().saturating_add(second.positions()),
+            Rate::Seq(left, right) => left.positions().saturating_add(right.positions()),
+            Rate::Alt(left, right) => left.positions().saturating_add(right.positions()),
             Rate::Star(inner) => inner.positions(),
         }
     }
@@ -54,13 +54,13 @@ impl Rate {
         match self {
             Rate::Empty => Ok(Rate::Empty),
             Rate::One(pred) => Rate::of_item(pred, alloc),
-            Rate::Seq(first, second) => {
-                let first = first.boxed_copy(alloc)?;
-                Ok(Rate::Seq(first, second.boxed_copy(alloc)?))
+            Rate::Seq(left, right) => {
+                let left = left.boxed_copy(alloc)?;
+                Ok(Rate::Seq(left, right.boxed_copy(alloc)?))
             }
-            Rate::Alt(first, second) => {
-                let first = first.boxed_copy(alloc)?;
-                Ok(Rate::Alt(first, second.boxed_copy(alloc)?))
+            Rate::Alt(left, right) => {
+                let left = left.boxed_copy(alloc)?;
+                Ok(Rate::Alt(left, right.boxed_copy(alloc)?))
             }
             Rate::Star(inner) => Ok(Rate::Star(inner.boxed_copy(alloc)?)),
         }

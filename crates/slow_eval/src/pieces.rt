@@ -17,24 +17,24 @@ use value_ops::{Expr, Value};
 #[cycle(search)]
 pub(crate) fn split_answers(
     alloc: Global,
-    first: &Query,
-    second: &Query,
+    left: &Query,
+    right: &Query,
     expression: &Expr,
     word: &[Item],
 ) -> Result<Vec<Option<Value>>, AllocError>
-    requires { let query = split (plain_of first.now.shape) (plain_of second.now.shape)
+    requires { let query = split (plain_of left.now.shape) (plain_of right.now.shape)
         (values.plain_of expression.now) in CanBeRead query word.now }
-    ensures { let query = split (plain_of first.now.shape) (plain_of second.now.shape)
+    ensures { let query = split (plain_of left.now.shape) (plain_of right.now.shape)
         (values.plain_of expression.now) in
         IfOk result (λ answers. AreAnswers query word.now answers.items) }
 {
-    let lefts = answers_on_fronts(alloc, first, word)?;
+    let lefts = answers_on_fronts(alloc, left, word)?;
     let mut row = no_answers(alloc, word.len())?;
     'places: for place in 0..lefts.len() {
         let rest = &word[place..];
         join_rest(
             alloc,
-            second,
+            right,
             expression,
             &lefts[place],
             rest,

@@ -31,18 +31,18 @@ pub fn answers_on_fronts(
     match &query.shape {
         Shape::Atom(pred, expression) => atom_answers(alloc, pred, expression, word),
         Shape::Eps(number) => eps_answers(alloc, *number, word),
-        Shape::Or(first, second) => or_answers(alloc, first, second, word),
-        Shape::Split(first, second, expression) => {
-            split_answers(alloc, first, second, expression, word)
+        Shape::Or(left, right) => or_answers(alloc, left, right, word),
+        Shape::Split(left, right, expression) => {
+            split_answers(alloc, left, right, expression, word)
         }
         Shape::Iter(inner, number, expression) => {
             iter_answers(alloc, inner, *number, expression, word)
         }
-        Shape::Combine(first, second, expression) => {
-            combine_answers(alloc, first, second, expression, word)
+        Shape::Combine(left, right, expression) => {
+            combine_answers(alloc, left, right, expression, word)
         }
         Shape::Apply(inner, expression) => apply_answers(alloc, inner, expression, word),
-        Shape::Compose(first, second) => compose_answers(alloc, first, second, word),
+        Shape::Compose(left, right) => compose_answers(alloc, left, right, word),
         Shape::Collect(column, sync, rate, inner) => {
             collect_answers(alloc, *column, sync, rate, inner, word)
         }
@@ -60,17 +60,17 @@ pub fn answer_on(alloc: Global, query: &Query, word: &[Item]) -> Result<Option<V
 #[cycle(search)]
 fn or_answers(
     alloc: Global,
-    first: &Query,
-    second: &Query,
+    left: &Query,
+    right: &Query,
     word: &[Item],
 ) -> Result<Vec<Option<Value>>, AllocError>
-    requires { let query = choice (plain_of first.now.shape) (plain_of second.now.shape) in
+    requires { let query = choice (plain_of left.now.shape) (plain_of right.now.shape) in
         CanBeRead query word.now }
-    ensures { let query = choice (plain_of first.now.shape) (plain_of second.now.shape) in
+    ensures { let query = choice (plain_of left.now.shape) (plain_of right.now.shape) in
         IfOk result (λ answers. AreAnswers query word.now answers.items) }
 {
-    let answers = answers_on_fronts(alloc, first, word)?;
-    Ok(either(answers, answers_on_fronts(alloc, second, word)?))
+    let answers = answers_on_fronts(alloc, left, word)?;
+    Ok(either(answers, answers_on_fronts(alloc, right, word)?))
 }
 
 #[cycle(search)]
@@ -111,17 +111,17 @@ fn apply_answers(
 #[cycle(search)]
 fn compose_answers(
     alloc: Global,
-    first: &Query,
-    second: &Query,
+    left: &Query,
+    right: &Query,
     word: &[Item],
 ) -> Result<Vec<Option<Value>>, AllocError>
-    requires { let query = compose (plain_of first.now.shape) (plain_of second.now.shape) in
+    requires { let query = compose (plain_of left.now.shape) (plain_of right.now.shape) in
         CanBeRead query word.now }
-    ensures { let query = compose (plain_of first.now.shape) (plain_of second.now.shape) in
+    ensures { let query = compose (plain_of left.now.shape) (plain_of right.now.shape) in
         IfOk result (λ answers. AreAnswers query word.now answers.items) }
 {
-    let firsts = answers_on_fronts(alloc, first, word)?;
+    let firsts = answers_on_fronts(alloc, left, word)?;
     let stream = stream_of(alloc, &firsts)?;
-    let seconds = answers_on_fronts(alloc, second, &stream)?;
+    let seconds = answers_on_fronts(alloc, right, &stream)?;
     on_stream(alloc, &firsts, &seconds)
 }

@@ -41,10 +41,10 @@ pub fn both(alloc: Global, operator: BinaryOp) -> Result<Expr, AllocError>
 pub fn difference(alloc: Global) -> Result<Box<Query>, AllocError>
     ensures { IfOk result (λ query. plain_of query.value.shape ≡ tested.difference) }
 {
-    let first = each(alloc, Expr::Read(Var::Field(0)))?;
-    let second = each(alloc, Expr::Read(Var::Field(0)))?;
+    let left = each(alloc, Expr::Read(Var::Field(0)))?;
+    let right = each(alloc, Expr::Read(Var::Field(0)))?;
     let value = both(alloc, BinaryOp::Sub)?;
-    query(alloc, Shape::Split(first, second, value))
+    query(alloc, Shape::Split(left, right, value))
 }
 
 // iter(atom(any, EXPRESSION), 0, add(x, y))
@@ -61,19 +61,19 @@ pub fn total(alloc: Global, expression: Expr) -> Result<Box<Query>, AllocError>
 pub fn excess(alloc: Global) -> Result<Box<Query>, AllocError>
     ensures { IfOk result (λ query. plain_of query.value.shape ≡ tested.excess) }
 {
-    let first = total(alloc, Expr::Read(Var::Field(0)))?;
-    let second = total(alloc, Expr::Literal(1))?;
+    let left = total(alloc, Expr::Read(Var::Field(0)))?;
+    let right = total(alloc, Expr::Literal(1))?;
     let value = both(alloc, BinaryOp::Sub)?;
-    query(alloc, Shape::Combine(first, second, value))
+    query(alloc, Shape::Combine(left, right, value))
 }
 
 // compose(iter(atom(any, a), 0, add(x, y)), iter(atom(any, value), 0, add(x, y)))
 pub fn total_of_totals(alloc: Global) -> Result<Box<Query>, AllocError>
     ensures { IfOk result (λ query. plain_of query.value.shape ≡ tested.total_of_totals) }
 {
-    let first = total(alloc, Expr::Read(Var::Field(0)))?;
-    let second = total(alloc, Expr::Read(Var::Field(0)))?;
-    query(alloc, Shape::Compose(first, second))
+    let left = total(alloc, Expr::Read(Var::Field(0)))?;
+    let right = total(alloc, Expr::Read(Var::Field(0)))?;
+    query(alloc, Shape::Compose(left, right))
 }
 
 // The column of a number.

@@ -114,28 +114,28 @@ fn a_collect_has_the_rate_that_it_names(rt: HostRuntime) -> Result<(), Fail> {
 
 #[test]
 fn a_choice_has_the_rate_of_either(rt: HostRuntime) -> Result<(), Fail> {
-    let (first, second) = two_items(rt.alloc(), 1, 2)?;
-    let rate = rate_of_shape(rt.alloc(), Shape::Or(first, second))?;
+    let (left, right) = two_items(rt.alloc(), 1, 2)?;
+    let rate = rate_of_shape(rt.alloc(), Shape::Or(left, right))?;
     assert!(rt; matches!(&*rate, Rate::Alt(a, b) if is_item(a, 1) && is_item(b, 2)));
     Ok(())
 }
 
 #[test]
 fn a_split_has_one_rate_after_the_other(rt: HostRuntime) -> Result<(), Fail> {
-    let (first, second) = two_items(rt.alloc(), 1, 2)?;
-    let rate = rate_of_shape(rt.alloc(), Shape::Split(first, second, left_value()))?;
+    let (left, right) = two_items(rt.alloc(), 1, 2)?;
+    let rate = rate_of_shape(rt.alloc(), Shape::Split(left, right, left_value()))?;
     assert!(rt; matches!(&*rate, Rate::Seq(a, b) if is_item(a, 1) && is_item(b, 2)));
     Ok(())
 }
 
 fn combination(alloc: Global) -> Result<Shape, AllocError> {
-    let (first, second) = two_items(alloc, 1, 2)?;
-    Ok(Shape::Combine(first, second, left_value()))
+    let (left, right) = two_items(alloc, 1, 2)?;
+    Ok(Shape::Combine(left, right, left_value()))
 }
 
 fn composition(alloc: Global) -> Result<Shape, AllocError> {
-    let (first, second) = two_items(alloc, 6, 2)?;
-    Ok(Shape::Compose(first, second))
+    let (left, right) = two_items(alloc, 6, 2)?;
+    Ok(Shape::Compose(left, right))
 }
 
 #[test]

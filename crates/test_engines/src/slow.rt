@@ -23,10 +23,10 @@ fn difference(alloc: Global) -> Result<Box<Query>, AllocError>
     ensures { IfOk result (λ query. plain_of query.value.shape
         ≡ split (eps (pos 3)) (eps (pos 4)) (binary BinaryOp.Sub (read Var.Left) (read Var.Right))) }
 {
-    let first = query(alloc, Shape::Eps(3))?;
-    let second = query(alloc, Shape::Eps(4))?;
+    let left = query(alloc, Shape::Eps(3))?;
+    let right = query(alloc, Shape::Eps(4))?;
     let value = both(alloc, BinaryOp::Sub)?;
-    query(alloc, Shape::Split(first, second, value))
+    query(alloc, Shape::Split(left, right, value))
 }
 
 fn number_in(answer: &Option<Value>) -> Option<i64> {
@@ -67,9 +67,9 @@ fn composition(alloc: Global) -> Result<Box<Query>, AllocError>
     ensures { IfOk result (λ query. plain_of query.value.shape
         ≡ compose (eps (pos 3)) (atom any (read (Var.Field 0)))) }
 {
-    let first = query(alloc, Shape::Eps(3))?;
-    let second = each(alloc, Expr::Read(Var::Field(0)))?;
-    query(alloc, Shape::Compose(first, second))
+    let left = query(alloc, Shape::Eps(3))?;
+    let right = each(alloc, Expr::Read(Var::Field(0)))?;
+    query(alloc, Shape::Compose(left, right))
 }
 
 #[test]

@@ -91,13 +91,13 @@ fn boxed_over(
     }
 }
 
-fn joined(join: Join, first: Box<Rate>, second: Box<Rate>) -> Rate
+fn joined(join: Join, left: Box<Rate>, right: Box<Rate>) -> Rate
     ensures { Some (plain_of result)
-        ≡ joined_rates join (Some (plain_of first.value)) (Some (plain_of second.value)) }
+        ≡ joined_rates join (Some (plain_of left.value)) (Some (plain_of right.value)) }
 {
     match join {
-        Join::Seq => Rate::Seq(first, second),
-        Join::Alt => Rate::Alt(first, second),
+        Join::Seq => Rate::Seq(left, right),
+        Join::Alt => Rate::Alt(left, right),
     }
 }
 
@@ -108,8 +108,8 @@ pub fn all_fit(schema: &Schema, rate: &Rate) -> bool
     match rate {
         Rate::Empty => true,
         Rate::One(pred) => pred.fits(schema),
-        Rate::Seq(first, second) | Rate::Alt(first, second) => {
-            all_fit(schema, first) && all_fit(schema, second)
+        Rate::Seq(left, right) | Rate::Alt(left, right) => {
+            all_fit(schema, left) && all_fit(schema, right)
         }
         Rate::Star(inner) => all_fit(schema, inner),
     }

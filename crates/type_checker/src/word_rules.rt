@@ -36,15 +36,15 @@ pub(crate) fn empty_rule(cells: &Cells, pred: &Pred) -> Option<Rule>
 /// The rule that a choice breaks, if a word is in the rates of both operands.
 pub(crate) fn choice_rule(
     alloc: Global,
-    first: &Nfa,
-    second: &Nfa,
+    left: &Nfa,
+    right: &Nfa,
 ) -> Result<Option<Rule>, AllocError>
-    requires { first.now.cells ≡ second.now.cells }
+    requires { left.now.cells ≡ right.now.cells }
     ensures { IfOk result (λ broken. (standing : Standing) (f g : Qre)
-        → IsAutomatonOf f first.now → IsAutomatonOf g second.now
-        → BreaksAt first.now.cells.layout.columns standing (choice f g) broken) }
+        → IsAutomatonOf f left.now → IsAutomatonOf g right.now
+        → BreaksAt left.now.cells.layout.columns standing (choice f g) broken) }
 {
-    if disjoint(alloc, first, second)? {
+    if disjoint(alloc, left, right)? {
         Ok(None)
     } else {
         Ok(Some(Rule::Choice))
@@ -52,17 +52,13 @@ pub(crate) fn choice_rule(
 }
 
 /// The rule that a split breaks, if a word splits in two ways.
-pub(crate) fn split_rule(
-    alloc: Global,
-    first: &Nfa,
-    second: &Nfa,
-) -> Result<Option<Rule>, AllocError>
-    requires { first.now.cells ≡ second.now.cells }
+pub(crate) fn split_rule(alloc: Global, left: &Nfa, right: &Nfa) -> Result<Option<Rule>, AllocError>
+    requires { left.now.cells ≡ right.now.cells }
     ensures { IfOk result (λ broken. (standing : Standing) (f g : Qre) (value : Expression)
-        → IsAutomatonOf f first.now → IsAutomatonOf g second.now
-        → BreaksAt first.now.cells.layout.columns standing (split f g value) broken) }
+        → IsAutomatonOf f left.now → IsAutomatonOf g right.now
+        → BreaksAt left.now.cells.layout.columns standing (split f g value) broken) }
 {
-    if one_split(alloc, first, second)? {
+    if one_split(alloc, left, right)? {
         Ok(None)
     } else {
         Ok(Some(Rule::Split))
@@ -84,17 +80,13 @@ pub(crate) fn iter_rule(alloc: Global, inner: &Nfa) -> Result<Option<Rule>, Allo
 
 /// The rule that a combination breaks, if the rates of its operands differ, or if words lead to too
 /// many pairs of states to compare them.
-pub(crate) fn rates_rule(
-    alloc: Global,
-    first: &Nfa,
-    second: &Nfa,
-) -> Result<Option<Rule>, AllocError>
-    requires { first.now.cells ≡ second.now.cells }
+pub(crate) fn rates_rule(alloc: Global, left: &Nfa, right: &Nfa) -> Result<Option<Rule>, AllocError>
+    requires { left.now.cells ≡ right.now.cells }
     ensures { IfOk result (λ broken. (standing : Standing) (f g : Qre) (value : Expression)
-        → IsAutomatonOf f first.now → IsAutomatonOf g second.now
-        → BreaksAt first.now.cells.layout.columns standing (combine f g value) broken) }
+        → IsAutomatonOf f left.now → IsAutomatonOf g right.now
+        → BreaksAt left.now.cells.layout.columns standing (combine f g value) broken) }
 {
-    match same(alloc, first, second) {
+    match same(alloc, left, right) {
         Ok(true) => Ok(None),
         Ok(false) => Ok(Some(Rule::Rates)),
         Err(EqualStop::Reach) => Ok(Some(Rule::Reach)),
@@ -124,8 +116,8 @@ pub(crate) fn met_rule(cells: &Cells, rate: &Rate) -> Option<Rule>
     match rate {
         Rate::Empty => None,
         Rate::One(pred) => empty_rule(cells, pred),
-        Rate::Seq(first, second) | Rate::Alt(first, second) => {
-            met_rule(cells, first).or(met_rule(cells, second))
+        Rate::Seq(left, right) | Rate::Alt(left, right) => {
+            met_rule(cells, left).or(met_rule(cells, right))
         }
         Rate::Star(inner) => met_rule(cells, inner),
     }

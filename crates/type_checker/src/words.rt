@@ -53,15 +53,15 @@ pub fn keep_words(
     match &query.shape {
         Shape::Atom(pred, _) => one_item(alloc, cells, pred, query.span),
         Shape::Eps(_) => Ok(Positions::empty(alloc)),
-        Shape::Or(first, second) => keep_choice(alloc, cells, first, second, query.span),
-        Shape::Split(first, second, _) => keep_split(alloc, cells, first, second, query.span),
+        Shape::Or(left, right) => keep_choice(alloc, cells, left, right, query.span),
+        Shape::Split(left, right, _) => keep_split(alloc, cells, left, right, query.span),
         Shape::Iter(inner, _, _) => keep_iteration(alloc, cells, inner, query.span),
-        Shape::Combine(first, second, _) => {
-            keep_combination(alloc, cells, first, second, query.span)
+        Shape::Combine(left, right, _) => {
+            keep_combination(alloc, cells, left, right, query.span)
         }
         Shape::Apply(inner, _) => keep_words(alloc, Standing::Bound, cells, inner),
-        Shape::Compose(first, second) => {
-            keep_composition(alloc, standing, cells, first, second, query.span)
+        Shape::Compose(left, right) => {
+            keep_composition(alloc, standing, cells, left, right, query.span)
         }
         Shape::Collect(_, _, rate, inner) => keep_collection(alloc, cells, rate, inner, query.span),
     }
@@ -289,18 +289,18 @@ fn keep_fed(
 fn cells_between(
     alloc: Global,
     cells: &Cells,
-    first: &Query,
-    second: &Query,
+    left: &Query,
+    right: &Query,
 ) -> Result<Rc<Cells>, AllocError>
     requires { CanBeAsked cells.now
-        (compose (plain_of first.now.shape) (plain_of second.now.shape)) }
+        (compose (plain_of left.now.shape) (plain_of right.now.shape)) }
     ensures layout { IfOk result (λ values. values.value.layout
-        ≡ derived_layout (type_of cells.now.layout.columns (plain_of first.now.shape))) }
+        ≡ derived_layout (type_of cells.now.layout.columns (plain_of left.now.shape))) }
     ensures asked { IfOk result (λ values.
-        CanBeAsked values.value (plain_of second.now.shape)) }
+        CanBeAsked values.value (plain_of right.now.shape)) }
 {
-    let values = values_of(alloc, cells.schema(), first)?;
-    match cells_of(alloc, &values, second) {
+    let values = values_of(alloc, cells.schema(), left)?;
+    match cells_of(alloc, &values, right) {
         Ok(cells) => Ok(Rc::new(alloc, cells)?),
         Err(CellStop::TooMany) => unreachable!(),
         Err(CellStop::Memory) => Err(AllocError),

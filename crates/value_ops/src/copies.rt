@@ -15,14 +15,14 @@ impl Expr {
             Expr::Literal(number) => Ok(Expr::Literal(*number)),
             Expr::Read(name) => Ok(Expr::Read(*name)),
             Expr::Unary(op, inner) => copy_of_unary(alloc, *op, inner),
-            Expr::Binary(op, first, second) => copy_of_binary(alloc, *op, first, second),
-            Expr::If(test, first, second, met, other) => {
-                copy_of_choice(alloc, *test, first, second, met, other)
+            Expr::Binary(op, left, right) => copy_of_binary(alloc, *op, left, right),
+            Expr::If(test, left, right, met, other) => {
+                copy_of_choice(alloc, *test, left, right, met, other)
             }
             Expr::Sum(name) => Ok(Expr::Sum(*name)),
             Expr::Count(name) => Ok(Expr::Count(*name)),
-            Expr::Most(name, first) => copy_of_most(alloc, *name, first),
-            Expr::Least(name, first) => copy_of_least(alloc, *name, first),
+            Expr::Most(name, left) => copy_of_most(alloc, *name, left),
+            Expr::Least(name, left) => copy_of_least(alloc, *name, left),
             Expr::Get(name, key, other) => copy_of_entry(alloc, *name, key, other),
         }
     }
@@ -46,32 +46,32 @@ fn copy_of_unary(alloc: Global, op: UnaryOp, inner: &Expr) -> Result<Expr, Alloc
 fn copy_of_binary(
     alloc: Global,
     op: BinaryOp,
-    first: &Expr,
-    second: &Expr,
+    left: &Expr,
+    right: &Expr,
 ) -> Result<Expr, AllocError>
     ensures { IfOk result (λ copy.
-        plain_of copy ≡ binary op (plain_of first.now) (plain_of second.now)) }
+        plain_of copy ≡ binary op (plain_of left.now) (plain_of right.now)) }
 {
-    let first = first.boxed_copy(alloc)?;
-    Ok(Expr::Binary(op, first, second.boxed_copy(alloc)?))
+    let left = left.boxed_copy(alloc)?;
+    Ok(Expr::Binary(op, left, right.boxed_copy(alloc)?))
 }
 
 #[cycle(copy)]
 fn copy_of_choice(
     alloc: Global,
     test: Compare,
-    first: &Expr,
-    second: &Expr,
+    left: &Expr,
+    right: &Expr,
     met: &Expr,
     other: &Expr,
 ) -> Result<Expr, AllocError>
     ensures { IfOk result (λ copy. plain_of copy ≡ choice test
-        (plain_of first.now) (plain_of second.now) (plain_of met.now) (plain_of other.now)) }
+        (plain_of left.now) (plain_of right.now) (plain_of met.now) (plain_of other.now)) }
 {
-    let first = first.boxed_copy(alloc)?;
-    let second = second.boxed_copy(alloc)?;
+    let left = left.boxed_copy(alloc)?;
+    let right = right.boxed_copy(alloc)?;
     let met = met.boxed_copy(alloc)?;
-    Ok(Expr::If(test, first, second, met, other.boxed_copy(alloc)?))
+    Ok(Expr::If(test, left, right, met, other.boxed_copy(alloc)?))
 }
 
 #[cycle(copy)]

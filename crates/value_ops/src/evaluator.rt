@@ -81,14 +81,14 @@ fn scalar(expr: &Expr, inputs: &Inputs) -> Scalar
         Expr::Literal(number) => Scalar::Number(*number),
         Expr::Read(name) => inputs.known_scalar(*name),
         Expr::Unary(op, inner) => scalar(inner, inputs).unary(*op),
-        Expr::Binary(op, first, second) => joined(*op, first, second, inputs),
-        Expr::If(test, first, second, met, other) => {
-            chosen(*test, first, second, met, other, inputs)
+        Expr::Binary(op, left, right) => joined(*op, left, right, inputs),
+        Expr::If(test, left, right, met, other) => {
+            chosen(*test, left, right, met, other, inputs)
         }
         Expr::Sum(name) => folded(BinaryOp::Add, Scalar::Number(0), inputs.known_table(*name)),
         Expr::Count(name) => count(inputs.known_table(*name)),
-        Expr::Most(name, first) => extremum(BinaryOp::Max, *name, first, inputs),
-        Expr::Least(name, first) => extremum(BinaryOp::Min, *name, first, inputs),
+        Expr::Most(name, left) => extremum(BinaryOp::Max, *name, left, inputs),
+        Expr::Least(name, left) => extremum(BinaryOp::Min, *name, left, inputs),
         Expr::Get(name, key, other) => scalar_under(inputs.known_table(*name), key, other, inputs),
     }
 }
@@ -96,14 +96,14 @@ fn scalar(expr: &Expr, inputs: &Inputs) -> Scalar
 // What the operator gives on two scalars.
 #[cycle(scalar)]
 #[inline(always)]
-fn joined(op: BinaryOp, first: &Expr, second: &Expr, inputs: &Inputs) -> Scalar
+fn joined(op: BinaryOp, left: &Expr, right: &Expr, inputs: &Inputs) -> Scalar
     requires { IsNumber (types_of (inputs_of inputs.now))
-        (binary op (plain_of first.now) (plain_of second.now)) }
+        (binary op (plain_of left.now) (plain_of right.now)) }
     ensures { scalar_of (inputs_of inputs.now)
-        (binary op (plain_of first.now) (plain_of second.now)) ≡ Some result }
+        (binary op (plain_of left.now) (plain_of right.now)) ≡ Some result }
 {
-    let first = scalar(first, inputs);
-    first.binary(op, scalar(second, inputs))
+    let left = scalar(left, inputs);
+    left.binary(op, scalar(right, inputs))
 }
 
 // The scalar of what the comparison chooses. The other branch is not looked at.
@@ -111,20 +111,20 @@ fn joined(op: BinaryOp, first: &Expr, second: &Expr, inputs: &Inputs) -> Scalar
 #[inline(always)]
 fn chosen(
     test: Compare,
-    first: &Expr,
-    second: &Expr,
+    left: &Expr,
+    right: &Expr,
     met: &Expr,
     other: &Expr,
     inputs: &Inputs,
 ) -> Scalar
     requires { IsNumber (types_of (inputs_of inputs.now)) (choice test
-        (plain_of first.now) (plain_of second.now) (plain_of met.now) (plain_of other.now)) }
-    ensures { scalar_of (inputs_of inputs.now) (choice test (plain_of first.now)
-        (plain_of second.now) (plain_of met.now) (plain_of other.now)) ≡ Some result }
+        (plain_of left.now) (plain_of right.now) (plain_of met.now) (plain_of other.now)) }
+    ensures { scalar_of (inputs_of inputs.now) (choice test (plain_of left.now)
+        (plain_of right.now) (plain_of met.now) (plain_of other.now)) ≡ Some result }
 {
-    match (scalar(first, inputs), scalar(second, inputs)) {
-        (Scalar::Number(first), Scalar::Number(second)) => {
-            if test.holds(first, second) {
+    match (scalar(left, inputs), scalar(right, inputs)) {
+        (Scalar::Number(left), Scalar::Number(right)) => {
+            if test.holds(left, right) {
                 scalar(met, inputs)
             } else {
                 scalar(other, inputs)

@@ -71,10 +71,10 @@ impl Expr {
             &Expr::Literal(_number) => true,
             Expr::Read(name) => types.has(*name, ValueType::Number),
             Expr::Unary(_, inner) => inner.is_number(types),
-            Expr::Binary(_, first, second) => first.is_number(types) && second.is_number(types),
-            Expr::If(_, first, second, met, other) => {
-                first.is_number(types)
-                    && second.is_number(types)
+            Expr::Binary(_, left, right) => left.is_number(types) && right.is_number(types),
+            Expr::If(_, left, right, met, other) => {
+                left.is_number(types)
+                    && right.is_number(types)
                     && met.is_number(types)
                     && other.is_number(types)
             }

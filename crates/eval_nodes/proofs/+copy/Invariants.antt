@@ -62,16 +62,16 @@ abbrev pub decreases-copies::copied_tracks : goal.decreases-copies::copied_track
 decreases-copies::copied_tracks l = 6 * size-Query l.query.now + 4
 
 abbrev pub decreases-node_copies::copy_of_choice : goal.decreases-node_copies::copy_of_choice
-decreases-node_copies::copy_of_choice l = 6 * max (size-Query l.first.now) (size-Query l.second.now) + 5
+decreases-node_copies::copy_of_choice l = 6 * max (size-Query l.left.now) (size-Query l.right.now) + 5
 
 abbrev pub decreases-node_copies::copy_of_combine : goal.decreases-node_copies::copy_of_combine
-decreases-node_copies::copy_of_combine l = 6 * max (size-Query l.first.now) (size-Query l.second.now) + 5
+decreases-node_copies::copy_of_combine l = 6 * max (size-Query l.left.now) (size-Query l.right.now) + 5
 
 abbrev pub decreases-node_copies::copy_of_split : goal.decreases-node_copies::copy_of_split
-decreases-node_copies::copy_of_split l = 6 * max (size-Query l.first.now) (size-Query l.second.now) + 5
+decreases-node_copies::copy_of_split l = 6 * max (size-Query l.left.now) (size-Query l.right.now) + 5
 
 abbrev pub decreases-node_copies::copy_of_compose : goal.decreases-node_copies::copy_of_compose
-decreases-node_copies::copy_of_compose l = 6 * max (size-Query l.first.now) (size-Query l.second.now) + 5
+decreases-node_copies::copy_of_compose l = 6 * max (size-Query l.left.now) (size-Query l.right.now) + 5
 
 abbrev pub decreases-node_copies::copy_of_apply : goal.decreases-node_copies::copy_of_apply
 decreases-node_copies::copy_of_apply l = 6 * size-Query l.inner.now + 5

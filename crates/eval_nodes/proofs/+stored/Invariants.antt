@@ -49,13 +49,13 @@ abbrev pub decreases-counts::size_of_tracks : goal.decreases-counts::size_of_tra
 decreases-counts::size_of_tracks l = 5 * size-Query l.query.now + 3
 
 abbrev pub decreases-node_counts::size_of_choice : goal.decreases-node_counts::size_of_choice
-decreases-node_counts::size_of_choice l = 5 * max (size-Query l.first.now) (size-Query l.second.now) + 4
+decreases-node_counts::size_of_choice l = 5 * max (size-Query l.left.now) (size-Query l.right.now) + 4
 
 abbrev pub decreases-node_counts::size_of_combine : goal.decreases-node_counts::size_of_combine
-decreases-node_counts::size_of_combine l = 5 * max (size-Query l.first.now) (size-Query l.second.now) + 4
+decreases-node_counts::size_of_combine l = 5 * max (size-Query l.left.now) (size-Query l.right.now) + 4
 
 abbrev pub decreases-node_counts::size_of_split : goal.decreases-node_counts::size_of_split
-decreases-node_counts::size_of_split l = 5 * max (size-Query l.first.now) (size-Query l.second.now) + 4
+decreases-node_counts::size_of_split l = 5 * max (size-Query l.left.now) (size-Query l.right.now) + 4
 
 abbrev pub decreases-node_counts::size_of_compose : goal.decreases-node_counts::size_of_compose
 decreases-node_counts::size_of_compose l = 5 * max (size-Query l.first.now) (size-Query l.second.now) + 4

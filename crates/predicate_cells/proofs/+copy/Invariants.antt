@@ -10,10 +10,10 @@ abbrev pub decreases-pred::Pred::boxed_copy : goal.decreases-pred::Pred::boxed_c
 decreases-pred::Pred::boxed_copy l = 3 * size-Pred l.self.now + 1
 
 abbrev pub decreases-copies::copy_of_and : goal.decreases-copies::copy_of_and
-decreases-copies::copy_of_and l = 3 * max (size-Pred l.first.now) (size-Pred l.second.now) + 2
+decreases-copies::copy_of_and l = 3 * max (size-Pred l.left.now) (size-Pred l.right.now) + 2
 
 abbrev pub decreases-copies::copy_of_or : goal.decreases-copies::copy_of_or
-decreases-copies::copy_of_or l = 3 * max (size-Pred l.first.now) (size-Pred l.second.now) + 2
+decreases-copies::copy_of_or l = 3 * max (size-Pred l.left.now) (size-Pred l.right.now) + 2
 
 abbrev pub decreases-copies::copy_of_not : goal.decreases-copies::copy_of_not
 decreases-copies::copy_of_not l = 3 * size-Pred l.inner.now + 2

@@ -13,22 +13,22 @@ abbrev pub decreases-query::Query::boxed_copy : goal.decreases-query::Query::box
 decreases-query::Query::boxed_copy l = 4 * size-Query l.self.now + 2
 
 abbrev pub decreases-copies::copy_of_choice : goal.decreases-copies::copy_of_choice
-decreases-copies::copy_of_choice l = 4 * max (size-Query l.first.now) (size-Query l.second.now) + 3
+decreases-copies::copy_of_choice l = 4 * max (size-Query l.left.now) (size-Query l.right.now) + 3
 
 abbrev pub decreases-copies::copy_of_split : goal.decreases-copies::copy_of_split
-decreases-copies::copy_of_split l = 4 * max (size-Query l.first.now) (size-Query l.second.now) + 3
+decreases-copies::copy_of_split l = 4 * max (size-Query l.left.now) (size-Query l.right.now) + 3
 
 abbrev pub decreases-copies::copy_of_iter : goal.decreases-copies::copy_of_iter
 decreases-copies::copy_of_iter l = 4 * size-Query l.inner.now + 3
 
 abbrev pub decreases-copies::copy_of_combine : goal.decreases-copies::copy_of_combine
-decreases-copies::copy_of_combine l = 4 * max (size-Query l.first.now) (size-Query l.second.now) + 3
+decreases-copies::copy_of_combine l = 4 * max (size-Query l.left.now) (size-Query l.right.now) + 3
 
 abbrev pub decreases-copies::copy_of_apply : goal.decreases-copies::copy_of_apply
 decreases-copies::copy_of_apply l = 4 * size-Query l.inner.now + 3
 
 abbrev pub decreases-copies::copy_of_compose : goal.decreases-copies::copy_of_compose
-decreases-copies::copy_of_compose l = 4 * max (size-Query l.first.now) (size-Query l.second.now) + 3
+decreases-copies::copy_of_compose l = 4 * max (size-Query l.left.now) (size-Query l.right.now) + 3
 
 abbrev pub decreases-copies::copy_of_collect : goal.decreases-copies::copy_of_collect
 decreases-copies::copy_of_collect l = 4 * size-Query l.inner.now + 3

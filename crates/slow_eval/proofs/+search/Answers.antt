@@ -43,21 +43,21 @@ search::apply_answers-applied-requires t c = λ place x there.
 
 pub search::compose_answers-answers_on_fronts-requires-2 : goal.search::compose_answers-answers_on_fronts-requires-2
 search::compose_answers-answers_on_fronts-requires-2 t c =
-    let second = plain_of c.args.second.now.shape in
+    let second = plain_of c.args.right.now.shape in
     let firsts = c.in_ok-firsts.firsts.items in (
       search rules,
       subst (CanBeRead second)
           (ap stream_of (sym c.deref.ensures.value) ∙ sym c.in_ok-stream.ensures ∙ sym c.deref-2.ensures.value)
-          (of_stream (plain_of c.args.first.now.shape) second c.args.word.now firsts c.requires c.in_ok-firsts.ensures),
+          (of_stream (plain_of c.args.left.now.shape) second c.args.word.now firsts c.requires c.in_ok-firsts.ensures),
     )
 
 pub search::compose_answers-returns : goal.search::compose_answers-returns
 search::compose_answers-returns t c =
-    let second = plain_of c.args.second.now.shape in
+    let second = plain_of c.args.right.now.shape in
     let firsts = c.in_ok-firsts.firsts.items in
     let seconds = c.in_ok-seconds.seconds.items in
     where_ok c.on_stream.result _ _ (λ answers on_firsts.
-    composed (plain_of c.args.first.now.shape) second c.args.word.now firsts seconds answers.items c.requires
+    composed (plain_of c.args.left.now.shape) second c.args.word.now firsts seconds answers.items c.requires
     c.in_ok-firsts.ensures
     (subst (λ w. AreAnswers second w seconds)
     (c.deref-2.ensures.value ∙ c.in_ok-stream.ensures ∙ ap stream_of c.deref.ensures.value) c.in_ok-seconds.ensures)
@@ -263,8 +263,8 @@ pieces::iter_answers-returns t c =
 
 pub pieces::split_answers-join_rest-requires : goal.pieces::split_answers-join_rest-requires
 pieces::split_answers-join_rest-requires t c =
-    let f = plain_of c.args.first.now.shape in
-    let g = plain_of c.args.second.now.shape in
+    let f = plain_of c.args.left.now.shape in
+    let g = plain_of c.args.right.now.shape in
     let e = values.plain_of c.args.expression.now in
     let word = c.args.word.now in
     let at = c.places.place in
@@ -286,8 +286,8 @@ pieces::split_answers-join_rest-requires t c =
 
 pub pieces::split_answers-places-preserved : goal.pieces::split_answers-places-preserved
 pieces::split_answers-places-preserved t c =
-    let f = plain_of c.args.first.now.shape in
-    let g = plain_of c.args.second.now.shape in
+    let f = plain_of c.args.left.now.shape in
+    let g = plain_of c.args.right.now.shape in
     let e = values.plain_of c.args.expression.now in
     let word = c.args.word.now in
     let at = c.places.place in
@@ -305,6 +305,6 @@ pieces::split_answers-places-preserved t c =
 
 pub pieces::split_answers-returns : goal.pieces::split_answers-returns
 pieces::split_answers-returns t c =
-    split_ended (plain_of c.args.first.now.shape) (plain_of c.args.second.now.shape)
+    split_ended (plain_of c.args.left.now.shape) (plain_of c.args.right.now.shape)
     (values.plain_of c.args.expression.now) c.args.word.now c.places.place c.places.row.items c.places.invariant
     (omega (arith, c.in_ok-lefts.ensures.count, c.len-place-end.ensures))

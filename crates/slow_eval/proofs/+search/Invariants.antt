@@ -14,7 +14,7 @@ invariant-pieces::iter_answers-places l =
 
 abbrev pub invariant-pieces::split_answers-places : goal.invariant-pieces::split_answers-places
 invariant-pieces::split_answers-places l =
-    IsSplit (plain_of l.first.shape) (plain_of l.second.shape) (values.plain_of l.expression) l.word l.place l.row.items
+    IsSplit (plain_of l.left.shape) (plain_of l.right.shape) (values.plain_of l.expression) l.word l.place l.row.items
 
 abbrev pub invariant-collection::answers_for_keys-keys : goal.invariant-collection::answers_for_keys-keys
 invariant-collection::answers_for_keys-keys l =
@@ -40,7 +40,7 @@ abbrev pub decreases-collection::collect_answers : goal.decreases-collection::co
 decreases-collection::collect_answers l = 4 * size-Query l.inner.now + 3
 
 abbrev pub decreases-search::or_answers : goal.decreases-search::or_answers
-decreases-search::or_answers l = 4 * max (size-Query l.first.now) (size-Query l.second.now) + 1
+decreases-search::or_answers l = 4 * max (size-Query l.left.now) (size-Query l.right.now) + 1
 
 abbrev pub decreases-search::combine_answers : goal.decreases-search::combine_answers
 decreases-search::combine_answers l = 4 * max (size-Query l.first.now) (size-Query l.second.now) + 1
@@ -49,10 +49,10 @@ abbrev pub decreases-search::apply_answers : goal.decreases-search::apply_answer
 decreases-search::apply_answers l = 4 * size-Query l.inner.now + 1
 
 abbrev pub decreases-search::compose_answers : goal.decreases-search::compose_answers
-decreases-search::compose_answers l = 4 * max (size-Query l.first.now) (size-Query l.second.now) + 1
+decreases-search::compose_answers l = 4 * max (size-Query l.left.now) (size-Query l.right.now) + 1
 
 abbrev pub decreases-pieces::split_answers : goal.decreases-pieces::split_answers
-decreases-pieces::split_answers l = 4 * max (size-Query l.first.now) (size-Query l.second.now) + 2
+decreases-pieces::split_answers l = 4 * max (size-Query l.left.now) (size-Query l.right.now) + 2
 
 abbrev pub decreases-pieces::iter_answers : goal.decreases-pieces::iter_answers
 decreases-pieces::iter_answers l = 4 * size-Query l.inner.now + 3

@@ -13,11 +13,11 @@ abbrev pub decreases-copies::copy_of_unary : goal.decreases-copies::copy_of_unar
 decreases-copies::copy_of_unary l = 3 * size-Expr l.inner.now + 2
 
 abbrev pub decreases-copies::copy_of_binary : goal.decreases-copies::copy_of_binary
-decreases-copies::copy_of_binary l = 3 * max (size-Expr l.first.now) (size-Expr l.second.now) + 2
+decreases-copies::copy_of_binary l = 3 * max (size-Expr l.left.now) (size-Expr l.right.now) + 2
 
 abbrev pub decreases-copies::copy_of_choice : goal.decreases-copies::copy_of_choice
 decreases-copies::copy_of_choice l =
-    3 * max (max (size-Expr l.first.now) (size-Expr l.second.now)) (max (size-Expr l.met.now) (size-Expr l.other.now)) + 2
+    3 * max (max (size-Expr l.left.now) (size-Expr l.right.now)) (max (size-Expr l.met.now) (size-Expr l.other.now)) + 2
 
 abbrev pub decreases-copies::copy_of_most : goal.decreases-copies::copy_of_most
 decreases-copies::copy_of_most l = 3 * size-Expr l.first.now + 2

@@ -86,8 +86,8 @@ clear-returns-in-Collect t c =
 pub clear_choice-returns-in-Or : goal.clear_choice-returns-in-Or
 clear_choice-returns-in-Or t c =
     let s = c.in-Or in
-    let f = plain_of c.args.first.now.shape in
-    let g = plain_of c.args.second.now.shape in
+    let f = plain_of c.args.left.now.shape in
+    let g = plain_of c.args.right.now.shape in
     let a = holding_of s.a.value.state in
     let b = holding_of s.b.value.state in
     let new_a = holding_of c.clear.new.node.state in
@@ -113,8 +113,8 @@ pub clear_split-returns-in-Split : goal.clear_split-returns-in-Split
 unfolding out-State denote.Hole.Carrier.out
 clear_split-returns-in-Split t c = λ e.
     let s = c.in-Split in
-    let f = plain_of c.args.first.now.shape in
-    let g = plain_of c.args.second.now.shape in
+    let f = plain_of c.args.left.now.shape in
+    let g = plain_of c.args.right.now.shape in
     let a = holding_of s.a.value.state in
     let b = holding_of s.b.value.state in
     let new_a = holding_of c.clear.new.node.state in
@@ -130,8 +130,8 @@ clear_split-returns-in-Split t c = λ e.
 pub clear_combine-returns-in-Combine : goal.clear_combine-returns-in-Combine
 clear_combine-returns-in-Combine t c = λ e.
     let s = c.in-Combine in
-    let f = plain_of c.args.first.now.shape in
-    let g = plain_of c.args.second.now.shape in
+    let f = plain_of c.args.left.now.shape in
+    let g = plain_of c.args.right.now.shape in
     let a = holding_of s.a.value.state in
     let b = holding_of s.b.value.state in
     let new_a = holding_of c.clear.new.node.state in
@@ -159,8 +159,8 @@ pub clear_compose-returns-in-Compose : goal.clear_compose-returns-in-Compose
 unfolding roll-State out-State denote.Hole.Carrier.roll denote.Hole.Carrier.out
 clear_compose-returns-in-Compose t c =
     let s = c.in-Compose in
-    let f = plain_of c.args.first.now.shape in
-    let g = plain_of c.args.second.now.shape in
+    let f = plain_of c.args.left.now.shape in
+    let g = plain_of c.args.right.now.shape in
     let a = holding_of s.a.value.state in
     let cleared = c.clear_idle.new.runners in
     let held = runners_are s.a s.runners in

@@ -19,16 +19,16 @@ abbrev pub decreases-clear_idle : goal.decreases-clear_idle
 decreases-clear_idle l = 3 * size-Query l.query.now + 1
 
 abbrev pub decreases-clear_choice : goal.decreases-clear_choice
-decreases-clear_choice l = 3 * max (size-Query l.first.now) (size-Query l.second.now) + 2
+decreases-clear_choice l = 3 * max (size-Query l.left.now) (size-Query l.right.now) + 2
 
 abbrev pub decreases-clear_combine : goal.decreases-clear_combine
-decreases-clear_combine l = 3 * max (size-Query l.first.now) (size-Query l.second.now) + 2
+decreases-clear_combine l = 3 * max (size-Query l.left.now) (size-Query l.right.now) + 2
 
 abbrev pub decreases-clear_split : goal.decreases-clear_split
-decreases-clear_split l = 3 * max (size-Query l.first.now) (size-Query l.second.now) + 2
+decreases-clear_split l = 3 * max (size-Query l.left.now) (size-Query l.right.now) + 2
 
 abbrev pub decreases-clear_compose : goal.decreases-clear_compose
-decreases-clear_compose l = 3 * max (size-Query l.first.now) (size-Query l.second.now) + 2
+decreases-clear_compose l = 3 * max (size-Query l.left.now) (size-Query l.right.now) + 2
 
 abbrev pub decreases-clear_apply : goal.decreases-clear_apply
 decreases-clear_apply l = 3 * size-Query l.inner.now + 2

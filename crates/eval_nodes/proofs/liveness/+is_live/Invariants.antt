@@ -7,7 +7,7 @@ abbrev pub decreases-is_live : goal.decreases-is_live
 decreases-is_live l = 2 * size-Query l.query.now
 
 abbrev pub decreases-is_live_in_choice : goal.decreases-is_live_in_choice
-decreases-is_live_in_choice l = 2 * max (size-Query l.first.now) (size-Query l.second.now) + 1
+decreases-is_live_in_choice l = 2 * max (size-Query l.left.now) (size-Query l.right.now) + 1
 
 abbrev pub decreases-is_live_in_apply : goal.decreases-is_live_in_apply
 decreases-is_live_in_apply l = 2 * size-Query l.inner.now + 1

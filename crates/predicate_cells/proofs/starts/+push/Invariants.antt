@@ -7,4 +7,4 @@ abbrev pub decreases-push_starts : goal.decreases-push_starts
 decreases-push_starts l = 2 * size-Pred l.pred.now
 
 abbrev pub decreases-push_starts_of_both : goal.decreases-push_starts_of_both
-decreases-push_starts_of_both l = 2 * max (size-Pred l.first.now) (size-Pred l.second.now) + 1
+decreases-push_starts_of_both l = 2 * max (size-Pred l.left.now) (size-Pred l.right.now) + 1

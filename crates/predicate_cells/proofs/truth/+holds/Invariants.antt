@@ -7,7 +7,7 @@ abbrev pub decreases-holds_in : goal.decreases-holds_in
 decreases-holds_in g l = 2 * size-Pred l.pred.now
 
 abbrev pub decreases-both_hold : goal.decreases-both_hold
-decreases-both_hold g l = 2 * max (size-Pred l.first.now) (size-Pred l.second.now) + 1
+decreases-both_hold g l = 2 * max (size-Pred l.left.now) (size-Pred l.right.now) + 1
 
 abbrev pub decreases-either_holds : goal.decreases-either_holds
-decreases-either_holds g l = 2 * max (size-Pred l.first.now) (size-Pred l.second.now) + 1
+decreases-either_holds g l = 2 * max (size-Pred l.left.now) (size-Pred l.right.now) + 1

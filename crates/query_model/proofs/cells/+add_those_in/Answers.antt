@@ -12,7 +12,7 @@ returns-in-One t c = rw c.in-One.is c.add_once.ensures
 pub returns-in_ok-add_those_in-in-Seq : goal.returns-in_ok-add_those_in-in-Seq
 returns-in_ok-add_those_in-in-Seq t c =
     let parts : preds_of (plain_of c.args.rate.now)
-    ≡ preds_of (plain_of c.in-Seq.first.value) ++ preds_of (plain_of c.in-Seq.second.value) =
+    ≡ preds_of (plain_of c.in-Seq.left.value) ++ preds_of (plain_of c.in-Seq.right.value) =
     elim c.in-Seq.is [
       | inl is ↦ ap (λ (rate : Rate). preds_of (plain_of rate)) is
       | inr is ↦ ap (λ (rate : Rate). preds_of (plain_of rate)) is

@@ -12,7 +12,7 @@ returns-in-Atom t c = rw c.in-Atom.is c.add_once.ensures
 pub returns-in_ok-add_those_of-in-Or : goal.returns-in_ok-add_those_of-in-Or
 returns-in_ok-add_those_of-in-Or t c =
     let parts : predicates_of (plain_of c.args.query.now.shape)
-    ≡ predicates_of (plain_of c.in-Or.first.value.shape) ++ predicates_of (plain_of c.in-Or.second.value.shape) =
+    ≡ predicates_of (plain_of c.in-Or.left.value.shape) ++ predicates_of (plain_of c.in-Or.right.value.shape) =
     elim c.in-Or.is [
       | inl is ↦ ap (λ (shape : Shape). predicates_of (plain_of shape)) is
       | inr others ↦ elim others [

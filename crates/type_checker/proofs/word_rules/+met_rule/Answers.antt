@@ -25,19 +25,19 @@ returns-in-One t c = rw c.in-One.is
 pub met_rule-requires-in-Seq-2 : goal.met_rule-requires-in-Seq-2
 met_rule-requires-in-Seq-2 t c =
     let parts : preds_of (plain_of c.args.rate.now)
-    ≡ preds_of (plain_of c.in-Seq.first.value) ++ preds_of (plain_of c.in-Seq.second.value) =
+    ≡ preds_of (plain_of c.in-Seq.left.value) ++ preds_of (plain_of c.in-Seq.right.value) =
     elim c.in-Seq.is [
       | inl is ↦ ap (λ (rate : Rate). preds_of (plain_of rate)) is
       | inr is ↦ ap (λ (rate : Rate). preds_of (plain_of rate)) is
     ] in
-    let among = among_back c.args.cells.now (preds_of (plain_of c.in-Seq.first.value))
-    (preds_of (plain_of c.in-Seq.second.value)) (subst (AreAmong c.args.cells.now) parts c.requires) in
+    let among = among_back c.args.cells.now (preds_of (plain_of c.in-Seq.left.value))
+    (preds_of (plain_of c.in-Seq.right.value)) (subst (AreAmong c.args.cells.now) parts c.requires) in
     (search (rules, the_lemmas), rw c.deref-in-Seq-2.ensures among)
 
 pub returns-in-Seq : goal.returns-in-Seq
 returns-in-Seq t c =
     let parts : preds_of (plain_of c.args.rate.now)
-    ≡ preds_of (plain_of c.in-Seq.first.value) ++ preds_of (plain_of c.in-Seq.second.value) =
+    ≡ preds_of (plain_of c.in-Seq.left.value) ++ preds_of (plain_of c.in-Seq.right.value) =
     elim c.in-Seq.is [
       | inl is ↦ ap (λ (rate : Rate). preds_of (plain_of rate)) is
       | inr is ↦ ap (λ (rate : Rate). preds_of (plain_of rate)) is

@@ -8,10 +8,10 @@ decreases-scalar l = 2 * size-Expr l.expr.now
 
 abbrev pub decreases-chosen : goal.decreases-chosen
 decreases-chosen l =
-    2 * max (max (size-Expr l.first.now) (size-Expr l.second.now)) (max (size-Expr l.met.now) (size-Expr l.other.now)) + 1
+    2 * max (max (size-Expr l.left.now) (size-Expr l.right.now)) (max (size-Expr l.met.now) (size-Expr l.other.now)) + 1
 
 abbrev pub decreases-joined : goal.decreases-joined
-decreases-joined l = 2 * max (size-Expr l.first.now) (size-Expr l.second.now) + 1
+decreases-joined l = 2 * max (size-Expr l.left.now) (size-Expr l.right.now) + 1
 
 abbrev pub decreases-extremum : goal.decreases-extremum
 decreases-extremum l = 2 * size-Expr l.first.now + 1
