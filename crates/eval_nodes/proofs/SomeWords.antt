@@ -23,14 +23,14 @@ rate_word : (columns : List Column) (r : rate.Regex)
     → AllByRecursion (CanBeMet columns) (rate.preds_of r) → HasWord columns r
 rate_word columns rate.empty all = ([], tt, refl)
 rate_word columns (rate.one pred) all = (all.0.item ∷ [], (all.0.is_item, tt), (all.0.item, refl, all.0.meets))
-rate_word columns (rate.sequence first second) all =
-    let parts = all_parts (CanBeMet columns) (rate.preds_of first) (rate.preds_of second) all in
-    let u = rate_word columns first parts.0 in
-    let v = rate_word columns second parts.1 in
+rate_word columns (rate.sequence left right) all =
+    let parts = all_parts (CanBeMet columns) (rate.preds_of left) (rate.preds_of right) all in
+    let u = rate_word columns left parts.0 in
+    let v = rate_word columns right parts.1 in
     (u.0 ++ v.0, word_join columns u.0 v.0 u.1 v.1, (u.0, v.0, refl, u.2, v.2))
-rate_word columns (rate.choice first second) all =
-    let parts = all_parts (CanBeMet columns) (rate.preds_of first) (rate.preds_of second) all in
-    let u = rate_word columns first parts.0 in
+rate_word columns (rate.choice left right) all =
+    let parts = all_parts (CanBeMet columns) (rate.preds_of left) (rate.preds_of right) all in
+    let u = rate_word columns left parts.0 in
     (u.0, u.1, inl u.2)
 rate_word columns (rate.star inner) all = ([], tt, ([], refl, tt))
 

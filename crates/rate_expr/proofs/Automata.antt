@@ -125,6 +125,6 @@ of_star a = record {
 abbrev pub automaton_of : Regex → Automaton
 automaton_of empty = of_empty
 automaton_of (one pred) = of_one pred
-automaton_of (sequence first second) = of_sequence (automaton_of first) (automaton_of second)
-automaton_of (choice first second) = of_choice (automaton_of first) (automaton_of second)
+automaton_of (sequence left right) = of_sequence (automaton_of left) (automaton_of right)
+automaton_of (choice left right) = of_choice (automaton_of left) (automaton_of right)
 automaton_of (star inner) = of_star (automaton_of inner)

@@ -10,8 +10,8 @@ use Rattle.rate_expr.specs.Words.{Word, join}
 abbrev pub In : Regex → Word → Type 0
 In empty word = word ≡ []
 In (one pred) word = (item : List Field) × (word ≡ item ∷ []) × (holds pred item ≡ true)
-In (sequence first second) word =
-    (u : Word) × (v : Word) × (word ≡ u ++ v) × In first u × In second v
-In (choice first second) word = In first word ⊎ In second word
+In (sequence left right) word =
+    (u : Word) × (v : Word) × (word ≡ u ++ v) × In left u × In right v
+In (choice left right) word = In left word ⊎ In right word
 In (star inner) word =
     (pieces : List Word) × (word ≡ join pieces) × AllByRecursion (In inner) pieces

@@ -14,14 +14,14 @@ pub data Regex : Type 0 where
 abbrev pub preds_of : Regex → List Predicate
 preds_of empty = []
 preds_of (one pred) = pred ∷ []
-preds_of (sequence first second) = preds_of first ++ preds_of second
-preds_of (choice first second) = preds_of first ++ preds_of second
+preds_of (sequence left right) = preds_of left ++ preds_of right
+preds_of (choice left right) = preds_of left ++ preds_of right
 preds_of (star inner) = preds_of inner
 
 -- how many positions there are
 abbrev pub size_of : Regex → ℕ
 size_of empty = 0
 size_of (one pred) = 1
-size_of (sequence first second) = size_of first + size_of second
-size_of (choice first second) = size_of first + size_of second
+size_of (sequence left right) = size_of left + size_of right
+size_of (choice left right) = size_of left + size_of right
 size_of (star inner) = size_of inner

@@ -9,14 +9,14 @@ use Rattle.type_checker.specs.Tests.{resolved_over}
 
 -- two rates joined, if there are both
 abbrev pub joined_rates : Join → Option Regex → Option Regex → Option Regex
-joined_rates Seq (Some first) (Some second) = Some (sequence first second)
-joined_rates Alt (Some first) (Some second) = Some (choice first second)
+joined_rates Seq (Some left) (Some right) = Some (sequence left right)
+joined_rates Alt (Some left) (Some right) = Some (choice left right)
 joined_rates join _ _ = None
 
 -- the rate over these columns, if each name in it is a column's
 abbrev pub rate_over : List Column → written.Rate → Option Regex
 rate_over columns (written.eps span) = Some empty
 rate_over columns (written.item predicate span) = option_map one (resolved_over columns predicate)
-rate_over columns (written.joined join first second span) =
-    joined_rates join (rate_over columns first) (rate_over columns second)
+rate_over columns (written.joined join left right span) =
+    joined_rates join (rate_over columns left) (rate_over columns right)
 rate_over columns (written.star inner span) = option_map star (rate_over columns inner)
