@@ -23,11 +23,11 @@ use Rattle.ambiguity_check.proofs.Walking.{one_longer}
 
 module _ (columns : List Column) (sets : Sets) (rows : List ℕ)
     (are : AreMeetings columns sets sets rows) where
-  -- a walk of so many items leads to the node
+  -- a walk of this many items leads to the node
   abbrev pub Walk : ℕ → Node → Type 0
   Walk items node = IsWalk (BeginsFactors sets) (Factors sets) (IsInRows rows) items node
 
-  -- the left one has read a first factor and more, and the right one the same word of so many items with
+  -- the left one has read a first factor and more, and the right one the same word of this many items with
   -- a longer first factor
   pub record AreParted (items left right : ℕ) : Type 0 where
     pub read : Word
@@ -59,7 +59,7 @@ module _ (columns : List Column) (sets : Sets) (rows : List ℕ)
     by_right = longer_on sets reads.first reads.read right one.0 node.right reads.by_right goes' one.3;
   }
 
-  -- one more item is read behind the left one's first factor
+  -- one more item is read after the left one's first factor
   now_parted : (items left right : ℕ) (node : Node) → AreRead items Together left right
       → Has sets.last left → Has sets.first node.left
       → Follows sets right node.right → MeetOne columns sets sets node.left node.right

@@ -42,7 +42,7 @@ empty_factors columns sets r of_r nullable = record {
 
 module _ (columns : List Column) (sets : Sets) (rows : List ℕ)
     (are : AreMeetings columns sets sets rows) where
-  -- a walk of so many items leads to the node
+  -- a walk of this many items leads to the node
   abbrev Walk : ℕ → Node → Type 0
   Walk items node = IsWalk (BeginsFactors sets) (Factors sets) (IsInRows rows) items node
 
@@ -50,16 +50,16 @@ module _ (columns : List Column) (sets : Sets) (rows : List ℕ)
   as_many : (items items' : ℕ) (node : Node) → items ≡ items' → Walk items node → Walk items' node
   as_many = walk_as (BeginsFactors sets) (Factors sets) (IsInRows rows)
 
-  -- a walk of so many items leads to an end
+  -- a walk of this many items leads to an end
   abbrev pub EndWalk : ℕ → Type 0
   EndWalk items =
       EndsAfter (BeginsFactors sets) (Factors sets) (IsInRows rows) (EndsFactors sets) items
 
-  -- one of at most so many items does
+  -- one of at most this many items does
   abbrev pub ShortWalk : ℕ → Type 0
   ShortWalk items = (some : ℕ) × (some ≤ items) × EndWalk some
 
-  -- a walk goes on in the first factors
+  -- a walk continues in the first factors
   goes_together : (word : Word) (items left right left' right' : ℕ)
       → Walk items (node_at Together left right) → IsWordOf columns word
       → LeadsOn sets left word left' → LeadsOn sets right word right'
@@ -87,7 +87,7 @@ module _ (columns : List Column) (sets : Sets) (rows : List ℕ)
       ((are leads.0 leads'.0).1 (item, is.0, leads.2, leads'.2)))
       is.1 leads.3 leads'.3)
 
-  -- a walk goes on behind the first factor
+  -- a walk continues after the first factor
   goes_parted : (word : Word) (items left right left' right' : ℕ)
       → Walk items (node_at Parted left right) → IsWordOf columns word
       → RunsOn sets left word left' → RunsOn sets right word right'

@@ -43,7 +43,7 @@ module _ (cells : Partition) (first second : Sets) where
     whole = λ left right item below is first_meets second_meets. absurd (omega arith);
   }
 
-  -- behind one more cell
+  -- after one more cell
   pub filled_next : CellsHaveItems cells → (cell : ℕ) (rows : List ℕ) (first_mask second_mask : ℕ)
       (rows' : List ℕ)
       → cell < cell_count cells → IsMet first cells cell first_mask
@@ -85,7 +85,7 @@ module _ (cells : Partition) (first second : Sets) where
     only = λ left right has. inl has;
   }
 
-  -- behind all cells
+  -- after all cells
   pub filled_all : ((item : List Field) → cell_of cells item < cell_count cells)
       → (end : ℕ) (rows : List ℕ) → cell_count cells ≤ end
       → IsFilled end rows → AreMeetings cells.layout.columns first second rows

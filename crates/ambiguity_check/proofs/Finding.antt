@@ -31,7 +31,7 @@ found_row phase left mask seen next seen' next' fresh too too' = record {
   fewer = let less = too.room fresh in let more = too'.larger in omega arith;
 }
 
--- two steps, one behind the other
+-- two steps, one after the other
 pub found_both : (P Q : Node → Type 0) (seen next seen' next' seen'' next'' : List ℕ)
     → AreFound P seen next seen' next' → AreFound Q seen' next' seen'' next''
     → AreFound (λ node. P node ⊎ Q node) seen next seen'' next''

@@ -1,4 +1,4 @@
--- What comes behind the positions of a mask, gathered from the lowest on.
+-- What comes after the positions of a mask, gathered from the lowest on.
 use Rattle.std.proofs.Common.{◌≡◌, ◌⊎◌, ◌↔◌, inl, inr, ⊎_elim, ℕ, subst, bit_or, arith}
 use Rattle.std.proofs.lemmas.Bool.{cases_eq}
 use Rattle.rate_expr.specs.Sets.{Has, IsLowest}
@@ -10,7 +10,7 @@ one_lowest mask low other is also =
     let below = is.least other also.has in let above = also.least low is.has in omega arith
 
 module _ (leads : ℕ → ℕ → Type 0) (mask : ℕ) where
-  -- what comes behind the positions of the mask was found, but for those that are left
+  -- what comes after the positions of the mask was found, but for those that are left
   pub record AreGathered (rest found : ℕ) : Type 0 where
     pub kept : (from : ℕ) → Has rest from → Has mask from
     pub sound : (next : ℕ) → Has found next → (from : ℕ) × Has mask from × leads from next
@@ -24,7 +24,7 @@ module _ (leads : ℕ → ℕ → Type 0) (mask : ℕ) where
     whole = λ from next has leads'. inl has;
   }
 
-  -- what comes behind the lowest that is left
+  -- what comes after the lowest that is left
   pub gathered_next : (rest found low after more : ℕ) → AreGathered rest found → IsLowest rest low
       → ((place : ℕ) → Has after place ↔ (Has rest place × (IsLowest rest place → ⊥)))
       → ((next : ℕ) → Has more next ↔ leads low next) → AreGathered after (bit_or found more)

@@ -21,11 +21,11 @@ use Rattle.ambiguity_check.proofs.Walking.{walk_as, one_longer}
 
 module _ (columns : List Column) (first second : Sets) (rows : List ℕ)
     (are : AreMeetings columns first second rows) where
-  -- a walk of so many items leads to the node
+  -- a walk of this many items leads to the node
   abbrev Walk : ℕ → Node → Type 0
   Walk items node = IsWalk (BeginsBoth first second) (FollowsBoth first second) (IsInRows rows) items node
 
-  -- some word of so many items leads to both places
+  -- some word of this many items leads to both places
   abbrev BothLead : ℕ → Node → Type 0
   BothLead items node = (word : Word) × (length word ≡ items) × IsWordOf columns word
       × Leads first word node.left × Leads second word node.right
@@ -54,7 +54,7 @@ module _ (columns : List Column) (first second : Sets) (rows : List ℕ)
   as_many : (items items' : ℕ) (node : Node) → items ≡ items' → Walk items node → Walk items' node
   as_many = walk_as (BeginsBoth first second) (FollowsBoth first second) (IsInRows rows)
 
-  -- a walk goes on along a word
+  -- a walk continues along a word
   goes_along : (word : Word) (items left right left' right' : ℕ)
       → Walk items (node_at Together left right) → IsWordOf columns word
       → LeadsOn first left word left' → LeadsOn second right word right'
@@ -82,7 +82,7 @@ module _ (columns : List Column) (first second : Sets) (rows : List ℕ)
       ((are leads.0 leads'.0).1 (item, is.0, leads.2, leads'.2)))
       is.1 leads.3 leads'.3)
 
-  -- a walk of so many items leads to an end of both
+  -- a walk of this many items leads to an end of both
   abbrev EndWalk : ℕ → Type 0
   EndWalk items = EndsAfter (BeginsBoth first second) (FollowsBoth first second) (IsInRows rows)
       (EndsBoth first second) items

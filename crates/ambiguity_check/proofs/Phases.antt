@@ -17,7 +17,7 @@ use Rattle.ambiguity_check.proofs.Moving.{row_says}
 
 module _ (continues : Node → Node → Type 0) (meet : Node → Type 0) (level : List ℕ) where
   module _ (in_phase : Phase) where
-    -- behind a node of this phase with a lower place on the left
+    -- after a node of this phase with a lower place on the left
     pub record IsAfterBelow (left : ℕ) (node : Node) : Type 0 where
       pub before : Node
       pub below : before.left < left
@@ -130,12 +130,12 @@ module _ (continues : Node → Node → Type 0) (meet : Node → Type 0) (level 
             back node after = inl (⊎_elim (λ below. inl below)
                 (λ row. inr ((are node).1 row.0, row.1)) (in_row node after))
 
-  -- behind a node of one of the first two phases
+  -- after a node of one of the first two phases
   abbrev IsAfterTwo : Node → Type 0
   IsAfterTwo node = IsAfterPhase continues meet level Together node
       ⊎ IsAfterPhase continues meet level Parted node
 
-  -- behind a node of any phase
+  -- after a node of any phase
   in_a_phase : (node : Node) → IsAfter continues meet level node
       → IsAfterTwo node ⊎ IsAfterPhase continues meet level Rejoined node
   in_a_phase node (before, marked, goes, met) = which before.phase refl

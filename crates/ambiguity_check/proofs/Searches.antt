@@ -17,11 +17,11 @@ in_or_not : (rows : List ℕ) (node : Node) → IsMarked rows node ⊎ (IsMarked
 in_or_not rows node = cases_eq (bit_at (slice_index rows (row_of node)) node.right) 1
 
 module _ (begins : Node → Type 0) (continues : Node → Node → Type 0) (meet : Node → Type 0) where
-  -- a walk of so many items
+  -- a walk of this many items
   abbrev Walk : ℕ → Node → Type 0
   Walk items node = IsWalk begins continues meet items node
 
-  -- a search behind so many items
+  -- a search after this many items
   abbrev Level : ℕ → Searched → Type 0
   Level items search = IsLevel begins continues meet items search
 
@@ -32,7 +32,7 @@ module _ (begins : Node → Type 0) (continues : Node → Node → Type 0) (meet
       absurd (omega (arith, more.2)))
       (walk_cases begins continues meet items node walk)
 
-  -- behind the first item
+  -- after the first item
   pub level_begins : (starts : Moves) (none none' seen latest : List ℕ)
       → ((node : Node) → IsMarked none node → ⊥) → ((node : Node) → IsMarked none' node → ⊥)
       → ((node : Node) → IsIn starts node ↔ begins node)
@@ -60,7 +60,7 @@ module _ (begins : Node → Type 0) (continues : Node → Node → Type 0) (meet
   }
 
   module _ (items : ℕ) (old : Searched) (level : Level items old) where
-    -- a node that is not seen and is behind the level has a shortest walk of one item more
+    -- a node that is not seen and comes after the level has a shortest walk of one item more
     new_walk : (node : Node) → IsAfter continues meet old.latest node → (IsMarked old.seen node → ⊥)
         → IsShortest begins continues meet (items + 1) node
     new_walk node (before, marked, goes, met) new = record {
@@ -68,7 +68,7 @@ module _ (begins : Node → Type 0) (continues : Node → Node → Type 0) (meet
       none = λ fewer less walk. new ((level.seen node).1 (fewer, omega arith, walk));
     }
 
-    -- and each node with such a walk is behind the level
+    -- and each node with such a walk comes after the level
     after_level : (node : Node) → IsShortest begins continues meet (items + 1) node
         → IsAfter continues meet old.latest node
     after_level node shortest = ⊎_elim
@@ -87,7 +87,7 @@ module _ (begins : Node → Type 0) (continues : Node → Node → Type 0) (meet
         ))
         (walk_cases begins continues meet (items + 1) node shortest.walk)
 
-    -- behind one more item
+    -- after one more item
     pub level_advances : (clear seen latest : List ℕ) → sum clear ≡ 0
         → AreFound (IsAfter continues meet old.latest) old.seen clear seen latest
         → Level (items + 1) (record { seen = seen; latest = latest })
@@ -138,7 +138,7 @@ module _ (begins : Node → Type 0) (continues : Node → Node → Type 0) (meet
         ]
 
     module _ (none : (node : Node) → IsMarked old.latest node → ⊥) where
-      -- the nodes behind those that are seen are seen
+      -- the nodes after those that are seen are seen
       seen_on : (before node : Node) → IsMarked old.seen before → continues before node → meet node
           → IsMarked old.seen node
       seen_on before node was goes met = elim (in_or_not old.seen node) [

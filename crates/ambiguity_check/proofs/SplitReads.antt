@@ -33,14 +33,14 @@ module _ (columns : List Column) (first second : Sets) (together parted rejoined
     (are : (phase : Phase) → AreMeetings columns (left_of first second phase)
     (right_of first second phase)
     (rows_in together parted rejoined phase)) where
-  -- a walk of so many items leads to the node
+  -- a walk of this many items leads to the node
   abbrev pub Walk : ℕ → Node → Type 0
   Walk items node = IsWalk (BeginsSplits first second) (Continues first second)
       (MeetIn together parted rejoined) items node
 
-  -- what was read in so many items: one word in the first part by both; a word and then a part of a second word by the
-  -- left one, all of it in the first part by the right one; and parts of second words by both, the left
-  -- one's longer
+  -- what was read in this many items: one word in the first part by both; a word and then a part of a second
+  -- word by the left one, all of it in the first part by the right one; and parts of second words by both,
+  -- the left one's longer
   abbrev pub AreRead : ℕ → Phase → ℕ → ℕ → Type 0
   AreRead items Together left right = (w : Word) × (length w ≡ items) × IsWordOf columns w
       × Leads first w left × Leads first w right
@@ -97,7 +97,7 @@ module _ (columns : List Column) (first second : Sets) (together parted rejoined
         leads_more second z right one.0 right' leads' follows' one.3,
       )
 
-  -- one more item is read behind the end of a first part
+  -- one more item is read after the end of a first part
   reads_turned : (items : ℕ) (phase : Phase) (left right : ℕ) (node : Node)
       → AreRead items phase left right → TurnsTo first second phase left right node
       → MeetHere node.phase node.left node.right → AreRead (items + 1) node.phase node.left node.right

@@ -27,7 +27,7 @@ module _ (columns : List Column) (first second : Sets) (together parted rejoined
     (are : (phase : Phase) → AreMeetings columns (left_of first second phase)
     (right_of first second phase)
     (rows_in together parted rejoined phase)) where
-  -- a walk of so many items leads to the node
+  -- a walk of this many items leads to the node
   abbrev Walk : ℕ → Node → Type 0
   Walk items node = IsWalk (BeginsSplits first second) (Continues first second)
       (MeetIn together parted rejoined) items node
@@ -36,12 +36,12 @@ module _ (columns : List Column) (first second : Sets) (together parted rejoined
   as_many : (items items' : ℕ) (node : Node) → items ≡ items' → Walk items node → Walk items' node
   as_many = walk_as (BeginsSplits first second) (Continues first second) (MeetIn together parted rejoined)
 
-  -- a walk of so many items leads to an end
+  -- a walk of this many items leads to an end
   abbrev EndWalk : ℕ → Type 0
   EndWalk items = EndsAfter (BeginsSplits first second) (Continues first second)
       (MeetIn together parted rejoined) (EndsSplits first second) items
 
-  -- a walk goes on in a phase along a word
+  -- a walk continues in a phase along a word
   goes_along : (phase : Phase) (word : Word) (items left right left' right' : ℕ)
       → Walk items (node_at phase left right) → IsWordOf columns word
       → LeadsOn (left_of first second phase) left word left'

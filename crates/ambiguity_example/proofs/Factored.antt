@@ -256,7 +256,7 @@ module _ (columns : List Column) (sets : Sets) (rows : List ℕ) (ends : Node �
       none = λ other fewer shows. absurd (omega arith);
     }
 
-    -- a walk of so many items leads to an end
+    -- a walk of this many items leads to an end
     abbrev pub EndWalk : ℕ → Type 0
     EndWalk items = EndsAfter (BeginsFactors sets) (Factors sets) (IsInRows rows) ends items
 

@@ -322,7 +322,7 @@ module _ (columns : List Column) (first second : Sets) (together parted rejoined
         (count_in Together nodes + count_in Parted nodes) whole short
         ((of_r (are.u ++ are.t)).1 are.spells'.0) ((of_s are.v).1 are.spells'.1))
 
-    -- a walk of so many items leads to an end
+    -- a walk of this many items leads to an end
     abbrev pub EndWalk : ℕ → Type 0
     EndWalk items = EndsAfter (BeginsSplits first second) (Continues first second)
         (MeetIn together parted rejoined) ends items

@@ -100,7 +100,7 @@ module _ (begins : Node → Type 0) (continues : Node → Node → Type 0) (meet
     abbrev pub NoneBelow : ℕ → Type 0
     NoneBelow items = (fewer : ℕ) → fewer < items → EndsAfter begins continues meet ends fewer → ⊥
 
-    -- then an end of a walk of so many items is in the level
+    -- then an end of a walk of this many items is in the level
     end_latest : (items : ℕ) (search : Searched) → IsLevel begins continues meet items search
         → NoneBelow items → (node : Node) → IsWalk begins continues meet items node → ends node
         → IsMarked search.latest node

@@ -49,7 +49,7 @@ module _ (columns : List Column) (first second : Sets) (r s : Regex) (of_r : Are
   module _ (not_empty : first.nullable ≡ true → second.nullable ≡ true → ⊥) (rows : List ℕ)
       (are : AreMeetings columns first second rows) (ends : Node → Type 0)
       (exact : (node : Node) → ends node ↔ EndsBoth first second node) where
-    -- a walk of so many items leads to an end
+    -- a walk of this many items leads to an end
     abbrev pub EndWalk : ℕ → Type 0
     EndWalk items = EndsAfter (BeginsBoth first second) (FollowsBoth first second) (IsInRows rows)
         ends items

@@ -1,4 +1,4 @@
--- The live ones go on, and the others come to rest, one after another.
+-- The live ones continue, and the others come to rest, one after another.
 use Rattle.std.proofs.Common.{◌≡◌, ◌+◌, ◌<◌, ◌∙◌, ◌++◌, ℕ, Bool, true, false, cond, not, List, [], ◌∷◌, length, refl, sym, ap, subst, arith}
 use Rattle.std.specs.Prelude.{filter, get_or, remove}
 use Rattle.std.proofs.lemmas.List.{get_or_default, append-nil, append_assoc, length-append, map-append}
@@ -8,7 +8,7 @@ use Rattle.compose_eval.specs.declared.instance.Instance.{Instance}
 use Rattle.compose_eval.proofs.Kept.{IsKept-retired}
 
 module _ {R : Type 0} where
-  -- after so many turns, of all instances those seen are live and kept, or at rest behind the ones
+  -- after this many turns, of all instances those seen are live and kept, or at rest after the ones
   -- that rested before
   pub record HasParted {F : Type 0} (post : F → ℕ → Bool → Type 0) (test : F) (all : List (Instance R))
       (rested : List R) (turns place : ℕ) (live : List (Instance R)) (idle : List R) : Type 0 where

@@ -3,7 +3,7 @@ use Rattle.std.proofs.Common.{◌≡◌, ℕ, ◌+◌, ◌-◌, List, ◌++◌, 
 use Rattle.std.proofs.lemmas.List.{take-append-drop, drop-drop}
 use Rattle.std.proofs.Math.Seq.{take-append_seam}
 
--- a piece that was copied to the front of a buffer, and the bytes behind it in the list
+-- a piece that was copied to the front of a buffer, and the bytes after it in the list
 pub copied_front : (items piece after : List ℕ) (at n : ℕ)
     → piece ≡ take (at + n - at) (drop at items) → length piece ≡ n
     → drop at items ≡ take n (piece ++ after) ++ drop (at + n) items

@@ -1,4 +1,4 @@
--- Bytes that are read behind those that a buffer has from earlier reads.
+-- Bytes that are read after those that a buffer has from earlier reads.
 use Rattle.std.proofs.Common.{◌≡◌, ◌≤◌, ℕ, ◌+◌, List, ◌++◌, Option, length, take, sym, ap, ◌∙◌, subst, arith}
 use Rattle.std.proofs.lemmas.List.{length-take-le, take-take}
 use Rattle.std.proofs.lemmas.Slice.{take-put_mid}
@@ -7,7 +7,7 @@ use Rattle.std.specs.Io.KnownBytes.{Consumes}
 use Rattle.std.proofs.KnownBytes.{Consumes-trans}
 use borrow.Rule.Slice.PartMut.{put_mid}
 
--- the front of a buffer after a piece was put behind its first bytes
+-- the front of a buffer once a piece was put after its first bytes
 take-put_piece : (room piece : List ℕ) (done size count : ℕ) → done + size ≤ length room → length piece ≡ size
     → count ≤ size → take (done + count) (put_mid done size room piece) ≡ take done room ++ take count piece
 take-put_piece room piece done size count fits long few =
@@ -19,7 +19,7 @@ take-put_piece room piece done size count fits long few =
     ∙ subst (λ (n : ℕ). take (n + count) (take done room ++ piece) ≡ take done room ++ take count piece) seam
     (take-append-add (take done room) piece count)
 
--- the bytes of one more read stand behind those of the earlier ones
+-- the bytes of one more read stand after those of the earlier ones
 pub Consumes-put_piece : (a b c : Option (List ℕ)) (room piece : List ℕ) (done size count : ℕ)
     → done + size ≤ length room → length piece ≡ size → count ≤ size
     → Consumes a b (take done room) → Consumes b c (take count piece)

@@ -1,4 +1,4 @@
--- How the lines go on where the first one has begun.
+-- How the lines continue where the first one has begun.
 use Rattle.std.proofs.Common.{◌≡◌, ◌≢◌, ℕ, Bool, List, [], ◌∷◌, ◌++◌, length, ◌<◌, ltb, cond, inl, inr, sym, ap, ◌∙◌, arith, length-append, append_assoc, append-nil, ◌==◌, ◌&&◌}
 use Rattle.std.proofs.lemmas.List.Elements.{All-head, All-tail}
 use Rattle.std.proofs.lemmas.Bool.{ne_eqb, cases_lt, lt-ltb}
@@ -40,7 +40,7 @@ pub ended_by_end-stands : (bytes others : List ℕ) → StandsFor bytes others
     → ended_by_end bytes ≡ ended_by_end others
 ended_by_end-stands bytes others stands = unless_long text bytes others stands
 
--- bytes that show the same line do so with the same bytes behind them
+-- bytes that show the same line do so with the same bytes after them
 StandsFor-append : (bytes others more : List ℕ) → StandsFor bytes others
     → StandsFor (bytes ++ more) (others ++ more)
 StandsFor-append bytes others more stands = record {

@@ -1,4 +1,4 @@
--- The last line among the bytes of a chunk, and those that are not gone over yet.
+-- The last line among the bytes of a chunk, and those that are not searched yet.
 use Rattle.std.proofs.Common.{◌≡◌, ◌≢◌, ◌<◌, ◌≤◌, ◌==◌, ℕ, ◌+◌, ◌-◌, List, length, get_or, take, drop, Some, None, true, refl, sym, ap, ◌∙◌, arith, length-drop}
 use Rattle.std.proofs.lemmas.Bool.Decides.{nat_tests}
 use Rattle.std.proofs.lemmas.List.{drop-take, drop-drop, get_or-drop, get_or_default}
@@ -15,7 +15,7 @@ ends_nothing bytes = record {
   rest = λ k d within. absurd (omega (arith, within));
 }
 
--- an LF at a place behind the first bytes
+-- an LF at a place after the first bytes
 lf_at : (bytes : List ℕ) (from k d at : ℕ) → from + k ≡ at → k < length (drop from bytes)
     → get_or (drop from bytes) k d ≡ 10 → (get_or bytes at 0 == 10) ≡ true
 lf_at bytes from k d at later within is =
@@ -62,7 +62,7 @@ part_lf bytes end from to ordered ends before no_lf =
     in
     none (end - 1 - from) 0 (omega (arith, length-drop from (take to bytes), ends.within, before)) lf
 
--- and none in one that begins behind it
+-- and none in one that begins after it
 pub part_no_lf : (bytes : List ℕ) (end from to : ℕ) → from ≤ to → EndsLines (take to bytes) end → end ≤ from
     → NoLf (take (to - from) (drop from bytes))
 part_no_lf bytes end from to ordered ends later =

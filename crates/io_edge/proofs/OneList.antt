@@ -29,7 +29,7 @@ lines-only bytes ended shown are =
     are.are ∙ sym (lines_from-parts are.raws are.rest ended are.each are.last)
     ∙ ap (λ l. lines l ended) (sym are.whole)
 
--- a line before an LF comes before the lines of the bytes behind it
+-- a line before an LF comes before the lines of the bytes after it
 AreLines-cut : (start bytes : List ℕ) (ended : Bool) (shown : List Shown) → NoLf start
     → AreLines bytes ended shown
     → AreLines (start ++ 10 ∷ bytes) ended (ended_by_lf start ∷ shown)

@@ -4,7 +4,7 @@ use Rattle.std.proofs.lemmas.List.{drop-take, drop-drop, take-take}
 use Rattle.std.specs.Io.BufRead.{strip_last}
 use Rattle.io_edge.specs.Chunked.{Chunked}
 
--- a part without its first elements begins behind them
+-- a part without its first elements begins after them
 pub part-skip : (xs : List ℕ) (from to count : ℕ) → from ≤ to → count ≤ length (take (to - from) (drop from xs))
     → take (to - (from + count)) (drop (from + count) xs) ≡ drop count (take (to - from) (drop from xs))
 part-skip xs from to count ordered within =

@@ -5,14 +5,14 @@ use Rattle.std.specs.Io.KnownBytes.{Appends, Keeps}
 use Rattle.std.proofs.KnownBytes.{Appends-trans, Appends-kept}
 use Rattle.io_edge.specs.Written.{AppendsSome}
 
--- m more bytes behind the first n
+-- m more bytes after the first n
 pub Appends-take : (a b c : Option (List ℕ)) (bytes : List ℕ) (n m : ℕ)
     → Appends a b (take n bytes) → Appends b c (take m (drop n bytes)) → Appends a c (take (n + m) bytes)
 Appends-take a b c bytes n m front next =
     subst (Appends a c) (sym (take-add n m bytes))
     (Appends-trans a b c (take n bytes) (take m (drop n bytes)) front next)
 
--- nothing behind the first n
+-- nothing after the first n
 pub AppendsSome-take : (a b c : Option (List ℕ)) (bytes : List ℕ) (n : ℕ)
     → Appends a b (take n bytes) → Keeps b c → AppendsSome a c bytes
 AppendsSome-take a b c bytes n front kept =

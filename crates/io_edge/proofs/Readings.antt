@@ -65,7 +65,7 @@ Cuts-from_piece old new piece line shown no_lf taken stands shows no_start answe
       };
     }
 
--- bytes behind none stand for themselves
+-- bytes after none stand for themselves
 StandsFor-whole : (start piece : List ℕ) → length start ≡ 0 → StandsFor (start ++ piece) piece
 StandsFor-whole start piece none =
     let same : piece ≡ start ++ piece = ap (λ l. l ++ piece) (sym (nil_from_length start none)) in
@@ -89,7 +89,7 @@ Cuts-from_whole old new at no_lf taken none fits shown start unread answered not
     (start ∙ nil_from_length old.start none) (omega (arith, answered, count)) not_met
 
 -- From old the bytes `got` were taken, and no line was answered: an LF may only stand among those
--- that were not gone over.
+-- that were not searched.
 pub record Goes (old : Reading) (got : List ℕ) (now : Reading) : Type 0 where
   pub not_met : old.met ≡ false
   pub shows : Shows old got [] now
@@ -107,7 +107,7 @@ Shows-then old now new got shown first second = record {
   count = omega (arith, first.count, second.count);
 }
 
--- the bytes gone over have no LF
+-- the bytes that were searched have no LF
 pub Goes-joins : (old now new : Reading) (got : List ℕ) → Goes old got now → Joins now new → Goes old got new
 Goes-joins old now new got goes joins = record {
   not_met = goes.not_met;
@@ -118,7 +118,7 @@ Goes-joins old now new got goes joins = record {
   answered = joins.waits.answered ∙ goes.answered;
 }
 
--- a read follows where all bytes before it were gone over
+-- a read follows where all bytes before it were searched
 pub Goes-reads : (old now new : Reading) (got : List ℕ) → Goes old got now → now.unread ≡ []
     → new ≡ record now { unread = new.unread; shown = [] }
     → Goes old (got ++ new.unread) new
@@ -143,13 +143,13 @@ Goes-reads old now new got goes none is =
       answered = answered ∙ goes.answered;
     }
 
--- the bytes that were taken from a source, which told those left before and after
+-- the bytes that were taken from a source, which said what was left before and after
 pub record Takes (left left' : Option (List ℕ)) (old now : Reading) : Type 0 where
   pub got : List ℕ
   pub consumed : Consumes left left' got
   pub goes : Goes old got now
 
--- the bytes taken are gone over, and others are read
+-- the bytes taken are searched, and others are read
 pub Takes-turn : (left left' left'' : Option (List ℕ)) (old now mid new : Reading) → Takes left left' old now
     → Joins now mid
     → Refills left' left'' mid new → Takes left left'' old new
@@ -207,7 +207,7 @@ Goes-quiet old now new got goes joins few (inr (inl lf)) = absurd (lf (Goes-no_l
 Goes-quiet old now new got goes joins few (inr (inr full)) =
     omega (arith, goes.shows.count, joins.waits.shows.count, full, few)
 
--- an LF stands behind some bytes
+-- an LF stands after some bytes
 pub has_lf : (bytes piece rest : List ℕ) → bytes ≡ piece ++ 10 ∷ rest → NoLf bytes → ⊥
 has_lf bytes piece rest is no_lf =
     let later = All-drop (λ x. x ≢ 10) (length piece) _ (All-same (λ x. x ≢ 10) _ _ (sym is) no_lf) in

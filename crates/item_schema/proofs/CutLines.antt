@@ -40,7 +40,7 @@ at_hand Closed = refl
 abbrev taken : Bool → Bool → QuoteState → State × Action
 taken ends kept next = if ends then (st.StartField, act.EndField) else (state_of next, if kept then act.Copy else act.Skip)
 
--- at the front of a field, in it, between quotes and behind one
+-- at the front of a field, in it, between quotes and after one
 step_front : (byte : ℕ) → is_break byte ≡ false → step default_config st.StartField byte ≡ taken (ends_field Front byte) (is_kept Front byte) (place_after Front byte)
 step_front byte other = grind (arith, nat_tests)
 
@@ -68,7 +68,7 @@ step_begin byte other = grind (arith, nat_tests)
 abbrev texts_read : List (List ℕ) → List (List ℕ) → Option Read
 texts_read fields texts = Some (fields ++ texts, st.StartRecord, [])
 
--- from a place on, the texts behind the fields so far are read
+-- from a place on, the texts after the fields so far are read
 next_record-texts : (place : QuoteState) (fields : List (List ℕ)) (text bytes : List ℕ) → list_any is_break bytes ≡ false
     → next_record default_config (state_of place) fields text bytes ≡ texts_read fields (texts_at place text bytes)
 unfolding next_record texts_at

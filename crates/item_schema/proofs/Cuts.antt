@@ -12,7 +12,7 @@ pub is_found : {X : Type 0} (p : X → Bool) (xs : List X) → list_any p xs ≡
 is_found p [] = refl
 is_found p (x ∷ xs) = grind (arith, nat_tests, common_steps, is_found p xs)
 
--- where none passes, nothing stands behind
+-- where none passes, nothing follows
 pub nothing_after : {X : Type 0} (p : X → Bool) (xs : List X) → list_any p xs ≡ false → after_first p xs ≡ []
 nothing_after p [] none = refl
 nothing_after p (x ∷ xs) none = grind (arith, nat_tests, common_steps, nothing_after p xs)
@@ -37,7 +37,7 @@ pub before_first-front : {X : Type 0} (p : X → Bool) (xs : List X) (y : X) (ys
     → before_first p (xs ++ y ∷ ys) ≡ xs
 before_first-front p xs y ys none passes = rw (position_or_len-front p xs y ys none passes) (take-append_seam xs (y ∷ ys))
 
--- and what stands behind it
+-- and what stands after it
 pub after_first-front : {X : Type 0} (p : X → Bool) (xs : List X) (y : X) (ys : List X) → list_any p xs ≡ false → p y ≡ true
     → after_first p (xs ++ y ∷ ys) ≡ ys
 after_first-front p xs y ys none passes = rw (position_or_len-front p xs y ys none passes) (drop-append-add xs (y ∷ ys) 1)

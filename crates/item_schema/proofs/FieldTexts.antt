@@ -27,7 +27,7 @@ pub texts_none : (place : QuoteState) (text : List ℕ) → texts_at place text 
 unfolding texts_at
 texts_none place text = refl
 
--- behind the end of a field is the front of the next one
+-- after the end of a field is the front of the next one
 front_after : (place : QuoteState) (byte : ℕ) → ends_field place byte ≡ true → place_after place byte ≡ Front
 front_after Front byte ends = rw ends refl
 front_after Plain byte ends = rw ends refl
@@ -58,7 +58,7 @@ pub count_at : (place : QuoteState) (line : List ℕ) (i : ℕ) (ends : Bool) �
     → length (texts_at place [] (drop i line)) ≡ (if ends then 1 else 0) + length (texts_at (place_after place (get_or line i 0)) [] (drop (i + 1) line))
 count_at place line i ends within is = rw (drop-next line i 0 within) (count_texts place (get_or line i 0) (drop (i + 1) line) ends is)
 
--- what stands before the first byte that passes a test, and behind it, where the first byte does not
+-- what stands before the first byte that passes a test, and after it, where the first byte does not
 before_first-cons : (p : ℕ → Bool) (byte : ℕ) (bytes : List ℕ) → p byte ≡ false → before_first p (byte ∷ bytes) ≡ byte ∷ before_first p bytes
 before_first-cons p byte bytes other =
     let next : 1 + position_or_len p bytes ≡ suc (position_or_len p bytes) = omega arith in
@@ -72,7 +72,7 @@ abbrev pub cut_texts : List ℕ → List ℕ → List (List ℕ)
 cut_texts text bytes =
     (text ++ before_first is_comma bytes) ∷ texts_of (if list_any is_comma bytes then Some (after_first is_comma bytes) else None)
 
--- outside of quotes a field goes on to the next comma
+-- outside of quotes a field continues to the next comma
 plain_texts : (text bytes : List ℕ) → texts_at Plain text bytes ≡ cut_texts text bytes
 plain_texts text [] = texts_none Plain text ∙ ap (λ first. first ∷ []) (sym (append-nil text))
 plain_texts text (byte ∷ bytes) = by_comma (is_comma byte) refl (plain_texts (text ++ byte ∷ []) bytes)
@@ -90,12 +90,12 @@ unfolding texts_at
 front_plain [] other = refl
 front_plain (byte ∷ bytes) other = rw other refl
 
--- so it goes on to the next comma
+-- so it continues to the next comma
 unquoted_texts : (bytes : List ℕ) → is_quote (get_or bytes 0 0) ≡ false
     → texts_in bytes ≡ before_first is_comma bytes ∷ texts_of (if list_any is_comma bytes then Some (after_first is_comma bytes) else None)
 unquoted_texts bytes other = front_plain bytes other ∙ plain_texts [] bytes
 
--- so does one behind a quote that closes it
+-- so does one after a quote that closes it
 after_plain : (text bytes : List ℕ) → starts_with ◌==◌ bytes (34 ∷ []) ≡ false → texts_at Closed text bytes ≡ texts_at Plain text bytes
 unfolding texts_at
 after_plain text [] other = refl
@@ -108,7 +108,7 @@ opened_texts : (bytes : List ℕ) → texts_in (34 ∷ bytes) ≡ texts_at Quote
 unfolding texts_at
 opened_texts bytes = refl
 
--- between quotes a field goes on to the next quote
+-- between quotes a field continues to the next quote
 quoted_texts : (text bytes : List ℕ) → list_any is_quote bytes ≡ true
     → texts_at Quoted text bytes ≡ texts_at Closed (text ++ before_first is_quote bytes) (after_first is_quote bytes)
 quoted_texts text [] some = absurd (cc)
@@ -132,7 +132,7 @@ open_texts text (byte ∷ bytes) none =
     texts_more Quoted text byte bytes refl
     ∙ rw parts.0 (open_texts (text ++ byte ∷ []) bytes parts.1 ∙ rw (append_assoc text (byte ∷ []) bytes) refl)
 
--- what stands behind the opening quote of a field, cut at the next quote
+-- what stands after the opening quote of a field, cut at the next quote
 pub record QuotedCut (bytes text : List ℕ) (after : Option (List ℕ)) : Type 0 where
   pub text_is : text ≡ before_first is_quote bytes
   pub after_is : after ≡ (if list_any is_quote bytes then Some (after_first is_quote bytes) else None)
@@ -158,7 +158,7 @@ closed before bytes text after cut = by_quote (list_any is_quote bytes) refl cut
         rw (cut.text_is, same) (quoted_texts before bytes is)
     by_quote false is some = absurd (cc)
 
--- and a second quote stands behind it, which is one of the text
+-- and a second quote stands after it, which is one of the text
 pub doubled : (before bytes text after : List ℕ) → QuotedCut bytes text (Some after) → starts_with ◌==◌ after (34 ∷ []) ≡ true
     → texts_at Quoted before bytes ≡ texts_at Quoted ((before ++ text) ++ 34 ∷ []) (drop 1 after)
 doubled before bytes text [] cut is = absurd (cc)
@@ -166,13 +166,13 @@ doubled before bytes text (byte ∷ after) cut is =
     let same : byte ≡ 34 = grind (arith, nat_tests) in
     closed before bytes text (byte ∷ after) cut ∙ rw same (texts_more Closed (before ++ text) 34 after refl)
 
--- and none does, so that the field goes on to the next comma
+-- and none does, so that the field continues to the next comma
 pub unquoted : (before bytes text after : List ℕ) → QuotedCut bytes text (Some after) → starts_with ◌==◌ after (34 ∷ []) ≡ false
     → texts_at Quoted before bytes ≡ cut_texts (before ++ text) after
 unquoted before bytes text after cut other =
     closed before bytes text after cut ∙ after_plain (before ++ text) after other ∙ plain_texts (before ++ text) after
 
--- and nothing, or a comma, stands behind it
+-- and nothing, or a comma, stands after it
 pub closed_last : (bytes text after : List ℕ) → QuotedCut bytes text (Some after) → length after ≡ 0 → texts_at Quoted [] bytes ≡ text ∷ []
 closed_last bytes text [] cut none = closed [] bytes text [] cut ∙ texts_none Closed text
 closed_last bytes text (byte ∷ after) cut none = absurd (omega arith)
@@ -184,7 +184,7 @@ closed_text bytes text (byte ∷ after) cut is =
     let comma : is_comma byte ≡ true = grind (arith, nat_tests) in
     closed [] bytes text (byte ∷ after) cut ∙ texts_end Closed text byte after comma
 
--- what is left of bytes behind the first of them
+-- what is left of bytes after the first of them
 pub drop_whole : (bytes : List ℕ) (i : ℕ) → take (length bytes - i) (drop i bytes) ≡ drop i bytes
 drop_whole bytes i = take_all (length bytes - i) (drop i bytes) (omega (arith, length-drop i bytes))
 

@@ -11,7 +11,7 @@ use Rattle.item_schema.specs.declared.stop.ItemStop.TheVariants as stop
 use Rattle.item_schema.specs.declared.stop.Skip.{Skip}
 use Rattle.item_schema.specs.Reading.{IsStopOf, after, field_of, fields_of, in_column, read_on, with_field}
 
--- an element stands before those behind it
+-- an element stands before those after it
 pub drop-next : {A : Type 0} (xs : List A) (i : ℕ) (other : A) → i < length xs → drop i xs ≡ get_or xs i other ∷ drop (i + 1) xs
 drop-next xs i other within = rw add-one (drop-cons xs i other within)
 
@@ -20,7 +20,7 @@ after-nil : (others : Result (List Field) Skip) → after [] others ≡ others
 after-nil (Ok fields) = refl
 after-nil (Err stop) = refl
 
--- a field that was read goes behind those before it
+-- a field that was read goes after those before it
 after-with_field : (fields : List Field) (field : Field) (others : Result (List Field) Skip)
     → after fields (with_field (Ok field) others) ≡ after (fields ++ field ∷ []) others
 after-with_field fields field (Ok others) = ap Ok (sym (append_assoc fields (field ∷ []) others))
@@ -34,7 +34,7 @@ read_on-nil columns texts = after-nil (fields_of 1 columns texts)
 pub read_on-all : (columns : List Column) (fields : List Field) → length fields ≡ length columns → read_on columns fields [] ≡ Ok fields
 read_on-all columns fields all = rw (drop_all (length fields) columns (omega arith)) (ap Ok (append-nil fields))
 
--- the next text is one of the next column, and the field that it writes goes behind the others
+-- the next text is one of the next column, and the field that it writes goes after the others
 pub read_on-push : (columns : List Column) (fields : List Field) (other : Column) (text : List ℕ) (texts : List (List ℕ)) (field : Field)
     → length fields < length columns
     → in_column (length fields + 1) (field_of (get_or columns (length fields) other).kind text) ≡ Ok field
@@ -54,7 +54,7 @@ pub stop-first : (first : Result Field Skip) (others : Result (List Field) Skip)
 stop-first first others (stop.Skip skip) stops = ap (λ field. with_field field others) stops
 stop-first first others stop.Memory stops = tt
 
--- the text at a place of a row stands before those behind it
+-- the text at a place of a row stands before those after it
 pub drop-field_at : (texts : List (List ℕ)) (i : ℕ) (text : List ℕ) → i < length texts → field_at texts i ≡ Some text
     → drop i texts ≡ text ∷ drop (i + 1) texts
 drop-field_at texts i text within is =

@@ -69,7 +69,7 @@ record_bytes s fields text (byte ∷ bytes) are is rest =
             (fields_bytes action fields text are is)
             (field_bytes action byte text (and_parts (nat_lt byte 256) (are_bytes bytes) rest).0 is)
 
--- what is left of a line behind a mark
+-- what is left of a line after a mark
 strip_bytes : (line : List ℕ) → are_bytes line ≡ true → are_bytes (strip_bom line) ≡ true
 unfolding strip_bom
 strip_bytes [] are = refl

@@ -86,12 +86,12 @@ numeral_written digits form =
     let parts = and_parts (nat_lt 0 (length digits)) (list_all is_ascii_digit digits) form in
     (digits_written digits parts.1, grind (arith, nat_tests, parts.0))
 
--- and of what stands behind it
+-- and of what stands after it
 fraction_written : (after digits : List ℕ) → IsFraction after digits → list_all is_written after ≡ true
 fraction_written after digits (inl none) = rw none.0 refl
 fraction_written after digits (inr some) = rw some.0 (numeral_written digits (numeral_passes digits some.1)).0
 
--- what is written behind a sign
+-- what is written after a sign
 record IsWritten (line : List ℕ) : Type 0 where
   pub bytes : list_all is_written line ≡ true
   pub some : 0 < length line

@@ -38,7 +38,7 @@ no_numeral digits i within other =
     let all = list_all_at is_ascii_digit digits i 0 within other in
     grind (arith, nat_tests, all)
 
--- a text, the sign that it begins with and what stands behind it
+-- a text, the sign that it begins with and what stands after it
 pub record CutSign (text : List ℕ) : Type 0 where
   pub sign : Sign
   pub spelled : text ≡ sign_bytes sign ++ without_leading_sign text
@@ -73,7 +73,7 @@ no_sign (digit ∷ digits) after numeral =
     let range = digit_from_value digit numeral.1.0 in
     (grind (arith, nat_tests), grind (arith, nat_tests))
 
--- what stands behind a sign, where it begins with digits
+-- what stands after a sign, where it begins with digits
 pub without_leading_sign-digits : (sign : Sign) (digits after : List ℕ) → IsNumeral 10 digits
     → without_leading_sign (sign_bytes sign ++ (digits ++ after)) ≡ digits ++ after
 without_leading_sign-digits Absent digits after numeral =
@@ -95,7 +95,7 @@ pub record CutPoint (text : List ℕ) : Type 0 where
   pub spelled : text ≡ before_first is_point text ++ after
   pub point : IsFraction after (after_first is_point text)
 
--- where what stands behind a point is a numeral
+-- where what stands after a point is a numeral
 pub cut_point : (text : List ℕ) (found : Bool) → list_any is_point text ≡ found
     → (not found || is_numeral (after_first is_point text)) ≡ true → CutPoint text
 cut_point text false is form = record {
@@ -117,7 +117,7 @@ no_point : (digits : List ℕ) → list_all is_ascii_digit digits ≡ true → l
 no_point [] are = refl
 no_point (digit ∷ digits) are = grind (arith, nat_tests, no_point digits)
 
--- what a text has before its first point and behind it
+-- what a text has before its first point and after it
 pub record HasParts (text whole fraction : List ℕ) : Type 0 where
   pub before : before_first is_point text ≡ whole
   pub after : after_first is_point text ≡ fraction

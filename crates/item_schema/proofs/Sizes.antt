@@ -9,7 +9,7 @@ use Rattle.std.proofs.lemmas.List.{take_more}
 use Rattle.std.proofs.lemmas.Bool.Decides.{nat_tests}
 use Rattle.item_schema.specs.Reading.{units}
 
--- digits behind others
+-- digits after others
 pub digits_value_after-append : (radix n : ℕ) (digits others : List ℕ)
     → digits_value_after radix n (digits ++ others) ≡ digits_value_after radix (digits_value_after radix n digits) others
 digits_value_after-append radix n [] others = refl
@@ -19,7 +19,7 @@ digits_value_after-append radix n (digit ∷ digits) others = digits_value_after
 pub digit_value-digit : (byte : ℕ) → is_ascii_digit byte ≡ true → digit_value byte ≡ byte - 48
 digit_value-digit byte is = grind (arith, nat_tests)
 
--- digits behind others move these to the left
+-- digits after others move these to the left
 shift : (n value tens tens' rest rest' : ℕ) → tens' ≡ tens * 10 → rest' ≡ (0 * 10 + value) * tens + rest
     → (n * 10 + value) * tens + rest ≡ n * tens' + rest'
 shift n value tens tens' rest rest' e f = rw (e, f) (omega arith)
@@ -31,7 +31,7 @@ digits_value_after-shift n (digit ∷ digits) =
     digits_value_after-shift (n * 10 + digit_value digit) digits
     ∙ shift n (digit_value digit) (10 ^ length digits) (10 ^ suc (length digits)) (digits_value 10 digits) (digits_value 10 (digit ∷ digits)) (pow-suc 10 (length digits)) (digits_value_after-shift (0 * 10 + digit_value digit) digits)
 
--- digits behind others, and then zeros
+-- digits after others, and then zeros
 pub digits_value_after-zeros : (whole places : ℕ) (fraction : List ℕ) → length fraction ≤ places
     → digits_value_after 10 whole fraction * 10 ^ (places - length fraction)
     ≡ whole * 10 ^ places + digits_value 10 fraction * 10 ^ (places - length fraction)

@@ -33,7 +33,7 @@ is_kept Plain byte = true
 is_kept Quoted byte = not (is_quote byte)
 is_kept Closed byte = true
 
--- the place behind a byte: a quote opens a field only at its front, and two of them go on with it
+-- the place after a byte: a quote opens a field only at its front, and two of them continue it
 abbrev pub place_after : QuoteState → ℕ → QuoteState
 place_after Front byte = if is_comma byte then Front else if is_quote byte then Quoted else Plain
 place_after Plain byte = if is_comma byte then Front else Plain

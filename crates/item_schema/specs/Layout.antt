@@ -14,7 +14,7 @@ pub record Layout : Type 0 where
   pub has_header : Bool
   pub columns : List Column
 
--- a fixed point has 1 to 9 digits behind it
+-- a fixed point has 1 to 9 digits after it
 abbrev pub has_digits : Kind → Bool
 has_digits Int = true
 has_digits (Fixed digits) = nat_le 1 digits && nat_le digits 9

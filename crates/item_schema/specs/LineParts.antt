@@ -9,7 +9,7 @@ use Rattle.item_schema.specs.declared.parts.Parts.TheVariants.{Plain, Quoted}
 abbrev pub is_special : ℕ → Bool
 is_special byte = is_quote byte || is_break byte
 
--- so many commas end fields of the line, and each comma does where it is plain
+-- this many commas end fields of the line, and each comma does where it is plain
 abbrev pub ArePartsOf : List ℕ → Parts → Type 0
 ArePartsOf line (Plain commas) =
     (texts_in line ≡ slice_split is_comma line) × (commas + 1 ≡ length (texts_in line))

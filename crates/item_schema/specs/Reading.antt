@@ -25,11 +25,11 @@ is_numeral digits = nat_lt 0 (length digits) && list_all is_ascii_digit digits
 abbrev pub is_point : ℕ → Bool
 is_point byte = byte == 46
 
--- what stands before the point, behind a sign
+-- what stands before the point, after a sign
 abbrev pub whole_of : List ℕ → List ℕ
 whole_of bytes = before_first is_point (without_leading_sign bytes)
 
--- what stands behind the point
+-- what stands after the point
 abbrev pub fraction_of : List ℕ → List ℕ
 fraction_of bytes = after_first is_point (without_leading_sign bytes)
 
@@ -42,7 +42,7 @@ is_decimal bytes = is_numeral (whole_of bytes)
 abbrev pub signed : List ℕ → ℕ → ℤ
 signed bytes size = if starts_with_minus bytes then neg_ℤ (pos size) else pos size
 
--- what digits before a point and behind it write, times so many tens
+-- what digits before a point and after it write, times this many tens
 abbrev pub units : ℕ → List ℕ → List ℕ → ℕ
 units places whole fraction =
     digits_value 10 whole * 10 ^ places + digits_value 10 fraction * 10 ^ (places - length fraction)
@@ -75,7 +75,7 @@ abbrev pub in_column : ℕ → Result Field Cause → Result Field Skip
 in_column column (Ok field) = Ok field
 in_column column (Err cause) = Err (skip cause column)
 
--- a first field before those of the columns behind it
+-- a first field before those of the columns after it
 abbrev pub with_field : Result Field Skip → Result (List Field) Skip → Result (List Field) Skip
 with_field (Ok field) (Ok fields) = Ok (field ∷ fields)
 with_field (Ok field) (Err stop) = Err stop

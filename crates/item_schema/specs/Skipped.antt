@@ -12,12 +12,12 @@ use Rattle.item_schema.specs.declared.stop.Skip.{Skip}
 use Rattle.item_schema.specs.Reading.{record_of}
 use Rattle.item_schema.specs.Written.{Writes, WritesDecimal, WritesWhole}
 
--- the text is a decimal number, with any number of digits behind its point
+-- the text is a decimal number, with any number of digits after its point
 abbrev pub IsDecimal : List ℕ → Type 0
 IsDecimal text = (digits : ℕ) × (number : ℤ) × WritesDecimal digits text number
 
 -- the text writes no field of a column, for this cause: it has not the form of a number, too many
--- digits behind its point, or a number that does not fit
+-- digits after its point, or a number that does not fit
 abbrev pub FailsFor : Cause → Kind → List ℕ → Type 0
 FailsFor cause.Number Int text = (number : ℤ) → ¬ WritesWhole text number
 FailsFor cause.Number (Fixed places) text = ¬ IsDecimal text

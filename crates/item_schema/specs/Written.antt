@@ -21,7 +21,7 @@ sign_bytes Absent = []
 sign_bytes Plus = 43 ∷ []
 sign_bytes Minus = 45 ∷ []
 
--- the number of this size behind a sign
+-- the number of this size after a sign
 abbrev pub with_sign : Sign → ℕ → ℤ
 with_sign Absent size = pos size
 with_sign Plus size = pos size
@@ -35,12 +35,12 @@ pub record WritesWhole (text : List ℕ) (number : ℤ) : Type 0 where
   pub numeral : IsNumeral 10 digits
   pub value : number ≡ with_sign sign (digits_value 10 digits)
 
--- these digits behind a point, or neither digits nor a point
+-- these digits after a point, or neither digits nor a point
 abbrev pub IsFraction : List ℕ → List ℕ → Type 0
 IsFraction bytes digits =
     ((bytes ≡ []) × (digits ≡ [])) ⊎ ((bytes ≡ 46 ∷ digits) × IsNumeral 10 digits)
 
--- a decimal number with at most so many digits behind its point, counted in the smallest unit
+-- a decimal number with at most this many digits after its point, counted in the smallest unit
 pub record WritesDecimal (places : ℕ) (text : List ℕ) (number : ℤ) : Type 0 where
   pub sign : Sign
   pub whole : List ℕ

@@ -9,7 +9,7 @@ use value_ops::{Bytes, Field, ValueType};
 pub enum Kind {
     /// Whole numbers of 64 bits.
     Int,
-    /// Numbers with so many digits behind the point, from 1 to 9, counted in the smallest unit.
+    /// Numbers with this many digits after the point, from 1 to 9, counted in the smallest unit.
     Fixed(u8),
     Text,
     /// Numbers that another query gives, `overflow` and `divzero` among them.

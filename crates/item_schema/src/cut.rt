@@ -3,7 +3,7 @@ ghost use Rattle.std.specs.List.{after_first, before_first, list_any};
 ghost use Rattle.std.specs.Option.{option_copied};
 ghost use Rattle.std.specs.Prelude.{◌≡◌, ◌==◌, Some, None, if◌then◌else◌, position};
 
-/// What stands before the first such byte, and what stands behind it if there is one.
+/// What stands before the first such byte, and what stands after it if there is one.
 #[tactic(auto, using(crate::proofs::Cuts::is_found))]
 pub(crate) fn cut_at(byte: u8, text: &[u8]) -> (&[u8], Option<&[u8]>)
     ensures before { result.0.now ≡ before_first (λ at. at == byte) text.now }

@@ -7,7 +7,7 @@ use crate::{Cause, ItemStop, Kind, Schema};
 use std::alloc::Global;
 use value_ops::{Bytes, Field};
 
-/// Reads what stands in the column behind those of the fields.
+/// Reads what stands in the column after those of the fields.
 pub(crate) fn push_field(
     alloc: Global,
     schema: &Schema,

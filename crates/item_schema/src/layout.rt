@@ -10,7 +10,7 @@ use crate::{Column, Kind};
 const MAX_COLUMNS: usize = 32;
 
 /// Whether a schema of lines may have these columns: 1 to 32 with names of their own, each of whole
-/// numbers, texts, or numbers with 1 to 9 digits behind the point.
+/// numbers, texts, or numbers with 1 to 9 digits after the point.
 pub fn are_columns(columns: &[Column]) -> bool
     ensures { result ≡ are_columns columns.now }
 {

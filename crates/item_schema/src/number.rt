@@ -33,7 +33,7 @@ pub(crate) fn fixed_field(places: u8, text: &[u8]) -> Result<Field, Cause>
 }
 
 // A decimal number: what its digits write without the point, or the greatest of 64 bits, and how
-// many of them stand behind it.
+// many of them stand after it.
 #[derive(Clone, Copy)]
 struct Decimal {
     size: u64,
@@ -49,7 +49,7 @@ fn without_sign(text: &[u8]) -> &[u8]
     }
 }
 
-// What the text writes behind its sign, if it is a decimal number.
+// What the text writes after its sign, if it is a decimal number.
 #[tactic(auto, using(crate::proofs::Cuts::nothing_after))]
 fn decimal_of(text: &[u8]) -> Option<Decimal>
     ensures { MatchOption result (is_decimal text.now ≡ false) (λ decimal.
@@ -66,7 +66,7 @@ fn decimal_of(text: &[u8]) -> Option<Decimal>
     })
 }
 
-// The number that a numeral writes behind the digits of another, or the greatest of 64 bits.
+// The number that a numeral writes after the digits of another, or the greatest of 64 bits.
 #[inline]
 fn size_after(size: u64, digits: &[u8]) -> Option<u64>
     ensures { MatchOption result (is_numeral digits.now ≡ false) (λ after.
@@ -88,7 +88,7 @@ fn size_after(size: u64, digits: &[u8]) -> Option<u64>
     Some(after)
 }
 
-// The number times so many tens as it has less places, or the greatest of 64 bits.
+// The number times ten for each place that it has less, or the greatest of 64 bits.
 fn units(places: u8, decimal: Decimal) -> u64
     requires { decimal.places ≤ places }
     ensures { (text : List ℕ) → KeepsDecimal text decimal

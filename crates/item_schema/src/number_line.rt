@@ -6,7 +6,7 @@ use crate::number::{fixed_field, int_field};
 use crate::{Column, Item, Kind, Schema};
 use value_ops::Field;
 
-/// The item of such a line, which is gone over once.
+/// The item of such a line, which is read in one pass.
 #[inline]
 pub(crate) fn number_item(schema: &Schema, line: &[u8]) -> Option<Item>
     ensures { IfSome result (λ item. item_of schema.now.columns line.now ≡ Ok item) }

@@ -72,7 +72,7 @@ fn plain_fields(alloc: Global, schema: &Schema, line: &[u8]) -> Result<Vec<Field
     Ok(fields)
 }
 
-// What stands before the first comma, and what stands behind it if there is one.
+// What stands before the first comma, and what stands after it if there is one.
 #[tactic(auto, using(crate::proofs::PlainLines::texts_between_commas))]
 fn plain_text(bytes: &[u8]) -> (&[u8], Option<&[u8]>)
     ensures { slice_split is_comma bytes.now ≡ result.0.now ∷ split_of (option_copied result.1) }

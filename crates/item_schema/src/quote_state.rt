@@ -11,7 +11,7 @@ pub(crate) enum QuoteState {
     Plain,
     /// Between quotes.
     Quoted,
-    /// Behind a quote that ends them, or is the first of two.
+    /// After a quote that ends them, or is the first of two.
     Closed,
 }
 
@@ -26,7 +26,7 @@ impl QuoteState {
         }
     }
 
-    /// The place behind the byte.
+    /// The place after the byte.
     pub(crate) fn after(self, byte: u8) -> QuoteState
         ensures { result ≡ place_after self byte }
     {

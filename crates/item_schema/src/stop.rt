@@ -17,7 +17,7 @@ pub enum Cause {
     Number,
     /// A number does not fit 64 bits.
     Range,
-    /// A number has more digits behind the point than its column.
+    /// A number has more digits after the point than its column.
     Digits,
 }
 

@@ -26,7 +26,7 @@ impl Text<'_> {
     }
 }
 
-/// The first text of the bytes, and what is left of them behind its comma, if there is one.
+/// The first text of the bytes, and what is left of them after its comma, if there is one.
 pub(crate) fn first_text(
     alloc: Global,
     bytes: &[u8],
@@ -41,7 +41,7 @@ pub(crate) fn first_text(
     Ok((Text::Part(text), rest))
 }
 
-// The same of bytes behind a quote that opens a field.
+// The same of bytes after a quote that opens a field.
 fn quoted_text(alloc: Global, bytes: &[u8]) -> Result<(Text<'_>, Option<&[u8]>), AllocError>
     ensures { IfOk result (λ cut.
         texts_at Quoted [] bytes.now ≡ bytes_of cut.0 ∷ texts_of (option_copied cut.1)) }
@@ -59,7 +59,7 @@ fn quoted_text(alloc: Global, bytes: &[u8]) -> Result<(Text<'_>, Option<&[u8]>),
     copied_text(alloc, bytes)
 }
 
-// The same, where more of the field stands behind a quote in it.
+// The same, where more of the field stands after a quote in it.
 fn copied_text(alloc: Global, bytes: &[u8]) -> Result<(Text<'_>, Option<&[u8]>), AllocError>
     ensures { IfOk result (λ cut.
         texts_at Quoted [] bytes.now ≡ bytes_of cut.0 ∷ texts_of (option_copied cut.1)) }

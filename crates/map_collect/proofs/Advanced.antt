@@ -1,4 +1,4 @@
--- Tracks whose states go on one after the other.
+-- Tracks whose states continue one after the other.
 use Rattle.std.proofs.Common.{set, ◌≡◌, ◌==◌, ◌+◌, ◌<◌, ◌∙◌, ◌++◌, ℕ, zero, suc, List, [], ◌∷◌, drop, get_or, length, refl, sym, ap, subst, take, arith}
 use Rattle.std.specs.List.{IsDistinct}
 use Rattle.value_ops.specs.declared.field.Field.{Field}
@@ -23,7 +23,7 @@ module _ {R : Type 0} (sets : Sets) where
   states_with (t ∷ tracks) (suc i) y all one = (all.0, states_with tracks i y all.1 one)
 
   module _ (item : List Field) where
-    -- the item has led on so many of the first, and the others are as they were
+    -- the item has led on this many of the first, and the others are as they were
     abbrev pub AdvancedBelow : ℕ → List (Track R) → List (Track R) → Type 0
     AdvancedBelow zero old now = now ≡ old
     AdvancedBelow (suc i) [] [] = Unit {0}

@@ -81,7 +81,7 @@ module _ {R : Type 0} where
           live = live t;
         }
 
-    -- what a search for a live one tells
+    -- what a search for a live one says
     pub decided_live : (decided : Bool) (tracks : List (Track R)) (start : ℕ)
         → MatchBool decided ((k : ℕ) × (k < length tracks) × HoldsAt (IsLiveAt nfa start) tracks k)
         (AllWithin (λ track. IsLiveAt nfa start track → ⊥) tracks 0 (length tracks))

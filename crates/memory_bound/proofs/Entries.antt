@@ -24,7 +24,7 @@ use Rattle.memory_bound.specs.KeysMet.{entries_of, is_same, key_columns, keys_am
 use Rattle.memory_bound.proofs.Growth.{AreAmong, among_all, among_first, among_second, first_member, item_entries, entries_join, keys_mono, later_member, member_cases, no_member, of_item}
 use Rattle.memory_bound.proofs.Tables.{entries_of_keys, keys_few}
 
--- an input has at most so many
+-- an input has at most this many
 record AreSmall (inputs : Inputs) (n : ℕ) : Type 0 where
   fields : (column : ℕ) (v : Value) → value_of_field (slice_get inputs.fields column) ≡ Some v → entries_of v ≤ n
   left : (v : Value) → inputs.left ≡ Some v → entries_of v ≤ n

@@ -7,7 +7,7 @@ use Rattle.rate_expr.specs.Rates.{size_of}
 use Rattle.query_model.specs.Bounds.{inner_of, places_of}
 use Rattle.query_model.specs.Queries.{Qre, atom, eps, choice, split, iter, combine, apply, compose, collect}
 
--- one of so many, and so many of at least one
+-- one of this many, and this many of at least one
 pub once_of : (count each : ℕ) → each ≤ (count + 1) * each
 once_of count each = let parts = add-mul count 1 each in omega (arith, parts)
 

@@ -73,11 +73,11 @@ module _ (starts : List ℤ) (rise : IsStrictlySortedBy int_cmp starts) (begin :
   number_of_class_fits zero le = record { sfits = omega arith }
   number_of_class_fits (suc k) le = start_fits (get_or starts k least) (All-from_recursion _ starts begin k least le)
 
--- what a text is before is behind it
+-- what a text is before is after it
 pub after_is : (s t : List ℕ) → slice_cmp nat_cmp s t ≡ Less → slice_cmp nat_cmp t s ≡ Greater
 after_is s t e = nat_list_cmp_total.antisymm t s ∙ ap ordering_reverse e
 
--- a text is before any that goes on behind it
+-- a text is before any that extends it
 continues : (s : List ℕ) (b : ℕ) → slice_cmp nat_cmp s (s ++ b ∷ []) ≡ Less
 continues [] b = refl
 continues (x ∷ s) b = rw (tied_itself nat_cmp_total x) (continues s b)
@@ -105,7 +105,7 @@ module _ (texts : List (List ℕ)) (rise : IsStrictlySortedBy (slice_cmp nat_cmp
       (λ j e a b. subst (λ t. is_lt (slice_cmp nat_cmp (get_or texts j e) t) ≡ true) (get_or_default texts class e d lt) (ap is_lt (in_order j class e b lt)))
       (λ j e a b. subst (λ t. is_lt (slice_cmp nat_cmp (get_or texts j e) t) ≡ false) (get_or_default texts class e d lt) (not_earlier j class e a b)))
 
-  -- each text is before the one that goes on behind the last
+  -- each text is before the one that extends the last
   all_before : (j : ℕ) (d : List ℕ) → j < length texts → slice_cmp nat_cmp (get_or texts j d) (other_text texts) ≡ Less
   all_before j d lt = rw (get_or_default texts j d [] lt) (⊎_elim earlier same (cases_lt j (length texts - 1)))
     where
@@ -123,7 +123,7 @@ module _ (texts : List (List ℕ)) (rise : IsStrictlySortedBy (slice_cmp nat_cmp
   other_text_is =
       rw (list_any_none (bytes_eq (other_text texts)) texts (λ j d lt. bytes_eq_by_cmp (other_text texts) (get_or texts j d) ∙ ap is_eq (after_is (get_or texts j d) (other_text texts) (all_before j d lt)))) refl
 
--- the text behind all others is one
+-- the text after all others is one
 other_text_bytes : (texts : List (List ℕ)) → AllByRecursion IsText texts → IsText (other_text texts)
 other_text_bytes texts bytes =
     list_all-append (λ b. nat_lt b 256) (get_or texts (length texts - 1) []) (95 ∷ [])

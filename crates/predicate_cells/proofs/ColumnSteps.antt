@@ -57,7 +57,7 @@ module _ (columns : List Ranks) (i : ℕ) (ranks : Ranks) (lt : i < length colum
   at_column : {A : Type 0} (F : List Ranks → A) → F (drop i columns) ≡ F (ranks ∷ drop (i + 1) columns)
   at_column F = at_drop_more F columns i ranks lt ∙ ap (λ r. F (r ∷ drop (i + 1) columns)) (sym is)
 
-  -- the product goes on
+  -- the product continues
   pub product_more : (count : ℕ) → count * cells_in (drop i columns) ≡ cells_in columns
       → (count * count_in ranks) * cells_in (drop (i + 1) columns) ≡ cells_in columns
   product_more count e = mul_assoc _ _ _ ∙ sym (ap (λ n. count * n) (at_column cells_in)) ∙ e
@@ -66,7 +66,7 @@ module _ (columns : List Ranks) (i : ℕ) (ranks : Ranks) (lt : i < length colum
   pub product_le : (count : ℕ) → count * cells_in (drop i columns) ≡ cells_in columns → count * count_in ranks ≤ cells_in columns
   product_le count e = factor_le _ (cells_in (drop (i + 1) columns)) 0 _ (cells_positive (drop (i + 1) columns)) (omega (arith, product_more count e))
 
-  -- the cell goes on
+  -- the cell continues
   pub cell_more : (fields : List Field) (cell : ℕ)
       → cell * cells_in (drop i columns) + cell_in (drop i columns) (drop i fields) ≡ cell_in columns fields
       → (cell * count_in ranks + option_map_or (class_in ranks) (slice_get fields i) 0) * cells_in (drop (i + 1) columns)
@@ -88,7 +88,7 @@ module _ (columns : List Ranks) (i : ℕ) (ranks : Ranks) (lt : i < length colum
   pub block_le : count_in ranks * cells_in (drop (i + 1) columns) ≤ cells_in columns
   block_le = rw (← at_column cells_in) (drop_le columns i)
 
-  -- the cells of the columns behind
+  -- the cells of the columns that follow
   pub width_more : (width : ℕ) → width ≡ cells_in (drop i columns) → width / count_in ranks ≡ cells_in (drop (i + 1) columns)
   width_more width e =
       let rest = cells_in (drop (i + 1) columns) in

@@ -42,7 +42,7 @@ module _ {A : Type 0} where
       let le = count_by-le p q less xs in
       (same_weight (p x) (q x) (omega arith), same_from_count p q less xs (omega arith))
 
-  -- how many pass is where the first one fails, if none passes behind it
+  -- how many pass is where the first one fails, if none passes after it
   pub count_from_place : (p : A → Bool) (xs : List A) (i : ℕ) → i ≤ length xs
       → AllWithin (λ x. p x ≡ true) xs 0 i → AllWithin (λ x. p x ≡ false) xs i (length xs) → count_by p xs ≡ i
   count_from_place p [] i le below from = omega arith

@@ -131,7 +131,7 @@ module _ {A : Type 0} (cmp : A → A → Ordering) (o : IsTotalOrder cmp) where
   has_head : (x : A) (xs : List A) → has cmp x (x ∷ xs) ≡ true
   has_head x xs = rw (tied_itself o x) refl
 
-  -- the members behind the first ones are the same
+  -- the members after the first ones are the same
   same_tails : (x y : A) (xs ys : List A) → cmp x y ≡ Equal
       → AllByRecursion (λ z. cmp x z ≡ Less) xs → AllByRecursion (λ z. cmp y z ≡ Less) ys
       → ((q : A) → has cmp q (x ∷ xs) ≡ has cmp q (y ∷ ys)) → (q : A) → has cmp q xs ≡ has cmp q ys
@@ -142,7 +142,7 @@ module _ {A : Type 0} (cmp : A → A → Ordering) (o : IsTotalOrder cmp) where
       by Equal a b c = tied_absent q x xs a s ∙ sym (tied_absent q y ys (sym b) t)
       by Greater a b c = rw (← b) at c
 
-  -- a list that rises is told by its members
+  -- a list that rises is determined by its members
   pub one_rising : ((x y : A) → cmp x y ≡ Equal → x ≡ y) → (xs ys : List A)
       → IsStrictlySortedBy cmp xs → IsStrictlySortedBy cmp ys → ((q : A) → has cmp q xs ≡ has cmp q ys) → xs ≡ ys
   unfolding IsStrictlySortedBy

@@ -58,7 +58,7 @@ module _ (named : List (List ℕ)) where
       let all = same_from_count (λ n. is_lt (slice_cmp nat_cmp n s)) (λ n. true) (λ n h. refl) named (e ∙ sym (count_all named)) in
       not_before s true refl (all_found _ bytes_eq (λ x y. (bytes_eq-Decides x y).0) s named all member)
 
-  -- members are told by their ranks
+  -- members are determined by their ranks
   not_less : (s t : List ℕ) → list_any (bytes_eq s) named ≡ true → rank s ≡ rank t → slice_cmp nat_cmp s t ≡ Less → ⊥
   not_less s t member e less =
       let all = same_from_count (λ n. is_lt (slice_cmp nat_cmp n s)) (λ n. is_lt (slice_cmp nat_cmp n t)) (λ n. lt_before s t n less) named e in

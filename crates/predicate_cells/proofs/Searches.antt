@@ -29,7 +29,7 @@ at_most_first starts n rise i j d le lt h = ⊎_elim before same (cases_lt i j)
     same : j ≤ i → int_le (get_or starts i d) n ≡ true
     same above = let is : i ≡ j = omega arith in rw is h
 
--- so a number is of the class of the place behind them
+-- so a number is of the class of the place after them
 pub number_searched : (starts : List ℤ) (n : ℤ) (place : ℕ) → place ≤ length starts
     → IsPartitionPoint (λ start. int_le start n ≡ true) (λ start. int_le start n ≡ false) starts place → number_rank starts n ≡ place
 number_searched starts n place le parts = count_from_place (λ start. int_le start n) starts place le parts.0 parts.1

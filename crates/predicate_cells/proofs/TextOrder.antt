@@ -26,7 +26,7 @@ less_from_lt Less e = refl
 less_from_lt Equal e = absurd (true≢false (sym e))
 less_from_lt Greater e = absurd (true≢false (sym e))
 
--- what comes before a text comes before those behind it
+-- what comes before a text comes before those after it
 pub lt_before : (s t n : List ℕ) → slice_cmp nat_cmp s t ≡ Less → is_lt (slice_cmp nat_cmp n s) ≡ true → is_lt (slice_cmp nat_cmp n t) ≡ true
 lt_before s t n less e = ap is_lt (nat_list_cmp_total.trans n s t (less_from_lt _ e) less)
 

@@ -99,7 +99,7 @@ Rest-main text end list tree left unfit place answer had is inside after_it answ
     ∙ ap (λ found. first_of_two (unfit_call (codes "main") (Query ∷ []) (alone rest.0)) found) (after_it (after rest.0) others)
     ∙ sym (rest.2 ∙ main_parts end rest.0 (some_said text tree (trees_of left) rest.0 rest.1) (sym (is (alone rest.0) first)))
 
--- the first unfit term is in the next, or in those behind it
+-- the first unfit term is in the next, or in those after it
 at_let : (text : List ℕ) (end : ℕ) (tree : Tree) (left : List Tree) (unfit : Option Span)
     → ((terms : Terms) → Say text (tree_before tree trees.none) terms → false ≡ is_call (codes "main") 1 terms)
     → ((terms : Terms) → Say text (tree_before tree trees.none) terms → unfit ≡ unfit_call (codes "let") (Name ∷ Query ∷ []) terms)
@@ -137,7 +137,7 @@ file_found text end list tree left span is unfit terms say =
     sym (stream_parts end terms (some_said text tree (trees_of left) terms whole)
     ∙ ap (λ found. first_of_two found (unfit_body end (after terms))) (sym (unfit (alone terms) (say_alone text tree (trees_of left) terms whole))))
 
--- behind a stream the rest decides
+-- after a stream the rest decides
 pub file_read : (text : List ℕ) (end : ℕ) (list : List Tree) (tree : Tree) (left : List Tree) (body : Option Span) → list ≡ tree ∷ left
     → ((terms : Terms) → Say text (tree_before tree trees.none) terms → None ≡ unfit_stream terms)
     → ((terms : Terms) → Say text (trees_of left) terms → body ≡ unfit_body end terms)

@@ -10,7 +10,7 @@ use Rattle.query_forms.specs.Terms.{Terms, none, word, number, string, call, Are
 use Rattle.query_forms.specs.File.{is_within, first_large}
 use Rattle.query_forms.proofs.Parts.{alone, after, say_alone, say_after, of_alone, of_after, weight, weight_before, two_of_test, first_of_two-None}
 
--- the first large number is in the first term, or in those behind it
+-- the first large number is in the first term, or in those after it
 large_parts : (terms : Terms) → first_large terms ≡ first_of_two (first_large (alone terms)) (first_large (after terms))
 large_parts none = refl
 large_parts (word bytes span rest) = refl

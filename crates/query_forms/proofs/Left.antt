@@ -21,7 +21,7 @@ abbrev pub Answers : List ℕ → TermPlace → Tree → Option Span → Type 0
 Answers text place tree answer =
     (terms : Terms) → Say text (tree_before tree trees.none) terms → answer ≡ first_unfit (place ∷ []) terms
 
--- the first unfit term is the next, or among those behind it
+-- the first unfit term is the next, or among those after it
 at_next : (text : List ℕ) (place : TermPlace) (places : List TermPlace) (tree : Tree) (list : List Tree) (answer : Option Span) → Answers text place tree answer → (rest : Terms) → Say text (trees_of (tree ∷ list)) rest → first_unfit (place ∷ places) rest ≡ first_of_two answer (first_unfit places (after rest))
 at_next text place places tree list answer answers rest say =
     first_unfit_parts place places rest

@@ -1,4 +1,4 @@
--- A list of terms in two parts: the first by itself, and those behind it.
+-- A list of terms in two parts: the first by itself, and those after it.
 use Rattle.std.proofs.Common.{◌≡◌, ℕ, ◌+◌, Bool, true, false, cond, List, [], ◌∷◌, Option, Some, None, refl, sym, ap, arith}
 use Rattle.language_base.specs.declared.span.Span.{Span}
 use Rattle.query_trees.specs.declared.tree.Tree.{Tree, Leaf, Call'}
@@ -16,7 +16,7 @@ alone (number value span rest) = number value span none
 alone (string bytes span rest) = string bytes span none
 alone (call head arguments span rest) = call head arguments span none
 
--- the terms behind the first
+-- the terms after the first
 abbrev pub after : Terms → Terms
 after none = none
 after (word bytes span rest) = rest
@@ -37,7 +37,7 @@ say_alone text (Call' first shape row place) others (number value span rest) say
 say_alone text (Call' first shape row place) others (string bytes span rest) say = say
 say_alone text (Call' first shape row place) others (call head arguments span rest) say = (say.0, say.1, say.2, tt)
 
--- and the others say the terms behind it
+-- and the others say the terms after it
 pub say_after : (text : List ℕ) (tree : Tree) (others : Trees) (terms : Terms) → Say text (tree_before tree others) terms → Say text others (after terms)
 say_after text (Leaf token) others none say = absurd say
 say_after text (Leaf token) others (word bytes span rest) say = say.3
@@ -58,7 +58,7 @@ pub first_of_two-None : (first : Option Span) → first_of_two first None ≡ fi
 first_of_two-None None = refl
 first_of_two-None (Some span) = refl
 
--- the first unfit term is the first, or else the first unfit one behind it
+-- the first unfit term is the first, or else the first unfit one after it
 pub first_unfit_parts : (place : TermPlace) (places : List TermPlace) (terms : Terms) → first_unfit (place ∷ places) terms ≡ first_of_two (first_unfit (place ∷ []) (alone terms)) (first_unfit places (after terms))
 first_unfit_parts place [] none = refl
 first_unfit_parts place (following ∷ places) none = refl
@@ -84,7 +84,7 @@ weight trees.none = 0
 weight (trees.leaf token rest) = weight rest + 1
 weight (trees.call head arguments span rest) = weight arguments + weight rest + 2
 
--- a tree and those behind it
+-- a tree and those after it
 pub weight_before : (tree : Tree) (others : Trees) → weight (tree_before tree others) ≡ weight (tree_before tree trees.none) + weight others
 weight_before (Leaf token) others = omega arith
 weight_before (Call' first shape row place) others = omega arith

@@ -49,14 +49,14 @@ call_read text head list span name read count len same is_read is_len is_same (c
     ap (λ b. b && (len == count)) (is_same ∙ ap (λ b. bytes_eq b name) (is_read ∙ sym say.0))
     ∙ ap (λ n. bytes_eq bytes name && (n == count)) (is_len ∙ sym (count_said text list inner say.2))
 
--- so many of the places of a `stream` with 32 columns are those of one with fewer
+-- this many of the places of a `stream` with 32 columns are those of one with fewer
 pub stream_places_read : (count : ℕ) → 2 ≤ count → count ≤ 33 → take count (Mode ∷ replicate 32 Column) ≡ stream_places count
 stream_places_read zero some few = absurd (omega arith)
 stream_places_read (suc n) some few =
     let less : suc n - 1 ≡ n = omega arith in
     ap (λ places. Mode ∷ places) (take-replicate n 32 Column (omega arith) ∙ ap (λ m. replicate m Column) (sym less))
 
--- the answer at a `stream`, where so many arguments stand
+-- the answer at a `stream`, where this many arguments stand
 stream_at : Terms → ℕ → Option Span
 stream_at terms count =
     cond (nat_le 2 count && nat_le count 33) (unfit_call (codes "stream") (stream_places count) terms) (first_place terms)

@@ -83,7 +83,7 @@ places_in (first ∷ rest) head count =
     if bytes_eq first.head head && (length first.arguments == count) then Some first.arguments
     else places_in rest head count
 
--- the places of the arguments, where a call of this head word with so many has a form of its place
+-- the places of the arguments, where a call of this head word with this many has a form of its place
 abbrev pub places_of : TermPlace → List ℕ → ℕ → Option (List TermPlace)
 places_of place head count = places_in (forms_at place) head count
 

@@ -8,14 +8,14 @@ use Rattle.query_tokens.specs.Raw.{IsRaw, IsString}
 use Rattle.query_trees.specs.Trees as trees
 use Rattle.query_trees.specs.Trees.{Trees}
 
--- a list of terms: none, or a first term and the terms behind it
+-- a list of terms: none, or a first term and the terms after it
 pub data Terms : Type 0 where
   none : Terms
   word : List ℕ → Span → Terms → Terms
   number : ℤ → Span → Terms → Terms
   -- the bytes that the string stands for
   string : List ℕ → Span → Terms → Terms
-  -- the head word, the arguments, the place of the whole, and the terms behind it
+  -- the head word, the arguments, the place of the whole, and the terms after it
   call : List ℕ → Terms → Span → Terms → Terms
 
 -- the bytes at a place of the text

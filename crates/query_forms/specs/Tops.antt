@@ -9,7 +9,7 @@ use Rattle.query_forms.specs.Terms.{Terms, none, call, count_of}
 use Rattle.query_forms.specs.Forms.{first_unfit}
 use Rattle.query_forms.specs.File.{first_place}
 
--- the first term is a call of this word with so many arguments
+-- the first term is a call of this word with this many arguments
 abbrev pub is_call : List ℕ → ℕ → Terms → Bool
 is_call name count (call head arguments span rest) = bytes_eq head name && (count_of arguments == count)
 is_call name count _ = false
@@ -25,7 +25,7 @@ unfit_call name places terms =
     if is_call name (length places) terms then first_unfit places (arguments_in terms)
     else first_place terms
 
--- the places of so many arguments of a `stream`
+-- the places of this many arguments of a `stream`
 abbrev pub stream_places : ℕ → List TermPlace
 stream_places count = Mode ∷ replicate (count - 1) Column
 

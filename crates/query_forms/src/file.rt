@@ -26,7 +26,7 @@ pub fn unfit_file(text: &[u8], trees: &[Tree], end: u32) -> Option<Span>
     unfit_body(text, tops.as_slice(), end)
 }
 
-// The same of the trees behind the stream.
+// The same of the trees after the stream.
 fn unfit_body(text: &[u8], trees: &[Tree], end: u32) -> Option<Span>
     requires { AreOf text.now (trees_of trees.now) }
     ensures { (terms : Terms) → Say text.now (trees_of trees.now) terms →

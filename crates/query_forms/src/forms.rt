@@ -7,7 +7,7 @@ use crate::form::Form;
 use crate::table::forms_at;
 use crate::term_place::TermPlace;
 
-/// The places of the arguments of a call with this head word and so many of them.
+/// The places of the arguments of a call with this head word and this many of them.
 pub fn places_of(place: TermPlace, head: &[u8], count: usize) -> Option<&'static [TermPlace]>
     ensures { MatchOption result (places_of place head.now count ≡ None)
         (λ places. places_of place head.now count ≡ Some places.now) }

@@ -50,7 +50,7 @@ fn arguments_of(tree: &Tree) -> &[Tree]
     }
 }
 
-// Whether the tree is a call of this word with so many arguments.
+// Whether the tree is a call of this word with this many arguments.
 pub fn is_call(text: &[u8], name: &[u8], count: usize, tree: &Tree) -> bool
     requires { AreOf text.now (tree_before tree.now none) }
     ensures { (terms : Terms) → Say text.now (tree_before tree.now none) terms →

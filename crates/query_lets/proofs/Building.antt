@@ -19,7 +19,7 @@ use Rattle.query_lets.proofs.Keys.{changed}
 abbrev pub place_of : {S : Type 0} → HashMap (Bor (List ℕ)) ℕ S → List ℕ → Option ℕ
 place_of places name = get_by (λ k. bytes_eq name k.now) places
 
--- the map has the places of the lets before, and those behind have other names
+-- the map has the places of the lets before, and the later ones have other names
 pub record AreBuilt {S : Type 0} (places : HashMap (Bor (List ℕ)) ℕ S) (before after : List Let) : Type 0 where
   pub are : ArePlaces places before
   pub within : (name : List ℕ) (place : ℕ) → place_of places name ≡ Some place → place < length before

@@ -71,7 +71,7 @@ module _ (known : List (List ℕ)) where
   first_unknown_is (q.compose f g span) = both f g (first_unknown_is f) (first_unknown_is g)
   first_unknown_is (q.collect key sync rate f span) = first_unknown_is f
 
-  -- a let, and those behind it
+  -- a let, and those after it
   pub let_first : (one : Let) (lets : List Let) (main : Query)
       → first_wrong (let_words known (one ∷ lets) main)
       ≡ cond (is_known known one.name.bytes) (Some one.name.span)
@@ -150,7 +150,7 @@ module _ (lets : List raw.Let) (at : ℕ) (one : raw.Let) (is_at : one ≡ get_o
   let_more new none = let_is
       ∙ ap (λ (b : Bool). given b (first_unknown names (plain_query one.query.value))) new ∙ ap (given false) (sym none)
 
--- behind the last let stands the main query
+-- after the last let stands the main query
 pub main_last : (lets : List raw.Let) (at : ℕ) (main : Query) (names : List (List ℕ)) → length lets ≤ at
     → first_wrong (let_words [] (map plain_let lets) main)
     ≡ first_wrong (let_words names (map plain_let (drop at lets)) main)

@@ -46,7 +46,7 @@ pub known_is : {S : Type 0} (set : HashSet (Bor (List ℕ)) S) (known : List (Li
     → has ≡ contains_by (λ k. bytes_eq name.now k.now) set → has ≡ is_known known bytes
 known_is set known holds name bytes is has found = found ∙ holds name.now ∙ ap (is_known known) is
 
--- what a map has under a name behind a change
+-- what a map has under a name after a change
 pub changed : {S X : Type 0} (old new : HashMap (Bor (List ℕ)) X S) (name : Bor (List ℕ)) (value : X)
     → hash.Updates (λ x y. bytes_eq x.now y.now) old new name (Some value)
     → (other : List ℕ) → get_by (λ k. bytes_eq other k.now) new

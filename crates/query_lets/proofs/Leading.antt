@@ -67,7 +67,7 @@ module _ {S : Type 0} (places : HashMap (Bor (List ℕ)) ℕ S) (from : Scope) (
   pub no_place : place_of places name.bytes ≡ None → IsRoot from
   no_place none = is_root (λ place found within. none-some place (sym none ∙ found))
 
-  -- its place is behind these
+  -- its place is after these
   pub place_after : (place : ℕ) → place_of places name.bytes ≡ Some place → length from.lets.now ≤ place → IsRoot from
   place_after place found after = is_root (λ other there within.
       let same : other ≡ place = same_Some other place (sym there ∙ found) in omega arith)

@@ -23,7 +23,7 @@ untrue : (test : Bool) (span : Span) (rest : Option Span) → cond test (Some sp
 untrue true span rest none = absurd (cc)
 untrue false span rest none = (refl, none)
 
--- a let behind these names, and those behind it, have nothing wrong
+-- a let after these names, and those after it, have nothing wrong
 pub let_right : (known : List (List ℕ)) (one : Let) (lets : List Let) (main : Query)
     → first_wrong (let_words known (one ∷ lets) main) ≡ None
     → (is_known known one.name.bytes ≡ false) × (first_unknown known one.query ≡ None)

@@ -25,7 +25,7 @@ abbrev pub nodes_in_lets : List Let → ℕ
 nodes_in_lets [] = 0
 nodes_in_lets (one ∷ lets) = nodes_of one.query + nodes_in_lets lets
 
--- the nodes of lets and of a query behind them
+-- the nodes of lets and of a query after them
 abbrev pub nodes_with : List Let → Query → ℕ
 nodes_with lets query = nodes_in_lets lets + nodes_of query
 

@@ -33,7 +33,7 @@ replaced bindings (q.compose f g span) = q.compose (replaced bindings f) (replac
 replaced bindings (q.collect key sync rate f span) =
     q.collect key sync rate (replaced bindings f) span
 
--- the bindings behind lets, the latest first, where these stand before
+-- the bindings after lets, the latest first, where these stand before
 abbrev pub bindings_after : List Binding → List Let → List Binding
 bindings_after bindings [] = bindings
 bindings_after bindings (one ∷ lets) = bindings_after

@@ -47,7 +47,7 @@ names_in (q.apply f value span) = names_in f
 names_in (q.compose f g span) = names_in f ++ names_in g
 names_in (q.collect key sync rate f span) = names_in f
 
--- the words of columns behind those of these names
+-- the words of columns after those of these names
 abbrev pub column_words : List (List ℕ) → List Column → List Word
 column_words known [] = []
 column_words known (column ∷ columns) =
@@ -57,7 +57,7 @@ column_words known (column ∷ columns) =
 abbrev pub query_words : List (List ℕ) → Query → List Word
 query_words known query = map (uses known) (names_in query)
 
--- the words of lets and the main query, behind lets of these names: in its own query a let is not
+-- the words of lets and the main query, after lets of these names: in its own query a let is not
 -- yet known
 abbrev pub let_words : List (List ℕ) → List Let → Query → List Word
 let_words known [] main = query_words known main

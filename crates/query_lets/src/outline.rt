@@ -44,7 +44,7 @@ fn outlines_of(alloc: Global, lets: &[Let]) -> Result<HashMap<&[u8], Outline>, A
     Ok(outlines)
 }
 
-// The outline of a query behind lets that have these.
+// The outline of a query after lets that have these.
 fn query_outline(outlines: &HashMap<&[u8], Outline>, query: &Query) -> Outline
     ensures { (bindings : List Binding) → AreOutlines outlines.now bindings
         → result ≡ outline_of (replaced bindings (plain_query query.now)) }

@@ -18,7 +18,7 @@ pub struct Scope<'p, 'm> {
 }
 
 impl<'p, 'm> Scope<'p, 'm> {
-    /// The main query, behind all lets.
+    /// The main query, after all lets.
     pub fn main(program: &'p Program, places: &'m HashMap<&'p [u8], usize>) -> Scope<'p, 'm>
         requires { ArePlaces places.now (plain_program program.now).lets }
         ensures placed { IsPlaced result }
@@ -31,7 +31,7 @@ impl<'p, 'm> Scope<'p, 'm> {
         }
     }
 
-    /// The same query as it is behind names: no name itself, where names are right.
+    /// The same query as it is after names: no name itself, where names are right.
     pub fn root(self) -> Scope<'p, 'm>
         requires { IsPlaced self }
         ensures leads { Leads self.entry result }

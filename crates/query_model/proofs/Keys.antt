@@ -51,7 +51,7 @@ key_added keys key are text = by (list_any (bytes_eq key) keys) refl
       distinct = IsDistinct-push nat_list_eq_equiv keys key are.distinct new;
     }
 
--- the keys of a word behind others
+-- the keys of a word after others
 keys_more : (columns : List Column) (column : ℕ) (sync : Predicate) (word : Word) (keys : List (List ℕ))
     → AreKeys keys → IsWordOf columns word → AreKeys (keys_after column sync keys word)
 keys_more columns column sync [] keys are is = are

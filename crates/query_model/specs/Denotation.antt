@@ -39,7 +39,7 @@ abbrev pub Emits : (Word → Value → Type 0) → Word → Word → Type 0
 Emits D word items = ((value : Value) × D word value × (items ≡ (field.Val value ∷ []) ∷ []))
     ⊎ (((value : Value) → D word value → ⊥) × (items ≡ []))
 
--- the values on the prefixes of a word, from the empty one to the whole, behind a first part
+-- the values on the prefixes of a word, from the empty one to the whole, after a first part
 abbrev pub Outputs : (Word → Value → Type 0) → Word → Word → Word → Type 0
 Outputs D before [] items = Emits D before items
 Outputs D before (item ∷ word) items =
@@ -55,11 +55,11 @@ abbrev pub projection : ℕ → Predicate → List ℕ → Word → Word
 projection column sync key word =
     filter (λ item. holds sync item || bytes_eq (key_of column item) key) word
 
--- a key behind those that were seen, if it is a new one
+-- a key after those that were seen, if it is a new one
 abbrev pub with_key : List (List ℕ) → List ℕ → List (List ℕ)
 with_key keys key = if list_any (bytes_eq key) keys then keys else keys ++ key ∷ []
 
--- the keys of the items that do not meet the predicate, in the order in which they appear, behind others
+-- the keys of the items that do not meet the predicate, in the order in which they appear, after others
 abbrev pub keys_after : ℕ → Predicate → List (List ℕ) → Word → List (List ℕ)
 keys_after column sync keys [] = keys
 keys_after column sync keys (item ∷ word) = keys_after column sync

@@ -12,7 +12,7 @@ use Rattle.query_model.specs.Queries.{Qre, atom, eps, choice, split, iter, combi
 abbrev pub IsAnswer : Qre → Word → Option Value → Type 0
 IsAnswer query word answer = MatchOption answer ((value : Value) → Den query word value → ⊥) (Den query word)
 
--- whatever word was followed, the word and the item behind it is now
+-- whatever word was followed, the word and the item after it is now
 abbrev pub Carries : {S : Type 0} → (S → Word → Type 0) → S → List Field → S → Type 0
 Carries follows old item new = (word : Word) → follows old word → follows new (word ++ item ∷ [])
 

@@ -46,7 +46,7 @@ plain_of (Compose' p first a q second b) = compose (plain_of first) (plain_of se
 plain_of (Collect' key sync rate p inner a) =
     collect key (predicates.plain_of sync) (rates.plain_of rate) (plain_of inner)
 
--- the places of the operands of a shape, each behind those of its own operands
+-- the places of the operands of a shape, each after those of its own operands
 abbrev pub spans_of : Shape → List Span
 spans_of (Atom pred value) = []
 spans_of (Eps number) = []

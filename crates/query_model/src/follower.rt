@@ -11,7 +11,7 @@ use std::alloc::{AllocError, Global};
 use value_ops::Value;
 
 /// It follows a word of items of a query's stream, and has the query's value on the word. Where
-/// memory is wanting it is lost, and follows no word, until a reset finds some.
+/// memory runs out it is lost, and follows no word, until a reset finds some.
 pub trait Follower: Sized {
     /// The query.
     ghost query: { Self → Qre };
@@ -22,7 +22,7 @@ pub trait Follower: Sized {
     /// How many items it has taken.
     ghost position: { Self → ℕ };
 
-    /// Memory was wanting.
+    /// Memory ran out.
     ghost lost: { Self → Bool };
 
     /// It follows this word.
@@ -72,7 +72,7 @@ pub trait Follower: Sized {
         ensures sound { sound self.new }
         ensures same { (query self.new ≡ query self.old) × (columns self.new ≡ columns self.old) };
 
-    /// Whether memory was wanting.
+    /// Whether memory ran out.
     fn failed(&self) -> bool
         ensures { result ≡ lost self.now };
 
@@ -84,7 +84,7 @@ pub trait Follower: Sized {
     ghost lost_follows: { (follower : Self) (word : Word) → follows follower word
         → lost follower ≡ false };
 
-    /// The position is behind the word.
+    /// The position is after the word.
     ghost at_end: { (follower : Self) (word : Word) → follows follower word
         → position follower ≡ length word };
 

@@ -3,7 +3,7 @@ use Rattle.std.proofs.Common.{◌≡◌, ℕ, ◌+◌, ◌≤◌, List, [], ◌�
 use Rattle.query_tokens.specs.declared.token.Token.{Token}
 use Rattle.query_tokens.specs.Tokens.{Stands, FaultAfter}
 
--- a token and what is behind it are within the text
+-- a token and what is after it are within the text
 rest_within : (at : ℕ) (text : List ℕ) (token : Token) (rest : List ℕ) → Stands at text token rest →
     token.span.to + length rest ≡ at + length text
 rest_within at text token rest stands =
@@ -16,7 +16,7 @@ rest_within at text token rest stands =
       length-append stands.raw rest,
     )
 
--- a fault is no place behind the text
+-- a fault is no place after the text
 pub fault_within : (at : ℕ) (text : List ℕ) (before : List Token) (place : ℕ) → FaultAfter at text before place →
     place ≤ at + length text
 fault_within at text [] place fails =

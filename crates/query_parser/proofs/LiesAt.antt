@@ -20,7 +20,7 @@ LiesAt-first text at bytes more lies = record {
   place = lies.place;
 }
 
--- the bytes behind the first
+-- the bytes after the first
 pub LiesAt-rest : (text : List ℕ) (at next : ℕ) (bytes more : List ℕ) → LiesAt text at (bytes ++ more) → next ≡ at + length bytes
     → LiesAt text next more
 LiesAt-rest text at next bytes more lies is = record {
@@ -40,11 +40,11 @@ LiesAt-slice text at to bytes lies is =
     ap (λ l. drop at l) lies.split ∙ drop_at lies.front (bytes ++ lies.after) at (sym lies.place) in
     sym (rw (count, from) (take_at bytes lies.after (length bytes) refl))
 
--- and so at the place of so many bytes
+-- and so at the place of this many bytes
 pub LiesAt-bytes : (text : List ℕ) (at : ℕ) (bytes : List ℕ) → LiesAt text at bytes → bytes ≡ bytes_at text (span_at at (length bytes))
 LiesAt-bytes text at bytes lies = LiesAt-slice text at (at + length bytes) bytes lies refl
 
--- the bytes behind the first and an LF
+-- the bytes after the first and an LF
 pub LiesAt-line : (text : List ℕ) (at : ℕ) (bytes more : List ℕ) → LiesAt text at (bytes ++ 10 ∷ more)
     → LiesAt text (at + length bytes + 1) more
 LiesAt-line text at bytes more lies =
@@ -62,7 +62,7 @@ LiesAt-inner text at head inner rest lies =
     LiesAt-rest text (at + length head) (inner_at at head) (40 ∷ []) (inner ++ 41 ∷ rest)
     (LiesAt-rest text at (at + length head) head (40 ∷ (inner ++ 41 ∷ rest)) lies refl) refl
 
--- what stands behind it
+-- what stands after it
 pub LiesAt-after : (text : List ℕ) (at : ℕ) (head inner rest : List ℕ) → LiesAt text at (call_bytes head inner rest)
     → LiesAt text (inner_at at head + length inner + 1) rest
 LiesAt-after text at head inner rest lies =

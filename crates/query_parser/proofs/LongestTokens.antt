@@ -11,7 +11,7 @@ use Rattle.query_tokens.specs.declared.token.TokenKind.TheVariants.{Word, Number
 use Rattle.query_tokens.specs.Raw.{is_word_start, is_word_byte, IsWord, IsString, IsRaw, IsLongest}
 use Rattle.query_parser.proofs.StringParts.{parts-one_end}
 
--- bytes that no word and no number goes on with
+-- bytes that continue no word and no number
 abbrev pub EndToken : List ℕ → Type 0
 EndToken [] = Unit {0}
 EndToken (byte ∷ rest) = is_word_byte byte ≡ false
@@ -26,13 +26,13 @@ digits-middle : (front : List ℕ) (byte : ℕ) (more : List ℕ) → AllDigits 
 digits-middle [] byte more all = all.0
 digits-middle (x ∷ front) byte more all = digits-middle front byte more all.1
 
--- a word may go on with a digit
+-- a word may continue with a digit
 digit-word_byte : (byte : ℕ) → digit_value byte < 10 → is_word_byte byte ≡ true
 digit-word_byte byte small =
     let range = digit_from_value byte small in
     or_left _ _ (or_left _ _ (or_left _ _ (and_from (leb 48 byte) (leb byte 57) (le-leb 48 byte range.0) (le-leb byte 57 range.1))))
 
--- without its sign a text is what stands behind its first byte, or all of it
+-- without its sign a text is what stands after its first byte, or all of it
 without_sign-cases : (byte : ℕ) (rest : List ℕ)
     → (without_leading_sign (byte ∷ rest) ≡ rest) ⊎ (without_leading_sign (byte ∷ rest) ≡ byte ∷ rest)
 without_sign-cases byte rest = by (eqb byte 45) (eqb byte 43)
@@ -42,7 +42,7 @@ without_sign-cases byte rest = by (eqb byte 45) (eqb byte 43)
     by false true = inl refl
     by false false = inr refl
 
--- a number goes on with digits alone
+-- a number continues with digits alone
 number-continues : (first : ℕ) (tail : List ℕ) (byte : ℕ) (more : List ℕ)
     → IsNumeral 10 (without_leading_sign (first ∷ tail ++ byte ∷ more)) → is_word_byte byte ≡ true
 number-continues first tail byte more is =

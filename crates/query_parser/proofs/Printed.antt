@@ -54,11 +54,11 @@ joined_term first (Number value span) rest others = refl
 joined_term first (Text bytes span) rest others = refl
 joined_term first (Call' head shape row span) rest others = refl
 
--- an argument behind others
+-- an argument after others
 abbrev pub argument_after : Term → List ℕ
 argument_after term = codes ", " ++ term_text term
 
--- each argument behind the first has a comma and a space before it
+-- each argument after the first has a comma and a space before it
 joined_arguments : (first : List ℕ) (terms : List Term) →
     joined first (terms_of terms) (arguments_text (terms_of terms)) ≡ first ++ flat_map argument_after terms
 joined_arguments first [] = grind (arith, common_steps)
@@ -67,7 +67,7 @@ joined_arguments first (term ∷ terms) =
     ∙ ap (λ text. first ++ codes ", " ++ text) (first_text term (terms_of terms) ∙ joined_arguments (term_text term) terms)
     ∙ grind (arith, common_steps)
 
--- the arguments are the first and those behind it
+-- the arguments are the first and those after it
 pub row_text : (term : Term) (terms : List Term) →
     arguments_text (terms_of (term ∷ terms)) ≡ term_text term ++ flat_map argument_after terms
 row_text term terms = first_text term (terms_of terms) ∙ joined_arguments (term_text term) terms
@@ -76,7 +76,7 @@ row_text term terms = first_text term (terms_of terms) ∙ joined_arguments (ter
 abbrev pub term_line : Term → List ℕ
 term_line term = term_text term ++ codes "\n"
 
--- a top term, and the lines behind it
+-- a top term, and the lines after it
 first_line : (term : Term) (rest : plain.Terms) → file_text (term_before term rest) ≡ term_line term ++ file_text rest
 unfolding term_text
 first_line (Word bytes span) rest = refl
@@ -94,7 +94,7 @@ pub whole_file : (terms : List Term) (count : ℕ) → length terms ≤ count �
     flat_map term_line (take count terms) ≡ file_text (terms_of terms)
 whole_file terms count le = ap (flat_map term_line) (take_all count terms le) ∙ sym (file_lines terms)
 
--- the first argument and those behind it, up to the last, are the text of all
+-- the first argument and those after it, up to the last, are the text of all
 pub whole_row : (terms : List Term) (first : Term) (others : List Term) (count : ℕ) → 1 ≤ length terms →
     first ≡ get_or terms 0 first → others ≡ drop 1 terms → length others ≤ count →
     term_text first ++ flat_map argument_after (take count others) ≡ arguments_text (terms_of terms)

@@ -1,5 +1,5 @@
 -- Where the tokens and terms of a printed text lie. A printed list of terms is seen as tokens and calls; it lies
--- from a place on, with a gap of so many bytes between its terms.
+-- from a place on, with a gap of this many bytes between its terms.
 use Rattle.std.proofs.Common.{◌≡◌, ℕ, ◌+◌, List, [], ◌∷◌, ◌++◌, length, refl, sym, ap, ◌∙◌, append_assoc, append-nil}
 use Rattle.std.specs.Prelude.{codes}
 use Rattle.std.specs.Fmt.{signed_decimal}
@@ -13,7 +13,7 @@ use Rattle.query_trees.specs.Trees.{Trees}
 use Rattle.query_forms.specs.Terms.{Terms, none, word, number, string, call}
 use Rattle.query_parser.specs.Printing.{string_text, joined, arguments_text, file_text}
 
--- printed terms: none, or a token or a call, and those behind it
+-- printed terms: none, or a token or a call, and those after it
 pub data Printed : Type 0 where
   nothing : Printed
   single : TokenKind → List ℕ → Printed → Printed
@@ -31,7 +31,7 @@ printed (call head arguments span rest) = applied head (printed arguments) (prin
 abbrev pub call_bytes : List ℕ → List ℕ → List ℕ → List ℕ
 call_bytes head inner rest = head ++ 40 ∷ (inner ++ 41 ∷ rest)
 
--- what stands behind an argument
+-- what stands after an argument
 abbrev pub more_bytes : Printed → List ℕ → List ℕ
 more_bytes nothing others = []
 more_bytes _ others = 44 ∷ 32 ∷ others
@@ -49,11 +49,11 @@ top_bytes nothing = []
 top_bytes (single kind raw rest) = raw ++ 10 ∷ top_bytes rest
 top_bytes (applied head arguments rest) = call_bytes head (argument_bytes arguments) (10 ∷ top_bytes rest)
 
--- so many bytes from a place on
+-- this many bytes from a place on
 abbrev pub span_at : ℕ → ℕ → Span
 span_at at count = record { from = at; to = at + count }
 
--- a token of so many bytes at a place
+-- a token of this many bytes at a place
 abbrev pub token_at : TokenKind → ℕ → ℕ → Token
 token_at kind at count = record { kind = kind; span = span_at at count }
 
@@ -84,7 +84,7 @@ call_tokens at head arguments inner others =
     token_at Word at (length head) ∷ token_at Open (at + length head) 1
     ∷ inner ++ token_at Close (close_at at head arguments) 1 ∷ others
 
--- the tokens behind an argument
+-- the tokens after an argument
 abbrev pub more_tokens : ℕ → Printed → List Token → List Token
 more_tokens at nothing others = []
 more_tokens at _ others = token_at Comma at 1 ∷ others
@@ -144,7 +144,7 @@ call_text-is head inner rest =
     ∙ append_assoc (head ++ codes "(") inner (41 ∷ rest)
     ∙ append_assoc head (codes "(") (inner ++ 41 ∷ rest)
 
--- what stands behind an argument in the text
+-- what stands after an argument in the text
 joined-is : (first : List ℕ) (rest : Terms) (others : List ℕ) → joined first rest others ≡ first ++ more_bytes (printed rest) others
 joined-is first none others = sym (append-nil first)
 joined-is first (word bytes span rest) others = append_assoc first (codes ", ") others

@@ -13,7 +13,7 @@ use Rattle.query_parser.proofs.OptionCases.{first_of_two-none, chosen-none}
 use Rattle.query_parser.proofs.LiesAt.{LiesAt, LiesAt-first, LiesAt-rest, LiesAt-bytes, LiesAt-line, LiesAt-head, LiesAt-inner, LiesAt-after}
 use Rattle.query_parser.proofs.PrintedLayout.{printed, more_bytes, argument_bytes, top_bytes, span_at, inner_at, close_at, trees_at, placed}
 
--- where there is another argument, it lies behind a comma and a space
+-- where there is another argument, it lies after a comma and a space
 say-more : (text : List ℕ) (at : ℕ) (rest : Terms) → LiesAt text at (more_bytes (printed rest) (argument_bytes (printed rest)))
     → (LiesAt text (at + 2) (argument_bytes (printed rest)) → Say text (trees_at 2 (at + 2) (printed rest)) (placed 2 (at + 2) rest))
     → Say text (trees_at 2 (at + 2) (printed rest)) (placed 2 (at + 2) rest)

@@ -21,7 +21,7 @@ blank-space = record { pieces = (32 ∷ []) ∷ []; each = (inl (32, refl, refl)
 blank-line : IsBlank (10 ∷ [])
 blank-line = record { pieces = (10 ∷ []) ∷ []; each = (inl (10, refl, refl), tt); whole = refl }
 
--- a token behind blank
+-- a token after blank
 token-stands : (kind : TokenKind) (raw rest blank : List ℕ) (at start : ℕ) (tokens : List Token)
     → IsBlank blank → start ≡ at + length blank → IsLongest kind raw rest → AreTokens (start + length raw) rest tokens
     → AreTokens at (blank ++ (raw ++ rest)) (token_at kind start (length raw) ∷ tokens)
@@ -49,7 +49,7 @@ abbrev AreBefore : ℕ → List ℕ → List Token → ℕ → Type 0
 AreBefore at bytes tokens end = (after : List ℕ) (others : List Token) → EndToken after → AreTokens end after others
     → AreTokens at (bytes ++ after) (tokens ++ others)
 
--- a call behind blank
+-- a call after blank
 call-stands : (head : List ℕ) (arguments : Printed) (inner : List Token) (blank rest : List ℕ) (at start : ℕ) (others : List Token)
     → IsBlank blank → start ≡ at + length blank → IsWord head
     → AreBefore (inner_at start head) (argument_bytes arguments) inner (close_at start head arguments)
@@ -64,13 +64,13 @@ call-stands head arguments inner blank rest at start others is_blank from is_wor
     token-stands Word head _ blank at start (token_at Open (start + length head) 1 ∷ inner ++ after) is_blank from
     (longest-word head _ is_word refl) opened
 
--- what stands behind an argument ends it
+-- what stands after an argument ends it
 more-ends : (rest : Printed) (others after : List ℕ) → EndToken after → EndToken (more_bytes rest others ++ after)
 more-ends nothing others after ends = ends
 more-ends (single kind raw rest) others after ends = refl
 more-ends (applied head arguments rest) others after ends = refl
 
--- what stands behind an argument
+-- what stands after an argument
 more-before : (rest : Printed) (at end : ℕ) → end ≡ at + length (more_bytes rest (argument_bytes rest))
     → (HasSome rest → (place : ℕ) → place ≡ at + 2 + length (argument_bytes rest)
     → AreBefore (at + 1) (32 ∷ argument_bytes rest) (argument_tokens (at + 2) rest) place)
@@ -90,7 +90,7 @@ call_bytes-before head inner rest after =
     append_assoc head (40 ∷ (inner ++ 41 ∷ rest)) after
     ∙ ap (λ l. head ++ 40 ∷ l) (append_assoc inner (41 ∷ rest) after)
 
--- how many bytes a call has with those behind it
+-- how many bytes a call has with those after it
 call_bytes-length : (head inner rest : List ℕ) → length (call_bytes head inner rest) ≡ length head + 1 + length inner + 1 + length rest
 call_bytes-length head inner rest =
     omega (arith, length-append head (40 ∷ (inner ++ 41 ∷ rest)), length-append inner (41 ∷ rest))
@@ -102,7 +102,7 @@ call_tokens-before at head arguments inner others after =
     ap (λ l. token_at Word at (length head) ∷ token_at Open (at + length head) 1 ∷ l)
     (append_assoc inner (token_at Close (close_at at head arguments) 1 ∷ others) after)
 
--- arguments behind blank
+-- arguments after blank
 arguments-before : (terms : Printed) (blank : List ℕ) (at start end : ℕ) → AreRaw terms → HasSome terms → IsBlank blank
     → start ≡ at + length blank → end ≡ start + length (argument_bytes terms)
     → (after : List ℕ) (others : List Token) → EndToken after → AreTokens end after others
@@ -133,7 +133,7 @@ arguments-before (applied head arguments rest) blank at start end raws some is_b
     (λ has place is. arguments-before rest (32 ∷ []) (next + 1) (next + 2) place raws.3 has blank-space (omega arith) is)
     after others ends are)))
 
--- a file behind blank
+-- a file after blank
 pub file-tokens : (terms : Printed) (blank : List ℕ) (at start : ℕ) → AreRaw terms → IsBlank blank → start ≡ at + length blank
     → AreTokens at (blank ++ top_bytes terms) (top_tokens start terms)
 file-tokens nothing blank at start raws is_blank from = record { front = blank; blank = is_blank; last = inl (append-nil blank) }

@@ -31,7 +31,7 @@ call-calls at head arguments inner others inside holds = record {
   place = refl;
 }
 
--- what stands behind an argument
+-- what stands after an argument
 more-are : (rest : Printed) (at next : ℕ)
     → (HasSome rest → AreArguments (trees_at 2 next rest) (argument_tokens next rest))
     → AreMore (AreArguments (trees_at 2 next rest)) (trees_at 2 next rest) (more_tokens at rest (argument_tokens next rest))

@@ -16,7 +16,7 @@ bytes-front : (front after : List ℕ) → AllByRecursion IsByte (front ++ after
 bytes-front [] after all = tt
 bytes-front (byte ∷ front) after all = (all.0, bytes-front front after all.1)
 
--- of bytes those behind are bytes
+-- of bytes those that follow are bytes
 bytes-after : (front after : List ℕ) → AllByRecursion IsByte (front ++ after) → AllByRecursion IsByte after
 bytes-after [] after all = all
 bytes-after (byte ∷ front) after all = bytes-after front after all.1

@@ -23,7 +23,7 @@ all-front : (P : Token → Type 0) (front after : List Token) → AllByRecursion
 all-front P [] after all = tt
 all-front P (token ∷ front) after all = (all.0, all-front P front after all.1)
 
--- and of those behind
+-- and of those that follow
 all-after : (P : Token → Type 0) (front after : List Token) → AllByRecursion P (front ++ after) → AllByRecursion P after
 all-after P [] after all = all
 all-after P (token ∷ front) after all = all-after P front after all.1
@@ -34,7 +34,7 @@ arguments-some none tokens are = are
 arguments-some (leaf token rest) tokens are = tt
 arguments-some (call head arguments span rest) tokens are = tt
 
--- the trees behind an argument
+-- the trees after an argument
 more-trees : (P : Token → Type 0) (rest : Trees) (tokens : List Token) → AreMore (AreArguments rest) rest tokens
     → AllByRecursion P tokens
     → ((more : List Token) → AreArguments rest more → AllByRecursion P more → AreTrees P rest) → AreTrees P rest

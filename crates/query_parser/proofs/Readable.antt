@@ -45,7 +45,7 @@ module _ (text : List ℕ) where
     (plain.call (bytes_at text head.span) inside.1.0 span more.1.0, (refl, refl, inside.1.1, more.1.1)),
   )
 
-  -- what stands behind an argument
+  -- what stands after an argument
   more_reads : (rest : Trees) → ((tokens : List Token) → AreArguments rest tokens → AllTokens tokens → Readable rest) →
       (others : List Token) → AreMore (AreArguments rest) rest others → AllTokens others → Readable rest
   more_reads none again others more all = (tt, (plain.none, tt))

@@ -22,7 +22,7 @@ module _ (text : List ℕ) where
   abbrev SaysOne : Tree → Term → Type 0
   SaysOne tree term = Say text (tree_before tree trees.none) (term_before term plain.none)
 
-  -- a tree and those behind it say a term and those behind it
+  -- a tree and those after it say a term and those after it
   say_both : (tree : Tree) (term : Term) (rest : trees.Trees) (more : plain.Terms) →
       SaysOne tree term → Say text rest more → Say text (tree_before tree rest) (term_before term more)
   say_both (tree.Leaf token) (term.Word bytes span) rest more one others = (one.0, one.1, one.2, others)
@@ -60,7 +60,7 @@ module _ (text : List ℕ) where
   said_by_none (term.Text bytes span) more never = never
   said_by_none (term.Call' word form inner place) more never = never
 
-  -- a tree and a term are added behind
+  -- a tree and a term are added at the end
   say_pushed : (trees : List Tree) (terms : List Term) (tree : Tree) (term : Term) →
       Say text (trees_of trees) (terms_of terms) → SaysOne tree term →
       Say text (trees_of (trees ++ tree ∷ [])) (terms_of (terms ++ term ∷ []))
@@ -79,7 +79,7 @@ module _ (text : List ℕ) where
   say_more trees terms now tree term index lt is pushed before one =
       rw (pushed, take_more trees index tree lt, ← is) (say_pushed (take index trees) terms tree term before one)
 
-  -- a first tree, and those behind it
+  -- a first tree, and those after it
   tokens_first : (first : Tree) (rest : trees.Trees) → AreOf text (tree_before first rest) →
       AreOf text (tree_before first trees.none) × AreOf text rest
   tokens_first (tree.Leaf token) rest all = ((all.0, tt), all.1)
@@ -101,7 +101,7 @@ module _ (text : List ℕ) where
       let whole = subst (λ (t : Tree). AreOf text (tree_before t trees.none)) is all in
       (subst (AreOf text) (tree_before-Call head arguments span trees.none) whole).1
 
-  -- a first tree, and those behind it
+  -- a first tree, and those after it
   sayable_first : (first : Tree) (rest : trees.Trees) → AreSayable text (tree_before first rest) →
       AreSayable text (tree_before first trees.none) × AreSayable text rest
   sayable_first (tree.Leaf token) rest all = ((all.0, tt), all.1)

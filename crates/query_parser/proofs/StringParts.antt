@@ -13,7 +13,7 @@ abbrev part_length : List ℕ → ℕ
 part_length bytes =
     cond (eqb (get_or bytes 0 0) 92) (cond (eqb (get_or bytes 1 0) 120) 4 2) 1
 
--- the bytes behind the first part
+-- the bytes after the first part
 abbrev after_part : List ℕ → List ℕ
 after_part bytes = drop (part_length bytes) bytes
 
@@ -22,7 +22,7 @@ IsPlain-not_backslash : (byte : ℕ) → IsPlain byte → eqb byte 92 ≡ false
 IsPlain-not_backslash byte (inl low) = ne_eqb byte 92 low.3
 IsPlain-not_backslash byte (inr high) = ne_eqb byte 92 (λ e. omega (arith, e, high))
 
--- what stands behind a part is found from its bytes alone
+-- what stands after a part is found from its bytes alone
 after_part-is : (part : List ℕ) (byte : ℕ) (rest : List ℕ) → IsPart part byte → after_part (part ++ rest) ≡ rest
 after_part-is part byte rest (plain b is) =
     ap (λ t. drop (cond t (cond (eqb (get_or rest 0 0) 120) 4 2) 1) (b ∷ rest)) (IsPlain-not_backslash b is)

@@ -16,7 +16,7 @@ range_between front here rest from to starts ends =
     let count : to - from ≡ length here = omega arith in
     rw (after, count) (take-append_seam here rest)
 
--- each token that stands behind a front is one of the whole text
+-- each token that stands after a front is one of the whole text
 tokens_after : (whole front text : List ℕ) (at : ℕ) (tokens : List Token) → whole ≡ front ++ text → at ≡ length front →
     AreTokens at text tokens → AllByRecursion (IsTokenOf whole) tokens
 tokens_after whole front text at [] split starts are = tt

@@ -26,7 +26,7 @@ byte_text byte =
 abbrev pub string_text : List ℕ → List ℕ
 string_text bytes = 34 ∷ flat_map byte_text bytes ++ 34 ∷ []
 
--- what stands between a term and those behind it
+-- what stands between a term and those after it
 abbrev pub joined : List ℕ → Terms → List ℕ → List ℕ
 joined first none others = first
 joined first _ others = first ++ codes ", " ++ others

@@ -49,7 +49,7 @@ pub record IsFileOf (text : List ℕ) (terms : Terms) : Type 0 where
 pub data IsRefused (text : List ℕ) : Refusal → Type 0 where
   -- it is too long
   long : max_text < length text → IsRefused text (refusal rule.Long max_text (max_text + 1))
-  -- behind some tokens no token begins
+  -- after some tokens no token begins
   token : (before : List Token) (place : ℕ) → length text ≤ max_text → FaultAfter 0 text before place
       → IsRefused text (refusal rule.Token place (place + 1))
   -- its tokens are no list of terms

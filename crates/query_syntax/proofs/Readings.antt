@@ -180,7 +180,7 @@ call_back field tree head arguments span rest rs are is = record {
   says = is;
 }
 
--- one argument, and others behind it
+-- one argument, and others after it
 before : {X : Type 0} (field : Reading → X) (tree : X) (terms rest : Terms) (rs : List Reading) → (back : Back field tree terms rest)
     → readings rest ≡ rs → readings terms ≡ back.reading ∷ rs
 before field tree terms rest rs back others = back.is ∙ ap (λ (l : List Reading). back.reading ∷ l) others

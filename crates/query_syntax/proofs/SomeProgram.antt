@@ -86,7 +86,7 @@ some_body end (string bytes span rest) fit = absurd (Some-no_none span fit)
 some_body end (call head arguments span rest) fit =
     top_body end head arguments span rest (is_main head (count_of arguments)) (is_let head (count_of arguments)) refl refl fit (some_body end rest)
 
--- columns, one behind the other
+-- columns, one after the other
 some_columns : (n : ℕ) (terms : Terms) → AreTrees (replicate n place.Column) terms → (columns : List Column) × (terms ≡ all_before column_before columns none)
 some_columns zero terms is = ([], is)
 some_columns (suc n) terms (rest, (column, is-column), others) =

@@ -76,7 +76,7 @@ IsTree place.Number terms rest = (tree : Number) × (terms ≡ number_before tre
 IsTree place.Text terms rest = (tree : Text) × (terms ≡ text_before tree rest)
 IsTree place.Digits terms rest = (tree : Digits) × (terms ≡ digits_before tree rest)
 
--- trees of these places, one behind the other
+-- trees of these places, one after the other
 abbrev pub AreTrees : List TermPlace → Terms → Type 0
 AreTrees [] terms = terms ≡ none
 AreTrees (place ∷ places) terms = (rest : Terms) × IsTree place terms rest × AreTrees places rest

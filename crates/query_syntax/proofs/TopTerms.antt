@@ -38,7 +38,7 @@ alone_is (Number value span) rest = refl
 alone_is (Text bytes span) rest = refl
 alone_is (Call' head shape arguments span) rest = refl
 
--- and the others are behind it
+-- and the others are after it
 after_is : (term : Term) (rest : Terms) → after (term_before term rest) ≡ rest
 after_is (Word bytes span) rest = refl
 after_is (Number value span) rest = refl

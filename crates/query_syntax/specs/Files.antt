@@ -10,7 +10,7 @@ use Rattle.query_syntax.specs.declared.stream.Kind.TheVariants.{Int, Text, Fixed
 use Rattle.query_syntax.specs.Programs.{Stream, Let, Main, Program}
 use Rattle.query_syntax.specs.Written.{name_before, query_before}
 
--- several, one behind the other, before other terms
+-- several, one after the other, before other terms
 abbrev pub all_before : {X : Type 0} → (X → Terms → Terms) → List X → Terms → Terms
 all_before before [] rest = rest
 all_before before (first ∷ others) rest = before first (all_before before others rest)

@@ -7,7 +7,7 @@ use Rattle.query_syntax.specs.declared.stream.Kind.{Kind}
 use Rattle.query_syntax.specs.declared.stream.Kind.TheVariants.{Int, Text, Fixed}
 use Rattle.query_syntax.specs.Programs.{Stream}
 
--- the digits behind the point are from 1 to 9
+-- the digits after the point are from 1 to 9
 abbrev pub HasDigits : Kind → Type 0
 HasDigits (Int span) = Unit {0}
 HasDigits (Text span) = Unit {0}

@@ -12,7 +12,7 @@ pub record Row (H : Type 0) : Type 0 where
 abbrev pub row : {H : Type 0} → H → List ℕ → List TermPlace → Row H
 row is word places = record { is = is; word = word; places = places }
 
--- what a call with this head word and so many arguments is, by the first row that has them
+-- what a call with this head word and this many arguments is, by the first row that has them
 abbrev pub head_in : {H : Type 0} → List (Row H) → List ℕ → ℕ → Option H
 head_in [] word count = None
 head_in (first ∷ rest) word count =

@@ -40,7 +40,7 @@ pub enum Connective {
 /// How two rates are joined.
 #[derive(Clone, Copy, Debug, PartialEq, Eq)]
 pub enum Join {
-    /// One word behind another.
+    /// One word after another.
     Seq,
     /// A word of either.
     Alt,

@@ -31,7 +31,7 @@ pub struct Column {
 pub enum Kind {
     Int(Span),
     Text(Span),
-    /// Numbers with so many digits behind the point.
+    /// Numbers with this many digits after the point.
     Fixed { digits: Digits, span: Span },
 }
 

@@ -64,7 +64,7 @@ pub record Ended (comment bytes : List ℕ) (len : ℕ) : Type 0 where
   pub blank : IsBlankLength rest more
   pub is : len ≡ length comment + 1 + more
 
--- the rest of a comment, and the blank behind it
+-- the rest of a comment, and the blank after it
 abbrev pub InComment : List ℕ → ℕ → Type 0
 InComment bytes len = (comment : List ℕ) × All (λ b. b ≢ 10) comment × (((bytes ≡ comment) × (len ≡ length bytes)) ⊎ Ended comment bytes len)
 

@@ -73,7 +73,7 @@ Closes-no_part bytes len none closes = by_values closes.values closes.stand
         closes.split ∙ ap (λ p. p ++ 34 ∷ closes.beyond) are.2 ∙ append_assoc are.0 are.1 (34 ∷ closes.beyond) in
         absurd (cc (ap part_of at, part_is_found are.0 (are.1 ++ 34 ∷ closes.beyond) v are.3, none))
 
--- what closes behind a part closes with it
+-- what closes after a part closes with it
 pub Closes-more : (bytes : List ℕ) (found : ℕ × ℕ) (len : ℕ) → part_of bytes ≡ Some found → Closes (drop found.1 bytes) len → Closes bytes (found.1 + len)
 Closes-more bytes found len is closes =
     let f = part_fronts bytes found is in
@@ -87,7 +87,7 @@ Closes-more bytes found len is closes =
       is = rw length-append (omega (arith, f.len, closes.is));
     }
 
--- and what closes with a part closes behind it
+-- and what closes with a part closes after it
 pub Closes-less : (bytes : List ℕ) (found : ℕ × ℕ) (len : ℕ) → part_of bytes ≡ Some found → Closes bytes len → (less : ℕ) × Closes (drop found.1 bytes) less
 Closes-less bytes found len is closes = by_values closes.values closes.stand
   where

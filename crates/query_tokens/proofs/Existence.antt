@@ -1,4 +1,4 @@
--- A text has tokens, or behind some of them a place where none begins.
+-- A text has tokens, or after some of them a place where none begins.
 use Rattle.std.proofs.Common.{◌≡◌, ◌⊎◌, inl, inr, ℕ, zero, suc, ◌+◌, ◌-◌, ◌<◌, Bool, true, false, ◌==◌, List, [], ◌∷◌, length, drop, take_while, Option, Some, None, refl, ap, ◌∙◌, subst, arith}
 use Rattle.std.proofs.lemmas.Bool.Decides.{nat_tests}
 use Rattle.std.proofs.lemmas.Grind.{common_steps}
@@ -37,7 +37,7 @@ closing_without_part (byte ∷ rest) none = by_test (byte == 34) refl
           grind (arith, nat_tests),
     )
 
--- and where one does, if it is so behind the part
+-- and where one does, if it is so after the part
 closing_with_part : (bytes : List ℕ) (found : ℕ × ℕ) → part_of bytes ≡ Some found → HaveClosing (drop found.1 bytes) → HaveClosing bytes
 closing_with_part bytes found is (None, none) =
     (None, λ len closes. let less = Closes-less bytes found len is closes in none less.0 less.1)
@@ -80,7 +80,7 @@ comma_begins byte bytes is = record {
   longest = λ raw beyond split raw_is. omega (arith, ap length raw_is);
 }
 
--- a token of the kind that the first byte tells has some length, or there is none
+-- a token of the kind that the first byte shows has some length, or there is none
 some_length : (kind : TokenKind) (bytes : List ℕ) → kind_at bytes ≡ Some kind → (len : Option ℕ) × IsLength kind bytes len
 some_length kind [] is = absurd (cc)
 some_length Word (byte ∷ bytes) is = (Some (length (take_while is_word_byte (byte ∷ bytes))), begins_word (byte ∷ bytes) is)
@@ -116,7 +116,7 @@ blank_less bytes blank up_to = by_rest up_to.rest up_to.no_blank (ap length up_t
     by_rest [] none long = absurd none
     by_rest (byte ∷ rest) some long = omega (arith, long, up_to.is)
 
--- behind the blank stands a token, the end, or neither
+-- after the blank stands a token, the end, or neither
 some_next : (place : ℕ) (bytes : List ℕ) → (next : Next) × IsNext place bytes next
 some_next place bytes = by_blank (counts false bytes)
   where
@@ -130,7 +130,7 @@ some_next place bytes = by_blank (counts false bytes)
     by_blank (inl all) = (End, all.1)
     by_blank (inr up_to) = let first = some_first (drop (blank_from false bytes) bytes) in by_first up_to first.0 first.1
 
--- the text, which begins at this place, has tokens, or behind some of them a place where none begins
+-- the text, which begins at this place, has tokens, or after some of them a place where none begins
 abbrev pub HasTokensOrFault : ℕ → List ℕ → Type 0
 HasTokensOrFault at text =
     ((tokens : List Token) × AreTokens at text tokens)

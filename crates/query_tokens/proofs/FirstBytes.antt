@@ -1,4 +1,4 @@
--- The first byte of a token tells its kind.
+-- The first byte of a token shows its kind.
 use Rattle.std.proofs.Common.{◌≡◌, ℕ, ◌<◌, Bool, true, false, cond, ◌||◌, ◌==◌, List, [], ◌∷◌, ◌++◌, length, drop, Option, Some, None, refl, ap, rules, arith}
 use Rattle.std.specs.Char.{digit_value, is_ascii_digit}
 use Rattle.std.specs.Str.Parse.{IsNumeral, without_leading_sign}
@@ -84,7 +84,7 @@ number_first byte rest numeral = by_tests (byte == 43) (byte == 45) refl refl (r
     by_tests false true p m numeral = refl
     by_tests false false p m numeral = digit_passes byte numeral.1.0
 
--- the first byte of a token tells its kind
+-- the first byte of a token shows its kind
 pub raw_kind : (kind : TokenKind) (raw : List ℕ) → IsRaw kind raw → kind_at raw ≡ Some kind
 raw_kind Word [] is_raw = absurd is_raw
 raw_kind Word (byte ∷ raw) is_raw = word_kind byte (search (rules, is_raw.0))
@@ -102,7 +102,7 @@ raw_not_empty kind [] is_raw =
     absurd (cc (raw_kind kind [] is_raw))
 raw_not_empty kind (byte ∷ raw) is_raw = omega arith
 
--- and they tell it whatever follows
+-- and they show it whatever follows
 pub raw_kind_at : (kind : TokenKind) (raw beyond : List ℕ) → IsRaw kind raw → kind_at (raw ++ beyond) ≡ Some kind
 raw_kind_at kind [] beyond is_raw = absurd (omega (arith, raw_not_empty kind [] is_raw))
 raw_kind_at kind (byte ∷ raw) beyond is_raw = raw_kind kind (byte ∷ raw) is_raw

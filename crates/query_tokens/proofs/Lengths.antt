@@ -46,7 +46,7 @@ sign_at : (raw beyond : List ℕ) → 0 < length raw → sign_len (raw ++ beyond
 sign_at [] beyond some = absurd (omega arith)
 sign_at (b ∷ raw) beyond some = refl
 
--- digits behind the sign of the bytes
+-- digits after the sign of the bytes
 abbrev digits_of : List ℕ → ℕ
 digits_of bytes = length (take_while is_ascii_digit (drop (sign_len bytes) bytes))
 
@@ -70,7 +70,7 @@ number_within raw beyond number =
       within = omega (arith, long, sign, inside, length-drop (sign_len raw) raw);
     }
 
--- a sign and the digits behind it are a number
+-- a sign and the digits after it are a number
 number_token : (bytes : List ℕ) → 0 < digits_of bytes → (sign_len bytes + digits_of bytes ≤ length bytes) × IsRaw Number (take (sign_len bytes + digits_of bytes) bytes)
 number_token bytes some =
     let sign = sign_len bytes in
@@ -106,7 +106,7 @@ length_of_number bytes = by_digits (nat_lt 0 (digits_of bytes)) refl
         let some = (signed raw beyond split number).some in
         grind (arith, nat_tests)
 
--- a string at the front closes behind its quote
+-- a string at the front closes after its quote
 record Quoted (raw rest : List ℕ) : Type 0 where
   pub closing : ℕ
   pub closes : Closes rest closing
@@ -165,7 +165,7 @@ length_of_string (b ∷ rest) closing kind is = by_closing closing is
         none quoted.closing quoted.closes
     by_closing (Some len) closes = rw quote (begins_string rest len closes)
 
--- the longest token of the kind that the first byte tells is the longest of all
+-- the longest token of the kind that the first byte shows is the longest of all
 pub first_is_longest : (bytes : List ℕ) (kind : TokenKind) (len : ℕ) → kind_at bytes ≡ Some kind → Begins kind bytes len → IsLongest kind (take len bytes) (drop len bytes)
 first_is_longest bytes kind len is begins = record {
   token = begins.token;

@@ -46,7 +46,7 @@ pub record Fronts (bytes : List ℕ) (found : ℕ × ℕ) : Type 0 where
 plain_from_test : (byte : ℕ) → is_plain byte ≡ true → IsPlain byte
 plain_from_test byte passes = grind (arith, common_steps)
 
--- digits behind `\x`
+-- digits after `\x`
 code_found : (rest : List ℕ) (found : ℕ × ℕ) → coded (code_of rest) ≡ Some found → Fronts (92 ∷ 120 ∷ rest) found
 code_found [] found is = absurd (cc)
 code_found (high ∷ []) found is = absurd (cc)
@@ -67,7 +67,7 @@ code_found (high ∷ low ∷ rest) found is = code_by (hex_of high) (hex_of low)
           len = cc;
         }
 
--- what stands behind a backslash
+-- what stands after a backslash
 escape_found : (rest : List ℕ) (found : ℕ × ℕ) → escape_of rest ≡ Some found → Fronts (92 ∷ rest) found
 escape_found [] found is = absurd (cc)
 escape_found (second ∷ rest) found is =

@@ -14,11 +14,11 @@ up_to : (bytes : List ℕ) (blank : ℕ) → IsBlankLength bytes blank → blank
 up_to bytes blank (inl (all, to_end)) less = absurd (omega (arith, all))
 up_to bytes blank (inr found) less = found
 
--- what stands behind it
+-- what stands after it
 after : (bytes : List ℕ) (blank : ℕ) (found : BlankUpTo bytes blank) → found.rest ≡ drop blank bytes
 after bytes blank found = sym (ap (drop blank) found.split ∙ drop_at found.blank found.rest blank (sym found.is))
 
--- no token behind the blank
+-- no token after the blank
 pub fails_at : (place : ℕ) (bytes : List ℕ) (blank : ℕ) → IsBlankLength bytes blank → blank < length bytes → BeginsNone (drop blank bytes) → FailsAt place bytes (place + blank)
 fails_at place bytes blank is less none =
     let found = up_to bytes blank is less in
@@ -32,7 +32,7 @@ fails_at place bytes blank is less none =
       is = ap (λ n. place + n) found.is;
     }
 
--- a token behind the blank
+-- a token after the blank
 pub stands_at : (place : ℕ) (bytes : List ℕ) (blank : ℕ) (kind : TokenKind) (len : ℕ) → IsBlankLength bytes blank → blank < length bytes
     → IsFirst (drop blank bytes) (Some (kind, len)) → IsTokenAt place bytes (record { kind = kind; span = record { from = place + blank; to = place + blank + len } })
 stands_at place bytes blank kind len is less first =
@@ -62,7 +62,7 @@ rest_at text place to later =
     let same : place + (to - place) ≡ to = omega arith in
     drop-drop (to - place) place text ∙ ap (λ n. drop n text) same
 
--- the tokens behind it are the text's behind it and what was before
+-- the tokens after it are the text's after it and what was before
 pub tokens_more : (text : List ℕ) (place : ℕ) (before : List Token) (token : Token) → IsTokenAt place (drop place text) token
     → ((others : List Token) → AreTokens place (drop place text) others → AreTokens 0 text (before ++ others))
     → (others : List Token) → AreTokens token.span.to (drop token.span.to text) others → AreTokens 0 text ((before ++ token ∷ []) ++ others)
@@ -70,7 +70,7 @@ tokens_more text place before token at continues others are =
     let rest = rest_at text place token.span.to (omega (arith, at.later)) in
     rw append_assoc (continues (token ∷ others) (drop (token.span.to - place) (drop place text), at.stands, rw rest are))
 
--- and so is a fault behind it
+-- and so is a fault after it
 pub fault_more : (text : List ℕ) (place : ℕ) (before : List Token) (token : Token) → IsTokenAt place (drop place text) token
     → ((others : List Token) (fault : ℕ) → FaultAfter place (drop place text) others fault → FaultAfter 0 text (before ++ others) fault)
     → (others : List Token) (fault : ℕ) → FaultAfter token.span.to (drop token.span.to text) others fault → FaultAfter 0 text ((before ++ token ∷ []) ++ others) fault

@@ -15,7 +15,7 @@ pub record Remains (raw : List ℕ) (at : ℕ) (so_far : List ℕ) : Type 0 wher
   pub stand : AreParts parts values
   pub whole : IsString raw (so_far ++ values)
 
--- behind the first quote all of them are left
+-- after the first quote all of them are left
 pub Remains-first : (raw bytes : List ℕ) → IsString raw bytes → Remains raw 1 []
 Remains-first raw bytes string = record {
   parts = string.parts;

@@ -100,7 +100,7 @@ call-err level tokens inner now left head (Deep span) within begins reads trees 
     deep-within level trees within ∙ (ap (deep_in_arguments (level + 1)) c.is ∙ reads c.arguments (c.close ∷ others) c.in_call)
 call-err level tokens inner now left head Memory within begins reads trees others is = tt
 
--- behind the arguments of a call something follows
+-- after the arguments of a call something follows
 pub call-ends :
     (level : ℕ) (tokens inner now : List Token) (head : Token) (list : Vec Tree Global)
     → BeginsCall tokens head inner → ReadsInCall (level + 1) inner now (Ok list) → now ≡ []

@@ -26,7 +26,7 @@ leaf-closing token rest calls (inl word) = rw word refl
 leaf-closing token rest calls (inr (inl number)) = rw number refl
 leaf-closing token rest calls (inr (inr text)) = rw text refl
 
--- nor what stands behind an argument
+-- nor what stands after an argument
 more-closing :
     (trees : Trees) (tokens rest : List Token) (calls : ℕ)
     → ((more : List Token) → AreArguments trees more → closing (more ++ rest) calls ≡ closing rest calls)
@@ -86,7 +86,7 @@ first_two [] two = absurd (omega arith)
 first_two (head ∷ []) two = absurd (omega arith)
 first_two (head ∷ next ∷ rest) two = ap (λ (x : List Token). head ∷ next ∷ x) (sym (take_all _ rest (omega arith)))
 
--- the tokens behind the first two
+-- the tokens after the first two
 abbrev pub inside : List Token → List Token
 inside tokens = take (length tokens - 2) (drop 2 tokens)
 

@@ -26,16 +26,16 @@ pub record Closes (holds rest : List Token → Type 0) (tokens : List Token) : T
 abbrev pub HaveArguments : List Token → Type 0
 HaveArguments tokens = (trees : Trees) × AreArguments trees tokens
 
--- what may stand behind an argument
+-- what may stand after an argument
 abbrev pub HaveMore : List Token → Type 0
 HaveMore tokens = (trees : Trees) × AreMore (AreArguments trees) trees tokens
 
--- what may stand behind a term inside of so many calls
+-- what may stand after a term inside of this many calls
 abbrev pub Finishes : ℕ → List Token → Type 0
 Finishes zero tokens = (trees : Trees) × AreTerms trees tokens
 Finishes (suc calls) tokens = Closes HaveMore (Finishes calls) tokens
 
--- arguments of a call that are inside of so many others, and what may follow
+-- arguments of a call that are inside of this many others, and what may follow
 abbrev pub FinishesCall : ℕ → List Token → Type 0
 FinishesCall calls tokens = Closes HaveArguments (Finishes calls) tokens
 
@@ -47,7 +47,7 @@ pub record Opens (calls : ℕ) (tokens : List Token) : Type 0 where
   pub opens : open_.kind ≡ Open
   pub finishes : FinishesCall calls more
 
--- what may stand behind a place
+-- what may stand after a place
 abbrev pub FinishesFrom : ReaderState → List Token → Type 0
 FinishesFrom (AfterTerm calls) tokens = Finishes calls tokens
 FinishesFrom (AfterWord calls) tokens = Finishes calls tokens ⊎ Opens calls tokens
@@ -137,14 +137,14 @@ inner_word head tokens calls word (inr o) =
       finishes = d.finishes;
     }
 
--- a comma behind an argument
+-- a comma after an argument
 comma-more : (trees : Trees) (comma : Token) (more : List Token) → comma.kind ≡ Comma → AreArguments trees more
     → AreMore (AreArguments trees) trees (comma ∷ more)
 comma-more none comma more is are = absurd are
 comma-more (leaf token rest) comma more is are = (comma, more, refl, is, are)
 comma-more (call head arguments span rest) comma more is are = (comma, more, refl, is, are)
 
--- the same of the tokens behind the argument
+-- the same of the tokens after the argument
 inner_comma :
     (comma : Token) (tokens : List Token) (calls : ℕ) → comma.kind ≡ Comma → FinishesCall calls tokens
     → Finishes (suc calls) (comma ∷ tokens)
@@ -180,7 +180,7 @@ Comes tokens place = ends (walk place tokens) ≡ true
 comes-none : {A : Type 0} (tokens : List Token) → Comes tokens None → A
 comes-none tokens comes = let e = walk-none tokens in absurd (cc)
 
--- what the rest of the tokens is, by the place behind the first
+-- what the rest of the tokens is, by the place after the first
 abbrev Rest : List Token → Type 0
 Rest tokens = (place : ReaderState) → Comes tokens (Some place) → FinishesFrom place tokens
 
@@ -206,7 +206,7 @@ argument-finish token tokens calls rest Open is comes = comes-none tokens comes
 argument-finish token tokens calls rest Close is comes = comes-none tokens comes
 argument-finish token tokens calls rest Comma is comes = comes-none tokens comes
 
--- from behind an argument
+-- from the place after an argument
 inner-finish :
     (token : Token) (tokens : List Token) (calls : ℕ) → Rest tokens → (kind : TokenKind) → token.kind ≡ kind
     → Comes tokens (continue_inside calls kind) → Finishes (suc calls) (token ∷ tokens)
@@ -217,7 +217,7 @@ inner-finish token tokens calls rest Number is comes = comes-none tokens comes
 inner-finish token tokens calls rest Text is comes = comes-none tokens comes
 inner-finish token tokens calls rest Open is comes = comes-none tokens comes
 
--- from behind a term
+-- from the place after a term
 term-finish :
     (token : Token) (tokens : List Token) (calls : ℕ) → Rest tokens → (kind : TokenKind) → token.kind ≡ kind
     → Comes tokens (continue_calls calls kind) → Finishes calls (token ∷ tokens)
@@ -225,7 +225,7 @@ term-finish token tokens zero rest kind is comes = top-finish token tokens rest 
 term-finish token tokens (suc calls) rest kind is comes =
     inner-finish token tokens calls rest kind is (rw (continue_calls-suc calls kind) at comes)
 
--- from behind a word
+-- from the place after a word
 word-finish :
     (token : Token) (tokens : List Token) (calls : ℕ) → Rest tokens → (kind : TokenKind) → token.kind ≡ kind
     → Comes tokens (call_or_continue calls kind) → FinishesFrom (AfterWord calls) (token ∷ tokens)

@@ -17,17 +17,17 @@ pub no_next : (kind : TokenKind) (tokens : List Token) → tokens ≡ [] → Nex
 no_next kind [] e is = is
 no_next kind (token ∷ rest) e is = absurd (cc)
 
--- behind an argument come the others, which begin with `)`, or a comma and further arguments
+-- after an argument come the others, which begin with `)`, or a comma and further arguments
 abbrev pub Follows : Trees → List Token → List Token → Type 0
 Follows rest tokens others = ((rest ≡ none) × (tokens ≡ others) × NextIs Close others)
     ⊎ ((comma : Token) × (more : List Token) × (tokens ≡ comma ∷ more) × (comma.kind ≡ Comma) × AreInCall rest more others)
 
--- what may stand behind an argument, and that it is no `(`
+-- what may stand after an argument, and that it is no `(`
 pub record HasFollowing (rest : Trees) (tokens others : List Token) : Type 0 where
   pub follows : Follows rest tokens others
   pub no_open : NextIs Open tokens → ⊥
 
--- so it is behind an argument
+-- so it is after an argument
 more-follows :
     (rest : Trees) (tokens others : List Token) → AreMore (AreArguments rest) rest tokens → NextIs Close others
     → HasFollowing rest (tokens ++ others) others

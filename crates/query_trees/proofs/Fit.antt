@@ -15,7 +15,7 @@ pub walk-step :
     → step place token.kind ≡ next → walk (Some place) (token ∷ rest) ≡ walk next rest
 walk-step place token rest next e = rw e refl
 
--- what stands behind an argument, and the end of the call
+-- what stands after an argument, and the end of the call
 more-walk :
     (arguments : Trees) (others : List Token) (place : ReaderState) (calls : ℕ) (close : Token) (rest : List Token)
     → ((more : List Token) → AreArguments arguments more
@@ -29,7 +29,7 @@ more-walk (leaf token after) others place calls close rest ih inside (comma, tok
 more-walk (call head inner span after) others place calls close rest ih inside (comma, tokens, split, is_comma, are) closes =
     rw (split, is_comma, inside.comma) (ih tokens are)
 
--- a place behind a leaf, inside of one call more than `calls`
+-- a place after a leaf, inside of one call more than `calls`
 leaf-inside :
     (token : Token) (calls : ℕ) → IsLeaf token
     → (place : ReaderState) × (step (Argument calls) token.kind ≡ Some place) × IsInside place calls
@@ -66,7 +66,7 @@ arguments-walk (call head arguments span others) tokens calls close rest (more, 
     (λ inner fit. arguments-walk others inner calls close rest fit closes) (IsInside-term calls) are closes in
     rw (calls_.split, append_assoc calls_.inner (calls_.close ∷ more) (close ∷ rest)) (all ∙ after)
 
--- a place behind a leaf, outside of calls
+-- a place after a leaf, outside of calls
 leaf-outside :
     (token : Token) (place : ReaderState) → IsLeaf token → IsOutside place
     → (next : ReaderState) × (step place token.kind ≡ Some next) × IsOutside next

@@ -45,7 +45,7 @@ one-call head other span place a b tokens x y only c d =
     let span_is : place ≡ span = cc (c.place, d.place, head_is, close) in
     record { head_is = head_is; span_is = span_is; arguments = got.0; after = after }
 
--- what stands behind an argument
+-- what stands after an argument
 one-after :
     (a b : Trees) (after x y : List Token) → IsOnly a → Follows a after x → Follows b after y
     → (b ≡ a) × (y ≡ x)
@@ -116,7 +116,7 @@ begin-front : (front rest : List Token) → BeginTerms (front ++ rest) → Begin
 begin-front front rest (more, trees, are) =
     (rest ++ more, trees, subst (AreTerms trees) (append_assoc front rest more) are)
 
--- and so it does with the token behind it
+-- and so it does with the token after it
 begin-one : (front rest tokens : List Token) (token : Token) → tokens ≡ front ++ token ∷ rest → BeginTerms tokens
     → BeginTerms (front ++ token ∷ [])
 begin-one front rest tokens token split begins =
@@ -138,7 +138,7 @@ terms-or-place trees tokens end span are (inr (c, is)) = c.no_terms trees are
 Order : (f g : List Token) (t u : Token) → Type 0
 Order f g t u = ((f ≡ g) × (t ≡ u)) ⊎ (((m : List Token) × (g ≡ f ++ t ∷ m)) ⊎ ((m : List Token) × (f ≡ g ++ u ∷ m)))
 
--- behind one more token each
+-- after one more token each
 order-next : (f g : List Token) (t u a b : Token) → a ≡ b → Order f g t u → Order (a ∷ f) (b ∷ g) t u
 unfolding Order
 order-next f g t u a b e (inl (same, is)) = inl (cc (e, same), is)

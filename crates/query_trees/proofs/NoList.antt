@@ -18,7 +18,7 @@ use Rattle.query_trees.proofs.Finish.{walk-finish}
 some_token : TokenKind → Token
 some_token kind = record { kind = kind; span = record { from = 0; to = 0 } }
 
--- the ends of so many calls
+-- the ends of this many calls
 closes : ℕ → List Token
 unfolding some_token
 closes zero = []
@@ -30,14 +30,14 @@ ending (AfterTerm calls) = closes calls
 ending (AfterWord calls) = closes calls
 ending (Argument calls) = some_token Word ∷ closes (suc calls)
 
--- so many calls come to their ends
+-- this many calls come to their ends
 closes-end : (calls : ℕ) → ends (walk (Some (AfterTerm calls)) (closes calls)) ≡ true
 unfolding closes some_token
 closes-end zero = refl
 closes-end (suc calls) =
     ap ends (walk-step (AfterTerm (suc calls)) (some_token Close) (closes calls) _ (continue_calls-suc calls Close)) ∙ closes-end calls
 
--- also behind a word
+-- also after a word
 word-end : (calls : ℕ) → ends (walk (Some (AfterWord calls)) (closes calls)) ≡ true
 unfolding closes some_token
 word-end zero = refl
@@ -108,7 +108,7 @@ at_end : (tokens : List Token) (end : ℕ) (place : ReaderState) (may : Bool) �
 at_end tokens end place true at is = inl (terms tokens place at is)
 at_end tokens end place false at is = inr (record { from = end; to = end }, inr (cut_short tokens place at is, refl))
 
--- where it has come to a token, and goes on behind those over which it can step
+-- where it has come to a token, and continues after those over which it can step
 at_token : (tokens front rest : List Token) (end : ℕ) (token : Token) (place : ReaderState) (next : Option ReaderState) → tokens ≡ front ++ token ∷ rest
     → walk start front ≡ Some place → step place token.kind ≡ next
     → ((beyond : ReaderState) → next ≡ Some beyond → AreListOrNone tokens end) → AreListOrNone tokens end

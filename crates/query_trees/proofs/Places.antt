@@ -8,7 +8,7 @@ use Rattle.query_trees.specs.declared.reader_state.ReaderState.{ReaderState}
 use Rattle.query_trees.specs.declared.reader_state.ReaderState.TheVariants.{AfterTerm, AfterWord, Argument}
 use Rattle.query_trees.specs.Steps.{continue_inside, continue_calls, step, walk, may_end}
 
--- behind a term of some call
+-- after a term of some call
 pub continue_calls-suc : (n : ℕ) (kind : TokenKind) → continue_calls (suc n) kind ≡ continue_inside n kind
 continue_calls-suc n kind = let e : suc n - 1 ≡ n = omega arith in rw (e, eqb-suc-zero n) refl
 
@@ -22,11 +22,11 @@ pub record IsInside (place : ReaderState) (calls : ℕ) : Type 0 where
   pub comma : step place Comma ≡ Some (Argument calls)
   pub close : step place Close ≡ Some (AfterTerm calls)
 
--- behind a term
+-- after a term
 pub IsInside-term : (calls : ℕ) → IsInside (AfterTerm (suc calls)) calls
 IsInside-term calls = record { comma = continue_calls-suc calls Comma; close = continue_calls-suc calls Close }
 
--- behind a word
+-- after a word
 pub IsInside-word : (calls : ℕ) → IsInside (AfterWord (suc calls)) calls
 IsInside-word calls = record { comma = continue_calls-suc calls Comma; close = continue_calls-suc calls Close }
 
@@ -37,10 +37,10 @@ pub record IsOutside (place : ReaderState) : Type 0 where
   pub text : step place Text ≡ Some (AfterTerm 0)
   pub end : may_end place ≡ true
 
--- behind a term
+-- after a term
 pub IsOutside-term : IsOutside (AfterTerm 0)
 IsOutside-term = record { word = refl; number = refl; text = refl; end = refl }
 
--- behind a word
+-- after a word
 pub IsOutside-word : IsOutside (AfterWord 0)
 IsOutside-word = record { word = refl; number = refl; text = refl; end = refl }

@@ -19,7 +19,7 @@ no-terms none tokens are e = refl
 no-terms (leaf token rest) tokens (others, split, is_leaf, are) e = absurd (cc)
 no-terms (call head arguments span rest) tokens (others, c, are) e = let split = c.split in absurd (cc)
 
--- too deep in the first, or else behind it: where there is none
+-- too deep in the first, or else after it: where there is none
 deep-none : (b : Bool) → None ≡ first_of_two (cond b None None) None
 deep-none true = refl
 deep-none false = refl

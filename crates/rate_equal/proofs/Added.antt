@@ -1,4 +1,4 @@
--- How pairs are put behind others, with the places of some of them.
+-- How pairs are put after others, with the places of some of them.
 use Rattle.std.proofs.Common.{◌≡◌, ℕ, ◌<◌, ◌≤◌, ◌∙◌, Bool, true, List, [], ◌++◌, length, get_or, slice_get, Some, refl, sym, ap, subst, inl, inr, arith, append_assoc, length-append}
 use Rattle.std.specs.List.{Contains, IsDistinct}
 use Rattle.std.proofs.lemmas.List.{append-nil, get_or_append_left}
@@ -12,11 +12,11 @@ use Rattle.rate_equal.specs.Reach.{max_reach}
 use Rattle.rate_equal.specs.declared.pair.Pair.{Pair}
 use Rattle.rate_equal.proofs.Inserted.{put_after}
 
--- a list with nothing behind it
+-- a list with nothing after it
 pub grown_none : (old : List Pair) → IsGrown old old
 grown_none old = ([], sym (append-nil old))
 
--- what is behind what is behind
+-- what comes after what comes after
 pub grown_more : (old mid new : List Pair) → IsGrown old mid → IsGrown mid new → IsGrown old new
 grown_more old mid new one two =
     (one.0 ++ two.0, two.1 ∙ ap (λ l. l ++ two.0) one.1 ∙ append_assoc old one.0 two.0)

@@ -16,7 +16,7 @@ module _ (first second : Automaton) (letters : List Letter) (are : AreLetters fi
     (before : AreGone first second pairs gone) (searched : IsSearched first second pairs end)
     (found : slice_get pairs end ≡ Some from) (here : AreWaysOnFrom first second from ways)
     (more : (other : ℕ × ℕ) → Contains gone' other → Contains gone other ⊎ (ways ≡ other)) where
-  -- words go on from the pair, into those to which letters lead
+  -- words continue from the pair, into those to which letters lead
   pub searched_along : (pairs' : List Pair) → GoesAlong letters ways gone pairs pairs'
       → IsSearched first second pairs' (end + 1) × AreGone first second pairs' gone'
   searched_along pairs' (inl (known, same)) =

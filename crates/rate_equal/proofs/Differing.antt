@@ -64,7 +64,7 @@ module _ (first second : Automaton) where
         (apart_from x all.0 pairs all.1 (IsDistinct-head eq x pairs distinct))
         (all_apart pairs all.1 (IsDistinct-tail eq x pairs distinct))
 
-    -- as many words have different pairs of states behind them
+    -- as many words have different pairs of states after them
     pub as_many_words : (pairs : List Pair) → IsDistinct eq pairs
         → ((pair : Pair) → Contains pairs pair → IsReached first second pair) → (count : ℕ) → length pairs ≡ count
         → ReachPairs first.cells.layout.columns first.sets second.sets count
@@ -79,7 +79,7 @@ module _ (first second : Automaton) where
 
   module _ (pairs : List Pair) (all : AreAll first second pairs) (count : ℕ)
       (many : max_reach < count) where
-    -- no more words have different pairs of states behind them
+    -- no more words have different pairs of states after them
     pub no_more_pairs : ReachPairs first.cells.layout.columns first.sets second.sets count → ⊥
     no_more_pairs reach =
         let few' = as_many_places (AreAfter first second) (LeadToApart first.sets second.sets)

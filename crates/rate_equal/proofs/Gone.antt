@@ -1,4 +1,4 @@
--- Pairs from which words go on in the same positions lead to the same pairs.
+-- Pairs from which words continue in the same positions lead to the same pairs.
 use Rattle.std.proofs.Common.{◌≡◌, ℕ, ◌+◌, ◌⊎◌, List, [], Some, ap, arith, length, slice_get, subst, sym, inl, inr}
 use Rattle.std.specs.List.{Contains}
 use Rattle.std.proofs.lemmas.List.{append-nil}
@@ -74,7 +74,7 @@ module _ (first second : Automaton) where
       | inr is ↦ subst (λ w. IsGone pairs' w) is (from, here, explored.done)
     ]
 
-    -- from the pair words now go on, and with its ways
+    -- from the pair words now continue, and with its ways
     pub searched_new : (pairs' : List Pair) → IsExplored first second from pairs pairs'
         → IsSearched first second pairs' (end + 1) × AreGone pairs' gone'
     searched_new pairs' explored = (

@@ -13,7 +13,7 @@ use Rattle.rate_equal.specs.Reach.{max_reach}
 use Rattle.rate_equal.specs.declared.pair.Pair.{Pair}
 use Rattle.rate_equal.proofs.Added.{found_before}
 
--- a position that is left is the lowest, or is left behind it
+-- a position that is left is the lowest, or is left after it
 pub low_or_left : (rest low after position : ℕ) → IsLowest rest low
     → ((other : ℕ) → Has after other ↔ (Has rest other × (IsLowest rest other → ⊥)))
     → Has rest position → (position ≡ low) ⊎ Has after position
@@ -183,7 +183,7 @@ module _ (rows : List ℕ) (mask block : ℕ) where
     | inr done ↦ done
   ]
 
--- more pairs behind the others change none
+-- more pairs after the others change none
 pub held_grown : (first second : List ℕ) (pairs pairs' : List Pair) (end : ℕ) → AreHeld first second pairs end
     → end ≤ length pairs → IsGrown pairs pairs' → AreHeld first second pairs' end
 held_grown first second pairs pairs' end before within grown = record {

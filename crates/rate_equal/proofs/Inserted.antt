@@ -9,7 +9,7 @@ use Rattle.indexmap.specs.IndexSet.{insert_key}
 use Rattle.indexmap.proofs.CallerLemmas.{Contains-list_any}
 
 module _ {K : Type 0} (eq : K → K → Bool) (ks : List K) (k : K) where
-  -- what is put behind the list
+  -- what is put after the list
   pub put_after : (more : List K) × (insert_key eq ks k ≡ ks ++ more)
       × ((other : K) → Contains (insert_key eq ks k) other → Contains ks other ⊎ (k ≡ other))
       × (length (insert_key eq ks k) ≤ length ks + 1)

@@ -20,7 +20,7 @@ pub none_there : (count place : ℕ) → HasPlace (replicate count 0) place → 
 none_there count place has =
     has_zero (place % 128) (subst (λ (m : ℕ). Has m (place % 128)) (zero_there count (place / 128)) has.bit)
 
--- a place is told by its block and its bit
+-- a place is determined by its block and its bit
 place_is : (place other : ℕ) → place / 128 ≡ other / 128 → place % 128 ≡ other % 128 → place ≡ other
 place_is place other block bit = omega arith
 

@@ -18,7 +18,7 @@ past_all [] i none = omega arith
 past_all (x ∷ xs) zero none = absurd (cc)
 past_all (x ∷ xs) (suc i) none = let rest = past_all xs i none in omega arith
 
--- behind the empty word
+-- after the empty word
 abbrev pub initial : Pair
 initial = record { first = Initial; second = Initial }
 

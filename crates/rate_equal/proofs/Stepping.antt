@@ -9,7 +9,7 @@ use Rattle.rate_equal.specs.declared.pair.Pair.{Pair}
 use Rattle.rate_equal.proofs.Added.{added_more, added_none, pair_kept}
 use Rattle.rate_equal.proofs.Holding.{low_or_left}
 
--- a place of the block that is left is that of the lowest bit, or is left behind it
+-- a place of the block that is left is that of the lowest bit, or is left after it
 pub in_low_or_left : (block rest low after place : ℕ) → IsLowest rest low
     → ((other : ℕ) → Has after other ↔ (Has rest other × (IsLowest rest other → ⊥)))
     → IsIn block rest place → (place ≡ block * 128 + low) ⊎ IsIn block after place

@@ -1,4 +1,4 @@
--- What the states behind all words say of rates.
+-- What the states after all words say of rates.
 use Rattle.std.proofs.Common.{Bool, true, false, List, [], ◌∷◌, inl, inr, All, Any, MatchBool}
 use Rattle.std.proofs.lemmas.List.Elements.{All-contains}
 use Rattle.value_ops.specs.declared.field.Field.{Field}
@@ -19,7 +19,7 @@ use Rattle.rate_equal.specs.declared.pair.Pair.{Pair}
 
 module _ (first second : Automaton) (pairs : List Pair) (all : AreAll first second pairs) where
   module _ (r s : Regex) (of_r : AreOf first.sets r) (of_s : AreOf second.sets s) where
-    -- states that disagree are behind a word that is in one of the rates
+    -- states that disagree are after a word that is in one of the rates
     in_one : (word : Word) (pair : Pair) → IsAfter first.sets word pair.first
         → IsAfter second.sets word pair.second → Disagree first.sets second.sets pair → IsInOne r s word
     in_one word pair at to (inl (yes', no')) = inl (
@@ -46,7 +46,7 @@ module _ (first second : Automaton) (pairs : List Pair) (all : AreAll first seco
         (word, is, in_one word pair here there differ)
 
   module _ (r : Regex) (of_r : AreOf first.sets r) where
-    -- a word of at least one item is in the rate where words may end behind it
+    -- a word of at least one item is in the rate where words may end after it
     in_full : (item : List Field) (more : Word) (state : State) → IsAfter first.sets (item ∷ more) state
         → EndsThere first.sets state → In r (item ∷ more)
     in_full item more Initial after ends = absurd after

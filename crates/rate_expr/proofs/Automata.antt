@@ -6,7 +6,7 @@ use Rattle.predicate_cells.specs.Truth.{holds}
 use Rattle.rate_expr.specs.Rates.{Regex, empty, one, sequence, choice, star}
 use Rattle.rate_expr.specs.Words.{Word}
 
--- whether the empty word is accepted, where words begin, end and go on, and what items meet
+-- whether the empty word is accepted, where words begin, end and continue, and what items meet
 pub record Automaton : Type 1 where
   pub State : Type 0
   pub nullable : Bool
@@ -15,7 +15,7 @@ pub record Automaton : Type 1 where
   pub Follow : State → State → Type 0
   pub Meet : State → List Field → Type 0
 
--- behind a state the word leads to an end
+-- after a state the word leads to an end
 abbrev pub Continues : (a : Automaton) → a.State → Word → Type 0
 Continues a from [] = a.Last from
 Continues a from (item ∷ word) =
@@ -64,7 +64,7 @@ abbrev pub LastInSequence : (a b : Automaton) → a.State ⊎ b.State → Type 0
 LastInSequence a b (inl p) = a.Last p × (b.nullable ≡ true)
 LastInSequence a b (inr q) = b.Last q
 
--- goes on
+-- continues
 abbrev pub FollowInSequence : (a b : Automaton) → a.State ⊎ b.State → a.State ⊎ b.State → Type 0
 FollowInSequence a b (inl p) (inl q) = a.Follow p q
 FollowInSequence a b (inl p) (inr q) = a.Last p × b.First q
@@ -92,7 +92,7 @@ abbrev pub LastInChoice : (a b : Automaton) → a.State ⊎ b.State → Type 0
 LastInChoice a b (inl p) = a.Last p
 LastInChoice a b (inr q) = b.Last q
 
--- goes on
+-- continues
 abbrev pub FollowInChoice : (a b : Automaton) → a.State ⊎ b.State → a.State ⊎ b.State → Type 0
 FollowInChoice a b (inl p) (inl q) = a.Follow p q
 FollowInChoice a b (inl p) (inr q) = ⊥

@@ -44,12 +44,12 @@ linked_below from to at k [] below all = tt
 linked_below from to at k (mask ∷ masks) below (first, all) =
     (with_if_below k mask (bit_at from at == 1) to first below, linked_below from to (at + 1) k masks below all)
 
--- and one more behind them
+-- and one more after them
 more_below : (k : ℕ) (masks : List ℕ) (mask : ℕ) → mask < 2 ^ k → AllByRecursion (λ mask. mask < 2 ^ k) masks → AllByRecursion (λ mask. mask < 2 ^ k) (masks ++ mask ∷ [])
 more_below k [] mask below all = (below, tt)
 more_below k (first ∷ masks) mask below (at, all) = (at, more_below k masks mask below all)
 
--- words of the rate go on at its positions
+-- words of the rate continue at its positions
 follow_below : (rate : Regex) (before : List ℕ) (k : ℕ) → length before + size_of rate ≤ k → AllByRecursion (λ mask. mask < 2 ^ k) before → AllByRecursion (λ mask. mask < 2 ^ k) (follow_of rate before)
 follow_below empty before k le all = all
 follow_below (one pred) before k le all = more_below k before 0 (pow_pos k) all

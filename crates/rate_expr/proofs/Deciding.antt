@@ -52,7 +52,7 @@ pub record IsDecided (a : Automaton) : Type 1 where
   pub follow : (p q : a.State) → Decided (a.Follow p q)
   pub meet : (p : a.State) (item : List Field) → Decided (a.Meet p item)
 
--- a path behind a state
+-- a path after a state
 decided_on : (a : Automaton) → IsDecided a → (p : a.State) (word : Word) → Decided (Continues a p word)
 decided_on a d p [] = d.last p
 decided_on a d p (item ∷ word) =

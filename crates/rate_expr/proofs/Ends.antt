@@ -21,7 +21,7 @@ pub record IsPart (a : Automaton) (number : a.State → ℕ) (part : Part) : Typ
   pub first : AreIn a.State number a.First part.first
   pub last : AreIn a.State number a.Last part.last
 
--- the states of the first where words of a sequence begin, and those of the second behind the empty word
+-- the states of the first where words of a sequence begin, and those of the second after the empty word
 first_of_two : (a b : Automaton) (f : a.State → ℕ) (g : b.State → ℕ) (m n : ℕ) (test : Bool) → test ≡ a.nullable → AreIn a.State f a.First m → AreIn b.State g b.First n → AreIn (a.State ⊎ b.State) (either_number a.State b.State f g) (automata.of_sequence a b).First (with_if m test n)
 first_of_two a b f g m n test same in_m in_n = record { each = each; only = λ k has. found k (has_no_more m test n k has) }
   where

@@ -1,4 +1,4 @@
--- Where words go on: masks as the states' numbers.
+-- Where words continue: masks as the states' numbers.
 use Rattle.std.proofs.Common.{◌≡◌, ◌⊎◌, inl, inr, ℕ, zero, suc, ◌+◌, ◌<◌, List, [], ◌∷◌, ◌++◌, length, sym, ap, ◌∙◌, subst, arith}
 use Rattle.std.proofs.lemmas.List.{length_push}
 use Rattle.rate_expr.specs.Parts.{part_of, all_linked, follow_of}
@@ -11,7 +11,7 @@ use Rattle.rate_expr.proofs.Linking.{Goes, length-all_linked, goes_kept, goes_li
 use Rattle.rate_expr.proofs.MaskMembers.{has_zero}
 use Rattle.rate_expr.proofs.Numbers.{either_number, number_of, number_within}
 
--- the rate has so many masks
+-- the rate has this many masks
 pub length-follow_of : (rate : Regex) (before : List ℕ) → length (follow_of rate before) ≡ length before + size_of rate
 length-follow_of empty before = omega arith
 length-follow_of (one pred) before = length_push before 0
@@ -34,13 +34,13 @@ pub record AddSteps (a : Automaton) (number : a.State → ℕ) (before after : L
   pub each : (p q : a.State) → a.Follow p q → Goes after (number p) (number q)
   pub only : (i n : ℕ) → Goes after i n → Goes before i n ⊎ Step a number i n
 
--- a mask behind others has its place
+-- a mask after others has its place
 goes_before : (masks : List ℕ) (mask i n : ℕ) → Goes masks i n → Goes (masks ++ mask ∷ []) i n
 goes_before [] mask i n (other, is, has) = absurd (cc)
 goes_before (first ∷ masks) mask zero n goes = goes
 goes_before (first ∷ masks) mask (suc i) n goes = goes_before masks mask i n goes
 
--- the empty mask behind others adds nothing
+-- the empty mask after others adds nothing
 goes_only_before : (masks : List ℕ) (i n : ℕ) → Goes (masks ++ 0 ∷ []) i n → Goes masks i n
 goes_only_before [] zero n (mask, is, has) =
     let same : mask ≡ 0 = cc in absurd (has_zero n (subst (λ (m : ℕ). Has m n) same has))

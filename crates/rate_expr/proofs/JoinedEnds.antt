@@ -17,7 +17,7 @@ pub record AreEnds (base : ℕ) (part : Part) (rate : Regex) : Type 0 where
   pub first : (n : ℕ) → Has part.first n ↔ IsFirst rate base n
   pub last : (n : ℕ) → Has part.last n ↔ IsLast rate base n
 
--- a mask that is moved has what is numbered so many higher
+-- a mask that is moved has what is numbered higher by this much
 has_from : (count mask other : ℕ) (Is : ℕ → ℕ → Type 0) → IsMoved count mask other
     → ((n : ℕ) → Has mask n ↔ Is 0 n) → ((m : ℕ) → Is count m ↔ IsFrom Is count m)
     → (m : ℕ) → Has other m ↔ Is count m

@@ -54,7 +54,7 @@ linked_made a from to len masks written items are below is long linked =
         ∙ linked
         ∙ ap (λ (f : List ℕ). all_linked from to 0 f) is
 
--- positions that were put behind others
+-- positions that were put after others
 pub beside_made : (a b left right : Sets) (count : ℕ) (others follow : List ℕ)
     (preds : List Predicate) → a ≡ left → b ≡ right → AreSets a → AreSets b
     → length left.preds + length right.preds ≤ 128 → count ≡ length left.preds → others ≡ b.follow

@@ -30,7 +30,7 @@ all_raised : (masks : List ℕ) (j k : ℕ) → j ≤ k → AllByRecursion (λ m
 all_raised [] j k le all = tt
 all_raised (mask ∷ masks) j k le (below, all) = (raised mask j k le below, all_raised masks j k le all)
 
--- two lists, one behind the other
+-- two lists, one after the other
 all_append : (k : ℕ) (masks others : List ℕ) → AllByRecursion (λ mask. mask < 2 ^ k) masks
     → AllByRecursion (λ mask. mask < 2 ^ k) others
     → AllByRecursion (λ mask. mask < 2 ^ k) (masks ++ others)
@@ -130,7 +130,7 @@ sequence_below a b both =
 ends_are : (a : Sets) (r : Regex) → AreSetsOf a r → AreEnds 0 (ends_of a) r
 ends_are a r are = record { nullable = are.nullable; first = are.first; last = are.last }
 
--- so many positions
+-- this many positions
 count_is : (a : Sets) (r : Regex) → AreSetsOf a r → length a.preds ≡ 0 + size_of r
 count_is a r are =
     let long = length-preds_of r in
@@ -144,7 +144,7 @@ after_are a b r s both of_r of_s =
     (ends_higher (length a.preds) (length b.preds) (ends_of b) s both.second.first both.second.last
     both.few (ends_are b s of_s))
 
--- what goes on in both
+-- what continues in both
 goes_are : (a b : Sets) (r s : Regex) → AreFew a b → AreSetsOf a r → AreSetsOf b s
     → (i n : ℕ) → Goes (beside a b).follow i n
     ↔ (IsFollowedBy r 0 i n ⊎ IsFollowedBy s (0 + size_of r) i n)

@@ -1,4 +1,4 @@
--- Where words of a rate go on, from where those of its parts do.
+-- Where words of a rate continue, from where those of its parts do.
 use Rattle.std.proofs.Common.{◌≡◌, ◌⊎◌, inl, inr, ℕ, zero, suc, ◌+◌, ◌^◌, ◌<◌, ◌≤◌, ◌↔◌, List, [], ◌∷◌, ◌++◌, map, length, refl, sym, ap, ◌∙◌, subst, arith}
 use Rattle.std.specs.List.{AllByRecursion}
 use Rattle.rate_expr.specs.FirstLastFollow.{IsFollowedBy}
@@ -11,11 +11,11 @@ use Rattle.rate_expr.proofs.MaskSets.{has-below}
 use Rattle.rate_expr.proofs.Moved.{is_moved}
 use Rattle.rate_expr.proofs.Renumbered.{follow_from}
 
--- a step of the masks behind others
+-- a step of the masks after others
 abbrev GoesAfter : List ℕ → List ℕ → ℕ → ℕ → Type 0
 GoesAfter xs ys i n = (j : ℕ) × (length xs + j ≡ i) × Goes ys j n
 
--- a step of two lists of masks, one behind the other, is one of either
+-- a step of two lists of masks, one after the other, is one of either
 goes_in_one : (xs ys : List ℕ) (i n : ℕ) → Goes (xs ++ ys) i n → Goes xs i n ⊎ GoesAfter xs ys i n
 goes_in_one [] ys i n goes = inr (i, omega arith, goes)
 goes_in_one (x ∷ xs) ys zero n goes = inl goes
@@ -39,7 +39,7 @@ goes_in_second (x ∷ xs) ys j n goes =
     let same : suc (length xs + j) ≡ suc (length xs) + j = omega arith in
     subst (λ (i : ℕ). Goes (x ∷ (xs ++ ys)) i n) same (goes_in_second xs ys j n goes)
 
--- a step of masks that are moved leads so many further
+-- a step of masks that are moved leads further by this much
 goes_higher : (count long : ℕ) (masks : List ℕ) → count + long ≤ 128
     → AllByRecursion (λ mask. mask < 2 ^ long) masks
     → (i n : ℕ) → Goes masks i n → Goes (map (moved count) masks) i (count + n)
@@ -64,11 +64,11 @@ goes_lower count long (first ∷ masks) few (below, all) zero m (mask, is, has) 
 goes_lower count long (first ∷ masks) few (below, all) (suc i) m goes =
     goes_lower count long masks few all i m goes
 
--- words of the rate, whose positions are numbered from a number on, go on by these masks
+-- words of the rate, whose positions are numbered from a number on, continue by these masks
 abbrev pub AreSteps : ℕ → List ℕ → Regex → Type 0
 AreSteps base masks rate = (i n : ℕ) → Goes masks i n ↔ IsFollowedBy rate base i n
 
--- the masks of two rates, those of the second moved behind those of the first
+-- the masks of two rates, those of the second moved after those of the first
 pub steps_beside : (count long : ℕ) (xs ys : List ℕ) (r s : Regex) → length xs ≡ count
     → size_of r ≡ count → count + long ≤ 128 → AllByRecursion (λ mask. mask < 2 ^ long) ys
     → AreSteps 0 xs r → AreSteps 0 ys s → (i n : ℕ)

@@ -29,11 +29,11 @@ linked_each from to masks others same each =
     let at : i ≡ 0 + i = omega arith in
     each i within ∙ ap (λ n. linked from to n (get_or masks i 0)) at ∙ sym (get_or-all_linked from to 0 masks i within))
 
--- behind the one position words go on at the other
+-- after the one position words continue at the other
 abbrev pub Goes : List ℕ → ℕ → ℕ → Type 0
 Goes masks i n = (mask : ℕ) × (slice_get masks i ≡ Some mask) × Has mask n
 
--- where words go on, they still do
+-- where words continue, they still do
 pub goes_kept : (from to at : ℕ) (masks : List ℕ) (i n : ℕ) → Goes masks i n → Goes (all_linked from to at masks) i n
 goes_kept from to at [] i n (mask, is, has) = absurd (cc)
 goes_kept from to at (first ∷ masks) zero n (mask, is, has) =
@@ -41,7 +41,7 @@ goes_kept from to at (first ∷ masks) zero n (mask, is, has) =
     (linked from to at first, refl, has_kept first (bit_at from at == 1) to n (subst (λ (m : ℕ). Has m n) (sym same) has))
 goes_kept from to at (first ∷ masks) (suc i) n goes = goes_kept from to (at + 1) masks i n goes
 
--- behind the linked positions they go on there too
+-- after the linked positions they continue there too
 pub goes_linked : (from to at : ℕ) (masks : List ℕ) (i n : ℕ) → i < length masks → Has from (at + i) → Has to n → Goes (all_linked from to at masks) i n
 goes_linked from to at [] i n below before after = absurd (omega arith)
 goes_linked from to at (first ∷ masks) zero n below before after =

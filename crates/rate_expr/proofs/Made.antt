@@ -20,13 +20,13 @@ sets_with part follow preds = record {
   preds = preds;
 }
 
--- what was made behind nothing
+-- what was made after nothing
 pub record IsMade (rate : Regex) (part : Part) (follow : List ℕ) (preds : List Predicate) : Type 0 where
   pub part_is : part ≡ part_of rate 0
   pub follow_is : follow ≡ follow_of rate []
   pub preds_is : preds ≡ preds_of rate
 
--- is what was made behind empty lists
+-- is what was made after empty lists
 pub made : (rate : Regex) (before follow : List ℕ) (others preds : List Predicate) (part : Part) → before ≡ [] → others ≡ [] → part ≡ part_of rate (length before) → follow ≡ follow_of rate before → preds ≡ others ++ preds_of rate → IsMade rate part follow preds
 made rate before follow others preds part none no_others is_part is_follow is_preds = record {
   part_is = is_part ∙ ap (λ (masks : List ℕ). part_of rate (length masks)) none;

@@ -109,7 +109,7 @@ pub and-none : (a b : ℕ) → bit_and a b ≡ 0 → AreMeeting a b → ⊥
 and-none a b none (position, has, also) =
     has_zero position (subst (λ (m : ℕ). Has m position) none (has-and_both a b position has also))
 
--- so the test of these bits tells
+-- so the test of these bits decides it
 pub and-meeting : (a b : ℕ) → b < 2 ^ 128 → IsTrue (not (nat_eq (bit_and a b) 0)) ↔ AreMeeting a b
 and-meeting a b fits = (
   λ test. let some : 0 < bit_and a b = grind (arith, nat_tests) in and-some a b some fits,

@@ -8,7 +8,7 @@ use Rattle.rate_expr.specs.Rates.{Regex, empty, one, sequence, choice, star, siz
 use Rattle.rate_expr.proofs.Automata.{Automaton, MeetEither, automaton_of}
 use Rattle.rate_expr.proofs.Numbers.{either_number, number_of}
 
--- the rate has so many predicates
+-- the rate has this many predicates
 pub length-preds_of : (rate : Regex) → length (preds_of rate) ≡ size_of rate
 length-preds_of empty = refl
 length-preds_of (one pred) = refl
@@ -28,7 +28,7 @@ pub record AddPreds (A : Type 0) (number : A → ℕ) (Meet : A → List Field �
   pub each : (p : A) (item : List Field) → Meet p item → MeetsAt after (number p) item
   pub only : (n : ℕ) (item : List Field) → MeetsAt after n item → MeetsAt before n item ⊎ ((p : A) × (number p ≡ n) × Meet p item)
 
--- a predicate behind others leaves them their places
+-- a predicate after others leaves them their places
 meets_before : (preds : List Predicate) (pred : Predicate) (n : ℕ) (item : List Field) → MeetsAt preds n item → MeetsAt (preds ++ pred ∷ []) n item
 meets_before [] pred n item (other, is, meet) = absurd (cc)
 meets_before (first ∷ preds) pred zero item meets = meets
@@ -71,7 +71,7 @@ either_preds a b f g before middle after in_a in_b = record {
     found n item (inl meets) = found_first n item (in_a.only n item meets)
     found n item (inr (q, at, meet)) = inr (inr q, at, meet)
 
--- those of two rates, one behind the other
+-- those of two rates, one after the other
 two_preds : (first second : Regex) (base : ℕ) (before : List Predicate) → AddPreds (automaton_of first).State (number_of first base) (automaton_of first).Meet before (before ++ preds_of first) → AddPreds (automaton_of second).State (number_of second (base + size_of first)) (automaton_of second).Meet (before ++ preds_of first) ((before ++ preds_of first) ++ preds_of second) → AddPreds ((automaton_of first).State ⊎ (automaton_of second).State) (either_number (automaton_of first).State (automaton_of second).State (number_of first base) (number_of second (base + size_of first))) (MeetEither (automaton_of first) (automaton_of second)) before (before ++ (preds_of first ++ preds_of second))
 two_preds first second base before left right =
     rw (← append_assoc before (preds_of first) (preds_of second))

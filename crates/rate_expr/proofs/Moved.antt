@@ -33,7 +33,7 @@ moved_below count mask long below few =
     subst (λ (n : ℕ). moved count mask < 2 ^ n) order
     (subst (λ (m : ℕ). m < 2 ^ (long + count)) (sym (moved_whole count mask long below few)) less)
 
--- the other mask has the positions of the one, each so many higher
+-- the other mask has the positions of the one, each higher by this much
 pub record IsMoved (count mask other : ℕ) : Type 0 where
   pub each : (n : ℕ) → Has mask n → Has other (count + n)
   pub only : (m : ℕ) → Has other m → (n : ℕ) × (count + n ≡ m) × Has mask n

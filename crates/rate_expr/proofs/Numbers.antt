@@ -24,14 +24,14 @@ number_of (star inner) base p = number_of inner base p
 abbrev Within : ℕ → ℕ → ℕ → Type 0
 Within low high n = (low ≤ n) × (n < high)
 
--- the numbers of two parts lie one behind the other
+-- the numbers of two parts lie one after the other
 either_within : (A B : Type 0) (f : A → ℕ) (g : B → ℕ) (low middle high : ℕ) → low ≤ middle → middle ≤ high → ((p : A) → Within low middle (f p)) → ((q : B) → Within middle high (g q)) → (p : A ⊎ B) → Within low high (either_number A B f g p)
 either_within A B f g low middle high up on left right (inl p) =
     let at = left p in (at.0, omega arith)
 either_within A B f g low middle high up on left right (inr q) =
     let at = right q in (omega arith, at.1)
 
--- the numbers are those from the base on, so many
+-- the numbers are this many from the base on
 pub number_within : (rate : Regex) (base : ℕ) (p : (automaton_of rate).State) → (base ≤ number_of rate base p) × (number_of rate base p < base + size_of rate)
 number_within empty base p = absurd p
 number_within (one pred) base p = (omega arith, omega arith)

@@ -8,7 +8,7 @@ use Rattle.rate_expr.proofs.Linking.{Goes}
 use Rattle.rate_expr.proofs.MaskSets.{same-has}
 use Rattle.rate_expr.proofs.SetsOf.{same_test}
 
--- a step behind the first of some masks
+-- a step after the first of some masks
 goes_here : (mask : ℕ) (masks : List ℕ) (n : ℕ) → Goes (mask ∷ masks) zero n ↔ Has mask n
 goes_here mask masks n = (here, λ has. (mask, refl, has))
   where

@@ -6,7 +6,7 @@ use Rattle.rate_expr.specs.Sets.{Sets, Has}
 use Rattle.rate_expr.specs.Paths.{Meets, Follows, LeadsOn, Leads}
 use Rattle.rate_expr.specs.Words.{Word}
 
--- a path behind a position goes on by an item
+-- a path after a position continues by an item
 pub leads_on_more : (sets : Sets) (from : ℕ) (word : Word) (p : ℕ) (item : List Field) (q : ℕ) → LeadsOn sets from word p → Follows sets p q → Meets sets q item → LeadsOn sets from (word ++ item ∷ []) q
 leads_on_more sets from [] p item q is follows meets = (q, subst (λ (b : ℕ). Follows sets b q) (sym is) follows, meets, refl)
 leads_on_more sets from (x ∷ word) p item q on follows meets = (on.0, on.1, on.2, leads_on_more sets on.0 word p item q on.3 follows meets)
@@ -26,7 +26,7 @@ leads_one sets item q begins meets = (q, begins, meets, refl)
 pub leads_only_one : (sets : Sets) (item : List Field) (q : ℕ) → Leads sets (item ∷ []) q → Has sets.first q × Meets sets q item
 leads_only_one sets item q leads = (subst (λ (n : ℕ). Has sets.first n) leads.3 leads.1, subst (λ (n : ℕ). Meets sets n item) leads.3 leads.2)
 
--- a path goes on by an item
+-- a path continues by an item
 pub leads_more : (sets : Sets) (word : Word) (p : ℕ) (item : List Field) (q : ℕ) → Leads sets word p → Follows sets p q → Meets sets q item → Leads sets (word ++ item ∷ []) q
 leads_more sets [] p item q leads follows meets = absurd leads
 leads_more sets (x ∷ word) p item q leads follows meets = (leads.0, leads.1, leads.2, leads_on_more sets leads.0 word p item q leads.3 follows meets)
@@ -42,11 +42,11 @@ leads_less sets (x ∷ word) item q some leads =
 pub meets_below : (sets : Sets) (p : ℕ) (item : List Field) → Meets sets p item → p < length sets.preds
 meets_below sets p item meets = slice_get_within sets.preds p meets.0 meets.1
 
--- a position behind which words go on is one of those that have a set of followers
+-- a position after which words continue is one of those that have a set of followers
 pub follows_below : (sets : Sets) (p q : ℕ) → Follows sets p q → p < length sets.follow
 follows_below sets p q follows = slice_get_within sets.follow p follows.0 follows.1
 
--- a path behind a position ends in one of the positions
+-- a path after a position ends in one of the positions
 pub leads_on_below : (sets : Sets) (from : ℕ) (word : Word) (q : ℕ) → from < length sets.preds → LeadsOn sets from word q → q < length sets.preds
 leads_on_below sets from [] q below is = subst (λ (n : ℕ). n < length sets.preds) is below
 leads_on_below sets from (item ∷ word) q below on = leads_on_below sets on.0 word q (meets_below sets on.0 item on.2) on.3

@@ -23,7 +23,7 @@ leads_on_parts sets from (item ∷ u) v to (next, follows, meets, path) =
     let rest = leads_on_parts sets next u v to path in
     (rest.0, (next, follows, meets, rest.1), rest.2)
 
--- a path from the beginning goes on
+-- a path from the beginning continues
 pub leads_append :
     (sets : Sets) (u : Word) (between : ℕ) (v : Word) (to : ℕ)
     → Leads sets u between → LeadsOn sets between v to → Leads sets (u ++ v) to

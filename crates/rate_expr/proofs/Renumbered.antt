@@ -34,7 +34,7 @@ number_from (choice r s) base p =
     (number_of s 0 q) (number_from s (base + size_of r) q) (number_from s (0 + size_of r) q)) p
 number_from (star inner) base p = number_from inner base p
 
--- a position that is so many higher than one of which it holds
+-- a position that is higher by this much than one of which it holds
 abbrev pub IsFrom : (ℕ → ℕ → Type 0) → ℕ → ℕ → Type 0
 IsFrom Is base m = (n : ℕ) × (base + n ≡ m) × Is 0 n
 
@@ -69,12 +69,12 @@ pub last_from : (rate : Regex) (base m : ℕ)
 last_from rate base m =
     holds_from rate (automaton_of rate).Last (IsLast rate) (last_as rate) base m
 
--- two positions, so many higher than one and the next
+-- two positions, higher by this much than one and the next
 abbrev pub IsStepFrom : Regex → ℕ → ℕ → ℕ → Type 0
 IsStepFrom rate base i m =
     (j : ℕ) × (n : ℕ) × (base + j ≡ i) × (base + n ≡ m) × IsFollowedBy rate 0 j n
 
--- they go on
+-- they continue
 pub follow_from : (rate : Regex) (base i m : ℕ)
     → IsFollowedBy rate base i m ↔ IsStepFrom rate base i m
 follow_from rate base i m = (there, back)

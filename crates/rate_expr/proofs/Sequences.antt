@@ -28,7 +28,7 @@ is_there : (a b : Automaton) (q : b.State) (word : Word) → Continues b q word 
 is_there a b q [] last = last
 is_there a b q (item ∷ word) (p, follow, meet, on) = (inr p, follow, meet, is_there a b p word on)
 
--- a path behind a state of the first goes over into the second once
+-- a path after a state of the first passes into the second once
 goes_over : (a b : Automaton) (p : a.State) (word : Word) → Continues (of_sequence a b) (inl p) word → Splits a b (Continues a p) word
 goes_over a b p [] (last, nullable) = ([], [], refl, last, nullable)
 goes_over a b p (item ∷ word) (inl q, follow, meet, on) =

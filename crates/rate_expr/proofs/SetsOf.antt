@@ -28,7 +28,7 @@ sets_of rate =
       preds = preds_of rate;
     }
 
--- nothing goes on where there is no mask
+-- nothing continues where there is no mask
 step_only : (a : Automaton) (number : a.State → ℕ) (i n : ℕ) → Goes [] i n ⊎ Step a number i n → Step a number i n
 step_only a number i n (inl (mask, is, has)) = absurd (cc)
 step_only a number i n (inr step) = step

@@ -9,7 +9,7 @@ use Rattle.predicate_cells.specs.Predicates.{Predicate, any}
 use Rattle.rate_expr.specs.Shared.{Shared, listed, AreShared}
 use Rattle.rate_expr.proofs.MaskSets.{below-more}
 
--- one element behind others
+-- one element after others
 pub got_before : {X : Type 0} (xs : List X) (x y : X) (i : ℕ) → slice_get xs i ≡ Some y → slice_get (xs ++ x ∷ []) i ≡ Some y
 got_before [] x y i found = absurd (cc)
 got_before (first ∷ xs) x y zero found = found
@@ -167,7 +167,7 @@ new_listed old distinct kept places more place pred is are keeps at added =
     ∙ listed_new (shared_of distinct places) pred (subst AreShared (sym is) are)
     ∙ ap (λ (s : Shared). listed s ++ pred ∷ []) is
 
--- the list with one more of the others behind it
+-- the list with one more of the others after it
 pub listed_more : (before so_far list others : List Predicate) (position : ℕ) (pred : Predicate)
     → so_far ≡ before ++ take position others → slice_get others position ≡ Some pred
     → list ≡ so_far ++ pred ∷ [] → list ≡ before ++ take (position + 1) others

@@ -23,7 +23,7 @@ pub record Say (sets : Sets) (a : Automaton) (number : a.State → ℕ) : Type 0
   pub apart : (p q : a.State) → number p ≡ number q → p ≡ q
 
 module _ (sets : Sets) (a : Automaton) (number : a.State → ℕ) (say : Say sets a number) where
-  -- a path behind a state is one behind its number
+  -- a path after a state is one after its number
   number_path : (p : a.State) (word : Word) → Continues a p word → (to : ℕ) × LeadsOn sets (number p) word to × Has sets.last to
   number_path p [] last = (number p, refl, say.last.each p last)
   number_path p (item ∷ word) (q, follow, meet, on) =
@@ -34,7 +34,7 @@ module _ (sets : Sets) (a : Automaton) (number : a.State → ℕ) (say : Say set
   renamed : (P : a.State → Type 0) (p q : a.State) (n : ℕ) → number p ≡ n → number q ≡ n → P p → P q
   renamed P p q n is other holds = subst P (say.apart p q (is ∙ sym other)) holds
 
-  -- a path behind a number is one behind its state
+  -- a path after a number is one after its state
   state_path : (p : a.State) (from : ℕ) → number p ≡ from → (word : Word) (to : ℕ) → LeadsOn sets from word to → Has sets.last to → Continues a p word
   state_path p from is [] to same has =
       let q = say.last.only to has in renamed a.Last q.0 p to q.1 (is ∙ same) q.2

@@ -1,4 +1,4 @@
--- Behind each word there is a state, and only one.
+-- After each word there is a state, and only one.
 use Rattle.std.proofs.Common.{◌≡◌, ◌⊎◌, inl, inr, ℕ, zero, suc, ◌^◌, ◌<◌, ◌≤◌, ◌↔◌, true, List, [], ◌∷◌, length, bit_or, refl, sym, ap, subst, arith}
 use Rattle.std.proofs.Math.Nat.{eq-or-lt_of_le}
 use Rattle.std.proofs.lemmas.Bool.Decides.{eqb_tells}
@@ -22,7 +22,7 @@ use Rattle.rate_expr.proofs.PathSteps.{meets_below, leads_below}
 decided_same : (m n : ℕ) → Decided (m ≡ n)
 decided_same m n = elim (eqb_tells m n) [ inl same ↦ inl same.1 | inr other ↦ inr other.1 ]
 
--- whether words go on
+-- whether words continue
 decided_goes : (masks : List ℕ) (before next : ℕ) → Decided (Goes masks before next)
 decided_goes [] before next = inr none
   where
@@ -98,7 +98,7 @@ mask_of (suc bound) P each =
       )
     ]
 
--- whether a path behind a position is spelled by a word
+-- whether a path after a position is spelled by a word
 decided_on : (sets : Sets) (from : ℕ) (word : Word) (to : ℕ) → Decided (LeadsOn sets from word to)
 decided_on sets from [] to = decided_same from to
 decided_on sets from (item ∷ word) to =
@@ -122,7 +122,7 @@ decided_leads sets (item ∷ word) to =
     decided_three (Has sets.first begin) (Meets sets begin item) (LeadsOn sets begin word to)
     (decided_same _ 1) (decided_meets sets.preds begin item) (decided_on sets begin word to)))
 
--- there is a state behind each word
+-- there is a state after each word
 pub some_after : (sets : Sets) (word : Word) → (state : State) × IsAfter sets word state
 some_after sets [] = (Initial, tt)
 some_after sets (item ∷ word) =

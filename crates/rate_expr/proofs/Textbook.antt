@@ -155,7 +155,7 @@ last_as (choice r s) base n =
     (λ p. as_it_is (a.Last p)) (λ q. as_it_is (b.Last q)) (last_as r base n) (last_as s next n)
 last_as (star inner) base n = last_as inner base n
 
--- they go on
+-- they continue
 pub follow_as : (rate : Regex) (base i n : ℕ) → Step (automaton_of rate) (number_of rate base) i n ↔ IsFollowedBy rate base i n
 follow_as empty base i n = (λ some. absurd some.0, λ none. absurd none)
 follow_as (one pred) base i n = (λ some. absurd some.4, λ none. absurd none)

@@ -17,7 +17,7 @@ pub word_parts : (columns : List Column) (u v : Word) → IsWordOf columns (u ++
 word_parts columns [] v is = (tt, is)
 word_parts columns (x ∷ u) v is = let parts = word_parts columns u v is.1 in ((is.0, parts.0), parts.1)
 
--- of two beginnings of one word, one goes on to the other
+-- of two beginnings of one word, one continues to the other
 pub comparable : (u v u' v' : Word) → u ++ v ≡ u' ++ v'
     → ((t : Word) × (u' ≡ u ++ t) × (v ≡ t ++ v')) ⊎ ((t : Word) × (u ≡ u' ++ t) × (v' ≡ t ++ v))
 comparable [] v u' v' same = inl (u', refl, same)
@@ -30,6 +30,6 @@ comparable (x ∷ u) v (y ∷ u') v' same =
       | inr more ↦ inr (more.0, cc, more.2)
     ]
 
--- a word with another behind it is not that word
+-- a word with another after it is not that word
 pub longer : (u t : Word) → 0 < length t → u ≢ u ++ t
 longer u t some same = absurd (omega (arith, ap length same, length-append u t))

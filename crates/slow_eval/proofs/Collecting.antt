@@ -93,7 +93,7 @@ module _ (f : Qre) (column : ℕ) (sync : Predicate) (r : rate.Regex) (word : Wo
       subst (IsDistinct bytes_eq) (sym (all_keys ∙ are.whole))
       (keys_are can.columns column sync word can.is_word).distinct
 
-  -- so many are there
+  -- this many are there
   pub keys_enough : (place : ℕ) → place ≤ length word → get_or counts place 0 ≤ length all
   keys_enough place inside =
       let same : length all ≡ length keys = sym (length-map all (λ (k : Keyed). k.key)) ∙ ap length all_keys in

@@ -31,7 +31,7 @@ stream_first : (answer : Option Value) (row : List (Option Value))
 stream_first None row = refl
 stream_first (Some v) row = refl
 
--- the values on all fronts of a word behind a first part come out
+-- the values on all fronts of a word after a first part come out
 outputs : (D : Word → Value → Type 0) (before word : Word) (row : List (Option Value)) → length row ≡ length word + 1
     → ((k : ℕ) → k ≤ length word → IsValueOn D (before ++ take k word) (get_or row k None))
     → Outputs D before word (stream_of row)

@@ -1,4 +1,4 @@
--- Fronts of words, and what is behind them.
+-- Fronts of words, and what is after them.
 use Rattle.std.proofs.Common.{append_assoc, ◌≡◌, ◌≤◌, ℕ, ◌+◌, ◌-◌, ◌++◌, ◌∙◌, List, length, take, drop, refl, sym, subst, ap, arith, length-append, length-take-le, take-append-drop, take_at, drop_at, take_all, length-drop}
 use Rattle.item_schema.specs.declared.column.Column.{Column}
 use Rattle.rate_expr.specs.Words.{Word, IsWordOf}
@@ -37,6 +37,6 @@ rest_word columns word place is =
     (word_parts columns (take place word) (drop place word)
     (subst (IsWordOf columns) (sym (take-append-drop place word)) is)).1
 
--- all that is behind a front
+-- all that is after a front
 pub rest_is : (word : Word) (place : ℕ) → take (length word - place) (drop place word) ≡ drop place word
 rest_is word place = take_all (length word - place) (drop place word) (omega (arith, length-drop place word))

@@ -1,4 +1,4 @@
--- Rows that are filled with what a left value on a front and a right value behind it give.
+-- Rows that are filled with what a left value on a front and a right value after it give.
 use Rattle.std.proofs.Common.{◌≡◌, ◌<◌, ◌≤◌, ℕ, ◌+◌, ◌-◌, ◌∙◌, List, Option, Some, None, length, take, drop, get_or, refl, sym, subst, arith, ◌⊎◌, inl, inr}
 use Rattle.value_ops.specs.declared.value.Value.{Value}
 use Rattle.value_ops.specs.Expressions.{Expression}
@@ -14,7 +14,7 @@ some_or_none None = inr refl
 some_or_none (Some v) = inl (v, refl)
 
 -- The values of the row are values of the whole, and where the row has none, no left value on a front shorter
--- than `at` and right value behind it give one.
+-- than `at` and right value after it give one.
 pub record IsFilled (L R W : Word → Value → Type 0) (expression : Expression) (word : Word) (at : ℕ)
     (row : List (Option Value)) : Type 0 where
   pub count : length row ≡ length word + 1
@@ -32,7 +32,7 @@ skipped L R W expression word at row filled none = record {
   full = below_more _ _ filled.full (λ m x y v inside left right gives empty. none x left);
 }
 
--- the right answers behind a front
+-- the right answers after a front
 pub record AreAfter (R : Word → Value → Type 0) (word : Word) (at : ℕ) (right : List (Option Value)) : Type 0 where
   pub count : length right ≡ length word - at + 1
   pub some : (m : ℕ) (y : Value) → at + m ≤ length word → get_or right m None ≡ Some y → R (take m (drop at word)) y
@@ -67,7 +67,7 @@ joined_at L R W expression word at old new right x filled is_joined after whole 
       | inr (none, same) ↦ filled.sound (at + m) v within (sym same ∙ there)
     ]
 
--- a place is before another, or behind it by so many
+-- a place is before another, or after it by this many
 before_or_after : (at place : ℕ) → (place < at) ⊎ ((m : ℕ) × (place ≡ at + m))
 before_or_after at place =
     elim (cases_lt place at) [
@@ -94,7 +94,7 @@ kept_at L R W expression word at old new right x is_joined after place within no
           ])
     ]
 
--- a left value on the front, joined with all right values behind it
+-- a left value on the front, joined with all right values after it
 pub joined : (L R W : Word → Value → Type 0) (expression : Expression) (word : Word) (at : ℕ)
     (old new right : List (Option Value)) (x : Value) → IsFilled L R W expression word at old
     → IsJoined expression x right at old new → AreAfter R word at right → at ≤ length word

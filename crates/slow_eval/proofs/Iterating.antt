@@ -93,7 +93,7 @@ iter_answer f number e word at row can so_far place tried inside =
     (λ none v (pieces, whole, folds).
     no_fold f number e word at row can so_far place tried inside none pieces v whole folds)
 
--- one more piece behind a front that has a value
+-- one more piece after a front that has a value
 one_piece_more : (f : Qre) (number : ℤ) (e : Expression) (word : Word) (at m : ℕ) (x y v : Value)
     → Den (iter f number e) (take at word) x → Den f (take m (drop at word)) y → on_both e x y ≡ Some v
     → Den (iter f number e) (take (at + m) word) v
@@ -103,7 +103,7 @@ one_piece_more f number e word at m x y v (pieces, whole, folds) den gives = (
   fold_more (Den f) e pieces (take m (drop at word)) (value.Scalar (Number number)) x y v folds den gives,
 )
 
--- the expression is well typed on the value so far and those behind it
+-- the expression is well typed on the value so far and those after it
 pub iter_typed : (f : Qre) (number : ℤ) (e : Expression) (word : Word) (at : ℕ) (row : List (Option Value))
     → CanBeRead (iter f number e) word → IsIterated f number e word at row → at ≤ length word
     → IsTypedWithRest f (drop at word) e (get_or row at None)
@@ -125,7 +125,7 @@ begins_still e x right zero old new n is begins some none =
 begins_still e x right (suc from) old new n is begins some none =
     begins (sym (is.before 0 (omega arith)) ∙ none)
 
--- a front with a value, and all pieces behind it
+-- a front with a value, and all pieces after it
 iter_joined : (f : Qre) (number : ℤ) (e : Expression) (word : Word) (at : ℕ) (row new : List (Option Value))
     (x : Value) → CanBeRead (iter f number e) word → IsIterated f number e word at row → at ≤ length word
     → get_or row at None ≡ Some x → IsJoinedWithRest f (drop at word) e (Some x) at row new

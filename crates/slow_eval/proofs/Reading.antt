@@ -25,7 +25,7 @@ of_right f g e word can = record { standing = bound; columns = can.columns; clea
 abbrev pub of_inner : (f : Qre) (e : Expression) (word : Word) → CanBeRead (apply f e) word → CanBeRead f word
 of_inner f e word can = record { standing = bound; columns = can.columns; clear = can.clear.0; is_word = can.is_word; positions = can.positions }
 
--- those of a split, the second behind a front
+-- those of a split, the second after a front
 abbrev pub of_front : (f g : Qre) (e : Expression) (word : Word) → CanBeRead (split f g e) word → CanBeRead f word
 of_front f g e word can = record { standing = bound; columns = can.columns; clear = can.clear.0; is_word = can.is_word; positions = can.positions.0 }
 
@@ -33,7 +33,7 @@ abbrev pub of_rest : (f g : Qre) (e : Expression) (word : Word) (at : ℕ) → C
     → CanBeRead g (drop at word)
 of_rest f g e word at can = record { standing = bound; columns = can.columns; clear = can.clear.1; is_word = rest_word can.columns word at can.is_word; positions = can.positions.1 }
 
--- that of an iter, behind a front
+-- that of an iter, after a front
 abbrev pub of_piece : (f : Qre) (number : ℤ) (e : Expression) (word : Word) (at : ℕ) → CanBeRead (iter f number e) word
     → CanBeRead f (drop at word)
 of_piece f number e word at can = record { standing = bound; columns = can.columns; clear = can.clear.0; is_word = rest_word can.columns word at can.is_word; positions = can.positions }

@@ -17,7 +17,7 @@ use Rattle.slow_eval.proofs.WellTyped.{typed_at, typed_on_both}
 abbrev pub IsSplit : Qre → Qre → Expression → Word → ℕ → List (Option Value) → Type 0
 IsSplit f g e word at row = IsFilled (Den f) (Den g) (Den (split f g e)) e word at row
 
--- the answers of a query behind a front
+-- the answers of a query after a front
 pub answers_after : (g : Qre) (word : Word) (at : ℕ) (right : List (Option Value)) → at ≤ length word
     → AreAnswers g (drop at word) right → AreAfter (Den g) word at right
 answers_after g word at right inside answers =
@@ -29,7 +29,7 @@ answers_after g word at right inside answers =
       none = λ m y within there den. is_none g (take m (drop at word)) _ (answers.each m (omega arith)) there y den;
     }
 
--- the expression is well typed on a left value and those behind it
+-- the expression is well typed on a left value and those after it
 pub split_typed : (f g : Qre) (e : Expression) (word : Word) (at : ℕ) (lefts : List (Option Value))
     → CanBeRead (split f g e) word → AreAnswers f word lefts
     → IsTypedWithRest g (drop at word) e (get_or lefts at None)
@@ -38,7 +38,7 @@ split_typed f g e word at lefts can left = λ place x y there den.
     (typed_at f word at x (of_front f g e word can) (value_at f word lefts at x left there).1)
     (typed_at g (drop at word) place y (of_rest f g e word at can) den) can.clear.2
 
--- a left value, and all right ones behind it
+-- a left value, and all right ones after it
 split_joined : (f g : Qre) (e : Expression) (word : Word) (at : ℕ) (lefts row new : List (Option Value))
     (x : Value) → CanBeRead (split f g e) word → AreAnswers f word lefts → IsSplit f g e word at row
     → get_or lefts at None ≡ Some x → IsJoinedWithRest g (drop at word) e (Some x) at row new

@@ -1,4 +1,4 @@
--- Where words go on in the positions of a rate, item by item.
+-- Where words continue in the positions of a rate, item by item.
 use Rattle.std.proofs.Common.{◌≡◌, inl, inr, ℕ, ◌+◌, ◌^◌, ◌<◌, ◌≤◌, ◌↔◌, ◌++◌, ◌∙◌, Bool, true, false, List, [], ◌∷◌, Some, IsTrue, bit_or, length, take, get_or, refl, sym, ap, subst, arith}
 use Rattle.std.specs.Prelude.{MatchBool, slice_get}
 use Rattle.std.proofs.lemmas.List.{get_or_append_left, get_or_push, length_push, take_more}
@@ -61,7 +61,7 @@ met_all sets mask item bound met so_far all position = (
       (so_far position).1 (omega arith, both.0, both.1),
 )
 
--- the positions behind those of the mask that are below a bound
+-- the positions after those of the mask that are below a bound
 abbrev pub AreAfterBelow : Sets → ℕ → ℕ → ℕ → Type 0
 AreAfterBelow sets mask bound reached =
     (next : ℕ) → Has reached next ↔ ((from : ℕ) × (from < bound) × Has mask from × Follows sets from next)
@@ -112,7 +112,7 @@ after_all sets mask bound reached are so_far all next = (
       (so_far next).1 (from, omega arith, has, follows),
 )
 
--- a word goes on in the position
+-- a word continues in the position
 abbrev pub Continues : Sets → Word → ℕ → Type 0
 Continues sets [] next = Has sets.first next
 Continues sets (item ∷ word) next = (from : ℕ) × Leads sets (item ∷ word) from × Follows sets from next
@@ -142,7 +142,7 @@ ends_more sets (first ∷ word) item ways ends are met to = (
       (met to).1 ((are to).1 (from, less, follows), meets),
 )
 
--- what comes behind the ends are the ways on
+-- what comes after the ends are the ways on
 pub ways_more : (sets : Sets) (word : Word) (item : List Field) (ends ways : ℕ)
     → AreEnds sets (word ++ item ∷ []) ends → AreAfter sets ends ways → AreWays sets (word ++ item ∷ []) ways
 ways_more sets [] item ends ways are reached next = (
@@ -167,7 +167,7 @@ spells_more sets (first ∷ word) item ends test are meeting = (
   λ (end, leads, last). meeting.1 (end, (are end).1 leads, last),
 )
 
--- which of the fronts so far are spelled, and where the longest of them goes on
+-- which of the fronts so far are spelled, and where the longest of them continues
 pub record IsStepped (sets : Sets) (word : Word) (at ways : ℕ) (fronts : List Bool) : Type 0 where
   pub count : length fronts ≡ at + 1
   pub each : (place : ℕ) → place ≤ at → IsTrue (get_or fronts place false) ↔ Spells sets (take place word)

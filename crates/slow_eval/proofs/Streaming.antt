@@ -56,7 +56,7 @@ on_begin firsts seconds = record {
   each = λ place below. absurd (omega arith);
 }
 
--- one more answer is the second one on so many items, where there is a first
+-- one more answer is the second one on this many items, where there is a first
 on_step : (firsts seconds row : List (Option Value)) (at items after : ℕ) (answer : Option Value)
     → IsOnStreamSoFar firsts seconds row at items → after ≡ length (stream_of (take (at + 1) firsts))
     → answer ≡ option_and (get_or firsts at None) (get_or seconds after None)
@@ -95,7 +95,7 @@ on_none firsts seconds row at items so_far inside there =
     (so_far.items_are ∙ ap length (sym (stream_none firsts at inside there)))
     (ap (λ a. option_and a (get_or seconds items None)) (sym there))
 
--- so many items there are at least, with one more first answer
+-- this many items there are at least, with one more first answer
 pub items_inside : (firsts seconds row : List (Option Value)) (at items : ℕ) (v : Value)
     → IsOnStreamSoFar firsts seconds row at items → at < length firsts → get_or firsts at None ≡ Some v
     → items + 1 ≤ length (stream_of firsts)

@@ -64,7 +64,7 @@ distinct_take (suc n) (one ∷ all) distinct =
     (keys_take (λ key. bytes_eq one.key key ≡ false) n all (IsDistinct-head bytes_eq one.key (keys_in all) distinct))
     (distinct_take n all (IsDistinct-tail bytes_eq one.key (keys_in all) distinct))
 
--- and are not the one behind them
+-- and are not the one after them
 earlier_differ : (all : List Keyed) (i : ℕ) (d : Keyed) → IsDistinct bytes_eq (keys_in all) → i < length all
     → AllByRecursion (λ (one : Keyed). bytes_eq one.key (get_or all i d).key ≡ false) (take i all)
 earlier_differ [] i d distinct inside = absurd (omega arith)

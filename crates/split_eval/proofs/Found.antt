@@ -6,13 +6,13 @@ use Rattle.split_eval.specs.Entries.{entry_at, live_entries, without}
 use Rattle.split_eval.specs.declared.entry.Entry.{Entry}
 
 module _ {V : Type 0} where
-  -- an entry is found before all behind it
+  -- an entry is found before all after it
   pub found_first : (x : Entry V) (es : List (Entry V)) (inner : ℕ) → x.inner ≡ inner
       → entry_at (x ∷ es) inner ≡ Some x
   found_first x es inner is =
       ap (λ (same : Bool). cond same (Some x) (entry_at es inner)) (eq-eqb x.inner inner is)
 
-  -- behind an entry with another inner start the same is found as with it
+  -- after an entry with another inner start the same is found as with it
   pub found_after : (x : Entry V) (es : List (Entry V)) (inner : ℕ) → x.inner ≢ inner
       → entry_at (x ∷ es) inner ≡ entry_at es inner
   found_after x es inner differs =
@@ -23,7 +23,7 @@ module _ {V : Type 0} where
       → entry_at (x ∷ es) inner ≡ None → x.inner ≢ inner
   first_differs x es inner none is = none-some x (sym none ∙ found_first x es inner is)
 
-  -- and nothing is found behind it
+  -- and nothing is found after it
   pub none_after : (x : Entry V) (es : List (Entry V)) (inner : ℕ)
       → entry_at (x ∷ es) inner ≡ None → entry_at es inner ≡ None
   none_after x es inner none =

@@ -16,7 +16,7 @@ module _ {V : Type 0} where
       first_differs x es e.inner none (ap (λ (y : Entry V). y.inner) (same_Some x e at))
   present (x ∷ es) (suc i) e at none = present es i e at (none_after x es e.inner none)
 
-  -- the first of distinct entries has another inner start than one behind it
+  -- the first of distinct entries has another inner start than one after it
   differs_after : (x : Entry V) (es : List (Entry V)) (i : ℕ) (e : Entry V)
       → AreDistinct (x ∷ es) → slice_get es i ≡ Some e → x.inner ≢ e.inner
   differs_after x es i e distinct at is =
@@ -71,7 +71,7 @@ module _ {V : Type 0} where
   nothing_there inner es seen same none =
       ap (λ (xs : List (Entry V)). entry_at xs inner) (sym same) ∙ no_place inner 0 seen (sym none)
 
-  -- what stands so far behind a place
+  -- what stands so far after a place
   pub record IsPlace (es : List (Entry V)) (inner from place : ℕ) : Type 0 where
     pub at : ℕ
     pub entry : Entry V

@@ -17,7 +17,7 @@ comes-below sets targets position are (next, (follow, read, has), also) =
     let within : position < length sets.follow = slice_get_within sets.follow position follow read in
     subst (λ (n : ℕ). position < n) are.each within
 
--- of the positions below a bound, those behind which one of the targets comes
+-- of the positions below a bound, those after which one of the targets comes
 pub record AreBefore (sets : Sets) (targets bound found : ℕ) : Type 0 where
   pub sound : (position : ℕ) → Has found position → ComesBefore sets targets position
   pub whole : (position : ℕ) → position < bound → ComesBefore sets targets position → Has found position

@@ -1,4 +1,4 @@
--- The positions behind those of a mask, gathered from the lowest on.
+-- The positions after those of a mask, gathered from the lowest on.
 use Rattle.std.proofs.Common.{◌≡◌, ◌⊎◌, inl, inr, ℕ, ◌^◌, ◌<◌, ◌≤◌, ◌↔◌, Some, length, sym, subst, bit_or, arith}
 use Rattle.std.specs.Prelude.{slice_get}
 use Rattle.std.proofs.lemmas.Nat.{or_lt, pow_pos}
@@ -11,7 +11,7 @@ use Rattle.symbolic_nfa.proofs.Lists.{all-at, one-at}
 use Rattle.rate_expr.proofs.MaskMembers.{has_first, has_or, has_second, has_zero}
 use Rattle.rate_expr.proofs.MaskSets.{has-below}
 
--- what comes behind the positions of the mask was found, but for those that are left
+-- what comes after the positions of the mask was found, but for those that are left
 pub record AreGathered (sets : Sets) (mask rest found : ℕ) : Type 0 where
   pub left : rest ≤ mask
   pub kept : (from : ℕ) → Has rest from → Has mask from
@@ -41,7 +41,7 @@ one_lowest : (mask low other : ℕ) → IsLowest mask low → IsLowest mask othe
 one_lowest mask low other is also =
     let below = is.least other also.has in let above = also.least low is.has in omega arith
 
--- those behind the lowest that is left
+-- those after the lowest that is left
 pub gathered-step :
     (sets : Sets) (mask rest found low after follow : ℕ) → AreSets sets
     → AreGathered sets mask rest found → IsLowest rest low

@@ -13,7 +13,7 @@ use Rattle.rate_expr.specs.declared.state.State.{State}
 use Rattle.rate_expr.specs.declared.state.State.TheVariants.{Initial, At}
 use Rattle.rate_expr.proofs.MaskSets.{AreMeeting, has-and, has-and_both}
 
--- the positions in which words go on, of those that the items of the cell meet
+-- the positions in which words continue, of those that the items of the cell meet
 pub steps_to-and :
     (sets : Sets) (cells : Partition) (state : State) (cell ways met : ℕ) (item : List Field)
     → AreWaysOn sets state ways → IsMet sets cells cell met
@@ -60,7 +60,7 @@ module _ (nfa seen : Automaton) (met : List ℕ) (growing : ℕ) (begins : Bool)
   pub step_along-below : bit_and ways mask < 2 ^ length seen.sets.preds
   step_along-below = let met_below = is_met.within in omega (arith, and_le_r ways mask)
 
--- a state extends exactly where a word goes on from it in a useful position
+-- a state extends exactly where a word continues from it in a useful position
 extends-useful :
     (nfa : Automaton) (state : State)
     → Extends nfa state ↔ ((next : ℕ) × Continues nfa.sets state next × IsUseful nfa next)

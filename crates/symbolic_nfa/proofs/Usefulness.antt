@@ -1,4 +1,4 @@
--- The positions that are useful, told by masks alone.
+-- The positions that are useful, found by masks alone.
 use Rattle.std.proofs.Common.{◌≡◌, ◌⊎◌, inl, inr, ℕ, zero, suc, ◌<◌, ◌^◌, ◌↔◌, List, [], ◌∷◌, Some, length, fold, refl, sym, subst, slice_get, get_or, Bool, IsTrue, bit_or}
 use Rattle.std.proofs.lemmas.Option.{slice_get-get_or, slice_get_within}
 use Rattle.value_ops.specs.declared.field.Field.{Field}

@@ -14,7 +14,7 @@ use Rattle.rate_expr.specs.declared.state.State.{State}
 use Rattle.rate_expr.specs.declared.state.State.TheVariants.{Initial, At}
 use Rattle.rate_expr.proofs.PathsOn.{leads_append, leads_begun_parts}
 
--- one item behind the empty word
+-- one item after the empty word
 after_first :
     (sets : Sets) (item : List Field) (mask : ℕ) → StepsTo sets Initial item mask
     → IsAfter sets (item ∷ []) (At mask)
@@ -24,7 +24,7 @@ after_first sets item mask steps to = (
       subst (λ (p : ℕ). Has mask p) here (steps.whole begin first meets),
 )
 
--- one item behind any other
+-- one item after any other
 after_next :
     (sets : Sets) (first : List Field) (word : Word) (mask : ℕ) (item : List Field) (after : ℕ)
     → IsAfter sets (first ∷ word) (At mask) → StepsTo sets (At mask) item after
@@ -40,7 +40,7 @@ after_next sets first word mask item after holds_after steps to = (
       (steps.whole on.0 (rest.0, (holds_after rest.0).1 rest.1, on.1) on.2),
 )
 
--- a step leads from the state behind a word to the one behind the word and the item
+-- a step leads from the state after a word to the one after the word and the item
 pub is_after-step :
     (sets : Sets) (word : Word) (state next : State) (item : List Field) → IsAfter sets word state
     → Steps sets state item next → IsAfter sets (word ++ item ∷ []) next
@@ -71,7 +71,7 @@ is_accepted-in sets rate word state are holds_after =
     let spells = is_accepted-spells sets word state holds_after in
     (λ h. (are word).1 (spells.0 h), λ h. spells.1 ((are word).0 h))
 
--- a way on from the state behind a word is spelled by what comes behind it in a word to an end
+-- a way on from the state after a word is spelled by what comes after it in a word to an end
 pub leads_to_end-spells :
     (sets : Sets) (u : Word) (state : State) (item : List Field) (word : Word) → IsAfter sets u state
     → LeadsToEnd sets state (item ∷ word) ↔ Spells sets (u ++ item ∷ word)
@@ -94,7 +94,7 @@ leads_to_end-spells sets (first ∷ u) (At mask) item word holds_after = (
       (on.0, end, (rest.0, (holds_after rest.0).1 rest.1, on.1), on.2, on.3, last),
 )
 
--- the state behind a word extends exactly where the word has an extension
+-- the state after a word extends exactly where the word has an extension
 pub extends-in :
     (nfa : Automaton) (rate : Regex) (u : Word) (state : State) → AreOf nfa.sets rate
     → IsAfter nfa.sets u state → Extends nfa state ↔ HasExtension nfa.cells.layout.columns rate u

@@ -113,7 +113,7 @@ scalar_at start entries bytes i entry within is =
     rw (values_of-entries_from start entries bytes) (slice_get-map (λ (e : Entry). e.value) entries i
     ∙ ap (option_map (λ (e : Entry). e.value)) (slice_get_read entries (length entries) i entry refl within is))
 
--- bytes behind a key do not change it
+-- bytes after a key do not change it
 between-append : (start end : ℕ) (bytes more : List ℕ) → start ≤ end → end ≤ length bytes
     → between start end (bytes ++ more) ≡ between start end bytes
 between-append start end bytes more up within =
@@ -122,7 +122,7 @@ between-append start end bytes more up within =
     let fits : end - start ≤ length (drop start bytes) = omega arith in
     rw (drop-append-le start bytes more below) (take-append-le (end - start) (drop start bytes) more fits)
 
--- a key behind the bytes of the others becomes the last one
+-- a key after the bytes of the others becomes the last one
 pub entries_from-push : (start : ℕ) (entries : List Entry) (bytes key : List ℕ) (entry : Entry)
     → KeysFill start entries (length bytes) → entry.end ≡ length (bytes ++ key)
     → entries_from start (entries ++ entry ∷ []) (bytes ++ key)

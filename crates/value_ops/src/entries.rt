@@ -64,7 +64,7 @@ impl Entries {
         }
     }
 
-    /// None, with room for so many whose keys are short.
+    /// None, with room for this many whose keys are short.
     pub(crate) fn with_capacity(alloc: Global, entries: usize) -> Result<Entries, AllocError>
         ensures { IfOk result (λ none. none ≡ []) }
     {
@@ -109,7 +109,7 @@ impl Entries {
         ensures ty { result ≡ ValueType.Table }
         ensures entries { IsTable self.now }
     {
-        // Reading the entries tells that they are those of a table.
+        // Reading the entries shows that they are those of a table.
         let _entries = &self.entries;
         ValueType::Table
     }

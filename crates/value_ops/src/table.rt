@@ -48,7 +48,7 @@ impl Table {
         }
     }
 
-    /// The empty table, with room for so many entries whose keys are short.
+    /// The empty table, with room for this many entries whose keys are short.
     pub fn with_capacity(alloc: Global, entries: usize) -> Result<Table, AllocError>
         ensures { IfOk result (λ table. table ≡ []) }
     {

@@ -16,7 +16,7 @@ product_of-width-requires c =
 pub product_of-requires : goal.product_of-requires
 product_of-requires c = omega (arith, take_le c.args.columns.now c.args.column, c.requires)
 
--- a block is as long as the cells of the column and those behind it
+-- a block is as long as the cells of the column and those after it
 pub block_of-requires : goal.block_of-requires
 block_of-requires c =
     let found = c.in-Some.ensures.lookup in

@@ -3,7 +3,7 @@ use Rattle.std.proofs.Math.Bool.{and-false}
 use Rattle.std.proofs.lemmas.Grind.{common_steps}
 use Rattle.query_syntax.proofs.query_head.query_named.Goals as goal
 
--- no query has so many arguments
+-- no query has this many arguments
 pub returns-in_default : goal.returns-in_default
 returns-in_default c =
     let one : nat_eq 1 c.args.count ≡ false = grind (arith, common_steps) in

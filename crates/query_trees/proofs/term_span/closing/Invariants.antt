@@ -1,4 +1,4 @@
--- the tokens behind, inside of so many calls, give what all of them give
+-- the tokens that follow, inside of this many calls, give what all of them give
 use Rattle.std.proofs.Common.{◌≡◌, ◌≤◌, drop}
 use Rattle.query_trees.specs.Ends.{closing}
 use Rattle.query_trees.proofs.term_span.closing.Given as goal

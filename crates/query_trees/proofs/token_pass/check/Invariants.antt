@@ -1,4 +1,4 @@
--- the place is the one behind the tokens so far, inside of no more calls than these
+-- the place is the one after the tokens so far, inside of no more calls than these
 use Rattle.std.proofs.Common.{◌≡◌, ◌≤◌, Some, take}
 use Rattle.query_trees.specs.Steps.{walk, start, calls_of}
 use Rattle.query_trees.proofs.token_pass.check.Given as goal

@@ -4,7 +4,7 @@ use Rattle.compose_eval.specs.Followers.{IsKept}
 use Rattle.compose_eval.proofs.Parting.{HasParted}
 use Rattle.compose_eval.proofs.instances.Instances.keep.Given as goal
 
--- so many instances have been seen, and all stay in their room
+-- this many instances have been seen, and all stay in their room
 abbrev pub invariant-instances : goal.invariant-instances
 invariant-instances g l =
     HasParted (goal.F-post g) l.fn.live l.fn.self.live l.fn.self.idle l.counter l.place

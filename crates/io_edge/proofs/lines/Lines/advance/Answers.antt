@@ -19,7 +19,7 @@ returns-in-Some-clause-again g c =
       limit = λ _ no_lf full. absurd (Goes-at_limit _ _ _ _ _ now.takes.goes c.in-Some.ensures now.few no_lf full);
     }
 
--- what a step stopped by is handed on, and is not a fault where it is the limit
+-- what a step stopped by is returned, and is not a fault where it is the limit
 not_failed : {T U : Type 0} (result : Result T LineStop) (stop why : LineStop) → result ≡ Err stop → stop ≡ why
     → IsErrOf {T = U} (Err why) Limit → IsErrOf result Failed → ⊥
 not_failed result stop why is same limit failed = cc (is, same, limit, failed)

@@ -1,4 +1,4 @@
--- The key is none of those before it, and its bytes stand behind theirs.
+-- The key is none of those before it, and its bytes stand after theirs.
 use Rattle.std.proofs.Common.{◌≡◌, ◌++◌, [], ◌∷◌, List, length, ◌∙◌, ap}
 use Rattle.value_ops.specs.declared.entries.Entry.{Entry}
 use Rattle.value_ops.proofs.EntryLaws.{IsTable-push}
