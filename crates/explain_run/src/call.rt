@@ -1,8 +1,9 @@
 //! The top call.
 ghost use Rattle.std.specs.Prelude.{◌≡◌, ◌≢◌, OnOk, MatchResult};
 ghost use Rattle.std.specs.Io.KnownBytes.{Appends};
-ghost use Rattle.io_edge.specs.Counts.{FailsBy, FailsByFault};
+ghost use Rattle.io_edge.specs.Counts.{FailsByFault};
 ghost use Rattle.io_edge.specs.Written.{AppendsSome};
+ghost use Rattle.sqre_run.specs.Faults.{LeavesFlushed, ReportsFault};
 ghost use Rattle.explain_run.specs.Call.{Outcome, Reported};
 
 use crate::Status;
@@ -18,12 +19,9 @@ const MAX_READ: usize = 65_537;
 pub fn explain<Q: Source, W: Sink>(alloc: Global, name: &str, query: &mut Q, out: &mut W) -> Status
     ensures outcome { Outcome name.now (Q.left query.old) (Q.left query.new)
         (Q.ends query.old) (Q.ends query.new) (W.taken out.old) (W.taken out.new) result }
-    ensures query_faults { FailsBy (Q.faults query.old) (Q.faults query.new)
-        (result ≡ Status.QueryFault) }
-    ensures sink_faults { FailsBy (W.faults out.old) (W.faults out.new)
-        (result ≡ Status.SinkFault) }
-    ensures flushed { W.held out.old ≡ 0 → (result ≡ Status.SinkFault → ⊥)
-        → W.held out.new ≡ 0 }
+    ensures query_faults { ReportsFault result Status.QueryFault Q.faults query.old query.new }
+    ensures sink_faults { ReportsFault result Status.SinkFault W.faults out.old out.new }
+    ensures flushed { LeavesFlushed result Status.SinkFault W.held out.old out.new }
 {
     match read_to_limit(alloc, query, MAX_READ) {
         Ok(text) => explain_text(alloc, name, text.as_slice(), out),
@@ -35,10 +33,9 @@ pub fn explain<Q: Source, W: Sink>(alloc: Global, name: &str, query: &mut Q, out
 // Writes and flushes the explanation of the refusal of a text, if it is refused.
 fn explain_text<W: Sink>(alloc: Global, name: &str, text: &[u8], out: &mut W) -> Status
     ensures reported { Reported name.now text.now (W.taken out.old) (W.taken out.new) result }
-    ensures faults { FailsBy (W.faults out.old) (W.faults out.new) (result ≡ Status.SinkFault) }
+    ensures faults { ReportsFault result Status.SinkFault W.faults out.old out.new }
     ensures read { result ≢ Status.QueryFault }
-    ensures flushed { W.held out.old ≡ 0 → (result ≡ Status.SinkFault → ⊥)
-        → W.held out.new ≡ 0 }
+    ensures flushed { LeavesFlushed result Status.SinkFault W.held out.old out.new }
 {
     match explanation_of(alloc, name, text) {
         Ok(None) => Status::Accepted,

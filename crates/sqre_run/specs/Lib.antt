@@ -4,6 +4,7 @@ pub mod Commands
 pub mod Compiled
 pub mod Drilled
 pub mod Drilling
+pub mod Faults
 pub mod Handed
 pub mod Meanings
 pub mod OneLine

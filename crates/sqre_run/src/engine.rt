@@ -1,6 +1,5 @@
 //! What is done with a query that is accepted.
 ghost use Rattle.std.specs.Prelude.{◌≡◌, Some, IfOk};
-ghost use Rattle.io_edge.specs.Counts.{FailsBy};
 ghost use Rattle.query_model.specs.Bounds.{places_of, slots_of};
 ghost use Rattle.query_model.specs.Monitors.{monitor_of};
 ghost use Rattle.query_model.specs.Queries.{plain_of};
@@ -8,6 +7,7 @@ ghost use Rattle.report_writer.specs.Texts.{bound_text};
 ghost use Rattle.sqre_run.specs.Call.{LeavesItems};
 ghost use Rattle.sqre_run.specs.Carried.{Carried};
 ghost use Rattle.sqre_run.specs.Drilling.{IsDrillable};
+ghost use Rattle.sqre_run.specs.Faults.{LeavesFlushed, ReportsFault};
 ghost use Rattle.sqre_run.specs.Outside.{outside};
 
 use crate::Status;
@@ -34,12 +34,9 @@ pub fn carry_out<S: Source, W: Sink>(
     ensures carried { let at = outside S.left S.ends W.taken in
         Carried command (monitor_of checked.now) result (at items.old out.old) (at items.new out.new) }
     ensures items { LeavesItems (Some command) items.old items.new }
-    ensures flushed { W.held out.old ≡ 0 → (result ≡ Status.SinkFault → ⊥)
-        → W.held out.new ≡ 0 }
-    ensures item_faults { FailsBy (S.faults items.old) (S.faults items.new)
-        (result ≡ Status.ItemFault) }
-    ensures sink_faults { FailsBy (W.faults out.old) (W.faults out.new)
-        (result ≡ Status.SinkFault) }
+    ensures flushed { LeavesFlushed result Status.SinkFault W.held out.old out.new }
+    ensures item_faults { ReportsFault result Status.ItemFault S.faults items.old items.new }
+    ensures sink_faults { ReportsFault result Status.SinkFault W.faults out.old out.new }
 {
     match command {
         Command::Run(engine) => run_query(alloc, engine, checked, items, out),

@@ -1,6 +1,5 @@
 //! Refusing a query.
-ghost use Rattle.std.specs.Prelude.{◌≡◌};
-ghost use Rattle.io_edge.specs.Counts.{FailsBy};
+ghost use Rattle.sqre_run.specs.Faults.{LeavesFlushed, ReportsFault};
 ghost use Rattle.sqre_run.specs.Handed.{Refuses};
 
 use crate::Status;
@@ -12,9 +11,8 @@ use std::alloc::AllocError;
 /// Writes the lines of a refusal and flushes them. Out of memory for them, it writes nothing.
 pub fn refuse<W: Sink>(lines: Result<Bytes, AllocError>, out: &mut W) -> Status
     ensures refuses { Refuses result lines (W.taken out.old) (W.taken out.new) }
-    ensures flushed { W.held out.old ≡ 0 → (result ≡ Status.SinkFault → ⊥)
-        → W.held out.new ≡ 0 }
-    ensures cause { FailsBy (W.faults out.old) (W.faults out.new) (result ≡ Status.SinkFault) }
+    ensures flushed { LeavesFlushed result Status.SinkFault W.held out.old out.new }
+    ensures cause { ReportsFault result Status.SinkFault W.faults out.old out.new }
 {
     let Ok(lines) = lines else {
         return Status::Memory;

@@ -1,11 +1,11 @@
 //! The loop over the lines of the items.
 ghost use Rattle.std.specs.Prelude.{◌≡◌, ◌⊎◌, ◌<◌, ◌≤◌, [], IfNone, IfSome};
-ghost use Rattle.io_edge.specs.Counts.{FailsBy};
 ghost use Rattle.io_edge.specs.Limits.{max_count};
 ghost use Rattle.io_edge.specs.Reported.{IsQuiet};
 ghost use Rattle.query_model.specs.Checked.{OnStream};
 ghost use Rattle.query_model.specs.Monitors.{monitor_of};
 ghost use Rattle.query_model.specs.Queries.{plain_of};
+ghost use Rattle.sqre_run.specs.Faults.{EndsFlushed, LeavesFlushed, ReportsFault};
 ghost use Rattle.sqre_run.specs.Outside.{Outside, outside, Ended};
 ghost use Rattle.sqre_run.specs.Running.{Running};
 ghost use Rattle.sqre_run.specs.Sessions.{IsReady};
@@ -32,12 +32,9 @@ pub fn run<F: Follower + Drop, S: Source, W: Sink>(
     requires columns { F.columns follower ≡ checked.now.layout.columns }
     ensures ended { let at = outside S.left S.ends W.taken in
         Ended (monitor_of checked.now) result (at items.old out.old) (at items.new out.new) }
-    ensures flushed { W.held out.old ≡ 0 → (result ≡ Status.SinkFault → ⊥)
-        → W.held out.new ≡ 0 }
-    ensures item_faults { FailsBy (S.faults items.old) (S.faults items.new)
-        (result ≡ Status.ItemFault) }
-    ensures sink_faults { FailsBy (W.faults out.old) (W.faults out.new)
-        (result ≡ Status.SinkFault) }
+    ensures flushed { LeavesFlushed result Status.SinkFault W.held out.old out.new }
+    ensures item_faults { ReportsFault result Status.ItemFault S.faults items.old items.new }
+    ensures sink_faults { ReportsFault result Status.SinkFault W.faults out.old out.new }
 {
     let mut lines = match Lines::new(alloc) {
         Ok(lines) => lines,
@@ -79,15 +76,13 @@ fn turn<F: Follower, S: Source, W: Sink>(
         → Running F.follows on before (at items.old out.old) lines.old session.old
         → Ended (monitor_of on) status before (at items.new out.new)) }
     ensures flushed { IfSome result (λ status.
-        (status ≡ Status.SinkFault → ⊥) → W.held out.new ≡ 0) }
+        EndsFlushed status Status.SinkFault W.held out.new) }
     ensures ready { IfNone result (IsReady F.query F.columns F.lost F.sound session.new
         × (F.position session.new.follower ≤ lines.new.answered)) }
     ensures progress { IfNone result ((lines.old.answered < lines.new.answered)
         × (lines.new.answered ≤ max_count)) }
-    ensures item_faults { FailsBy (S.faults items.old) (S.faults items.new)
-        (result ≡ Some Status.ItemFault) }
-    ensures sink_faults { FailsBy (W.faults out.old) (W.faults out.new)
-        (result ≡ Some Status.SinkFault) }
+    ensures item_faults { ReportsFault result (Some Status.ItemFault) S.faults items.old items.new }
+    ensures sink_faults { ReportsFault result (Some Status.SinkFault) W.faults out.old out.new }
 {
     match lines.next(items) {
         Ok(Line::Whole(line)) => hand_over(line_text(alloc, session, line, buffer), out),

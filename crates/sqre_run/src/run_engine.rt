@@ -1,7 +1,6 @@
 //! The engine of a run, by what the words ask for.
-ghost use Rattle.std.specs.Prelude.{◌≡◌};
-ghost use Rattle.io_edge.specs.Counts.{FailsBy};
 ghost use Rattle.query_model.specs.Monitors.{monitor_of};
+ghost use Rattle.sqre_run.specs.Faults.{LeavesFlushed, ReportsFault};
 ghost use Rattle.sqre_run.specs.Outside.{Ended, outside};
 
 use crate::Status;
@@ -23,12 +22,9 @@ pub fn run_query<S: Source, W: Sink>(
 ) -> Status
     ensures ended { let at = outside S.left S.ends W.taken in
         Ended (monitor_of checked.now) result (at items.old out.old) (at items.new out.new) }
-    ensures flushed { W.held out.old ≡ 0 → (result ≡ Status.SinkFault → ⊥)
-        → W.held out.new ≡ 0 }
-    ensures item_faults { FailsBy (S.faults items.old) (S.faults items.new)
-        (result ≡ Status.ItemFault) }
-    ensures sink_faults { FailsBy (W.faults out.old) (W.faults out.new)
-        (result ≡ Status.SinkFault) }
+    ensures flushed { LeavesFlushed result Status.SinkFault W.held out.old out.new }
+    ensures item_faults { ReportsFault result Status.ItemFault S.faults items.old items.new }
+    ensures sink_faults { ReportsFault result Status.SinkFault W.faults out.old out.new }
 {
     match engine {
         Engine::Runner => run_item_by_item(alloc, checked, items, out),
@@ -45,12 +41,9 @@ fn run_item_by_item<S: Source, W: Sink>(
 ) -> Status
     ensures ended { let at = outside S.left S.ends W.taken in
         Ended (monitor_of checked.now) result (at items.old out.old) (at items.new out.new) }
-    ensures flushed { W.held out.old ≡ 0 → (result ≡ Status.SinkFault → ⊥)
-        → W.held out.new ≡ 0 }
-    ensures item_faults { FailsBy (S.faults items.old) (S.faults items.new)
-        (result ≡ Status.ItemFault) }
-    ensures sink_faults { FailsBy (W.faults out.old) (W.faults out.new)
-        (result ≡ Status.SinkFault) }
+    ensures flushed { LeavesFlushed result Status.SinkFault W.held out.old out.new }
+    ensures item_faults { ReportsFault result Status.ItemFault S.faults items.old items.new }
+    ensures sink_faults { ReportsFault result Status.SinkFault W.faults out.old out.new }
 {
     match Runner::new(alloc, checked) {
         Ok(runner) => run(alloc, checked, runner, items, out),
@@ -67,12 +60,9 @@ fn run_slow<S: Source, W: Sink>(
 ) -> Status
     ensures ended { let at = outside S.left S.ends W.taken in
         Ended (monitor_of checked.now) result (at items.old out.old) (at items.new out.new) }
-    ensures flushed { W.held out.old ≡ 0 → (result ≡ Status.SinkFault → ⊥)
-        → W.held out.new ≡ 0 }
-    ensures item_faults { FailsBy (S.faults items.old) (S.faults items.new)
-        (result ≡ Status.ItemFault) }
-    ensures sink_faults { FailsBy (W.faults out.old) (W.faults out.new)
-        (result ≡ Status.SinkFault) }
+    ensures flushed { LeavesFlushed result Status.SinkFault W.held out.old out.new }
+    ensures item_faults { ReportsFault result Status.ItemFault S.faults items.old items.new }
+    ensures sink_faults { ReportsFault result Status.SinkFault W.faults out.old out.new }
 {
     match Slow::new(alloc, checked) {
         Ok(slow) => run(alloc, checked, slow, items, out),

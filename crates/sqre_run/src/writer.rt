@@ -1,7 +1,8 @@
 //! Texts are written to the sink, and the sink is flushed.
 ghost use Rattle.std.specs.Prelude.{◌≡◌, ◌⊎◌, IfSome, OnOk};
-ghost use Rattle.io_edge.specs.Counts.{FailsBy, FailsByFault};
+ghost use Rattle.io_edge.specs.Counts.{FailsByFault};
 ghost use Rattle.io_edge.specs.Reported.{IsQuiet};
+ghost use Rattle.sqre_run.specs.Faults.{EndsFlushed, ReportsFault};
 ghost use Rattle.sqre_run.specs.Handed.{HandedOver, Reported};
 
 use crate::Status;
@@ -14,9 +15,8 @@ use std::alloc::AllocError;
 pub fn hand_over<W: Sink>(reply: Result<&[u8], AllocError>, out: &mut W) -> Option<Status>
     ensures handed { HandedOver result reply.entry (W.taken out.old) (W.taken out.new) }
     ensures flushed { IfSome result (λ status.
-        (status ≡ Status.SinkFault → ⊥) → W.held out.new ≡ 0) }
-    ensures sink_faults { FailsBy (W.faults out.old) (W.faults out.new)
-        (result ≡ Some Status.SinkFault) }
+        EndsFlushed status Status.SinkFault W.held out.new) }
+    ensures sink_faults { ReportsFault result (Some Status.SinkFault) W.faults out.old out.new }
 {
     let Ok(reply) = reply else {
         return Some(end(Status::Memory, out));
@@ -30,9 +30,8 @@ pub fn hand_over<W: Sink>(reply: Result<&[u8], AllocError>, out: &mut W) -> Opti
 /// Writes the one line of a call and flushes it, or reports why it cannot.
 pub fn report<W: Sink>(line: Result<Bytes, AllocError>, out: &mut W) -> Status
     ensures reported { Reported result line (W.taken out.old) (W.taken out.new) }
-    ensures flushed { (result ≡ Status.SinkFault → ⊥) → W.held out.new ≡ 0 }
-    ensures sink_faults { FailsBy (W.faults out.old) (W.faults out.new)
-        (result ≡ Status.SinkFault) }
+    ensures flushed { EndsFlushed result Status.SinkFault W.held out.new }
+    ensures sink_faults { ReportsFault result Status.SinkFault W.faults out.old out.new }
 {
     let Ok(line) = line else {
         return end(Status::Memory, out);
@@ -48,9 +47,8 @@ pub fn end<W: Sink>(status: Status, out: &mut W) -> Status
     requires no_fault { status ≡ Status.SinkFault → ⊥ }
     ensures ends { (result ≡ status) ⊎ (result ≡ Status.SinkFault) }
     ensures taken { W.taken out.new ≡ W.taken out.old }
-    ensures flushed { (result ≡ Status.SinkFault → ⊥) → W.held out.new ≡ 0 }
-    ensures sink_faults { FailsBy (W.faults out.old) (W.faults out.new)
-        (result ≡ Status.SinkFault) }
+    ensures flushed { EndsFlushed result Status.SinkFault W.held out.new }
+    ensures sink_faults { ReportsFault result Status.SinkFault W.faults out.old out.new }
 {
     match out.flush() {
         Ok(()) => status,
