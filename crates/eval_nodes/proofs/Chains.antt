@@ -1,4 +1,4 @@
--- An iteration as a split: what so many pieces are to the next one, a left piece is to the right one.
+-- An iteration as a split: what some number of pieces is to the next one, a left piece is to the right one.
 use Rattle.std.proofs.Common.{◌≡◌, ◌∙◌, List, [], ◌∷◌, ◌++◌, Some, length, refl, sym, ap, subst, arith, append-nil, append_assoc, length-append, inl, inr}
 use Rattle.std.specs.Prelude.{ℤ, ℕ}
 use Rattle.std.specs.List.{AllByRecursion}
@@ -106,7 +106,7 @@ chain_apart columns f number e word starts apart =
     (subst (In (rate.star (rate_of f))) (sym whole) (star_push (rate_of f) u v in_u in_v))
     (subst (In (rate.star (rate_of f))) (sym whole') (star_push (rate_of f) u' v' in_u' in_v'))
 
--- a word is some pieces and one that goes on behind it
+-- a word is some pieces and one that continues after it
 abbrev pub IsCrossed : List Column → rate.Regex → Word → Type 0
 IsCrossed columns r word = (first : Word) × (second : Word) × (word ≡ first ++ second)
     × In (rate.star r) first × HasExtension columns r second
@@ -121,7 +121,7 @@ first_crossed columns r pieces word item more (x ∷ t) u is in_r longer rest la
     let parts = word_parts columns (x ∷ t) (join pieces) (subst (IsWordOf columns) rest is) in
     ([], word, refl, ([], refl, tt), (x, t, parts.0, subst (In r) longer in_r))
 
--- the piece in which a word ends that goes on to a word of pieces
+-- the piece in which a word ends that continues to a word of pieces
 pub crossed : (columns : List Column) (r : rate.Regex) (pieces : List Word) (word : Word) (item : List Field)
     (more : Word) → IsWordOf columns (item ∷ more) → word ++ item ∷ more ≡ join pieces → AllByRecursion (In r) pieces
     → IsCrossed columns r word

@@ -9,7 +9,7 @@ use Rattle.eval_nodes.specs.Holdings.{Holding}
 use Rattle.eval_nodes.specs.Plain.{seen_of}
 use Rattle.eval_nodes.proofs.Clearing.{one_cleared}
 
--- a fact on a query, and on a node before the call and behind it
+-- a fact on a query, and on a node before the call and after it
 pub cleared_as : (q q' : Qre) (h h' k k' : Holding Progress) → q' ≡ q → h' ≡ h → k' ≡ k
     → IsCleared seen_of q h k → IsCleared seen_of q' h' k'
 cleared_as q q' h h' k k' query before after is =

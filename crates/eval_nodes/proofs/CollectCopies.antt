@@ -78,7 +78,7 @@ module _ {R : Type 0} (seen : R → Seen R) (is_copy : Holding R → Holding R �
             each was track one (row.each was among);
       }
 
-  -- the state and the keys behind a piece
+  -- the state and the keys after a piece
   pub track_stands : (follows : Word → R → Type 0) (column : ℕ) (sync : Predicate) (sets : _) (word : ℕ → Word)
       (was track : Track R)
       → ((u : Word) (was runner : R) → IsCopyOf seen is_copy was runner → follows u was → follows u runner)

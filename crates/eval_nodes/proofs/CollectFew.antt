@@ -1,4 +1,4 @@
--- The starts of a collect that can go on are at most one more than its rate has positions.
+-- The starts of a collect that can continue are at most one more than its rate has positions.
 use Rattle.std.proofs.Common.{◌≡◌, ◌≤◌, ◌<◌, ◌∙◌, ℕ, ◌+◌, false, List, [], ◌∷◌, ◌++◌, drop, length, refl, sym, subst, arith, ◌⊎◌, inl, inr}
 use Rattle.std.specs.Prelude.{eqb}
 use Rattle.std.specs.List.{AllByRecursion, Contains, IsDistinct}
@@ -53,7 +53,7 @@ module _ (columns : List Column) (column : ℕ) (sync : Predicate) (rate : rates
   abbrev sets : Sets
   sets = sets_of rate
 
-  -- a path behind the position is spelled by items and leads to an end
+  -- a path after the position is spelled by items and leads to an end
   abbrev LeadsOut : ℕ → Type 0
   LeadsOut position = (item : List Field) × (more : Word) × (end : ℕ) × IsWordOf columns (item ∷ more)
       × LeadsOn sets position (item ∷ more) end × Has sets.last end
@@ -73,7 +73,7 @@ module _ (columns : List Column) (column : ℕ) (sync : Predicate) (rate : rates
       subst (λ (n : ℕ). position < n) (length-preds_of rate)
       (leads_on_below sets begin u position (meets_below sets begin x meets) path)
 
-  -- a start that can go on stands at a position
+  -- a start that can continue stands at a position
   stands : (start : ℕ) → IsLive columns q word starts start → (position : ℕ) × StandsAt start position
   stands start (from, (item, more, more_is, in_rate)) = by (drop start word) refl
     where
@@ -94,7 +94,7 @@ module _ (columns : List Column) (column : ℕ) (sync : Predicate) (rate : rates
             ),
           )
 
-  -- a piece goes on by what leads out of the position
+  -- a piece continues by what leads out of the position
   goes_out : (start position : ℕ) (item : List Field) (more : Word) (end : ℕ) → Leads sets (drop start word) position
       → LeadsOn sets position (item ∷ more) end → Has sets.last end → In rate (drop start word ++ item ∷ more)
   goes_out start position item more end leads on last =

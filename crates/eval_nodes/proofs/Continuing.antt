@@ -1,4 +1,4 @@
--- Where a start that can go on does so: in a piece that is not ended, or behind pieces that are.
+-- Where a start that can continue does so: in a piece that is not ended, or after pieces that are.
 use Rattle.std.proofs.Common.{◌≡◌, ℕ, ◌+◌, ◌∙◌, List, [], ◌∷◌, ◌++◌, drop, length, sym, ap, subst, append-nil, ◌⊎◌, inl, inr}
 use Rattle.std.specs.Prelude.{ℤ}
 use Rattle.std.specs.List.{Contains}
@@ -14,7 +14,7 @@ use Rattle.eval_nodes.specs.Starts.{ArePositions, IsLive, IsPiece}
 use Rattle.eval_nodes.proofs.Chains.{crossed}
 use Rattle.eval_nodes.proofs.Pieces.{split_piece}
 
--- a right piece goes on from a position behind a left piece of the start
+-- a right piece continues from a position after a left piece of the start
 abbrev pub ContinuesAt : List Column → Qre → Qre → Word → List ℕ → ℕ → ℕ → Type 0
 ContinuesAt columns f g word starts start at = (piece : Word) × Contains starts start × IsPiece word start piece at
     × In (rate_of f) piece × HasExtension columns (rate_of g) (drop at word)
@@ -22,7 +22,7 @@ ContinuesAt columns f g word starts start at = (piece : Word) × Contains starts
 abbrev pub ContinuesRight : List Column → Qre → Qre → Word → List ℕ → ℕ → Type 0
 ContinuesRight columns f g word starts start = (at : ℕ) × ContinuesAt columns f g word starts start at
 
--- a split goes on in its left piece or in its right one
+-- a split continues in its left piece or in its right one
 pub live_split : (columns : List Column) (f g : Qre) (e : Expression) (word : Word) (starts : List ℕ) (start : ℕ)
     → IsWordOf columns word → ArePositions word starts → IsLive columns (split f g e) word starts start
     → IsLive columns f word starts start ⊎ ContinuesRight columns f g word starts start
@@ -62,7 +62,7 @@ live_split columns f g e word starts start is positions (there, (item, more, mor
         let parts = word_parts columns (x ∷ t) v (subst (IsWordOf columns) rest more_is) in
         inl (there, (x, t, parts.0, subst (In (rate_of f)) longer in_f))
 
--- an iter goes on in the piece behind some that are ended
+-- an iter continues in the piece after some that are ended
 pub live_iter : (columns : List Column) (f : Qre) (number : ℤ) (e : Expression) (word : Word) (starts : List ℕ)
     (start : ℕ) → ArePositions word starts → IsLive columns (iter f number e) word starts start
     → ContinuesRight columns (iter f number e) f word starts start

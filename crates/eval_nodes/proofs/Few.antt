@@ -82,7 +82,7 @@ parted P Q (x ∷ all) different each =
       }
     ]
 
--- the start of an atom that can go on is the end of the word
+-- the start of an atom that can continue is the end of the word
 pub live_atom : (columns : List Column) (pred : Predicate) (e : Expression) (word : Word) (starts : List ℕ) (start : ℕ)
     → ArePositions word starts → IsLive columns (atom pred e) word starts start → start ≡ length word
 live_atom columns pred e word starts start positions (there, (item, more, is, (other, whole, meets))) =
@@ -109,7 +109,7 @@ few_eps columns number word starts [] each = omega arith
 few_eps columns number word starts (x ∷ live) each =
     absurd (no_live columns number word starts x (each x (first_member x live)))
 
--- positions at which the starts go on on the right, one for each
+-- positions at which the starts continue on the right, one for each
 pub record AreThrough (columns : List Column) (f g : Qre) (word : Word) (starts all : List ℕ) : Type 0 where
   pub ends : List ℕ
   pub count : length all ≡ length ends

@@ -22,7 +22,7 @@ pub read_as : (q q' : Qre) (state : State) (start : ℕ) (live : Bool) → q' �
     → live ≡ live_of q (holding_of state) start → live ≡ live_of q' (holding_of state) start
 read_as q q' state start live same read = read ∙ ap (λ (x : Qre). live_of x (holding_of state) start) (sym same)
 
--- nothing goes on for the empty word
+-- nothing continues for the empty word
 pub none_empty : {R : Type 0} (number : ℤ) (holding : Holding R) (start : ℕ)
     → false ≡ live_of (eps number) holding start
 none_empty number (atom_held found) start = refl

@@ -1,4 +1,4 @@
--- Exactly the starts that can go on are live.
+-- Exactly the starts that can continue are live.
 use Rattle.std.proofs.Common.{◌≡◌, ◌↔◌, ◌==◌, ◌||◌, ℕ, ◌∙◌, Bool, true, false, List, [], ◌∷◌, ◌++◌, Option, Some, None, IsTrue, cond, drop, refl, sym, ap, subst, append_assoc, ◌⊎◌, inl, inr}
 use Rattle.std.specs.List.{list_any, Contains}
 use Rattle.std.proofs.lemmas.Bool.{eqb-true, eq-eqb}

@@ -11,11 +11,11 @@ use Rattle.eval_nodes.specs.Starts.{IsPiece}
 pub length_more : (word : Word) (item : List Field) → length (word ++ item ∷ []) ≡ length word + 1
 length_more word item = length-append word (item ∷ [])
 
--- no item is behind the end
+-- no item is after the end
 pub after_end : (word : Word) (at : ℕ) → at ≡ length word → drop at word ≡ []
 after_end word at end = drop_all at word (omega (arith, end))
 
--- an empty word behind a position: it is the end
+-- an empty word after a position: it is the end
 pub at_end : (word : Word) (at : ℕ) → at ≤ length word → drop at word ≡ [] → at ≡ length word
 at_end word at inside none =
     let count : length (drop at word) ≡ length word - at = length-drop at word in
@@ -26,7 +26,7 @@ pub drop_more : (word : Word) (item : List Field) (at : ℕ) → at ≤ length w
     → drop at (word ++ item ∷ []) ≡ drop at word ++ item ∷ []
 drop_more word item at inside = drop-append-le at word (item ∷ []) inside
 
--- what is behind a piece, with more behind it
+-- what is after a piece, with more after it
 pub piece_continues : (word : Word) (from to : ℕ) (piece more : Word) → IsPiece word from piece to
     → drop from word ++ more ≡ piece ++ (drop to word ++ more)
 piece_continues word from to piece more is =
@@ -91,7 +91,7 @@ empty_is word from to piece is end =
     nothing [] none = refl
     nothing (x ∷ u) none = absurd (omega (arith, none))
 
--- what is behind a position in two parts
+-- what is after a position in two parts
 pub split_piece : (word : Word) (from : ℕ) (first second : Word) → from ≤ length word
     → drop from word ≡ first ++ second
     → IsPiece word from first (from + length first) × (drop (from + length first) word ≡ second)

@@ -34,7 +34,7 @@ three_parts x y z a b c n first second third =
     let parts = add-mul (a + b) c (1 + n) in
     omega (arith, both, third, parts)
 
--- so many of so much each
+-- this many of this much each
 pub many_parts : (x count places each n : ℕ) → x ≤ count * (each * (1 + n)) → count ≤ places
     → x ≤ places * each * (1 + n)
 many_parts x count places each n few fewer =
@@ -49,7 +49,7 @@ together x y i j places each n first second full =
     let parts = add-mul i j (each * (1 + n)) in
     many_parts (x + y) (i + j) places each n (omega (arith, first, second, parts)) (omega (arith, full))
 
--- a start of a collect: the start, a state of so many positions at the most, and what is kept for its keys
+-- a start of a collect: the start, a state of this many positions at the most, and what is kept for its keys
 pub track_fits : (state size keys slots n : ℕ) → state ≤ size → keys ≤ slots + n * (1 + slots)
     → 1 + state + keys ≤ (1 + size + slots) * (1 + n)
 track_fits state size keys slots n few kept =

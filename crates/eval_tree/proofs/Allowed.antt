@@ -158,7 +158,7 @@ module _ {R : Type 0} (seen : R → Seen R) where
         room = omega (arith, room);
       }
 
-  -- the right operand is started behind the item that it has just seen
+  -- the right operand is started after the item that it has just seen
   unfoldable pub start_after : (f g : Qre) (e : Expression) (a b b' : Holding R) (held : Contents Value) (now : ℕ)
       (item : List Field) (right : Option Hit) → CanStep seen (split f g e) (split_held a b held) now item
       → StepsSoundly seen g b now item b' right → CanStart seen g b' now

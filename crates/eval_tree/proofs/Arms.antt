@@ -41,7 +41,7 @@ pub on_err : {T E : Type 0} → (result : Result T E) (P : Type 0) → P → OnE
 on_err (Ok x) P is = tt
 on_err (Err e) P is = is
 
--- what a call promises of the same query, of nodes that are the same before it and behind it, and of the same result
+-- what a call promises of the same query, of nodes that are the same before it and after it, and of the same result
 pub started_from : (q q' : Qre) (h h' k : Holding Progress) (at : ℕ) (result : Found) → q' ≡ q → h' ≡ h
     → HasStarted seen_of q h at k result → HasStarted seen_of q' h' at k result
 started_from q q' h h' k at result query before is =
@@ -84,7 +84,7 @@ pub when_stepped : {A : Type 0} → (q : Qre) (h k : Holding Progress) (now : �
 when_stepped q h k now item (Ok done) hit P each is free = each is
 when_stepped q h k now item (Err e) hit P each is free = record { word = tt; sound = tt; no_memory = free }
 
--- memory is wanting, but not in a number query
+-- memory runs out, but not in a number query
 pub start_fails : (q q' : Qre) (h h' k : Holding Progress) (at : ℕ) (result : Found) → IsErr result → q' ≡ q → h' ≡ h
     → (StartsNumbers seen_of q h at → ⊥) → HasStarted seen_of q' h' at k result
 start_fails q q' h h' k at (Ok hit) failed query before never = absurd (false≢true failed)
@@ -105,7 +105,7 @@ step_fails q q' h h' k now item (Err e) failed query before never =
       no_memory = λ free. absurd (never free);
     })
 
--- a fact on a query, a node before a call and behind it, and a hit
+-- a fact on a query, a node before a call and after it, and a hit
 moved : (P : Qre → Holding Progress → Holding Progress → Option Hit → Type 0) (q q' : Qre)
     (h h' k k' : Holding Progress)
     (hit hit' : Option Hit) → q' ≡ q → h' ≡ h → k' ≡ k → hit' ≡ hit → P q h k hit → P q' h' k' hit'

@@ -49,7 +49,7 @@ module _ {R : Type 0} (seen : R → Seen R) where
 
   module _ (column : ℕ) (sync : Predicate) (rate : rates.Regex) (f : Qre) (all : Contents R) (now : ℕ)
       (item : List Field) (can : CanStep seen (collect column sync rate f) (collect_held all) now item) where
-    -- the states may go on by the item
+    -- the states may continue by the item
     advance_allowed : IsItemOf all.nfa.cells.layout.columns item
     advance_allowed = subst (λ (columns : List Column). IsItemOf columns item) (sym can.sound.1) can.is_item
 

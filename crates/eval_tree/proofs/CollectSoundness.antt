@@ -36,7 +36,7 @@ table_typed : (found : Hit) (table : _) → found.value ≡ value.Table table �
 table_typed found table is typed = subst (IsValueOf Table) (sym is) typed
 
 module _ {R : Type 0} (seen : R → Seen R) where
-  -- the starts differ, and the runners of each are sound with at most so many items
+  -- the starts differ, and the runners of each are sound with at most this many items
   pub record AreSoundTracks (columns : List Column) (query : Qre) (most : ℕ) (all : List (Track R)) : Type 0 where
     pub distinct : AreDifferent (starts_of all)
     pub keys : AllByRecursion (λ (track : Track R). AreSoundOf seen columns query most track.keys) all

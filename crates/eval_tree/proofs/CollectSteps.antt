@@ -41,7 +41,7 @@ module _ {R : Type 0} (seen : R → Seen R) (columns : List Column) (column : �
   abbrev pub q : Qre
   q = collect column sync rate f
 
-  -- the state and the keys are those behind the piece
+  -- the state and the keys are those after the piece
   abbrev pub TrackOf : Automaton → Word → ℕ → Track R → Type 0
   TrackOf nfa word start track = IsAfter nfa.sets (drop start word) track.state
       × StandsFor seen columns f column sync (drop start word) track.keys
@@ -94,14 +94,14 @@ module _ {R : Type 0} (seen : R → Seen R) (columns : List Column) (column : �
         }
 
     module _ (of_rate : AreSetsOf nfa.sets rate) (on : nfa.cells.layout.columns ≡ columns) where
-      -- a state behind a word extends exactly where the word has an extension
+      -- a state after a word extends exactly where the word has an extension
       extends_is : (u : Word) (state : State) → IsAfter nfa.sets u state
           → Extends nfa state ↔ HasExtension columns rate u
       extends_is u state holds_after =
           subst (λ (cs : List Column). Extends nfa state ↔ HasExtension cs rate u) on
           (extends-in nfa rate u state (sets_spell nfa.sets rate of_rate) holds_after)
 
-      -- those whose piece can go on stay
+      -- those whose piece can continue stay
       row_kept : (pushed kept : List (Track R)) → KeepsExtending nfa pushed kept
           → RowOf nfa (IsLive columns q word starts) (word ++ item ∷ []) pushed
           → RowOf nfa (IsLive columns q (word ++ item ∷ []) starts) (word ++ item ∷ []) kept

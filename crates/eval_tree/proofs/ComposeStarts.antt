@@ -73,7 +73,7 @@ module _ {R : Type 0} (seen : R → Seen R) (standing : Standing) (columns : Lis
       outers_many [] = refl
       outers_many (x ∷ live) = let rest = outers_many live in omega (arith, rest)
 
-  -- the start of the runner can go on, and it is fed from there
+  -- the start of the runner can continue, and it is fed from there
   fed_live : (word : Word) (starts : List ℕ) (at : ℕ) (held : Contents R) (front : List R) (runner next : R)
       → (Contains starts at → ⊥) → RowOf (IsLive columns f word starts) word held
       → held.idle ≡ front ++ runner ∷ [] → IsLive columns f word (starts ++ at ∷ []) at

@@ -1,4 +1,4 @@
--- Starts that can go on, but for one: what is kept at them, and that nothing is kept at the one.
+-- Starts that can continue, but for one: what is kept at them, and that nothing is kept at the one.
 use Rattle.std.proofs.Common.{◌≡◌, ◌↔◌, ◌==◌, ◌&&◌, ◌∙◌, ℕ, Bool, true, false, cond, not, IsTrue, List, None, refl, ap, subst}
 use Rattle.std.proofs.lemmas.Bool.{eq-eqb, ne_eqb}
 use Rattle.value_ops.specs.declared.value.Value.{Value}
@@ -6,7 +6,7 @@ use Rattle.split_eval.specs.Entries.{Contents, entry_at, live_entries}
 use Rattle.split_eval.specs.declared.entry.Entry.{Entry}
 use Rattle.split_eval.proofs.Found.{entry_at-live}
 
--- it can go on, and is not the one
+-- it can continue, and is not the one
 abbrev pub elsewhere : ℕ → (ℕ → Bool) → ℕ → Bool
 elsewhere at live start = not (start == at) && live start
 

@@ -1,5 +1,5 @@
--- The runners of a compose behind one more item: each follows what comes out from its start, and there is one for each
--- start that can go on.
+-- The runners of a compose after one more item: each follows what comes out from its start, and there is one for each
+-- start that can continue.
 use Rattle.std.proofs.Common.{◌≡◌, ◌≤◌, ◌↔◌, ◌∙◌, ℕ, ◌+◌, Bool, IsTrue, List, [], ◌∷◌, ◌++◌, Option, Some, None, drop, length, sym, ap, subst, arith, inl, inr}
 use Rattle.std.specs.List.{Contains}
 use Rattle.std.proofs.lemmas.List.{length-append}
@@ -143,7 +143,7 @@ module _ {R : Type 0} (seen : R → Seen R) (standing : Standing) (columns : Lis
           ),
         )) none
 
-    -- each follows what comes out behind the item
+    -- each follows what comes out after the item
     pub fed_on : (held passed : Contents R) (left hit : Option Hit) → Row (IsLive columns f word starts) word held
         → AreApart columns f (word ++ item ∷ []) starts → IsHit (Den f) (word ++ item ∷ []) starts left
         → PassesOn seen g held left passed hit
@@ -155,7 +155,7 @@ module _ {R : Type 0} (seen : R → Seen R) (standing : Standing) (columns : Lis
       | inr (none, same, no_hit) ↦ absurd (hit_feeds held found row left none)
     ]
 
-    -- those whose start can go on stay
+    -- those whose start can continue stay
     pub narrowed : (passed kept : Contents R) (p : ℕ → Bool)
         → ((start : ℕ) → IsTrue (p start) ↔ IsLive columns f (word ++ item ∷ []) starts start)
         → kept.live ≡ live_instances p passed.live → kept.idle ≡ passed.idle ++ retired p passed.live

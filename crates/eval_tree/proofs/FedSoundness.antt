@@ -27,7 +27,7 @@ answer_at type start None is = tt
 answer_at type start (Some v) is = (refl, is)
 
 module _ {R : Type 0} (seen : R → Seen R) where
-  -- the starts differ, there are so many runners, and all are sound, those that are fed with at most so many items
+  -- the starts differ, there are this many runners, and all are sound, those that are fed with at most this many items
   pub record AreSoundly (columns : List Column) (query : Qre) (count most : ℕ) (held : Contents R) : Type 0 where
     pub distinct : AreDifferent (outers_of held.live)
     pub full : length held.live + length held.idle ≡ count

@@ -1,4 +1,4 @@
--- What the calls on the runners of a compose do, out of what is read of their lists before and behind them.
+-- What the calls on the runners of a compose do, out of what is read of their lists before and after them.
 use Rattle.std.proofs.Common.{◌≡◌, ◌<◌, ◌∙◌, ℕ, ◌-◌, zero, suc, Bool, true, false, List, [], ◌∷◌, ◌++◌, Option, Some, None, length, set, slice_get, refl, sym, ap, subst, arith, inl, inr}
 use Rattle.std.specs.Option.{option_map}
 use Rattle.std.proofs.lemmas.List.{length-append}

@@ -119,7 +119,7 @@ module _ {R : Type 0} (seen : R → Seen R) where
       all_typed_with type.Number (type_of can.columns f) type.Number e so_far.entries piece can.sound.1.typed x.hit
       can.clear.2
 
-  -- the next piece begins behind the item that has just gone by
+  -- the next piece begins after the item that has just gone by
   unfoldable pub start_next : (f : Qre) (number : ℤ) (e : Expression) (a a' : Holding R) (so_far : Contents Value)
       (now : ℕ)
       (item : List Field) (piece : Option Hit) → CanStep seen (iter f number e) (iter_held a so_far) now item

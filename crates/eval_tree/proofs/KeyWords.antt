@@ -50,7 +50,7 @@ module _ (column : ℕ) (sync : Predicate) where
       ap (λ (b : Bool). b || bytes_eq (key_of column item) key) is
       ∙ unequal (bytes_eq (key_of column item) key) (λ same. differs ((bytes_eq-Decides (key_of column item) key).0 same))
 
-  -- the keys behind one more item
+  -- the keys after one more item
   abbrev pub keys_and : List (List ℕ) → List Field → List (List ℕ)
   keys_and keys item = cond (holds sync item) keys (with_key keys (key_of column item))
 

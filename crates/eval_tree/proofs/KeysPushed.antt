@@ -70,7 +70,7 @@ all_set P [] i x all is = tt
 all_set P (y ∷ xs) zero x all is = (is, all.1)
 all_set P (y ∷ xs) (suc i) x all is = (all.0, all_set P xs i x all.1 is)
 
--- a key that was put last stands behind the others
+-- a key that was put last stands after the others
 pub last_read : {A : Type 0} (xs : List A) (x : A) (i : ℕ) → i ≡ length xs → slice_get (xs ++ x ∷ []) i ≡ Some x
 last_read [] x zero is = refl
 last_read [] x (suc i) is = absurd (omega (arith, is))

@@ -159,7 +159,7 @@ module _ {R : Type 0} (seen : R → Seen R) where
       AreEntries (on_keys q column sync word) names (entries_in seen (names_of keys) (followers_of keys))) stands.names
       (entries_are standing columns q column sync word clear number is (names_of keys) (followers_of keys) stands.each)
 
-  -- and so are those of so many keys that they are all
+  -- and so are those of a number of keys that has all of them
   pub table_whole : (keys : Keys R) (i : ℕ) (table : List (List ℕ × Scalar))
       → table ≡ entries_in seen (take i (names_of keys)) (take i (followers_of keys)) → length (names_of keys) ≤ i
       → length (followers_of keys) ≡ length (names_of keys) → IsTableOf seen keys table

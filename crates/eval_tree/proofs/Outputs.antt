@@ -19,7 +19,7 @@ use Rattle.eval_tree.specs.Feeds.{IsHitIn, item_of}
 use Rattle.eval_tree.specs.Steps.{IsHitOf}
 
 module _ (D : Word → Value → Type 0) where
-  -- what comes out on one more item comes behind what came out before
+  -- what comes out on one more item comes after what came out before
   pub outputs_more : (before word : Word) (item : List Field) (out last : Word) → Outputs D before word out
       → Emits D (before ++ (word ++ item ∷ [])) last → Outputs D before (word ++ item ∷ []) (out ++ last)
   outputs_more before [] item out last outputs emits = (out, last, outputs, emits, refl)

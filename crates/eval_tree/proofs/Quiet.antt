@@ -18,7 +18,7 @@ use Rattle.eval_nodes.proofs.Pieces.{word_after}
 use Rattle.eval_tree.specs.declared.hit.Hit.{Hit}
 use Rattle.eval_tree.specs.Steps.{IsHit}
 
--- what goes on behind an item goes on before it
+-- what continues after an item continues before it
 pub extension_before : (columns : List Column) (r : rate.Regex) (word : Word) (item : List Field)
     → IsWordOf columns (item ∷ []) → HasExtension columns r (word ++ item ∷ []) → HasExtension columns r word
 extension_before columns r word item is (next, more, more_is, in_rate) =

@@ -42,7 +42,7 @@ more_positions word item starts positions start there =
     omega (arith, inside, more)
 
 module _ {R : Type 0} (seen : R → Seen R) where
-  -- those that wait where the right piece can still go on
+  -- those that wait where the right piece can still continue
   pub still_waiting : (columns : List Column) (f g : Qre) (e : Expression) → IsClear bound columns (split f g e)
       → (word : Word) (item : List Field) (starts ends : List ℕ) (b' : Holding R) (now : ℕ)
       (entries : List (Entry Value))

@@ -66,7 +66,7 @@ different_inners (x ∷ entries) distinct = (
 )
 
 module _ (columns : List Column) (f g : Qre) (e : Expression) (clear : IsClear bound columns (split f g e)) where
-  -- what comes behind the item too
+  -- what comes after the item too
   pub extension_less : (item : List Field) → ((u : Word) → IsWordOf columns (item ∷ [])
       → HasExtension columns (rate_of g) (u ++ item ∷ []) → HasExtension columns (rate_of g) u)
   extension_less item u is (next, more, more_is, in_g) =

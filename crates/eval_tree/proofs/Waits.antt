@@ -45,7 +45,7 @@ found_live entries live inner entry is there =
     ∙ ap (λ (b : Bool). cond b (entry_at entries inner) None) is ∙ there
 
 module _ (D : Word → Value → Type 0) (continues : Word → Type 0) where
-  -- One more item: those whose right piece can still go on are kept.
+  -- One more item: those whose right piece can still continue are kept.
   pub waiting_more : (word : Word) (item : List Field) (starts ends : List ℕ) (entries : List (Entry Value))
       (live : ℕ → Bool) → ((u : Word) → continues (u ++ item ∷ []) → continues u)
       → AreWaiting D continues word starts entries
@@ -103,7 +103,7 @@ module _ (D : Word → Value → Type 0) (continues : Word → Type 0) where
           (before (length word) entry.outer entry.value).0 (is_entry entries (length word) entry is) in
           absurd (omega (arith, below))
 
-  -- The one value of a piece to the end is put where more may go on behind it.
+  -- The one value of a piece to the end is put where more may continue after it.
   pub waiting_end : (word : Word) (starts : List ℕ) (old new : Contents Value) (begun : ℕ) (x : Value) (live : Bool)
       → AreDistinct old.entries → AreWaitingBefore D continues word starts old.entries
       → Contains starts begun → begun ≤ length word → D (drop begun word) x

@@ -1,4 +1,4 @@
--- From what was told of a text to what a call did.
+-- From what was reported of a text to what a call did.
 use Rattle.std.proofs.Common.{ℕ, List, Option}
 use Rattle.io_edge.specs.Taken.{TakesFirst}
 use Rattle.sqre_run.specs.QueryRead.{max_read}
@@ -6,7 +6,7 @@ use Rattle.explain_run.specs.Call.{Outcome, Reported}
 use Rattle.explain_run.specs.declared.status.Status.{Status}
 use Rattle.explain_run.specs.declared.status.Status.TheVariants.{Accepted, Explained, QueryFault, SinkFault, Memory}
 
--- what was told of the bytes that were read
+-- what was reported of the bytes that were read
 pub outcome_of : (name text : List ℕ) (left left' : Option (List ℕ)) (ends ends' : ℕ)
     (old new : Option (List ℕ)) (status : Status)
     → TakesFirst max_read left left' ends ends' text → Reported name text old new status

@@ -32,7 +32,7 @@ lets_more lets at one is_at within =
     map_more plain_let lets at one within
     ∙ ap (λ (l : raw.Let). map plain_let (take at lets) ++ plain_let l ∷ []) (sym is_at)
 
--- what is known behind it
+-- what is known after it
 known_with : (inside : Inside) (place : Span) (lets : List raw.Let) (at : ℕ) (one : raw.Let)
     → one ≡ get_or lets at one → at < length lets
     → known_after inside place [] (map plain_let (take (at + 1) lets))
@@ -46,7 +46,7 @@ known_with inside place lets at one is_at within =
 abbrev key : List ℕ → Bor (List ℕ)
 key name = record { ref_ptr = (0, 0); now = name }
 
--- what a map has under a name behind a change
+-- what a map has under a name after a change
 pub changed : {S X : Type 0} (old new : HashMap (Bor (List ℕ)) X S) (name : Bor (List ℕ)) (value : X)
     → hash.Updates (λ x y. bytes_eq x.now y.now) old new name (Some value)
     → (other : List ℕ) → get_by (λ k. bytes_eq other k.now) new

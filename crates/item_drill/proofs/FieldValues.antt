@@ -51,13 +51,13 @@ zeros_are_digits : (zeros : ℕ) → list_all is_ascii_digit (replicate zeros 48
 zeros_are_digits zero = refl
 zeros_are_digits (suc zeros) = zeros_are_digits zeros
 
--- a number below so many tens, in as many digits
+-- a number below this many tens, in as many digits
 pub record IsInDigits (places number : ℕ) : Type 0 where
   pub numeral : IsNumeral 10 (in_digits places number)
   pub long : length (in_digits places number) ≡ places
   pub value : digits_value 10 (in_digits places number) ≡ number
 
--- zeros in front of so many digits in all
+-- zeros in front of this many digits in all
 filled : (places : ℕ) (digits : List ℕ) → length digits ≤ places
     → length (replicate (places - length digits) 48 ++ digits) ≡ places
 filled places digits short =
@@ -86,7 +86,7 @@ in_digits_is places number some below small =
       value = zeros_in_front (places - length (decimal number)) (decimal number) ∙ back.1;
     }
 
--- the digits before a point and behind it
+-- the digits before a point and after it
 whole_and_rest : (places size unit : ℕ) (whole rest : List ℕ) → digits_value 10 whole ≡ size / unit
     → digits_value 10 rest ≡ size % unit → length rest ≡ places → unit ≡ 10 ^ places
     → digits_value 10 (whole ++ rest) * 10 ^ (places - length rest) ≡ size
@@ -98,7 +98,7 @@ whole_and_rest places size unit whole rest is_whole is_rest long is_unit =
     none : places - places ≡ 0
     none = omega arith
 
--- a size with a sign is written with all places behind the point
+-- a size with a sign is written with all places after the point
 fixed_writes : (places size : ℕ) (number : ℤ) (sign : Sign) → 0 < places → size ≤ 1000 → number ≡ with_sign sign size
     → WritesDecimal places
     (sign_bytes sign ++ decimal (size / 10 ^ places) ++ codes "." ++ in_digits places (size % 10 ^ places)) number
@@ -128,7 +128,7 @@ fixed_writes places size number sign some small is =
 not_negative : (n : ℕ) → is_negative (pos n) ≡ false
 not_negative n = grind (arith, nat_tests)
 
--- a number of so many places is written by its text
+-- a number of this many places is written by its text
 decimal_writes : (places : ℕ) (number : ℤ) → 0 < places → unsigned_abs number ≤ 1000
     → WritesDecimal places (fixed_text places number) number
 decimal_writes places (pos n) some small = rw (not_negative n) (fixed_writes places n (pos n) Absent some small refl)

@@ -75,7 +75,7 @@ row_of-fields columns place column state within is =
     text : ℕ → List ℕ
     text n = field_text column.kind (drawn (next_state (state_after n state)))
 
--- one zero more behind the others
+-- one zero more after the others
 pub replicate-push : (count digit : ℕ) → replicate (count + 1) digit ≡ replicate count digit ++ digit ∷ []
 replicate-push count digit = rw add-one (onward count)
   where
@@ -92,7 +92,7 @@ all_both p q (x ∷ xs) first second =
     let two = and_parts (q x) (list_all q xs) second in
     and_from (p x && q x) _ (and_from (p x) (q x) one.0 two.0) (all_both p q xs one.1 two.1)
 
--- behind a front and a row, a comma and a text make the row of one text more
+-- after a front and a row, a comma and a text make the row of one text more
 pub after_row : (old after_comma new front row longer text comma : List ℕ) → old ≡ front ++ row
     → after_comma ≡ old ++ comma → new ≡ after_comma ++ text → longer ≡ row ++ comma ++ text → new ≡ front ++ longer
 after_row old after_comma new front row longer text comma is_old is_after is_new is_longer =

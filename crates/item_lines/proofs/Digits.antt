@@ -31,13 +31,13 @@ zeros_are_digits : (zeros : ℕ) → list_all is_ascii_digit (replicate zeros 48
 zeros_are_digits zero = refl
 zeros_are_digits (suc zeros) = zeros_are_digits zeros
 
--- a number below so many tens, in as many digits
+-- a number below this many tens, in as many digits
 pub record IsInDigits (places number : ℕ) : Type 0 where
   pub numeral : IsNumeral 10 (in_digits places number)
   pub long : length (in_digits places number) ≡ places
   pub value : digits_value 10 (in_digits places number) ≡ number
 
--- zeros in front of so many digits in all
+-- zeros in front of this many digits in all
 filled : (places : ℕ) (digits : List ℕ) → length digits ≤ places
     → length (replicate (places - length digits) 48 ++ digits) ≡ places
 filled places digits short =

@@ -63,7 +63,7 @@ fixed_writes places size number sign some small is =
 not_negative : (n : ℕ) → is_negative (pos n) ≡ false
 not_negative n = grind (arith, nat_tests)
 
--- a number of so many places is written by its text
+-- a number of this many places is written by its text
 decimal_writes : (places : ℕ) (number : ℤ) → 0 < places → unsigned_abs number < 2 ^ 64
     → WritesDecimal places (fixed_text places number) number
 decimal_writes places (pos n) some small = rw (not_negative n) (fixed_writes places n (pos n) Absent some small refl)

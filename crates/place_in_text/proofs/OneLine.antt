@@ -23,7 +23,7 @@ first_line-no_lf bytes =
     subst (λ (b : ℕ). b ≢ 10) (sym (get_or-take (prefix_len not_lf bytes) bytes k 0 inside))
     (no_lf (get_or bytes k 0) (prefix_len_passes not_lf bytes k 0 inside)))
 
--- a byte of the last so many, which all pass
+-- a byte among this many at the end, which all pass
 last-passes : (bytes : List ℕ) (count k : ℕ) → count ≤ length bytes → count ≡ prefix_len not_lf (reverse bytes)
     → k < count → not_lf (get_or (drop (length bytes - count) bytes) k 0) ≡ true
 last-passes bytes count k fits is inside =
@@ -35,7 +35,7 @@ last-passes bytes count k fits is inside =
     ∙ ap (λ (i : ℕ). get_or bytes i 0) place ∙ sym (get_or-drop (length bytes - count) bytes k 0) in
     subst (λ (b : ℕ). not_lf b ≡ true) same passes
 
--- the bytes behind the last LF
+-- the bytes after the last LF
 pub last_line-no_lf : (bytes : List ℕ) → All (λ byte. byte ≢ 10) (after_last is_lf bytes)
 last_line-no_lf bytes = from (suffix_len not_lf bytes) (suffix_len-le-length not_lf bytes) refl
   where

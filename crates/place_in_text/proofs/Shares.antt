@@ -55,7 +55,7 @@ cut-no_lf line none = by (ends_with_byte 13 line)
     by true = All-take (λ byte. byte ≢ 10) (length line - 1) line none
     by false = none
 
--- the last so many bytes, where these are all
+-- this many bytes at the end, where these are all
 all-last : (bytes : List ℕ) (count : ℕ) → count ≡ length bytes → drop (length bytes - count) bytes ≡ bytes
 all-last bytes count is = let none : length bytes - count ≡ 0 = omega arith in ap (λ (n : ℕ). drop n bytes) none
 

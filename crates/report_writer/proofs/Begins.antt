@@ -1,7 +1,7 @@
 -- What a text begins with.
 use Rattle.std.proofs.Common.{◌≡◌, ℕ, List, ◌++◌, length, take, refl, append_assoc, length-append, take_all, take_at, take-take, arith}
 
--- what is put behind a front and more leaves the front as it is
+-- what is put after a front and more leaves the front as it is
 pub begins_front : (front more text : List ℕ) → (take (length (front ++ more)) text ≡ take (length (front ++ more)) text)
     × (take (length front) (take (length (front ++ more)) text) ≡ take (length front) text)
     × (take (length front) (front ++ more) ≡ front)

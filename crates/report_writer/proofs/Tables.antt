@@ -46,7 +46,7 @@ entries_text-next entries place key scalar is_key is_scalar =
     ap entries_text next.0 ∙ entries_text-push (take place entries) (key, scalar)
     ∙ ap (λ (n : ℕ). entries_text (take place entries) ++ comma_at n ++ entry_text (key, scalar)) next.1
 
--- behind a front and the entries so far, the parts of an entry make the text of one entry more
+-- after a front and the entries so far, the parts of an entry make the text of one entry more
 pub pushed_entry : (result : Result (Unit {0}) AllocError) (entries : List (List ℕ × Scalar)) (place : ℕ)
     (key : List ℕ) (scalar : Scalar) (old after_comma after_key after_colon new : List ℕ)
     → slice_get (keys_of entries) place ≡ Some key → slice_get (values_of entries) place ≡ Some scalar

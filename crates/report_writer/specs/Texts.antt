@@ -108,13 +108,13 @@ abbrev pub bound_text : ℕ → ℕ → List ℕ
 bound_text places slots =
     codes "places " ++ decimal places ++ codes " slots " ++ decimal slots ++ codes "\n"
 
--- the last of so many answers, without its LF, if there is one
+-- the last of this many answers, without its LF, if there is one
 abbrev pub last_text : ℕ → Option Value → List ℕ
 last_text zero value = codes "none"
 last_text (suc answers) (Some value) = value_text value
 last_text (suc answers) None = codes "undefined"
 
--- a drill: how many items there were, behind how many of them there was a value, and the last answer
+-- a drill: how many items there were, after how many of them there was a value, and the last answer
 abbrev pub drill_text : ℕ → ℕ → Option Value → List ℕ
 drill_text items defined last =
     codes "items " ++ decimal items ++ codes " defined " ++ decimal defined

@@ -23,7 +23,7 @@ pub fn bound_text(alloc: Global, places: u32, slots: u32) -> Result<Bytes, Alloc
     Ok(Bytes::from_vec(text.into_bytes()))
 }
 
-/// How many items there were, behind how many of them there was a value, and the answer behind the last.
+/// How many items there were, after how many of them there was a value, and the answer after the last.
 pub fn drill_text(
     alloc: Global,
     items: u32,
@@ -38,7 +38,7 @@ pub fn drill_text(
     Ok(Bytes::from_vec(text))
 }
 
-// Appends the answer behind the last item, if there is one.
+// Appends the answer after the last item, if there is one.
 fn push_last(items: u32, last: Option<&Value>, text: &mut Vec<u8>) -> Result<(), AllocError>
     ensures { OnOk result (
         text.new.items ≡ text.old.items ++ last_text items (option_copied last.entry)) }

@@ -22,7 +22,7 @@ pub(crate) fn push_table(table: &Table, text: &mut Vec<u8>) -> Result<(), AllocE
     text.extend_from_slice(b"}")
 }
 
-// Appends the entry at a place behind the text of those before it.
+// Appends the entry at a place after the text of those before it.
 #[tactic(auto, using(crate::proofs::Begins::begins))]
 fn push_entry(table: &Table, place: usize, text: &mut Vec<u8>) -> Result<(), AllocError>
     requires { place < length table.now }

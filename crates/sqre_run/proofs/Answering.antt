@@ -1,4 +1,4 @@
--- What is written for more lines comes behind what is written for those before.
+-- What is written for more lines comes after what is written for those before.
 use Rattle.std.proofs.Common.{◌≡◌, List, ℕ, [], ◌∷◌, ◌++◌, sym, ap, ◌∙◌, append_assoc, append-nil}
 use Rattle.io_edge.specs.Lines.{Shown}
 use Rattle.sqre_run.specs.Meanings.{Meaning}

@@ -1,4 +1,4 @@
--- What came of a command, for a query text that may be told.
+-- What came of a command, for a query text that may be reported.
 use Rattle.std.proofs.Common.{◌≡◌, ◌≤◌, ◌+◌, ◌*◌, ◌-◌, ◌^◌, ℕ, min, List, [], Option, Some, None, Result, Ok, Err, IfSome, IfOk, refl, sym, subst, arith}
 use Rattle.std.specs.declared.alloc.AllocError.{AllocError}
 use Rattle.std.specs.Io.KnownBytes.{Appends}
@@ -39,7 +39,7 @@ none_appended : (old new : Option (List ℕ)) (line : List ℕ) → new ≡ old 
 none_appended old new line same =
     ([], line, refl, subst (λ (taken : Option (List ℕ)). Appends old taken []) (sym same) (Appends-nil old))
 
--- a line that was told is carried, where what holds of it holds of the command's line
+-- a line that was reported is carried, where what holds of it holds of the command's line
 pub reported_line : (command : Command) (monitor : Monitor) (reply : Result (List ℕ) AllocError)
     → ((P : List ℕ → Type 0) → ((line : List ℕ) → P line) → HoldsOfLine command monitor P)
     → ((line : List ℕ) → reply ≡ Ok line → (P : List ℕ → Type 0) → P line → HoldsOfLine command monitor P)
@@ -164,7 +164,7 @@ only_query command text query status compiles completes other compiles' =
     subst (λ (q : Verdict). CompletesOf (Some command) q status) (sym (one_query text query other compiles compiles')) completes
 
 module _ (command : Command) (asked : Option Command) (is : Some command ≡ asked) where
-  -- the same of what was asked for, and for a query source that may tell its text
+  -- the same of what was asked for, and for a query source that may report its text
   outcome_asked : (text : List ℕ) (status : Status) (old new : Outside) → OutcomeOf (Some command) text status old new
       → OutcomeOf asked text status old new
   outcome_asked text status old new outcome = subst (λ (a : Option Command). OutcomeOf a text status old new) is outcome
@@ -242,7 +242,7 @@ places_are_kept (compose f g) = let a = places_are_kept f in omega arith
 places_are_kept (collect column sync rate f) =
     omega (arith, at_least (size_of rate + 1) (1 + size_of rate + (inner_of f + 2)) (omega arith))
 
--- the bounds of a small query are told as they are
+-- the bounds of a small query are reported as they are
 pub bounds_are_small : (q : Qre) → slots_of q ≤ max_slots
     → (min (places_of q) (2 ^ 32 - 1) ≡ places_of q) × (min (slots_of q) (2 ^ 32 - 1) ≡ slots_of q)
 bounds_are_small q small = let kept = places_are_kept q in (omega arith, omega arith)

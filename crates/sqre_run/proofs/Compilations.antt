@@ -1,4 +1,4 @@
--- What a text is compiled to is one thing, and what was read of a query tells what the whole of it is.
+-- What a text is compiled to is one thing, and what was read of a query determines the whole of it.
 use Rattle.std.proofs.Common.{◌≡◌, ◌<◌, ◌≤◌, ◌⊎◌, inl, inr, ℕ, zero, suc, List, ◌++◌, length, Option, Some, None, IfSome, sym, ap, subst, ◌∙◌, append-nil, length-append, arith}
 use Rattle.std.specs.Io.KnownBytes.{Consumes, IsAtEnd}
 use Rattle.std.specs.Prelude.{Box}

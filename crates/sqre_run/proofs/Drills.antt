@@ -38,7 +38,7 @@ read_of-item : (columns : List Column) (line : List ℕ) (item : List Field) →
 read_of-item columns [] item some is = absurd (omega arith)
 read_of-item columns (byte ∷ line) item some is = ap Some is
 
--- no line behind the first ones is a header
+-- no line after the first ones is a header
 no_header : (layout : Layout) (front lines : List Shown) (has_header : Bool) → layout.has_header ≡ has_header
     → (has_header ≡ true → 0 < length front) → is_header layout (front ++ lines) ≡ false
 no_header layout (line ∷ front) lines has_header is some = refl
@@ -63,7 +63,7 @@ module _ (layout : Layout) (count state seed : ℕ)
       ∙ ap (λ (l : List Shown). front ++ l) (map-append text (lines_from layout.columns count seed) (line_from layout.columns state ∷ []))
       ∙ sym (append_assoc front shown (text (line_from layout.columns state) ∷ []))
 
--- so the drill goes on behind one line more
+-- so the drill continues after one line more
 pub continues-next : (columns : List Column) (count state state' seed : ℕ)
     → ((n : ℕ) → lines_from columns (count + n) seed ≡ lines_from columns count seed ++ lines_from columns n state)
     → ((n : ℕ) → lines_from columns (suc n) state ≡ line_from columns state ∷ lines_from columns n state')
@@ -89,7 +89,7 @@ count_by-push : (values : List (Option Value)) (value : Option Value)
 count_by-push [] value = grind (arith, common_steps)
 count_by-push (first ∷ values) value = grind (arith, common_steps, count_by-push values value)
 
--- so many values, so many of them some, and the last one
+-- this many values, this many of them some, and the last one
 pub record IsTally (count defined : ℕ) (values : List (Option Value)) (value : Option Value) : Type 0 where
   pub many : length values ≡ count
   pub some : count_by is_some values ≡ defined
@@ -179,7 +179,7 @@ tally_begins meaning layout seed is =
     (subst (λ (values : List (Option Value)). IsTally 0 0 values (value_after meaning (drilled_lines meaning.layout 0 seed)))
     (sym (values_of-none meaning seed)) (tally_none (value_after meaning (drilled_lines meaning.layout 0 seed))))
 
--- what is told of a tally is told of its values
+-- what is said of a tally is said of its values
 pub tally_text : (count defined : ℕ) (values : List (Option Value)) (value : Option Value) → IsTally count defined values value
     → drill_text count defined value ≡ summary values
 tally_text count defined values value tally =
@@ -190,7 +190,7 @@ tally_text count defined values value tally =
     same zero defined one other is = refl
     same (suc count) defined one other is = ap (drill_text (suc count) defined) (sym (is (omega arith)))
 
--- what was told of the lines of a drill is told of its bytes
+-- what was reported of the lines of a drill holds of its bytes
 pub reported_of_bytes : (meaning : Meaning) (layout : Layout) (count seed defined : ℕ)
     (answer : Option Value) → meaning.layout ≡ layout → IsDrillable layout
     → IsTally count defined (values_of meaning (drilled_lines layout count seed))

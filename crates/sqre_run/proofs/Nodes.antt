@@ -20,7 +20,7 @@ composes_few (apply f expression) = let a = composes_few f in omega arith
 composes_few (compose f g) = let a = composes_few f in let b = composes_few g in omega arith
 composes_few (collect column sync rate f) = let a = composes_few f in omega arith
 
--- one more item fits behind fewer than 2^63 of them
+-- one more item fits after fewer than 2^63 of them
 pub fits_next : (on : OnStream) → IsChecked on → (columns : List Column) (query : Qre) (position : ℕ)
     (item : List Field) → query ≡ plain_of on.main.shape → columns ≡ on.layout.columns → position < 2 ^ 63
     → IsItemOf on.layout.columns item → FitsNext columns query position item

@@ -12,7 +12,7 @@ use Rattle.sqre_run.specs.Output.{answer, answering, answers_after, is_header, i
 use Rattle.sqre_run.proofs.ByteLines.{IsByteLine, byte_lines, byte_lines-append, items_word}
 use Rattle.sqre_run.proofs.OneAnswer.{one_answer}
 
--- what is written for a line, by the layout and the value behind the line
+-- what is written for a line, by the layout and the value after the line
 reply_by : Layout → List Shown → Shown → Option Value → List ℕ
 reply_by layout before line value =
     cond (is_header layout before) [] (reply_to (read_of layout.columns line) value)

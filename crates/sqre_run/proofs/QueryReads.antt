@@ -15,13 +15,13 @@ use Rattle.sqre_run.specs.declared.status.Status.{Status}
 use Rattle.sqre_run.specs.declared.status.Status.TheVariants.{Done, Refused, Usage, QueryFault, ItemFault, SinkFault, Memory, Limit}
 
 module _ (left left' : Option (List ℕ)) (ends ends' : ℕ) where
-  -- nothing is left behind a text that is not too long
+  -- nothing is left after a text that is not too long
   pub text_at_end : (got : List ℕ) → TakesFirst max_read left left' ends ends' got → length got ≤ max_text
       → IsAtEnd left'
   text_at_end got takes short = (takes.end.at_end (omega arith)).1
 
   module _ (reads : ReadsText left left' ends ends') where
-    -- a run comes behind the text
+    -- a run comes after the text
     pub reads_run : (monitor : Monitor) (status : Status) (old new : Outside) → Ended monitor status old new
         → ReadsQuery left left' ends ends' status
     reads_run monitor Done old new ended = reads

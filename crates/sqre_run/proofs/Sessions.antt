@@ -29,7 +29,7 @@ flat_map-push : {A B : Type 0} (f : A → List B) (xs : List A) (x : A) → flat
 flat_map-push f [] x = append-nil (f x)
 flat_map-push f (y ∷ xs) x = ap (λ l. f y ++ l) (flat_map-push f xs x) ∙ sym (append_assoc (f y) (flat_map f xs) (f x))
 
--- what a line behind these gives; the header gives nothing
+-- what a line after these gives; the header gives nothing
 abbrev pub read_after : Layout → List Shown → Shown → Option (Result (List Field) Skip)
 read_after layout before line = cond (is_header layout before) None (read_of layout.columns line)
 
@@ -40,7 +40,7 @@ first_line : (columns : List Column) (has_header : Bool) (line : Shown)
 first_line columns true line = refl
 first_line columns false line = append-nil (item_in (read_of columns line))
 
--- each later one is behind it
+-- each later one is after it
 later_line : (columns : List Column) (has_header : Bool) (first : Shown) (before : List Shown) (line : Shown)
     → flat_map (λ l. item_in (read_of columns l)) (body_of has_header ((first ∷ before) ++ line ∷ []))
     ≡ flat_map (λ l. item_in (read_of columns l)) (body_of has_header (first ∷ before)) ++ item_in (read_of columns line)
@@ -61,7 +61,7 @@ and-false : (b : Bool) → (b && false) ≡ false
 and-false true = refl
 and-false false = refl
 
--- some line has come behind another
+-- some line has come after another
 pub is_begun-push : (before : List Shown) (line : Shown) → is_begun (before ++ line ∷ []) ≡ true
 is_begun-push [] line = refl
 is_begun-push (first ∷ before) line = refl
@@ -117,7 +117,7 @@ module _ {F : Type 0} (follows : F → Word → Type 0) (query : F → Qre) wher
           empty false = refl
 
   module _ (on : OnStream) (before : List Shown) (line : Shown) (old new : Session F) (holds_after : IsAfter follows on before old) where
-    -- what the session reads is what the line gives behind these
+    -- what the session reads is what the line gives after these
     pub read_is : read_by old line ≡ read_after on.layout before line
     read_is =
         ap (λ (o : OnStream). cond (o.layout.has_header && not old.begun) None (read_of o.layout.columns line)) holds_after.same
@@ -206,7 +206,7 @@ reported follows (Ok reply) said line old new is said_so =
     subst (λ (t : List ℕ). RepliesTo follows line t old new) (sym is) said_so
 reported follows (Err error) said line old new is said_so = tt
 
--- a line that is not empty gives what is read of it, behind the header
+-- a line that is not empty gives what is read of it, after the header
 pub read_line : {F : Type 0} (session : Session F) (line : List ℕ) → awaits_header session ≡ false
     → (length line == 0) ≡ false
     → read_by session (text line) ≡ Some (item_of session.checked.now.layout.columns line)

@@ -1,4 +1,4 @@
--- The line that a call of `Lines::next` told.
+-- The line that a call of `Lines::next` reported.
 use Rattle.std.proofs.Common.{◌≡◌, ◌≢◌, ◌⊎◌, inl, inr, ℕ, true, false, List, Option, Result, Ok, sym, subst, ◌∙◌}
 use Rattle.std.specs.Io.KnownBytes.{Consumes}
 use Rattle.io_edge.specs.Ended.{MeetsEnd}
@@ -20,7 +20,7 @@ pub record TakesLine (left left' : Option (List ℕ)) (ends ends' : ℕ) (old ne
   pub end : MeetsEnd ends ends' left' ((old.met ≡ false) × (new.met ≡ true))
 
 module _ {left left' : Option (List ℕ)} {ends ends' : ℕ} {old new : Reading} {result : Result Line LineStop} where
-  -- what a call told, at the answer that it gave
+  -- what a call reported, at the answer that it gave
   pub Reported-gives : Reported left left' ends ends' old new result
       → (answer : Result Line LineStop) → result ≡ answer
       → (got : List ℕ) × Consumes left left' got × Gives old got answer new
@@ -36,7 +36,7 @@ module _ {left left' : Option (List ℕ)} {ends ends' : ℕ} {old new : Reading}
       at (inl met) = absurd (other (reported.again met).0)
       at (inr going) = going
 
-  -- a call that told a line took it
+  -- a call that reported a line took it
   TakesLine-reported : Reported left left' ends ends' old new result → (line : Shown) (answer : Result Line LineStop) → result ≡ answer → answer ≢ Ok End
       → ((got : List ℕ) → Gives old got answer new → Answers old got line new)
       → TakesLine left left' ends ends' old new line
@@ -51,12 +51,12 @@ module _ {left left' : Option (List ℕ)} {ends ends' : ℕ} {old new : Reading}
         end = reported.end;
       }
 
-  -- a line that was told whole
+  -- a line that was reported whole
   pub TakesLine-whole : Reported left left' ends ends' old new result → (line : _) → result ≡ Ok (Whole line) → TakesLine left left' ends ends' old new (text line.now)
   TakesLine-whole reported line is =
       TakesLine-reported reported (text line.now) (Ok (Whole line)) is (λ e. cc) (λ got h. h)
 
-  -- a line that was told to be too long
+  -- a line that was reported as too long
   pub TakesLine-long : Reported left left' ends ends' old new result → result ≡ Ok Long
       → TakesLine left left' ends ends' old new long
   TakesLine-long reported is = TakesLine-reported reported long (Ok Long) is (λ e. cc) (λ got h. h)

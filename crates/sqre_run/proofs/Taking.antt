@@ -35,7 +35,7 @@ without_lf line shown is = rw is (at (shown ++ codes "\n" ++ []) refl)
         (omega (arith, long), rw (short, ended) (take-append_seam shown (codes "\n")))
 
 module _ {F : Type 0} (follows : F → Word → Type 0) (query : F → Qre) where
-  -- a session that reads a line and follows on is behind it
+  -- a session that reads a line and follows on is after it
   pub takes : (line : Shown) (old new : Session F) → new.checked ≡ old.checked → new.begun ≡ true
       → FollowsOn follows old.checked.now.layout.columns (read_by old line) old.follower new.follower → Takes follows line old new
   takes line old new same begun follows_on on before holds_after =
@@ -111,7 +111,7 @@ pub next_taken : {F : Type 0} (follows : F → Word → Type 0) (old new : Sessi
 next_taken follows old new bytes shown are (Ok done) took = took shown are
 next_taken follows old new bytes shown are (Err error) took = tt
 
--- the answer behind lines is the value after them
+-- the answer after lines is the value after them
 pub answer_after : {F : Type 0} (follows : F → Word → Type 0) (query : F → Qre) (on : OnStream) (shown : List Shown) (session : Session F)
     (answer : Option Value) → IsChecked on → IsAfter follows on shown session
     → query session.follower ≡ plain_of session.checked.now.main.shape

@@ -1,4 +1,4 @@
--- One turn of the run: how it goes on, and how it ends.
+-- One turn of the run: how it continues, and how it ends.
 use Rattle.std.proofs.Common.{◌≡◌, ◌⊎◌, inl, inr, ℕ, true, false, List, [], ◌∷◌, ◌++◌, length, Option, Some, None, Result, Ok, Err, IfOk, IfNone, IfSome, Bor, refl, sym, ap, subst, ◌∙◌, append_assoc, append-nil, arith}
 use Rattle.std.proofs.KnownBytes.{Appends-trans, Consumes-trans, Consumes-whole, Appends-nil, Consumes-nil}
 use Rattle.std.proofs.lemmas.List.{nil_from_length}
@@ -30,7 +30,7 @@ use Rattle.sqre_run.proofs.EndedPart.{all_part, cut_short, ended_part, one_at_mo
 use Rattle.sqre_run.proofs.Showing.{Showed-ends, Showed-shows, Showed-split, Answers-lines, Answers-whole, Waits-lines, true_or_false}
 use Rattle.sqre_run.proofs.Takes.{TakesLine, Reported-gives, Reported-going}
 
--- a run ends by that fault where the sink does not hand on what it holds
+-- a run ends by that fault where the sink does not flush what it holds
 pub Ended-held : {F : Type 0} (follows : F → Word → Type 0) (on : OnStream) (old now : Outside) (reading : Reading)
     (kept : Session F) (taken : Option (List ℕ)) → taken ≡ now.taken → Running follows on old now reading kept
     → Ended (monitor_of on) SinkFault old (record now { taken = taken })
@@ -43,14 +43,14 @@ Ended-held follows on old now reading kept taken same run =
     (subst (λ (t : Option (List ℕ)). Appends old.taken t (answers meaning run.shown)) (sym same)
     (run.wrote.wrote meaning means)))
 
--- and the run so far is one still where it has handed on what it held
+-- and the run so far is one still where it has flushed what it held
 pub Running-held : {F : Type 0} (follows : F → Word → Type 0) (on : OnStream) (old now : Outside) (reading : Reading)
     (kept : Session F) (taken : Option (List ℕ)) → taken ≡ now.taken → Running follows on old now reading kept
     → Running follows on old (record now { taken = taken }) reading kept
 Running-held follows on old now reading kept taken same run =
     subst (λ (t : Option (List ℕ)). Running follows on old (record now { taken = t }) reading kept) (sym same) run
 
--- how it ends where the sink hands on what it holds, or does not
+-- how it ends where the sink flushes what it holds, or does not
 pub Ended-or_held : (on : OnStream) (old new : Outside) (status status' : Status)
     → (status' ≡ status) ⊎ (status' ≡ SinkFault) → Ended (monitor_of on) status old new
     → Ended (monitor_of on) SinkFault old new → Ended (monitor_of on) status' old new
@@ -60,7 +60,7 @@ Ended-or_held on old new status status' (inr is) ended held =
     subst (λ (s : Status). Ended (monitor_of on) s old new) (sym is) held
 
 module _ {F : Type 0} (follows : F → Word → Type 0) (on : OnStream) (old now new : Outside) (reading next : Reading) (kept : Session F) where
-  -- what a call that came before any end tells of the end
+  -- what a call that came before any end says of the end
   module _
       (end : MeetsEnd now.ends new.ends new.left ((reading.met ≡ false) × (next.met ≡ true)))
       (going : reading.met ≡ false)
@@ -72,7 +72,7 @@ module _ {F : Type 0} (follows : F → Word → Type 0) (on : OnStream) (old now
       ends_kept : next.met ≡ false → new.ends ≡ old.ends
       ends_kept not = end.else_same (λ both. cc (both.1, not)) ∙ run.no_end going
 
-  -- the line was answered, and the run goes on
+  -- the line was answered, and the run continues
   pub Running-line : (kept' : Session F) (line : Shown) (reply : List ℕ)
       → TakesLine now.left new.left now.ends new.ends reading next line
       → RepliesTo follows line reply kept kept' → Appends now.taken new.taken reply
@@ -149,7 +149,7 @@ module _ {F : Type 0} (follows : F → Word → Type 0) (on : OnStream) (old now
         },
       )
 
-  -- its answer could not be made, and the sink does not hand on those before
+  -- its answer could not be made, and the sink does not flush those before
   pub Ended-no_memory_held : (line : Shown) → TakesLine now.left new.left now.ends new.ends reading next line
       → new.taken ≡ now.taken → Running follows on old now reading kept → Ended (monitor_of on) SinkFault old new
   Ended-no_memory_held line takes same run =
@@ -166,7 +166,7 @@ module _ {F : Type 0} (follows : F → Word → Type 0) (on : OnStream) (old now
       })
       (wrote_some same run)
 
-  -- a call that told no line: the answers to all whole lines were written
+  -- a call that reported no line: the answers to all whole lines were written
   Wrote-waiting : (got : List ℕ) → Consumes now.left new.left got → Waits reading got next
       → reading.met ≡ false → new.taken ≡ now.taken → (run : Running follows on old now reading kept)
       → (count_of next ≡ length (run.got ++ got))
@@ -205,7 +205,7 @@ module _ {F : Type 0} (follows : F → Word → Type 0) (on : OnStream) (old now
           let wrote = Wrote-waiting taken.0 taken.1 taken.2.0 going same run in
           (ends_kept reported.end going run taken.2.0.shows.not_met, run.got ++ taken.0, sym wrote.0 ∙ taken.2.1, wrote.1)
 
-      -- or there the sink does not hand on the answers
+      -- or there the sink does not flush the answers
       pub Ended-at_limit_held : result ≡ Err Limit → Ended (monitor_of on) SinkFault old new
       Ended-at_limit_held is =
           let taken = Reported-gives reported (Err Limit) is in
@@ -219,7 +219,7 @@ module _ {F : Type 0} (follows : F → Word → Type 0) (on : OnStream) (old now
           (Consumes-trans _ _ _ _ _ run.wrote.read taken.1)
           (showed_begin old new got run.shown next showed (ends_met reported.end going run)) (wrote_some same run)
 
-      -- all lines were shown where the end was told
+      -- all lines were shown where the end was reported
       lines_at_end : (got : List ℕ) → Ends reading got [] next → lines (run.got ++ got) true ≡ run.shown
       lines_at_end got ends = at (true_or_false reading.met)
         where
@@ -276,7 +276,7 @@ module _ {F : Type 0} (follows : F → Word → Type 0) (on : OnStream) (old now
               (Consumes-trans _ _ _ _ _ run.wrote.read taken.1)
               (reported.end.at_end (going, taken.2.0.done.met)).1 (all meaning means)
 
-      -- or there the sink does not hand on the answers
+      -- or there the sink does not flush the answers
       pub Ended-done_held : result ≡ Ok End → Ended (monitor_of on) SinkFault old new
       Ended-done_held is =
           let taken = Reported-gives reported (Ok End) is in
@@ -289,7 +289,7 @@ module _ {F : Type 0} (follows : F → Word → Type 0) (on : OnStream) (old now
           (wrote_some same run)
 
 module _ {F : Type 0} (follows : F → Word → Type 0) (now new : Outside) (reading next : Reading) (kept kept' : Session F) (line : Shown) where
-  -- where the text was written, whatever run there is goes on
+  -- where the text was written, whatever run there is continues
   pub Handed-continues : (status : Option Status) (reply : Result (Bor (List ℕ)) AllocError)
       → TakesLine now.left new.left now.ends new.ends reading next line
       → IfOk reply (λ said. RepliesTo follows line said.now kept kept')

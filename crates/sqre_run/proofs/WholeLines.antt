@@ -8,7 +8,7 @@ use Rattle.sqre_run.proofs.Answering.{answers_after-append}
 abbrev IsFront : List Shown → List Shown → Type 0
 IsFront front all = (more : List Shown) × (all ≡ front ++ more)
 
--- where a line is ended, it stands before the lines behind it; where not, it goes on
+-- where a line is ended, it stands before the lines after it; where not, it continues
 IsFront-next : (is_lf : Bool) (line : Shown) (whole all whole' all' : List Shown)
     → IsFront whole all → IsFront whole' all'
     → IsFront (cond is_lf (line ∷ whole) whole') (cond is_lf (line ∷ all) all')

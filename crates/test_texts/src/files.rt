@@ -76,7 +76,7 @@ fn prints_the_canonical_text(rt: HostRuntime) -> Result<(), Fail> {
     Ok(())
 }
 
-// So many x between two parts.
+// A text of two parts with this many x between them.
 fn filled(alloc: Global, before: &[u8], count: u32, after: &[u8]) -> Result<Vec<u8>, AllocError> {
     let filling = repeated(alloc, b"x", count)?;
     let mut text = Vec::from_slice(alloc, before)?;

@@ -22,8 +22,8 @@ fn numbers(alloc: Global) -> Result<Schema, AllocError> {
     Ok(Schema::new(false, columns))
 }
 
-// The cells of such a stream. That the predicates do not fit is told as want of memory, so that only `Cells::new` says
-// that there are too many.
+// The cells of such a stream. That the predicates do not fit is reported as lack of memory, so that
+// only `Cells::new` says that there are too many.
 fn cells_under(alloc: Global, preds: &Preds) -> Result<Box<Cells>, CellStop> {
     let schema = numbers(alloc)?;
     if !preds.fit(&schema) {

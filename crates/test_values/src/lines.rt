@@ -72,7 +72,7 @@ pub(crate) fn reported(alloc: Global, schema: &Schema, line: &[u8]) -> Result<St
     }
 }
 
-// The first line that is told otherwise than it should be.
+// The first line that is reported otherwise than it should be.
 fn misread<'a>(
     alloc: Global,
     schema: &Schema,

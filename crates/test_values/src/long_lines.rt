@@ -8,7 +8,7 @@ use item_schema::{Column, Item, Kind, Schema, are_columns, read_item};
 use std::alloc::{AllocError, Global};
 use std::test::Fail;
 
-// What is told of a line of zeros and the digits behind them.
+// What is reported of a line of zeros and the digits after them.
 fn reported_after_zeros(alloc: Global, kind: Kind, digits: &[u8]) -> Result<String, AllocError>
     requires digits { IsTrue (has_digits kind) }
     requires read { IsTrue (is_read kind) }
@@ -54,7 +54,7 @@ fn the_longest_lines_are_items(rt: HostRuntime) -> Result<(), Fail> {
     Ok(())
 }
 
-// So many columns of numbers.
+// Columns of numbers, of this count.
 fn number_columns(alloc: Global, count: u8) -> Result<Vec<Column>, AllocError>
     requires { count < 100 }
 {

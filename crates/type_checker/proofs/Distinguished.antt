@@ -86,7 +86,7 @@ if_not : (few : Bool) (span : Span) → cond few None (Some span) ≡ cond (not 
 if_not true span = refl
 if_not false span = refl
 
--- the first behind an operand, by what is found of each
+-- the first after an operand, by what is found of each
 pub here_after : (values : List Column) (standing : Standing) (g : Query) (span : Span) (later here : Option Span)
     → first_in derives_many values standing g ≡ later
     → here ≡ cond (not (has_few_cells values (plain_of g.shape))) (Some span) None

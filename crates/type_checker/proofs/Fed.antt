@@ -77,7 +77,7 @@ module _ (columns : List Column) (standing : Standing) (f : Qre) (second : Query
 
 -- a composition at this place
 module _ (columns : List Column) (standing : Standing) (first second : Query) (span : Span) where
-  -- its nodes, and those behind the nodes of the first operand
+  -- its nodes, and those after the nodes of the first operand
   abbrev all : List Node
   all = nodes_in columns standing (compose (plain_of first.shape) (plain_of second.shape))
       (with_two (places_in first) (places_in second) span)

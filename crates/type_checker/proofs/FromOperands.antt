@@ -121,7 +121,7 @@ module _ (nesting : Nesting) (columns : List Column) where
       joint_operands (Combine value) span (Refused why) is =
           stops_in_two (resolved nesting columns f) (resolved nesting columns g) _ why is
 
-      -- which is the first, or the second behind it
+      -- which is the first, or the second after it
       pub first_of_two : (stop : CheckStop) → IsRefused nesting columns f stop
           → IsRefusedOfTwo nesting columns f g stop
       first_of_two (Refused why) left = rw left refl

@@ -123,12 +123,12 @@ module _ (program : Program) where
   pub few_count : IsCounted program → counted program ≡ Ok tt
   few_count is = rw (is.right, is.few) refl
 
-  -- what is left behind the names and the types
+  -- what is left after the names and the types
   abbrev sized : Qre → Result Qre Refusal
   sized query = limited (layout_of program.stream) (unfolded program) query
       >>= (λ small. parted program.stream (unfolded program) query >>= (λ cells. Ok query))
 
-  -- and behind the names of lets and the nodes
+  -- and after the names of lets and the nodes
   abbrev named : Result Qre Refusal
   named = resolved outside (layout_of program.stream).columns (unfolded program) >>= sized
 

@@ -11,7 +11,7 @@ use Rattle.type_checker.proofs.Placed.{first_before, first_after}
 use Rattle.type_checker.proofs.Walked.{nodes_at}
 
 module _ (is_so : Node → Bool) (node : Node) (columns : List Column) (standing : Standing) (f : Query) where
-  -- the place of the first of its nodes, and of a node behind them
+  -- the place of the first of its nodes, and of a node after them
   abbrev all : Option Span
   all = first_over is_so node columns standing f
 

@@ -1,4 +1,4 @@
--- An iteration: what is told of its root, from the automaton of its operand.
+-- An iteration: what is found of its root, from the automaton of its operand.
 use Rattle.std.proofs.Common.{◌≡◌, ℤ, Result, IfErr, IfOk, subst}
 use Rattle.language_base.specs.declared.span.Span.{Span}
 use Rattle.predicate_cells.specs.Cells.{Partition}

@@ -1,4 +1,4 @@
--- A query over two operands: what is told of its root, from the nodes and the automata of the operands.
+-- A query over two operands: what is found of its root, from the nodes and the automata of the operands.
 use Rattle.std.proofs.Common.{None, Result, IfErr, IfOk, OnOk}
 use Rattle.predicate_cells.specs.Cells.{Partition}
 use Rattle.query_model.specs.Queries.{Qre}
@@ -14,7 +14,7 @@ use Rattle.type_checker.proofs.Walked.{root_kept, root_refused}
 
 module _ (node : Qre → Qre → Qre) (f g : Qre) (places : Places) (cells : Partition) (operands : Operands)
     (are : AreOperands cells f g operands) (result : Result Sets WordStop) where
-  -- what is told of the root where there are sets
+  -- what is found of the root where there are sets
   abbrev pub AreAnswered : Type 0
   AreAnswered = IfOk result (λ sets. (c : Partition) (a b : Qre) → AreOperands c a b operands
       → IsKept c.layout.columns (node a b) sets)

@@ -1,4 +1,4 @@
--- The first of some nodes where something holds, by those before and those behind.
+-- The first of some nodes where something holds, by those before it and those after it.
 use Rattle.std.proofs.Common.{◌≡◌, inl, inr, Bool, true, false, cond, List, [], ◌∷◌, ◌++◌, Option, Some, None, refl}
 use Rattle.language_base.specs.declared.refusal.Refusal.{Refusal}
 use Rattle.language_base.specs.declared.span.Span.{Span}

@@ -16,7 +16,7 @@ use Rattle.query_syntax.specs.declared.stream.Kind.{Kind}
 use Rattle.query_syntax.specs.declared.stream.Kind.TheVariants.{Int, Text, Fixed}
 use Rattle.type_checker.specs.Layouts.{column_of, kind_of}
 
--- where nothing is found, the test fails, and nothing is found behind it
+-- where nothing is found, the test fails, and nothing is found after it
 not_here : (test : Bool) (span : Span) (next : Option Span) → cond test (Some span) next ≡ None
     → (test ≡ false) × (next ≡ None)
 not_here true span next is = absurd (cc)
@@ -24,7 +24,7 @@ not_here false span next is = (refl, is)
 
 module _ (known : List (List ℕ)) (first : Column) (columns : List Column)
     (right : first_wrong (column_words known (first ∷ columns)) ≡ None) where
-  -- the first column has a new name, and those behind have names of their own
+  -- the first column has a new name, and those after it have names of their own
   new_first : (is_known known first.name.bytes ≡ false)
       × (first_wrong (column_words (first.name.bytes ∷ known) columns) ≡ None)
   new_first = not_here (is_known known first.name.bytes) first.name.span

@@ -1,4 +1,4 @@
--- What is told of the root of a query, from what the automata of its operands tell.
+-- What is found of the root of a query, from what the automata of its operands show.
 use Rattle.std.proofs.Common.{◌≡◌, List, Option, None, Some, refl, sym, subst}
 use Rattle.item_schema.specs.declared.column.Column.{Column}
 use Rattle.language_base.specs.declared.rule.Rule.{Rule}
@@ -38,14 +38,14 @@ module _ (columns : List Column) (query : Qre) (broken : Option Rule)
       subst (IsBrokenAt columns query span) (sym stops)
       (rule, λ standing. (here standing, (refl, plain_at columns standing query rule none (here standing))))
 
--- what is told on some cells is told on the same
+-- what is found on some cells is found on the same
 pub on_same : (cells other : Partition) (query : Qre) (broken : Option Rule) → cells ≡ other
     → ((standing : Standing) → BreaksAt cells.layout.columns standing query broken)
     → (standing : Standing) → BreaksAt other.layout.columns standing query broken
 on_same cells other query broken same breaks standing =
     subst (λ (c : Partition). BreaksAt c.layout.columns standing query broken) same (breaks standing)
 
--- what is told on the cells of the first automaton is told on those of both
+-- what is found on the cells of the first automaton is found on those of both
 pub on_cells : (cells : Partition) (f g : Qre) (operands : Operands) (query : Qre) (broken : Option Rule)
     → AreOperands cells f g operands
     → ((standing : Standing) → BreaksAt operands.left.cells.layout.columns standing query broken)
@@ -59,7 +59,7 @@ pub automaton_of : (cells : Partition) (query : Qre) (sets : Sets) (nfa : Automa
 automaton_of cells query sets nfa is are =
     subst (IsAutomatonOf query) (sym is) (record { sets = are; spells = sets_spell sets (rate_of query) are })
 
--- what is told of the values of another query
+-- what is found of the values of another query
 module _ (standing : Standing) (columns : List Column) (r : Regex) (broken : Option Rule)
     (breaks : BreaksFed standing columns r broken) where
   pub fed_by : broken ≡ None → BreaksFed standing columns r None
@@ -72,7 +72,7 @@ module _ (standing : Standing) (columns : List Column) (r : Regex) (broken : Opt
       subst (IsUnfed standing columns r span) (sym stops)
       (rule, refl, subst (BreaksFed standing columns r) is breaks)
 
--- what an automaton tells of a rate, on its cells
+-- what an automaton shows of a rate, on its cells
 pub on_values : (sets : Sets) (cells : Partition) (nfa : Automaton) → nfa ≡ record { sets = sets; cells = cells }
     → (broken : Option Rule)
     → ((r : Regex) → AreSetsOf nfa.sets r → BreaksFed bound nfa.cells.layout.columns r broken)

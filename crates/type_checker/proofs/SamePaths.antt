@@ -38,7 +38,7 @@ module _ (r : Regex) (one other : Sets) (ones : AreSetsOf one r) (others : AreSe
       (begin, begins_too begin has, meets_too begin item meets, leads_on_too begin word to path)
 
 module _ (r : Regex) (one other : Sets) (ones : AreSetsOf one r) (others : AreSetsOf other r) where
-  -- the state behind a word is the same for both
+  -- the state after a word is the same for both
   after_too : (word : Word) (state : State) → IsAfter one word state → IsAfter other word state
   after_too [] Initial after = after
   after_too [] (At mask) after = absurd after

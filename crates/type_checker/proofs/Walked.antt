@@ -26,7 +26,7 @@ stops_before nodes others (Ambiguous blame) (node, rule, first, is) =
     (node, rule, first_with_more node rule nodes others first, is)
 stops_before nodes others Memory broken = tt
 
--- what stops behind nodes that break no rule
+-- what stops after nodes that break no rule
 pub stops_after : (nodes others : List Node) (stop : WordStop) → FirstBroken nodes None → IsBrokenBy others stop
     → IsBrokenBy (nodes ++ others) stop
 stops_after nodes others (Broken why) kept (node, rule, first, is) =
@@ -39,7 +39,7 @@ stops_after nodes others Memory kept broken = tt
 abbrev pub nodes_at : List Column → Standing → Query → List Node
 nodes_at columns standing query = nodes_in columns standing (plain_of query.shape) (places_in query)
 
--- the root stands behind the nodes of its operands
+-- the root stands after the nodes of its operands
 root_last : (columns : List Column) (standing : Standing) (query : Qre) (places : Places)
     → operand_nodes columns standing query places ++ root columns standing query places ∷ []
     ≡ nodes_in columns standing query places

@@ -92,7 +92,7 @@ iter::step_iter-step_and_end-requires t c =
       ),
     )
 
--- the piece with the value so far that it goes on from
+-- the piece with the value so far that it continues from
 piece_ended : (t : ℕ) (c : iter::step_iter-After-keep t)
     → HasEnded seen_of (plain_of c.args.inner.now.shape) (values.plain_of c.args.expression.now) c.in-Iter.so_far.entries
     (holding_of c.in-Iter.a.value.state) c.args.now c.args.item.now (holding_of c.step_and_end.new.node.state)

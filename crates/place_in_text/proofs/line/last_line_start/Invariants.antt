@@ -4,7 +4,7 @@ use Rattle.std.specs.Prelude.{not}
 use Rattle.place_in_text.specs.Places.{is_lf}
 use Rattle.place_in_text.proofs.line.last_line_start.Given as goal
 
--- what stands behind the start so far holds no LF
+-- what stands after the start so far holds no LF
 abbrev pub invariant-bytes : goal.invariant-bytes
 invariant-bytes l =
     (l.start ≤ length l.text)

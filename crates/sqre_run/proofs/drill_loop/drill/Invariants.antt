@@ -9,7 +9,7 @@ use Rattle.sqre_run.specs.Sessions.{IsAfter, IsReady}
 use Rattle.sqre_run.proofs.Drills.{IsTally}
 use Rattle.sqre_run.proofs.drill_loop.drill.Given as goal
 
--- the session has taken so many lines of the drill, and the values after them are counted
+-- the session has taken this many lines of the drill, and the values after them are counted
 abbrev pub invariant-items : goal.invariant-items
 invariant-items g l =
     let f = g.F.Follower in

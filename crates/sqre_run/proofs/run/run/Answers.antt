@@ -41,7 +41,7 @@ lines-init g c =
 some_holds : {A : Type 0} (P : A → Type 0) (there : Option A) (one : A) → there ≡ Some one → IfSome there P → P one
 some_holds P there one is holds = subst (λ o. IfSome o P) is holds
 
--- the turn ended the run, or the answers to the lines so far were written and are not handed on
+-- the turn ended the run, or the answers to the lines so far were written and are not flushed
 pub returns-in-Some-clause-ended : goal.returns-in-Some-clause-ended
 returns-in-Some-clause-ended g c =
     let at = outside g.S.Source.left g.S.Source.ends g.W.Sink.taken in

@@ -5,7 +5,7 @@ use Rattle.sqre_run.specs.Running.{Running}
 use Rattle.sqre_run.specs.Sessions.{IsReady}
 use Rattle.sqre_run.proofs.run.run.Given as goal
 
--- no object has failed, the run so far is one from the call's beginning, and its follower can go on
+-- no object has failed, the run so far is one from the call's beginning, and its follower can continue
 abbrev pub invariant-lines : goal.invariant-lines
 invariant-lines g l =
     let at = outside g.S.Source.left g.S.Source.ends g.W.Sink.taken in

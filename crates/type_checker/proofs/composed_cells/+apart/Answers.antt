@@ -106,7 +106,7 @@ pub first_composed-returns : goal.first_composed-returns
 first_composed-returns t c = λ standing.
     ap₂ option_or (c.in_ok-left.ensures standing) (sym (c.in_ok-after.ensures standing)) ∙ sym c.or.ensures
 
--- behind the first operand of a composition
+-- after the first operand of a composition
 pub first_after-first_apart-requires : goal.first_after-first_apart-requires
 first_after-first_apart-requires t c = (
   search (rules, the_lemmas),

@@ -15,7 +15,7 @@ use Rattle.type_checker.proofs.Paired.{pair_first, pair_made, pair_nodes, pair_r
 use Rattle.type_checker.proofs.Shaping.{name_refused}
 use Rattle.type_checker.proofs.resolution.+resolve.Goals as goal
 
--- behind names
+-- after names
 pub resolve_over-resolve_root-requires : goal.resolve_over-resolve_root-requires
 resolve_over-resolve_root-requires t c =
     let fewer = c.root.ensures.leads.fewer in (

@@ -2,7 +2,7 @@ use Rattle.std.proofs.Common.{◌≤◌, ◌+◌}
 use Rattle.sqre_run.specs.Sessions.{IsReady}
 use Rattle.cases_queries.proofs.tables.transcripts.transcript_of.Given as goal
 
--- the engine can go on, and has taken no more items than are counted
+-- the engine can continue, and has taken no more items than are counted
 abbrev pub invariant-items : goal.invariant-items
 invariant-items g l =
     let f = g.F.Follower in

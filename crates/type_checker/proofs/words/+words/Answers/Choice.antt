@@ -43,7 +43,7 @@ keep_words-returns-in-Or-clause-refused t c =
     let refused = rw (c.deref.ensures, c.deref-in-Or.ensures) at c.keep_choice.ensures.refused in
     rw c.in-Or.is (refused (standing_of c.args.standing))
 
--- its root, behind its operands
+-- its root, after its operands
 pub keep_choice-choice-requires-clause-few : goal.keep_choice-choice-requires-clause-few
 keep_choice-choice-requires-clause-few t c =
     few_together c.args.cells.now.value (plain_of c.args.first.now.shape) (plain_of c.args.second.now.shape) _

@@ -41,7 +41,7 @@ keep_words-returns-in-Collect-clause-refused t c =
     rw c.in-Collect.is (refused (standing_of c.args.standing) c.in-Collect.field-0
     (predicates.plain_of c.in-Collect.field-1))
 
--- its root, behind its operand
+-- its root, after its operand
 pub keep_collection-returns-in_err-keep_words-clause-refused :
     goal.keep_collection-returns-in_err-keep_words-clause-refused
 keep_collection-returns-in_err-keep_words-clause-refused t c =

@@ -38,7 +38,7 @@ keep_words-returns-in-Combine-clause-refused t c =
     let refused = rw (c.deref-in-Combine.ensures, c.deref-in-Combine-2.ensures) at c.keep_combination.ensures.refused in
     rw c.in-Combine.is (refused (standing_of c.args.standing) (values.plain_of c.in-Combine.field-2))
 
--- its root, behind its operands
+-- its root, after its operands
 pub keep_combination-returns-in_err-operands-clause-refused :
     goal.keep_combination-returns-in_err-operands-clause-refused
 keep_combination-returns-in_err-operands-clause-refused t c =

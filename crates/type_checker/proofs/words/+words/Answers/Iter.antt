@@ -37,7 +37,7 @@ keep_words-returns-in-Iter-clause-refused t c =
     let refused = rw c.deref-in-Iter.ensures at c.keep_iteration.ensures.refused in
     rw c.in-Iter.is (refused (standing_of c.args.standing) c.in-Iter.field-1 (values.plain_of c.in-Iter.field-2))
 
--- its root, behind its operand
+-- its root, after its operand
 pub keep_iteration-new-requires : goal.keep_iteration-new-requires
 keep_iteration-new-requires t c =
     positions_decided c.args.cells.now.value (plain_of c.args.operand.now.shape) _ c.requires

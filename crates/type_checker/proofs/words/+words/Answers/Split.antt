@@ -44,7 +44,7 @@ keep_words-returns-in-Split-clause-refused t c =
     let refused = rw (c.deref-in-Split.ensures, c.deref-in-Split-2.ensures) at c.keep_split.ensures.refused in
     rw c.in-Split.is (refused (standing_of c.args.standing) (values.plain_of c.in-Split.field-2))
 
--- its root, behind its operands
+-- its root, after its operands
 pub keep_split-split-requires-clause-few : goal.keep_split-split-requires-clause-few
 keep_split-split-requires-clause-few t c =
     few_together c.args.cells.now.value (plain_of c.args.first.now.shape) (plain_of c.args.second.now.shape) _
