@@ -58,7 +58,7 @@ fn push_some(
     push_rows_from(alloc, drawing, last, &items[last..], shown)
 }
 
-// The rows of items from the place on.
+// The rows of the items, the first of which has this place in the word.
 fn push_rows_from(
     alloc: Global,
     drawing: &Drawing<'_>,
@@ -77,7 +77,7 @@ fn push_rows_from(
     push_rows_from(alloc, drawing, place + 1, others, shown)
 }
 
-// How many items are left out, if any.
+// A row that says how many items are left out, if any are.
 fn push_gap(items: usize, shown: &mut Vec<u8>) -> Result<(), AllocError>
     ensures { OnOk result (shown.new.items ≡ shown.old.items ++ gap items) }
 {

@@ -28,7 +28,7 @@ pub(crate) fn culprit_of(
     Ok(declared_at(program, refusal.span).or(of_node))
 }
 
-/// The same for a node over items.
+/// The same, if names at the refused node stand for columns of the items.
 pub(crate) fn culprit_on_items(
     alloc: Global,
     program: &Program,
@@ -44,14 +44,14 @@ pub(crate) fn culprit_on_items(
     Ok(culprit_in(refusal, scope, query_at(program, refusal.span)))
 }
 
-/// The same for a node over values.
+/// The same, if they stand for what a composition gives to its right operand.
 pub(crate) fn culprit_on_values(program: &Program, refusal: Refusal) -> Option<Culprit>
     ensures { result ≡ culprit_on_values (plain_program program.now) refusal }
 {
     culprit_in(refusal, Scope::Value, query_at(program, refusal.span))
 }
 
-// A column or a let with the name of an earlier one.
+// The name at the place, if a column or a let is declared by it: then an earlier one has the name.
 fn declared_at(program: &Program, place: Span) -> Option<Culprit>
     ensures { result ≡ declared_at (plain_program program.now) place }
 {
@@ -90,7 +90,7 @@ fn let_at(lets: &[Let], place: Span) -> Option<&Let>
     lets.iter().find(|one| has_in(one.span, place))
 }
 
-// In a query over these columns: only the node that is refused counts.
+// The same in a query whose names stand for what the scope says: only the refused node counts.
 fn culprit_in(refusal: Refusal, scope: Scope<'_>, query: &Query) -> Option<Culprit>
     ensures { result ≡ culprit_in refusal (plain_scope scope.entry) (plain_query query.now) }
 {
@@ -112,7 +112,7 @@ fn culprit_in(refusal: Refusal, scope: Scope<'_>, query: &Query) -> Option<Culpr
     }
 }
 
-// In a node without its operands, if it is the one that is refused.
+// The same at this node alone, and none if it is not the refused one.
 fn own_culprit(refusal: Refusal, scope: Scope<'_>, query: &Query) -> Option<Culprit>
     ensures { result ≡ own_culprit refusal (plain_scope scope.entry) (plain_query query.now) }
 {

@@ -9,13 +9,14 @@ ghost use Rattle.item_schema.specs.declared.column.Column.{Column};
 ghost use Rattle.item_drill.specs.Lines.{are_read, drill_bytes, header_of, item_from, line_from};
 ghost use Rattle.item_drill.specs.Lines.{lines_from, names_of};
 
-/// Each line is read to the item of its draws, so that no line is skipped.
+/// A line of a drill is read to the item that was drawn for it, so that none is skipped.
 pub fn drilled_lines_have_items()
     ensures { (columns : List Column) (state : ℕ) → 0 < length columns → IsTrue (are_read columns)
         → item_of columns (line_from columns state) ≡ Ok (item_from columns state) }
 {}
 
-/// The bytes of a drill have exactly its lines, if no name of a column has an LF.
+/// The lines of all bytes of a drill are its header and the lines that were drawn, and no others, if
+/// no name of a column has an LF.
 pub fn drilled_bytes_have_lines()
     ensures { (layout : Layout) (count seed : ℕ) → length layout.columns ≤ max_columns
         → IsTrue (are_read layout.columns) → AllByRecursion NoLf (names_of layout.columns)

@@ -4,6 +4,7 @@ ghost use Rattle.place_in_text.specs.Shown.{shown_byte};
 
 use std::alloc::{AllocError, Global};
 
+// A byte that is printed in ASCII is shown as it is, a tab as a space, and any other as `?`.
 fn shown_byte(byte: u8) -> u8
     ensures { result ≡ shown_byte byte }
 {
@@ -14,6 +15,7 @@ fn shown_byte(byte: u8) -> u8
     }
 }
 
+/// Appends the bytes as they are shown.
 pub(crate) fn push_shown(bytes: &[u8], text: &mut Vec<u8>) -> Result<(), AllocError>
     ensures { OnOk result (text.new.items ≡ text.old.items ++ map shown_byte bytes.now) }
 {
@@ -23,6 +25,7 @@ pub(crate) fn push_shown(bytes: &[u8], text: &mut Vec<u8>) -> Result<(), AllocEr
     Ok(())
 }
 
+/// Appends the byte as often as the count says.
 pub(crate) fn push_times(
     alloc: Global,
     byte: u8,

@@ -11,7 +11,8 @@ use language_base::Bytes;
 use std::alloc::{AllocError, Global};
 use value_ops::{Field, Scalar};
 
-/// The items of a word, and where the pieces of two readings of it begin and end, counted in items.
+/// A line for each item of a word, and a line for each of two readings of it, with the numbers of
+/// items before each place where a piece of the reading begins or ends.
 pub fn example_text(
     alloc: Global,
     items: &[Item],

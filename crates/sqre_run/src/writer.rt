@@ -10,7 +10,7 @@ use io_edge::{Failed, Lines, Sink, write_all};
 use language_base::Bytes;
 use std::alloc::AllocError;
 
-/// Writes a text whole, or reports why it cannot.
+/// Writes a text whole, or returns the status with which the call ends since it cannot.
 #[inline(always)]
 pub fn hand_over<W: Sink>(reply: Result<&[u8], AllocError>, out: &mut W) -> Option<Status>
     ensures handed { HandedOver result reply.entry (W.taken out.old) (W.taken out.new) }
@@ -27,7 +27,7 @@ pub fn hand_over<W: Sink>(reply: Result<&[u8], AllocError>, out: &mut W) -> Opti
     }
 }
 
-/// Writes the one line of a call and flushes it, or reports why it cannot.
+/// Writes and flushes the one line of a command, and returns the status with which the call ends.
 pub fn report<W: Sink>(line: Result<Bytes, AllocError>, out: &mut W) -> Status
     ensures reported { Reported result line (W.taken out.old) (W.taken out.new) }
     ensures flushed { EndsFlushed result Status.SinkFault W.held out.new }

@@ -1,4 +1,4 @@
-//! Which changes of an example make an example again.
+//! Which changed forms of an example are confirmed as examples too.
 ghost use Rattle.ambiguity_example.specs.Asks.{ShareCells, columns_of};
 ghost use Rattle.rate_expr.specs.Words.{IsWordOf};
 ghost use Rattle.std.specs.Prelude.{◌<◌, length};
@@ -10,7 +10,7 @@ use ambiguity_example::{Ask, Cuts, Example, confirm};
 use item_schema::Item;
 use std::alloc::{AllocError, Global};
 
-/// Reports whether the example is confirmed, and which of its changes are.
+/// Reports whether the example is confirmed, and which of its changed forms are.
 pub(crate) fn push_confirmed(
     alloc: Global,
     ask: Ask<'_>,
@@ -29,8 +29,8 @@ pub(crate) fn push_confirmed(
     push_with_others(alloc, ask, example, readings, text)
 }
 
-/// The same for its items with the cuts of one reading for both readings, and with those of the two
-/// readings exchanged.
+/// Reports whether its items are confirmed with the cuts of the first reading for both readings, and
+/// with the cuts of the two readings exchanged.
 fn push_with_these_cuts(
     alloc: Global,
     ask: Ask<'_>,
@@ -51,7 +51,7 @@ fn push_with_these_cuts(
     Ok(())
 }
 
-/// The same with a cut moved by an item, and with an item left out.
+/// Reports whether it is confirmed with one cut moved by one item, and with one item left out.
 fn push_with_others(
     alloc: Global,
     ask: Ask<'_>,
@@ -73,7 +73,7 @@ fn push_with_others(
     Ok(())
 }
 
-/// Whether it is an example with some cut of the first reading moved by an item.
+/// Whether moving some cut of the first reading by one item gives an example.
 fn is_example_with_first_moved(
     alloc: Global,
     ask: Ask<'_>,
@@ -93,7 +93,7 @@ fn is_example_with_first_moved(
     Ok(false)
 }
 
-/// The same for the second reading.
+/// Whether moving some cut of the second reading by one item gives one.
 fn is_example_with_second_moved(
     alloc: Global,
     ask: Ask<'_>,
@@ -113,7 +113,7 @@ fn is_example_with_second_moved(
     Ok(false)
 }
 
-/// Whether it is an example with some item left out.
+/// Whether leaving some item out gives an example.
 fn is_example_with_less(alloc: Global, ask: Ask<'_>, example: &Example) -> Result<bool, AllocError>
     requires cells { ShareCells ask }
     requires items { IsWordOf (columns_of ask) example.now.items }
@@ -126,7 +126,8 @@ fn is_example_with_less(alloc: Global, ask: Ask<'_>, example: &Example) -> Resul
     Ok(false)
 }
 
-/// Whether it is an example without the item at the place, the cuts as they were or moved up.
+/// Whether leaving out the item at the place gives an example, with the cuts as they were or with
+/// those after the place one lower.
 fn is_example_without(
     alloc: Global,
     ask: Ask<'_>,
@@ -145,7 +146,8 @@ fn is_example_without(
     )
 }
 
-/// Whether the items are an example with the cuts of another one, moved up at the place.
+/// Whether the items are an example with the cuts of the given one, where those after the place are
+/// one lower.
 fn is_example_moved_up(
     alloc: Global,
     ask: Ask<'_>,
