@@ -1,5 +1,5 @@
 -- How the places of pairs are put into the rows of their positions, and gathered from these.
-use Rattle.std.proofs.Common.{◌≡◌, ℕ, ◌+◌, ◌*◌, ◌/◌, ◌%◌, ◌^◌, ◌<◌, ◌≤◌, ◌∙◌, ◌↔◌, ◌⊎◌, List, Some, bit_or, get_or, length, set, slice_get, sym, ap, subst, inl, inr, arith}
+use Rattle.std.proofs.Common.{◌≡◌, ℕ, ◌+◌, ◌*◌, ◌/◌, ◌%◌, ◌^◌, ◌<◌, ◌≤◌, ◌∙◌, ◌↔◌, ◌⊎◌, List, Some, bit_or, get_or, length, replicate, set, slice_get, sym, ap, subst, inl, inr, arith}
 use Rattle.std.proofs.lemmas.Bool.{cases_lt}
 use Rattle.std.proofs.lemmas.Bool.Decides.{eqb_tells}
 use Rattle.std.proofs.lemmas.List.{get_or-set_same, get_or-set_other}
@@ -12,6 +12,7 @@ use Rattle.rate_equal.specs.PlaceSets.{block_count}
 use Rattle.rate_equal.specs.Reach.{max_reach}
 use Rattle.rate_equal.specs.declared.pair.Pair.{Pair}
 use Rattle.rate_equal.proofs.Added.{found_before}
+use Rattle.rate_equal.proofs.PlaceSets.{zero_there}
 
 -- a position that is left is the lowest, or is left after it
 pub low_or_left : (rest low after position : ℕ) → IsLowest rest low
@@ -183,47 +184,85 @@ module _ (rows : List ℕ) (mask block : ℕ) where
     | inr done ↦ done
   ]
 
+-- no pair is held by rows of zeros
+pub held_begun : (count count' : ℕ) (pairs : List Pair) → AreHeld (replicate count 0) (replicate count' 0) pairs 0
+held_begun count count' pairs = record {
+  one = λ place position pair lt found. absurd (omega (arith, lt));
+  two = λ place position pair lt found. absurd (omega (arith, lt));
+  none = λ place position le lt. (zero_row count position place, zero_row count' position place);
+}
+  where
+    zero_row : (count position place : ℕ) → HasRow (replicate count 0) position place → ⊥
+    zero_row count position place row = has_zero (place % 128) (subst (λ (m : ℕ). Has m (place % 128))
+        (zero_there count (position * block_count + place / 128)) row.bit)
+
 -- more pairs after the others change none
 pub held_grown : (first second : List ℕ) (pairs pairs' : List Pair) (end : ℕ) → AreHeld first second pairs end
     → end ≤ length pairs → IsGrown pairs pairs' → AreHeld first second pairs' end
 held_grown first second pairs pairs' end before within grown = record {
-  one = λ place position pair lt found has. before.one place position pair lt
-      (found_before pairs pairs' place pair grown (omega arith) found) has;
-  two = λ place position pair lt found has. before.two place position pair lt
-      (found_before pairs pairs' place pair grown (omega arith) found) has;
+  one = λ place position pair lt found. before.one place position pair lt
+      (found_before pairs pairs' place pair grown (omega arith) found);
+  two = λ place position pair lt found. before.two place position pair lt
+      (found_before pairs pairs' place pair grown (omega arith) found);
+  none = before.none;
 }
 
--- nor do fewer
-pub held_less : (first second : List ℕ) (pairs : List Pair) (end less : ℕ) → AreHeld first second pairs end
-    → less ≤ end → AreHeld first second pairs less
-held_less first second pairs end less before le = record {
-  one = λ place position pair lt found has. before.one place position pair (omega arith) found has;
-  two = λ place position pair lt found has. before.two place position pair (omega arith) found has;
-}
+module _ (mask : Pair → ℕ) (rows rows' : List ℕ) (pairs : List Pair) (place : ℕ) (pair : Pair)
+    (found : slice_get pairs place ≡ Some pair) (below : place < max_reach)
+    (before : (other position : ℕ) (pair' : Pair) → other < place → slice_get pairs other ≡ Some pair'
+    → Has (mask pair') position ↔ HasRow rows position other)
+    (none : (position : ℕ) → HasRow rows position place → ⊥) (kept : KeepsRows rows rows')
+    (held : (position : ℕ) → Has (mask pair) position → HasRow rows' position place)
+    (only : (position other : ℕ) → other < max_reach → HasRow rows' position other
+    → HasRow rows position other ⊎ ((place ≡ other) × Has (mask pair) position)) where
+  -- the rows of one automaton with one pair more
+  one_held : (other position : ℕ) (pair' : Pair) → other < place + 1 → slice_get pairs other ≡ Some pair'
+      → Has (mask pair') position ↔ HasRow rows' position other
+  one_held other position pair' lt found' = elim (cases_lt other place) [
+    | inl less ↦
+        let was = before other position pair' less found' in (
+          λ has. kept position other (was.0 has),
+          λ row. elim (only position other (omega (arith, lt, below)) row) [
+            | inl still ↦ was.1 still
+            | inr (here, has) ↦ absurd (omega (arith, less, here))
+          ],
+        )
+    | inr most ↦
+        let here : place ≡ other = omega (arith, lt, most) in
+        let same : pair' ≡ pair = same_Some pair' pair
+        (sym found' ∙ subst (λ (p : ℕ). slice_get pairs p ≡ Some pair) here found) in (
+          λ has. subst (λ (p : ℕ). HasRow rows' position p) here
+              (held position (subst (λ q. Has (mask q) position) same has)),
+          λ row. elim (only position other (omega (arith, lt, below)) row) [
+            | inl still ↦ absurd (none position (subst (λ (p : ℕ). HasRow rows position p) (sym here) still))
+            | inr (same_place, has) ↦ subst (λ q. Has (mask q) position) (sym same) has
+          ],
+        )
+  ]
 
 -- one more pair is held
 pub held_next : (first second first' second' : List ℕ) (pairs : List Pair) (place : ℕ) (pair : Pair)
-    → AreHeld first second pairs place → slice_get pairs place ≡ Some pair
+    → AreHeld first second pairs place → slice_get pairs place ≡ Some pair → place < max_reach
     → KeepsRows first first' → ((position : ℕ) → Has (mask_of pair.first) position → HasRow first' position place)
+    → ((position other : ℕ) → other < max_reach → HasRow first' position other
+    → HasRow first position other ⊎ ((place ≡ other) × Has (mask_of pair.first) position))
     → KeepsRows second second' → ((position : ℕ) → Has (mask_of pair.second) position → HasRow second' position place)
+    → ((position other : ℕ) → other < max_reach → HasRow second' position other
+    → HasRow second position other ⊎ ((place ≡ other) × Has (mask_of pair.second) position))
     → AreHeld first' second' pairs (place + 1)
-held_next first second first' second' pairs place pair before found kept held kept' held' = record {
-  one = λ other position pair' lt found' has. elim (cases_lt other place) [
-    | inl less ↦ kept position other (before.one other position pair' less found' has)
-    | inr most ↦
-        let here : place ≡ other = omega arith in
-        let same : pair' ≡ pair = same_Some pair' pair
-        (sym found' ∙ subst (λ (p : ℕ). slice_get pairs p ≡ Some pair) here found) in
-        subst (λ (p : ℕ). HasRow first' position p) here
-        (held position (subst (λ q. Has (mask_of q.first) position) same has))
-  ];
-  two = λ other position pair' lt found' has. elim (cases_lt other place) [
-    | inl less ↦ kept' position other (before.two other position pair' less found' has)
-    | inr most ↦
-        let here : place ≡ other = omega arith in
-        let same : pair' ≡ pair = same_Some pair' pair
-        (sym found' ∙ subst (λ (p : ℕ). slice_get pairs p ≡ Some pair) here found) in
-        subst (λ (p : ℕ). HasRow second' position p) here
-        (held' position (subst (λ q. Has (mask_of q.second) position) same has))
-  ];
+held_next first second first' second' pairs place pair before found below kept held only kept' held' only' = record {
+  one = one_held (λ q. mask_of q.first) first first' pairs place pair found below before.one
+      (λ position. (before.none place position (omega arith) below).0) kept held only;
+  two = one_held (λ q. mask_of q.second) second second' pairs place pair found below before.two
+      (λ position. (before.none place position (omega arith) below).1) kept' held' only';
+  none = λ other position le lt. (
+    λ row. elim (only position other lt row) [
+      | inl was ↦ (before.none other position (omega (arith, le)) lt).0 was
+      | inr (here, has) ↦ absurd (omega (arith, le, here))
+    ],
+    λ row. elim (only' position other lt row) [
+      | inl was ↦ (before.none other position (omega (arith, le)) lt).1 was
+      | inr (here, has) ↦ absurd (omega (arith, le, here))
+    ],
+  );
 }

@@ -6,10 +6,12 @@ pub mod Differing
 pub mod Exploring
 pub mod Filling
 pub mod Finding
+pub mod Freedom
 pub mod Gathered
 pub mod Gone
 pub mod Holding
 pub mod Inserted
+pub mod Lacking
 pub mod Lettering
 pub mod Narrowed
 pub mod Patterns

@@ -65,11 +65,11 @@ module _ (first second : List ℕ) (pairs : List Pair) (wider : List ℕ) (more 
       let one : narrowed_state ways.0 pair.first ≡ pair.first = narrowed_same ways.0 pair.first
       (within_less more.0 ways.0 lost.0 (mask_of pair.first) losing bit exact states.0
       (λ position gone on. subst (λ (b : ℕ). Has losing b) rest (loses position (block * 128 + bit) gone here among
-      (held.one (block * 128 + bit) position pair lt found on))) none) in
+      ((held.one (block * 128 + bit) position pair lt found).0 on))) none) in
       let two : narrowed_state ways.1 pair.second ≡ pair.second = narrowed_same ways.1 pair.second
       (within_less more.1 ways.1 lost.1 (mask_of pair.second) losing bit exact' states.1
       (λ position gone on. subst (λ (b : ℕ). Has losing b) rest (loses' position (block * 128 + bit) gone here among
-      (held.two (block * 128 + bit) position pair lt found on))) none) in
+      ((held.two (block * 128 + bit) position pair lt found).0 on))) none) in
       (λ j. record { first = one j; second = two j })
 
 -- where all positions that a mask has on the ways are on others, those that it has on both are those on the ways

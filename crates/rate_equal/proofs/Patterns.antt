@@ -1,5 +1,5 @@
 -- What letters have in common by what they have of positions.
-use Rattle.std.proofs.Common.{◌≡◌, ℕ, ◌+◌, ◌^◌, ◌<◌, ◌≤◌, ◌↔◌, ◌⊎◌, List, Some, bit_and, bit_or, length, slice_index, ap, arith, rules, sym, subst, inl, inr}
+use Rattle.std.proofs.Common.{◌≡◌, ℕ, ◌^◌, ◌<◌, ◌≤◌, ◌↔◌, ◌⊎◌, List, bit_or, length, slice_index, ap, arith, rules, sym, subst, inl, inr}
 use Rattle.std.proofs.lemmas.Bool.Decides.{eqb_tells}
 use Rattle.std.specs.Int.{bit_at}
 use Rattle.std.specs.List.{Contains}

@@ -1,5 +1,5 @@
 -- For the prover. Which pairs, and which letters, have a position.
-use Rattle.std.specs.Prelude.{◌≡◌, ◌<◌, ◌↔◌, ◌+◌, ◌*◌, ◌/◌, ◌%◌, ℕ, List, Some, slice_get, slice_index}
+use Rattle.std.specs.Prelude.{◌≡◌, ◌≤◌, ◌<◌, ◌↔◌, ◌+◌, ◌*◌, ◌/◌, ◌%◌, ℕ, List, Some, slice_get, slice_index}
 use Rattle.rate_expr.specs.Sets.{Has}
 use Rattle.rate_equal.specs.Pairs.{mask_of}
 use Rattle.rate_equal.specs.PlaceSets.{block_count}
@@ -19,12 +19,15 @@ IsInRows rows mask place = (position : ℕ) → Has mask position → HasRow row
 abbrev pub KeepsRows : List ℕ → List ℕ → Type 0
 KeepsRows old new = (position place : ℕ) → HasRow old position place → HasRow new position place
 
--- the place of each pair before `end` is in the rows of its positions
+-- The place of each pair before `end` is in the rows of its positions, and in no other row. No
+-- place from there on is in a row.
 pub record AreHeld (first second : List ℕ) (pairs : List Pair) (end : ℕ) : Type 0 where
   pub one : (place position : ℕ) (pair : Pair) → place < end → slice_get pairs place ≡ Some pair
-      → Has (mask_of pair.first) position → HasRow first position place
+      → Has (mask_of pair.first) position ↔ HasRow first position place
   pub two : (place position : ℕ) (pair : Pair) → place < end → slice_get pairs place ≡ Some pair
-      → Has (mask_of pair.second) position → HasRow second position place
+      → Has (mask_of pair.second) position ↔ HasRow second position place
+  pub none : (place position : ℕ) → end ≤ place → place < max_reach
+      → (HasRow first position place → ⊥) × (HasRow second position place → ⊥)
 
 -- the row of a position of the first rows equals that of a position of the second
 abbrev pub HaveSameRow : List ℕ → List ℕ → ℕ → ℕ → Type 0

@@ -1,6 +1,7 @@
 pub mod Added
 pub mod Differences
 pub mod Endings
+pub mod Free
 pub mod Holding
 pub mod Letters
 pub mod Narrowed

@@ -1,5 +1,5 @@
 -- For the prover. Pairs without the positions that are not on some ways.
-use Rattle.std.specs.Prelude.{ℕ, bit_and}
+use Rattle.std.specs.Prelude.{◌↔◌, ℕ, bit_and}
 use Rattle.rate_expr.specs.Sets.{Has}
 use Rattle.rate_expr.specs.declared.state.State.{State}
 use Rattle.rate_expr.specs.declared.state.State.TheVariants.{Initial, At}
@@ -26,3 +26,9 @@ narrowed ways pair = record {
   first = narrowed_state ways.0 pair.first;
   second = narrowed_state ways.1 pair.second;
 }
+
+-- the positions of the known ways that the new ways lack
+abbrev pub AreLost : ℕ × ℕ → ℕ × ℕ → ℕ × ℕ → Type 0
+AreLost known ways lost =
+    ((position : ℕ) → Has lost.0 position ↔ (Has known.0 position × (Has ways.0 position → ⊥)))
+    × ((position : ℕ) → Has lost.1 position ↔ (Has known.1 position × (Has ways.1 position → ⊥)))

@@ -3,7 +3,7 @@ use Rattle.std.specs.Prelude.{◌≡◌, ◌≤◌, ◌⊎◌, ℕ, List, Some, 
 use Rattle.std.specs.List.{Contains}
 use Rattle.rate_expr.specs.declared.state.State.TheVariants.{At}
 use Rattle.rate_equal.specs.Added.{AreAdded, HasPair}
-use Rattle.rate_equal.specs.Narrowed.{AreStatesWithin}
+use Rattle.rate_equal.specs.Narrowed.{AreStatesWithin, narrowed}
 use Rattle.rate_equal.specs.Pairs.{IsGrown}
 use Rattle.rate_equal.specs.PlaceSets.{HasPlace}
 use Rattle.rate_equal.specs.Reach.{max_reach}
@@ -54,3 +54,8 @@ pub record AreFound (letters : List Letter) (ways : ℕ × ℕ) (old new : List 
 abbrev pub AreKnown : List Letter → List Pair → List Known → Type 0
 AreKnown letters pairs gone = (known : Known) → Contains gone known
     → HasTargets letters known.ways pairs known.targets
+
+-- the set has each known target, cut down to the ways, to which a letter leads along them
+abbrev pub HasNarrowed : List Letter → ℕ × ℕ → List Pair → List ℕ → List Pair → List ℕ → Type 0
+HasNarrowed letters ways old known new places = (pair : Pair) → HasPair old known pair
+    → IsTarget letters ways (narrowed ways pair) → HasPair new places (narrowed ways pair)

@@ -2,6 +2,7 @@
 ghost use Rattle.std.specs.Prelude.{◌≡◌, ◌≤◌, ◌<◌, ◌/◌, ◌%◌, ◌⊎◌, ◌↔◌, ℕ, IfOk, IfSome, None, OnOk, Some, length, slice_get};
 ghost use Rattle.std.specs.List.{Contains};
 ghost use Rattle.rate_expr.specs.Sets.{Has};
+ghost use Rattle.rate_equal.specs.Free.{AreKnownFree};
 ghost use Rattle.rate_equal.specs.Holding.{AreRows, AreTwins};
 ghost use Rattle.rate_equal.specs.Patterns.{DecideAll, IsLike};
 ghost use Rattle.rate_equal.specs.PlaceSets.{block_count, HasPlace};
@@ -9,12 +10,13 @@ ghost use Rattle.rate_equal.specs.Reach.{max_reach};
 ghost use Rattle.rate_equal.specs.Targets.{target};
 ghost use Rattle.rate_equal.specs.declared.letters.Letter.{Letter as LetterOf};
 
+use crate::free::FreePositions;
 use crate::letters::Letter;
 use crate::pattern::Pattern;
 use crate::places::{BLOCKS, Places};
 use crate::rows::{ROWS, gather, hold, in_all, insert_rows, insert_unlike, without};
 use crate::twins::{twins, without_twins};
-use rate_expr::masks::lowest;
+use rate_expr::masks::{lowest, overlap};
 use std::alloc::{AllocError, Global};
 
 /// The letters, and for each position of either automaton the places of the letters that have it.
@@ -25,6 +27,7 @@ pub(crate) struct Alphabet {
     second: Vec<u128>,
     // For each position of the second automaton, its twins in the first.
     twins: Vec<u128>,
+    pub(crate) free: FreePositions,
     ghost few: { length letters.items ≤ max_reach },
     ghost rows_of_first: { length first.items ≡ max_reach },
     ghost rows_of_second: { length second.items ≡ max_reach },
@@ -37,7 +40,9 @@ pub(crate) struct Alphabet {
 impl Alphabet {
     pub(crate) fn new(alloc: Global, letters: Vec<Letter>) -> Result<Alphabet, AllocError>
         requires { length letters.items ≤ max_reach }
-        ensures { IfOk result (λ alphabet. alphabet.letters.items ≡ letters.items) }
+        ensures letters { IfOk result (λ alphabet. alphabet.letters.items ≡ letters.items) }
+        ensures free { IfOk result (λ alphabet. AreKnownFree alphabet.letters.items
+            alphabet.free.first.items alphabet.free.second.items) }
     {
         let mut first = vec![in alloc; 0; ROWS]?;
         let mut second = vec![in alloc; 0; ROWS]?;
@@ -59,14 +64,19 @@ impl Alphabet {
             (length letters.items) }
         requires in_second { AreRows (λ l. l.second) second.items letters.items
             (length letters.items) }
-        ensures { IfOk result (λ alphabet. alphabet.letters.items ≡ letters.items) }
+        ensures letters { IfOk result (λ alphabet. alphabet.letters.items ≡ letters.items) }
+        ensures free { IfOk result (λ alphabet. AreKnownFree alphabet.letters.items
+            alphabet.free.first.items alphabet.free.second.items) }
     {
-        let twins = twins(alloc, &first, &second)?;
+        let used = union_of(&letters);
+        let twins = twins(alloc, &first, &second, used)?;
+        let free = FreePositions::of(alloc, &letters, &first, &second, &twins, used)?;
         Ok(Alphabet {
             letters,
             first,
             second,
             twins,
+            free,
         })
     }
 
@@ -218,6 +228,15 @@ impl Alphabet {
         insert_unlike(&self.second, others, letter.second, &mut places);
         Ok(places)
     }
+}
+
+// The positions that letters have.
+fn union_of(letters: &[Letter]) -> (u128, u128) {
+    let mut found = (0, 0);
+    'letters: for letter in letters {
+        found = (found.0 | letter.first, found.1 | letter.second);
+    }
+    found
 }
 
 // Enters the letters into rows that are empty.

@@ -1,6 +1,7 @@
 //! Which pairs have a position in one of their states.
-ghost use Rattle.std.specs.Prelude.{◌≡◌, ◌≤◌, ◌<◌, ◌/◌, ◌%◌, ℕ, IfOk, length};
+ghost use Rattle.std.specs.Prelude.{◌≡◌, ◌≤◌, ◌<◌, ◌/◌, ◌%◌, ◌⊎◌, ℕ, IfOk, List, length};
 ghost use Rattle.rate_expr.specs.Sets.{Has};
+ghost use Rattle.rate_equal.specs.declared.pair.Pair.{Pair as PairOf};
 ghost use Rattle.rate_equal.specs.Holding.{AreHeld, HasRow};
 ghost use Rattle.rate_equal.specs.PlaceSets.{block_count};
 ghost use Rattle.rate_equal.specs.Reach.{max_reach};
@@ -22,11 +23,15 @@ pub(crate) struct Holders {
 
 impl Holders {
     pub(crate) fn new(alloc: Global) -> Result<Holders, AllocError>
-        ensures { IfOk result (λ holders. holders.count ≡ 0) }
+        ensures none { IfOk result (λ holders. (pairs : List PairOf)
+            → AreHeld holders.first.items holders.second.items pairs 0) }
+        ensures count { IfOk result (λ holders. holders.count ≡ 0) }
     {
+        let first = vec![in alloc; 0; ROWS]?;
+        let second = vec![in alloc; 0; ROWS]?;
         Ok(Holders {
-            first: vec![in alloc; 0; ROWS]?,
-            second: vec![in alloc; 0; ROWS]?,
+            first,
+            second,
             count: 0,
         })
     }
@@ -34,6 +39,7 @@ impl Holders {
     /// Enters the pairs that were appended since the last call.
     pub(crate) fn enter(&mut self, pairs: &[Pair])
         requires few { length pairs.now ≤ max_reach }
+        requires entered { self.old.count ≤ length pairs.now }
         requires held { AreHeld self.old.first.items self.old.second.items
             pairs.now self.old.count }
         ensures held { AreHeld self.new.first.items self.new.second.items pairs.now self.new.count }
@@ -53,6 +59,9 @@ impl Holders {
         ensures second { (position place : ℕ) → Has positions.1 position → place / 128 ≡ block
             → Has mask (place % 128) → HasRow self.now.second.items position place
             → Has result (place % 128) }
+        ensures only { (place : ℕ) → place / 128 ≡ block → Has result (place % 128)
+            → ((position : ℕ) × Has positions.0 position × HasRow self.now.first.items position place)
+            ⊎ ((position : ℕ) × Has positions.1 position × HasRow self.now.second.items position place) }
     {
         // Most blocks have no place in the mask.
         if mask == 0 {
@@ -69,6 +78,7 @@ fn enter(first: &mut [u128], second: &mut [u128], pairs: &[Pair], start: usize)
     requires first { length first.old ≡ max_reach }
     requires second { length second.old ≡ max_reach }
     requires few { length pairs.now ≤ max_reach }
+    requires entered { start ≤ length pairs.now }
     requires held { AreHeld first.old second.old pairs.now start }
     ensures { AreHeld first.new second.new pairs.now (length pairs.now) }
 {

@@ -12,8 +12,8 @@
 //!
 //! There may be 4,096 pairs and 4,096 letters, so that not every letter is tried for every pair:
 //! pairs with the same ways on have the same targets (`trail`); if few positions matter, the
-//! letters are parted by these (`sift`); and the targets along ways on that are much like known
-//! ones are derived from the known targets (`known`, `narrow`).
+//! letters are parted by these (`sieve`); and the targets along ways on that are much like known
+//! ones are derived from the known targets (`known_sets`, `restriction`, `free`).
 #![tactic(auto)]
 
 mod addition;
@@ -21,6 +21,7 @@ mod admission;
 mod alphabet;
 mod equality;
 mod extension;
+mod free;
 mod holders;
 mod known_sets;
 mod letters;

@@ -1,6 +1,7 @@
 //! The search for all pairs of states to which words lead.
 ghost use Rattle.std.specs.Prelude.{◌≡◌, ◌+◌, [], ◌∷◌, Err, IfOk, OnOk};
 ghost use Rattle.rate_expr.specs.declared.state.State.TheVariants.{Initial};
+ghost use Rattle.rate_equal.specs.Free.{AreKnownFree};
 ghost use Rattle.rate_equal.specs.declared.stop.EqualStop.TheVariants.{Reach};
 ghost use Rattle.rate_equal.specs.Letters.{AreLetters};
 ghost use Rattle.rate_equal.specs.Pairs.{AreAll};
@@ -49,6 +50,8 @@ fn explore(
     alphabet: &Alphabet,
     pairs: &mut IndexSet<Pair>,
 ) -> Result<(), EqualStop>
+    requires free { AreKnownFree alphabet.now.letters.items
+        alphabet.now.free.first.items alphabet.now.free.second.items }
     requires letters { AreLetters first.now second.now alphabet.now.letters.items }
     requires initial { pairs.old.keys ≡ record { first = Initial; second = Initial } ∷ [] }
     ensures all { OnOk result (AreAll first.now second.now pairs.new.keys) }

@@ -1,5 +1,6 @@
 //! The targets along ways on.
 ghost use Rattle.std.specs.Prelude.{◌≡◌, ◌≤◌, Err, IfOk, length};
+ghost use Rattle.rate_equal.specs.Free.{AreKnownFree};
 ghost use Rattle.rate_equal.specs.declared.stop.EqualStop.TheVariants.{Reach};
 ghost use Rattle.rate_equal.specs.Added.{AreTooMany};
 ghost use Rattle.rate_equal.specs.Holding.{AreHeld};
@@ -36,6 +37,8 @@ pub(crate) fn targets(
     asked: (u128, u128),
     pairs: &mut IndexSet<Pair>,
 ) -> Result<Places, EqualStop>
+    requires free { AreKnownFree alphabet.now.letters.items
+        alphabet.now.free.first.items alphabet.now.free.second.items }
     requires decide { DecideAll alphabet.now.letters.items ways asked }
     requires known { AreKnown alphabet.now.letters.items pairs.old.keys known.now }
     requires held { AreHeld holders.now.first.items holders.now.second.items
@@ -89,6 +92,8 @@ fn from_known(
     ways: (u128, u128),
     pairs: &mut IndexSet<Pair>,
 ) -> Result<Places, EqualStop>
+    requires free { AreKnownFree alphabet.now.letters.items
+        alphabet.now.free.first.items alphabet.now.free.second.items }
     requires known { HasTargets alphabet.now.letters.items near.now.ways
         pairs.old.keys near.now.targets }
     requires held { AreHeld holders.now.first.items holders.now.second.items
@@ -100,7 +105,7 @@ fn from_known(
         → AreTooMany pairs.old.keys (IsTarget alphabet.now.letters.items ways) }
 {
     let mut targets = Places::none(alloc)?;
-    narrow(&alphabet.letters, near, ways, holders, pairs, &mut targets)?;
+    narrow(alphabet, near, ways, holders, pairs, &mut targets)?;
     let first = without(ways.0, near.ways.0);
     let second = without(ways.1, near.ways.1);
     let mut left = alphabet.having(alloc, (first, second))?;

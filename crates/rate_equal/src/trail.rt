@@ -1,6 +1,7 @@
 //! What a search remembers: the ways on that it has met, and the targets along them.
 ghost use Rattle.std.specs.Prelude.{◌≡◌, ◌≤◌, ◌⊎◌, ℕ, [], List, Err, IfOk, OnOk, length};
 ghost use Rattle.std.specs.List.{Contains};
+ghost use Rattle.rate_equal.specs.Free.{AreKnownFree};
 ghost use Rattle.rate_equal.specs.declared.letters.Letter.{Letter};
 ghost use Rattle.rate_equal.specs.declared.pair.Pair.{Pair as PairOf};
 ghost use Rattle.rate_equal.specs.declared.stop.EqualStop.TheVariants.{Reach};
@@ -48,6 +49,8 @@ impl Trail {
         ways: (u128, u128),
         pairs: &mut IndexSet<Pair>,
     ) -> Result<(), EqualStop>
+        requires free { AreKnownFree alphabet.now.letters.items
+            alphabet.now.free.first.items alphabet.now.free.second.items }
         requires trail { IsTrailOf alphabet.now.letters.items pairs.old.keys self.old }
         requires few { length pairs.old.keys ≤ max_reach }
         ensures trail { OnOk result (IsTrailOf alphabet.now.letters.items pairs.new.keys self.new) }

@@ -8,26 +8,32 @@ ghost use Rattle.rate_equal.specs.Holding.{AreTwins, HaveSameRow};
 ghost use Rattle.rate_equal.specs.Reach.{max_reach};
 
 use crate::places::BLOCKS;
-use rate_expr::masks::{lowest, only, overlap, without_lowest};
+use rate_expr::masks::{has, lowest, only, overlap, without_lowest};
 use std::alloc::{AllocError, Global};
 
 /// The most positions that an automaton has.
-const POSITIONS: usize = 128;
+pub(crate) const POSITIONS: usize = 128;
 
-/// For each position of the second rows, its twins in the first rows.
-pub(crate) fn twins(alloc: Global, first: &[u128], second: &[u128]) -> Result<Vec<u128>, AllocError>
+/// For each position of the second rows, its twins in the first rows, of the positions that are
+/// used.
+pub(crate) fn twins(
+    alloc: Global,
+    first: &[u128],
+    second: &[u128],
+    used: (u128, u128),
+) -> Result<Vec<u128>, AllocError>
     requires rows_of_first { length first.now ≡ max_reach }
     requires rows_of_second { length second.now ≡ max_reach }
     ensures length { IfOk result (λ twins. length twins.items ≡ 128) }
     ensures twins { IfOk result (λ twins. AreTwins first.now second.now twins.items) }
 {
     let mut twins = vec![in alloc; 0; POSITIONS]?;
-    enter(&mut twins, first, second);
+    enter(&mut twins, first, second, used);
     Ok(twins)
 }
 
 // Enters the twins of each position into an empty list.
-fn enter(twins: &mut [u128], first: &[u128], second: &[u128])
+fn enter(twins: &mut [u128], first: &[u128], second: &[u128], used: (u128, u128))
     requires rows_of_first { length first.now ≡ max_reach }
     requires rows_of_second { length second.now ≡ max_reach }
     requires length { length twins.old ≡ 128 }
@@ -36,12 +42,14 @@ fn enter(twins: &mut [u128], first: &[u128], second: &[u128])
     ensures twins { AreTwins first.now second.now twins.new }
 {
     'positions: for position in 0..POSITIONS {
-        twins[position] = twins_of(first, second, position);
+        if has(used.1, position as u32) {
+            twins[position] = twins_of(first, used.0, second, position);
+        }
     }
 }
 
-// The positions of the first rows whose row equals that of a position of the second rows.
-fn twins_of(first: &[u128], second: &[u128], position: usize) -> u128
+/// The used positions of the first rows whose row equals that of a position of the second rows.
+pub(crate) fn twins_of(first: &[u128], used: u128, second: &[u128], position: usize) -> u128
     requires rows_of_first { length first.now ≡ max_reach }
     requires rows_of_second { length second.now ≡ max_reach }
     requires position { position < 128 }
@@ -49,6 +57,9 @@ fn twins_of(first: &[u128], second: &[u128], position: usize) -> u128
 {
     let mut found = 0;
     'twins: for twin in 0..POSITIONS {
+        if !has(used, twin as u32) {
+            continue 'twins;
+        }
         if is_same_row(first, second, twin, position) {
             found |= only(twin as u32);
         }

@@ -1,6 +1,3 @@
-use Rattle.std.proofs.Common.{ℕ, bit_or, subst, sym}
-use Rattle.rate_equal.specs.Patterns.{HasAt}
-use Rattle.rate_equal.specs.declared.pattern.Position.{Position}
 use Rattle.rate_equal.proofs.Patterns.{with_first, with_second}
 use Rattle.rate_equal.proofs.pattern.with.Goals as goal
 

@@ -1,10 +1,9 @@
-use Rattle.std.proofs.Common.{ℕ, ◌+◌, ◌<◌, arith, inl, inr, subst}
+use Rattle.std.proofs.Common.{◌+◌, ◌<◌, arith, inl, inr}
 use Rattle.std.proofs.lemmas.Result.{err_from_is_err_and}
-use Rattle.rate_equal.specs.Added.{HasPair}
 use Rattle.rate_equal.specs.Narrowed.{AreStatesWithin}
 use Rattle.rate_equal.specs.Targets.{IsTarget}
 use Rattle.rate_equal.proofs.Added.{added_more, added_none, pair_kept, too_many_more}
-use Rattle.rate_equal.proofs.Patterns.{apart_decides, none_asked, same_decides, same_or_not, target_added}
+use Rattle.rate_equal.proofs.Patterns.{apart_decides, same_decides, same_or_not, target_added}
 use Rattle.rate_equal.proofs.sieve.+sift.Goals as goal
 
 pub returns-in_err-add-clause-too_many : goal.returns-in_err-add-clause-too_many

@@ -1,0 +1,147 @@
+-- Positions that letters can lack, one after the other and all together.
+use Rattle.std.proofs.Common.{◌≡◌, ℕ, zero, suc, ◌++◌, [], ◌∷◌, arith, get_or, length, ◌<◌, ◌↔◌, ◌⊎◌, List, bit_or, ap, sym, subst, inl, inr}
+use Rattle.std.proofs.lemmas.List.Elements.{All-append, Contains-get_or}
+use Rattle.std.specs.List.{All, Contains}
+use Rattle.rate_expr.specs.Sets.{Has}
+use Rattle.rate_expr.proofs.MaskMembers.{has_first, has_or, has_second, has_zero}
+use Rattle.rate_equal.specs.Free.{AreAllFree, AreFree, AreMet, CanLack, HasOther, IsWithout}
+use Rattle.rate_equal.specs.Patterns.{HasAt, positions_of}
+use Rattle.rate_equal.specs.declared.letters.Letter.{Letter}
+use Rattle.rate_equal.specs.declared.pattern.Position.{Position}
+use Rattle.rate_equal.specs.declared.pattern.Position.TheVariants.{First, Second}
+
+-- no positions are free
+pub none_free : (letters : List Letter) → AreFree letters (0, 0)
+none_free letters = record {
+  each = λ letter c. record { other = letter; is_letter = c; without = same letter };
+}
+  where
+    same : (letter : Letter) → IsWithout (0, 0) letter letter
+    same letter (First position) = (λ has. (has, λ zero. has_zero position zero), λ (has, none). has)
+    same letter (Second position) = (λ has. (has, λ zero. has_zero position zero), λ (has, none). has)
+
+-- two sets of free positions are free together
+pub both_free : (letters : List Letter) (one other : ℕ × ℕ) → AreFree letters one → AreFree letters other
+    → AreFree letters (bit_or one.0 other.0, bit_or one.1 other.1)
+both_free letters one other free free' = record {
+  each = λ letter c.
+      let mid = free.each letter c in
+      let last = free'.each mid.other mid.is_letter in record {
+        other = last.other;
+        is_letter = last.is_letter;
+        without = both letter last.other mid.other mid.without last.without;
+      };
+}
+  where
+    both : (letter last mid : Letter) → IsWithout one letter mid → IsWithout other mid last
+        → IsWithout (bit_or one.0 other.0, bit_or one.1 other.1) letter last
+    both letter last mid without without' (First position) = (
+      λ has.
+          let (in_mid, none') = (without' (First position)).0 has in
+          let (there, none) = (without (First position)).0 in_mid in (
+            there,
+            λ either. elim (has_or one.0 other.0 position either) [
+              | inl gone ↦ none gone
+              | inr gone ↦ none' gone
+            ],
+          ),
+      λ (there, none). (without' (First position)).1 (
+        (without (First position)).1 (there, λ gone. none (has_first one.0 other.0 position gone)),
+        λ gone. none (has_second one.0 other.0 position gone),
+      ),
+    )
+    both letter last mid without without' (Second position) = (
+      λ has.
+          let (in_mid, none') = (without' (Second position)).0 has in
+          let (there, none) = (without (Second position)).0 in_mid in (
+            there,
+            λ either. elim (has_or one.1 other.1 position either) [
+              | inl gone ↦ none gone
+              | inr gone ↦ none' gone
+            ],
+          ),
+      λ (there, none). (without' (Second position)).1 (
+        (without (Second position)).1 (there, λ gone. none (has_first one.1 other.1 position gone)),
+        λ gone. none (has_second one.1 other.1 position gone),
+      ),
+    )
+
+-- a letter with the positions that are left of one is that one without the others
+pub left_without : (letters : List Letter) (met : List (ℕ × ℕ)) (are : AreMet letters met) (letter : Letter)
+    (gone left : ℕ × ℕ) → ((position : ℕ) → Has left.0 position ↔ (Has letter.first position × (Has gone.0 position → ⊥)))
+    → ((position : ℕ) → Has left.1 position ↔ (Has letter.second position × (Has gone.1 position → ⊥)))
+    → Contains met left → HasOther letters gone letter
+left_without letters met are letter gone left exact exact' c =
+    let (other, c', same) = are.each left c in record {
+      other = other;
+      is_letter = c';
+      without = without other same;
+    }
+  where
+    without : (other : Letter) → positions_of other ≡ left → IsWithout gone letter other
+    without other same (First position) = (
+      λ has. (exact position).0 (subst (λ (m : ℕ). Has m position) (ap (λ (m : ℕ × ℕ). m.0) same) has),
+      λ there. subst (λ (m : ℕ). Has m position) (sym (ap (λ (m : ℕ × ℕ). m.0) same)) ((exact position).1 there),
+    )
+    without other same (Second position) = (
+      λ has. (exact' position).0 (subst (λ (m : ℕ). Has m position) (ap (λ (m : ℕ × ℕ). m.1) same) has),
+      λ there. subst (λ (m : ℕ). Has m position) (sym (ap (λ (m : ℕ × ℕ). m.1) same)) ((exact' position).1 there),
+    )
+
+-- a letter that loses nothing is itself without the positions
+pub all_left : (letters : List Letter) (letter : Letter) (gone left : ℕ × ℕ) → Contains letters letter
+    → ((position : ℕ) → Has left.0 position ↔ (Has letter.first position × (Has gone.0 position → ⊥)))
+    → ((position : ℕ) → Has left.1 position ↔ (Has letter.second position × (Has gone.1 position → ⊥)))
+    → left.0 ≡ letter.first → left.1 ≡ letter.second
+    → HasOther letters gone letter
+all_left letters letter gone left c exact exact' same same' = record {
+  other = letter;
+  is_letter = c;
+  without = without;
+}
+  where
+    without : IsWithout gone letter letter
+    without (First position) = (
+      λ has. (exact position).0 (subst (λ (m : ℕ). Has m position) (sym same) has),
+      λ there. there.0,
+    )
+    without (Second position) = (
+      λ has. (exact' position).0 (subst (λ (m : ℕ). Has m position) (sym same') has),
+      λ there. there.0,
+    )
+
+-- free positions that have all that is to be lacked and none of the ways
+pub free_lack : (letters : List Letter) (free lost ways : ℕ × ℕ) → AreFree letters free
+    → ((position : Position) → HasAt lost position → HasAt free position)
+    → ((position : Position) → HasAt free position → HasAt ways position → ⊥) → CanLack letters lost ways
+free_lack letters free lost ways are wider apart letter c =
+    let there = are.each letter c in (
+      there.other,
+      there.is_letter,
+      (λ position on. (
+        λ has. (there.without position).1 (has, λ gone. apart position gone on),
+        λ has. ((there.without position).0 has).0,
+      )),
+      λ position gone has. ((there.without position).0 has).1 (wider position gone),
+    )
+
+-- one more letter of which the positions were entered
+pub met_next : (letters : List Letter) (met met' : List (ℕ × ℕ)) (at : ℕ) (d : Letter) → AreMet letters met
+    → at < length letters
+    → ((positions : ℕ × ℕ) → Contains met' positions
+    → Contains met positions ⊎ (positions_of (get_or letters at d) ≡ positions)) → AreMet letters met'
+met_next letters met met' at d before lt more = record {
+  each = λ positions there. elim (more positions there) [
+    | inl was ↦ before.each positions was
+    | inr here ↦ (get_or letters at d, Contains-get_or letters at d lt, here)
+  ];
+}
+
+-- free positions after others
+pub free_pushed : (letters : List Letter) (free : List (ℕ × ℕ)) (more : ℕ × ℕ) → AreAllFree letters free
+    → AreFree letters more → AreAllFree letters (free ++ more ∷ [])
+free_pushed letters free more all one = All-append (AreFree letters) free (more ∷ []) all alone
+  where
+    alone : All (AreFree letters) (more ∷ [])
+    alone zero d lt = one
+    alone (suc k) d lt = absurd (omega (arith, lt))
