@@ -9,17 +9,6 @@ mod Operands
 mod Runner
 mod Split
 mod Steps
-use Rattle.eval_tree.proofs.+step.Answers.Apply
-use Rattle.eval_tree.proofs.+step.Answers.Choice
-use Rattle.eval_tree.proofs.+step.Answers.Collect
-use Rattle.eval_tree.proofs.+step.Answers.Combine
-use Rattle.eval_tree.proofs.+step.Answers.Compose
-use Rattle.eval_tree.proofs.+step.Answers.Iter
-use Rattle.eval_tree.proofs.+step.Answers.Keys
-use Rattle.eval_tree.proofs.+step.Answers.Operands
-use Rattle.eval_tree.proofs.+step.Answers.Runner
-use Rattle.eval_tree.proofs.+step.Answers.Split
-use Rattle.eval_tree.proofs.+step.Answers.Steps
 use Rattle.eval_tree.proofs.+step.Goals as goal
 
 -- the calls of the operands
@@ -182,15 +171,11 @@ combine::start_combine-combine_with-requires = Combine.combine::start_combine-co
 pub combine::start_combine-returns : goal.combine::start_combine-returns
 combine::start_combine-returns = Combine.combine::start_combine-returns
 
-pub combine::start_combine-returns-in_err-start_into-in-Combine :
-    goal.combine::start_combine-returns-in_err-start_into-in-Combine
-combine::start_combine-returns-in_err-start_into-in-Combine =
-    Combine.combine::start_combine-returns-in_err-start_into-in-Combine
+pub combine::start_combine-returns-in_err-start_into-in-Combine : goal.combine::start_combine-returns-in_err-start_into-in-Combine
+combine::start_combine-returns-in_err-start_into-in-Combine = Combine.combine::start_combine-returns-in_err-start_into-in-Combine
 
-pub combine::start_combine-returns-in_err-start_into-in-Combine-2 :
-    goal.combine::start_combine-returns-in_err-start_into-in-Combine-2
-combine::start_combine-returns-in_err-start_into-in-Combine-2 =
-    Combine.combine::start_combine-returns-in_err-start_into-in-Combine-2
+pub combine::start_combine-returns-in_err-start_into-in-Combine-2 : goal.combine::start_combine-returns-in_err-start_into-in-Combine-2
+combine::start_combine-returns-in_err-start_into-in-Combine-2 = Combine.combine::start_combine-returns-in_err-start_into-in-Combine-2
 
 pub combine::step_combine-combine_with-requires : goal.combine::step_combine-combine_with-requires
 combine::step_combine-combine_with-requires = Combine.combine::step_combine-combine_with-requires
@@ -198,15 +183,11 @@ combine::step_combine-combine_with-requires = Combine.combine::step_combine-comb
 pub combine::step_combine-returns : goal.combine::step_combine-returns
 combine::step_combine-returns = Combine.combine::step_combine-returns
 
-pub combine::step_combine-returns-in_err-step_into-in-Combine :
-    goal.combine::step_combine-returns-in_err-step_into-in-Combine
-combine::step_combine-returns-in_err-step_into-in-Combine =
-    Combine.combine::step_combine-returns-in_err-step_into-in-Combine
+pub combine::step_combine-returns-in_err-step_into-in-Combine : goal.combine::step_combine-returns-in_err-step_into-in-Combine
+combine::step_combine-returns-in_err-step_into-in-Combine = Combine.combine::step_combine-returns-in_err-step_into-in-Combine
 
-pub combine::step_combine-returns-in_err-step_into-in-Combine-2 :
-    goal.combine::step_combine-returns-in_err-step_into-in-Combine-2
-combine::step_combine-returns-in_err-step_into-in-Combine-2 =
-    Combine.combine::step_combine-returns-in_err-step_into-in-Combine-2
+pub combine::step_combine-returns-in_err-step_into-in-Combine-2 : goal.combine::step_combine-returns-in_err-step_into-in-Combine-2
+combine::step_combine-returns-in_err-step_into-in-Combine-2 = Combine.combine::step_combine-returns-in_err-step_into-in-Combine-2
 
 pub combine::start_combine-unreachable-requires : goal.combine::start_combine-unreachable-requires
 combine::start_combine-unreachable-requires = Combine.combine::start_combine-unreachable-requires
@@ -221,16 +202,11 @@ operands::step_and_end-step_into-requires = Operands.operands::step_and_end-step
 pub operands::step_and_end-end_waiting-requires : goal.operands::step_and_end-end_waiting-requires
 operands::step_and_end-end_waiting-requires = Operands.operands::step_and_end-end_waiting-requires
 
-pub operands::step_and_end-returns-clause-ended : goal.operands::step_and_end-returns-clause-ended
-operands::step_and_end-returns-clause-ended = Operands.operands::step_and_end-returns-clause-ended
+pub operands::step_and_end-returns : goal.operands::step_and_end-returns
+operands::step_and_end-returns = Operands.operands::step_and_end-returns
 
-pub operands::step_and_end-returns-clause-no_memory : goal.operands::step_and_end-returns-clause-no_memory
-operands::step_and_end-returns-clause-no_memory = Operands.operands::step_and_end-returns-clause-no_memory
-
-pub operands::step_and_end-returns-in_err-step_into-clause-no_memory :
-    goal.operands::step_and_end-returns-in_err-step_into-clause-no_memory
-operands::step_and_end-returns-in_err-step_into-clause-no_memory =
-    Operands.operands::step_and_end-returns-in_err-step_into-clause-no_memory
+pub operands::step_and_end-returns-in_err-step_into-clause-no_memory : goal.operands::step_and_end-returns-in_err-step_into-clause-no_memory
+operands::step_and_end-returns-in_err-step_into-clause-no_memory = Operands.operands::step_and_end-returns-in_err-step_into-clause-no_memory
 
 pub operands::start_and_join-start_into-requires : goal.operands::start_and_join-start_into-requires
 operands::start_and_join-start_into-requires = Operands.operands::start_and_join-start_into-requires
@@ -238,23 +214,17 @@ operands::start_and_join-start_into-requires = Operands.operands::start_and_join
 pub operands::start_and_join-join_to-requires : goal.operands::start_and_join-join_to-requires
 operands::start_and_join-join_to-requires = Operands.operands::start_and_join-join_to-requires
 
-pub operands::start_and_join-returns-clause-joined : goal.operands::start_and_join-returns-clause-joined
-operands::start_and_join-returns-clause-joined = Operands.operands::start_and_join-returns-clause-joined
+pub operands::start_and_join-returns : goal.operands::start_and_join-returns
+operands::start_and_join-returns = Operands.operands::start_and_join-returns
 
-pub operands::start_and_join-returns-clause-no_memory : goal.operands::start_and_join-returns-clause-no_memory
-operands::start_and_join-returns-clause-no_memory = Operands.operands::start_and_join-returns-clause-no_memory
-
-pub operands::start_and_join-returns-in_err-start_into-clause-no_memory :
-    goal.operands::start_and_join-returns-in_err-start_into-clause-no_memory
-operands::start_and_join-returns-in_err-start_into-clause-no_memory =
-    Operands.operands::start_and_join-returns-in_err-start_into-clause-no_memory
+pub operands::start_and_join-returns-in_err-start_into-clause-no_memory : goal.operands::start_and_join-returns-in_err-start_into-clause-no_memory
+operands::start_and_join-returns-in_err-start_into-clause-no_memory = Operands.operands::start_and_join-returns-in_err-start_into-clause-no_memory
 
 -- a split
 pub split::start_split-start_and_join-requires : goal.split::start_split-start_and_join-requires
 split::start_split-start_and_join-requires = Split.split::start_split-start_and_join-requires
 
-pub split::start_split-returns-in_ok-start_and_join-in-Some :
-    goal.split::start_split-returns-in_ok-start_and_join-in-Some
+pub split::start_split-returns-in_ok-start_and_join-in-Some : goal.split::start_split-returns-in_ok-start_and_join-in-Some
 split::start_split-returns-in_ok-start_and_join-in-Some = Split.split::start_split-returns-in_ok-start_and_join-in-Some
 
 pub split::start_split-returns-in-None : goal.split::start_split-returns-in-None
@@ -263,10 +233,8 @@ split::start_split-returns-in-None = Split.split::start_split-returns-in-None
 pub split::start_split-returns-in_err-start_into-in-Split : goal.split::start_split-returns-in_err-start_into-in-Split
 split::start_split-returns-in_err-start_into-in-Split = Split.split::start_split-returns-in_err-start_into-in-Split
 
-pub split::start_split-returns-in_err-start_and_join-in-Some :
-    goal.split::start_split-returns-in_err-start_and_join-in-Some
-split::start_split-returns-in_err-start_and_join-in-Some =
-    Split.split::start_split-returns-in_err-start_and_join-in-Some
+pub split::start_split-returns-in_err-start_and_join-in-Some : goal.split::start_split-returns-in_err-start_and_join-in-Some
+split::start_split-returns-in_err-start_and_join-in-Some = Split.split::start_split-returns-in_err-start_and_join-in-Some
 
 pub split::step_split-end_right-requires : goal.split::step_split-end_right-requires
 split::step_split-end_right-requires = Split.split::step_split-end_right-requires
@@ -295,11 +263,8 @@ split::end_right-returns-clause-kept = Split.split::end_right-returns-clause-kep
 pub split::begin_right-start_and_join-requires : goal.split::begin_right-start_and_join-requires
 split::begin_right-start_and_join-requires = Split.split::begin_right-start_and_join-requires
 
-pub split::begin_right-returns-clause-joined : goal.split::begin_right-returns-clause-joined
-split::begin_right-returns-clause-joined = Split.split::begin_right-returns-clause-joined
-
-pub split::begin_right-returns-clause-waits : goal.split::begin_right-returns-clause-waits
-split::begin_right-returns-clause-waits = Split.split::begin_right-returns-clause-waits
+pub split::begin_right-returns : goal.split::begin_right-returns
+split::begin_right-returns = Split.split::begin_right-returns
 
 pub split::start_split-unreachable-requires : goal.split::start_split-unreachable-requires
 split::start_split-unreachable-requires = Split.split::start_split-unreachable-requires
@@ -341,10 +306,8 @@ iter::next_piece-start_only-requires = Iter.iter::next_piece-start_only-requires
 pub iter::next_piece-returns-clause-continues : goal.iter::next_piece-returns-clause-continues
 iter::next_piece-returns-clause-continues = Iter.iter::next_piece-returns-clause-continues
 
-pub iter::next_piece-returns-in_err-start_only-clause-no_memory :
-    goal.iter::next_piece-returns-in_err-start_only-clause-no_memory
-iter::next_piece-returns-in_err-start_only-clause-no_memory =
-    Iter.iter::next_piece-returns-in_err-start_only-clause-no_memory
+pub iter::next_piece-returns-in_err-start_only-clause-no_memory : goal.iter::next_piece-returns-in_err-start_only-clause-no_memory
+iter::next_piece-returns-in_err-start_only-clause-no_memory = Iter.iter::next_piece-returns-in_err-start_only-clause-no_memory
 
 pub iter::start_iter-unreachable-requires : goal.iter::start_iter-unreachable-requires
 iter::start_iter-unreachable-requires = Iter.iter::start_iter-unreachable-requires
@@ -362,10 +325,8 @@ compose::start_compose-feed-requires = Compose.compose::start_compose-feed-requi
 pub compose::start_compose-returns : goal.compose::start_compose-returns
 compose::start_compose-returns = Compose.compose::start_compose-returns
 
-pub compose::start_compose-returns-in_err-start_into-in-Compose :
-    goal.compose::start_compose-returns-in_err-start_into-in-Compose
-compose::start_compose-returns-in_err-start_into-in-Compose =
-    Compose.compose::start_compose-returns-in_err-start_into-in-Compose
+pub compose::start_compose-returns-in_err-start_into-in-Compose : goal.compose::start_compose-returns-in_err-start_into-in-Compose
+compose::start_compose-returns-in_err-start_into-in-Compose = Compose.compose::start_compose-returns-in_err-start_into-in-Compose
 
 pub compose::step_compose-step_into-requires : goal.compose::step_compose-step_into-requires
 compose::step_compose-step_into-requires = Compose.compose::step_compose-step_into-requires
@@ -376,15 +337,11 @@ compose::step_compose-pass_on-requires = Compose.compose::step_compose-pass_on-r
 pub compose::step_compose-returns : goal.compose::step_compose-returns
 compose::step_compose-returns = Compose.compose::step_compose-returns
 
-pub compose::step_compose-returns-in_err-step_into-in-Compose :
-    goal.compose::step_compose-returns-in_err-step_into-in-Compose
-compose::step_compose-returns-in_err-step_into-in-Compose =
-    Compose.compose::step_compose-returns-in_err-step_into-in-Compose
+pub compose::step_compose-returns-in_err-step_into-in-Compose : goal.compose::step_compose-returns-in_err-step_into-in-Compose
+compose::step_compose-returns-in_err-step_into-in-Compose = Compose.compose::step_compose-returns-in_err-step_into-in-Compose
 
-pub compose::step_compose-returns-in_err-pass_on-in-Compose :
-    goal.compose::step_compose-returns-in_err-pass_on-in-Compose
-compose::step_compose-returns-in_err-pass_on-in-Compose =
-    Compose.compose::step_compose-returns-in_err-pass_on-in-Compose
+pub compose::step_compose-returns-in_err-pass_on-in-Compose : goal.compose::step_compose-returns-in_err-pass_on-in-Compose
+compose::step_compose-returns-in_err-pass_on-in-Compose = Compose.compose::step_compose-returns-in_err-pass_on-in-Compose
 
 pub compose::start_compose-unreachable-requires : goal.compose::start_compose-unreachable-requires
 compose::start_compose-unreachable-requires = Compose.compose::start_compose-unreachable-requires
@@ -420,8 +377,8 @@ right_runners::begin-renew-requires = Runner.right_runners::begin-renew-requires
 pub right_runners::begin-deliver-requires : goal.right_runners::begin-deliver-requires
 right_runners::begin-deliver-requires = Runner.right_runners::begin-deliver-requires
 
-pub right_runners::begin-returns-in-Some-clause-begun : goal.right_runners::begin-returns-in-Some-clause-begun
-right_runners::begin-returns-in-Some-clause-begun = Runner.right_runners::begin-returns-in-Some-clause-begun
+pub right_runners::begin-returns-in-Some : goal.right_runners::begin-returns-in-Some
+right_runners::begin-returns-in-Some = Runner.right_runners::begin-returns-in-Some
 
 pub right_runners::begin-returns-in-None-clause-begun : goal.right_runners::begin-returns-in-None-clause-begun
 right_runners::begin-returns-in-None-clause-begun = Runner.right_runners::begin-returns-in-None-clause-begun
@@ -429,8 +386,8 @@ right_runners::begin-returns-in-None-clause-begun = Runner.right_runners::begin-
 pub right_runners::pass_on-deliver-requires : goal.right_runners::pass_on-deliver-requires
 right_runners::pass_on-deliver-requires = Runner.right_runners::pass_on-deliver-requires
 
-pub right_runners::pass_on-returns-in-Some-place-clause-passed : goal.right_runners::pass_on-returns-in-Some-place-clause-passed
-right_runners::pass_on-returns-in-Some-place-clause-passed = Runner.right_runners::pass_on-returns-in-Some-place-clause-passed
+pub right_runners::pass_on-returns-in-Some-place : goal.right_runners::pass_on-returns-in-Some-place
+right_runners::pass_on-returns-in-Some-place = Runner.right_runners::pass_on-returns-in-Some-place
 
 pub right_runners::feed-begin-requires : goal.right_runners::feed-begin-requires
 right_runners::feed-begin-requires = Runner.right_runners::feed-begin-requires
@@ -444,8 +401,7 @@ right_runners::feed-returns-then-live-clause-fed = Runner.right_runners::feed-re
 pub right_runners::feed-returns-else-live-clause-fed : goal.right_runners::feed-returns-else-live-clause-fed
 right_runners::feed-returns-else-live-clause-fed = Runner.right_runners::feed-returns-else-live-clause-fed
 
-pub right_runners::renew-returns-in_err-start_into-clause-no_memory :
-    goal.right_runners::renew-returns-in_err-start_into-clause-no_memory
+pub right_runners::renew-returns-in_err-start_into-clause-no_memory : goal.right_runners::renew-returns-in_err-start_into-clause-no_memory
 right_runners::renew-returns-in_err-start_into-clause-no_memory = Runner.right_runners::renew-returns-in_err-start_into-clause-no_memory
 
 pub right_runners::carry-returns-in_err-step_into-clause-no_memory : goal.right_runners::carry-returns-in_err-step_into-clause-no_memory
@@ -454,19 +410,11 @@ right_runners::carry-returns-in_err-step_into-clause-no_memory = Runner.right_ru
 pub right_runners::deliver-returns-in_err-carry-clause-no_memory : goal.right_runners::deliver-returns-in_err-carry-clause-no_memory
 right_runners::deliver-returns-in_err-carry-clause-no_memory = Runner.right_runners::deliver-returns-in_err-carry-clause-no_memory
 
-pub right_runners::deliver-returns-in_err-value-in-Some-clause-no_memory :
-    goal.right_runners::deliver-returns-in_err-value-in-Some-clause-no_memory
-right_runners::deliver-returns-in_err-value-in-Some-clause-no_memory =
-    Runner.right_runners::deliver-returns-in_err-value-in-Some-clause-no_memory
+pub right_runners::deliver-returns-in_err-value-in-Some-clause-no_memory : goal.right_runners::deliver-returns-in_err-value-in-Some-clause-no_memory
+right_runners::deliver-returns-in_err-value-in-Some-clause-no_memory = Runner.right_runners::deliver-returns-in_err-value-in-Some-clause-no_memory
 
 pub right_runners::begin-returns-in_err-renew-clause-no_memory : goal.right_runners::begin-returns-in_err-renew-clause-no_memory
 right_runners::begin-returns-in_err-renew-clause-no_memory = Runner.right_runners::begin-returns-in_err-renew-clause-no_memory
-
-pub right_runners::begin-returns-in-Some-clause-no_memory : goal.right_runners::begin-returns-in-Some-clause-no_memory
-right_runners::begin-returns-in-Some-clause-no_memory = Runner.right_runners::begin-returns-in-Some-clause-no_memory
-
-pub right_runners::pass_on-returns-in-Some-place-clause-no_memory : goal.right_runners::pass_on-returns-in-Some-place-clause-no_memory
-right_runners::pass_on-returns-in-Some-place-clause-no_memory = Runner.right_runners::pass_on-returns-in-Some-place-clause-no_memory
 
 pub right_runners::feed-returns-in_err-begin-clause-no_memory : goal.right_runners::feed-returns-in_err-begin-clause-no_memory
 right_runners::feed-returns-in_err-begin-clause-no_memory = Runner.right_runners::feed-returns-in_err-begin-clause-no_memory
@@ -533,17 +481,14 @@ keys::keys_push-returns-then-holds-clause-pushed = Keys.keys::keys_push-returns-
 pub keys::keys_push-returns-else-holds-clause-pushed : goal.keys::keys_push-returns-else-holds-clause-pushed
 keys::keys_push-returns-else-holds-clause-pushed = Keys.keys::keys_push-returns-else-holds-clause-pushed
 
-pub keys::push_to_key-returns-clause-left : goal.keys::push_to_key-returns-clause-left
-keys::push_to_key-returns-clause-left = Keys.keys::push_to_key-returns-clause-left
-
 pub keys::push_to_key-follower_mut-requires : goal.keys::push_to_key-follower_mut-requires
 keys::push_to_key-follower_mut-requires = Keys.keys::push_to_key-follower_mut-requires
 
 pub keys::push_to_key-carry-requires : goal.keys::push_to_key-carry-requires
 keys::push_to_key-carry-requires = Keys.keys::push_to_key-carry-requires
 
-pub keys::push_to_key-returns-clause-pushed : goal.keys::push_to_key-returns-clause-pushed
-keys::push_to_key-returns-clause-pushed = Keys.keys::push_to_key-returns-clause-pushed
+pub keys::push_to_key-returns : goal.keys::push_to_key-returns
+keys::push_to_key-returns = Keys.keys::push_to_key-returns
 
 pub keys::push_to_each-carry-requires : goal.keys::push_to_each-carry-requires
 keys::push_to_each-carry-requires = Keys.keys::push_to_each-carry-requires

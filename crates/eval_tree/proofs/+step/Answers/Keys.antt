@@ -31,17 +31,6 @@ keys::keys_push-returns-else-holds-clause-pushed t c =
     (sym c.holds.ensures ∙ c.if-holds.false) pushed.has pushed.takes) (subst (λ (key : List ℕ). IfOk c.push_to_key.result (λ done. IsKeyPushed seen_of (plain_of c.args.query.now.shape) key
     c.args.item.now c.args.keys.now c.push_to_key.new.keys)) c.key_of.ensures c.push_to_key.ensures.pushed)
 
-pub keys::push_to_key-returns-clause-left : goal.keys::push_to_key-returns-clause-left
-keys::push_to_key-returns-clause-left t c =
-    on_err c.carry.result _ (inr (record {
-      place = c.in_ok-place.place;
-      mid = c.place_or_new.new.keys;
-      runner = c.carry.new.runner;
-      has = c.in_ok-place.ensures.has;
-      fallback = refl;
-      keyed = refl;
-    }))
-
 pub keys::push_to_key-follower_mut-requires : goal.keys::push_to_key-follower_mut-requires
 keys::push_to_key-follower_mut-requires t c =
     slice_get_within (names_of c.place_or_new.new.keys) c.in_ok-place.place c.args.key.now c.in_ok-place.ensures.has.there
@@ -55,21 +44,30 @@ keys::push_to_key-carry-requires t c = (
       c.place_or_new.new.keys c.in_ok-place.place c.in_ok-place.ensures.has c.requires) c.follower_mut.ensures.value,
 )
 
-pub keys::push_to_key-returns-clause-pushed : goal.keys::push_to_key-returns-clause-pushed
-keys::push_to_key-returns-clause-pushed t c =
-    where_ok c.carry.result _ _ (λ done takes. record {
-      place = c.in_ok-place.place;
-      mid = c.place_or_new.new.keys;
-      has = c.in_ok-place.ensures.has;
-      takes = record {
-        runner = c.follower_mut.result.now;
-        carried = c.carry.new.runner;
-        read = c.follower_mut.ensures.value;
-        takes = takes;
-        fallback = refl;
-        is = refl;
-      };
-    }) c.carry.ensures.carried
+pub keys::push_to_key-returns : goal.keys::push_to_key-returns
+keys::push_to_key-returns t c = record {
+  pushed = where_ok c.carry.result _ _ (λ done takes. record {
+    place = c.in_ok-place.place;
+    mid = c.place_or_new.new.keys;
+    has = c.in_ok-place.ensures.has;
+    takes = record {
+      runner = c.follower_mut.result.now;
+      carried = c.carry.new.runner;
+      read = c.follower_mut.ensures.value;
+      takes = takes;
+      fallback = refl;
+      is = refl;
+    };
+  }) c.carry.ensures.carried;
+  left = on_err c.carry.result _ (inr (record {
+    place = c.in_ok-place.place;
+    mid = c.place_or_new.new.keys;
+    runner = c.carry.new.runner;
+    has = c.in_ok-place.ensures.has;
+    fallback = refl;
+    keyed = refl;
+  }));
+}
 
 pub keys::push_to_each-carry-requires : goal.keys::push_to_each-carry-requires
 keys::push_to_each-carry-requires t c = (

@@ -99,12 +99,17 @@ right_runners::begin-deliver-requires t c = (
   ),
 )
 
-pub right_runners::begin-returns-in-Some-clause-begun : goal.right_runners::begin-returns-in-Some-clause-begun
-right_runners::begin-returns-in-Some-clause-begun t c =
-    where_ok c.deliver.result _ _ (λ done delivered. subst (λ (left : Option Hit).
-    IsBegun seen_of (plain_of c.args.query.now.shape) c.args.runner.now left c.deliver.new.runner c.deliver.new.hit)
-    (sym c.in-Some.is)
-    (c.renew.new.runner, c.in_ok-renew.ensures.renewed, delivered)) c.deliver.ensures.delivered
+pub right_runners::begin-returns-in-Some : goal.right_runners::begin-returns-in-Some
+right_runners::begin-returns-in-Some t c = record {
+  begun = where_ok c.deliver.result _ _ (λ done delivered. subst (λ (left : Option Hit).
+      IsBegun seen_of (plain_of c.args.query.now.shape) c.args.runner.now left c.deliver.new.runner c.deliver.new.hit)
+      (sym c.in-Some.is)
+      (c.renew.new.runner, c.in_ok-renew.ensures.renewed, delivered)) c.deliver.ensures.delivered;
+  no_memory = λ free. c.deliver.ensures.no_memory
+      (begun_carries seen_of (plain_of c.args.query.now.shape) c.args.runner.now c.renew.new.runner c.in-Some.left
+      (subst (BeginsNumbers seen_of (plain_of c.args.query.now.shape) c.args.runner.now) c.in-Some.is free)
+      c.in_ok-renew.ensures.renewed);
+}
 
 pub right_runners::begin-returns-in-None-clause-begun : goal.right_runners::begin-returns-in-None-clause-begun
 right_runners::begin-returns-in-None-clause-begun t c =
@@ -123,17 +128,24 @@ right_runners::pass_on-deliver-requires t c = (
   ),
 )
 
-pub right_runners::pass_on-returns-in-Some-place-clause-passed : goal.right_runners::pass_on-returns-in-Some-place-clause-passed
-right_runners::pass_on-returns-in-Some-place-clause-passed t c =
-    where_ok c.deliver.result _ _ (λ done delivers. subst (λ (left : Option Hit).
-    PassesOn seen_of (plain_of c.args.query.now.shape) c.args.runners.now left (record {
-      live = with_follower c.args.runners.now.live c.in-Some-place.place c.deliver.new.runner;
-      idle = c.args.runners.now.idle;
-      room = c.args.runners.now.room;
-    }) c.deliver.new.hit) (sym c.in-Some.is)
-    (inl (passed_one seen_of (plain_of c.args.query.now.shape) c.args.runners.now c.in-Some.left c.in-Some-place.place
-    c.follower_mut.result.now c.deliver.new.runner c.deliver.new.hit c.in-Some-place.ensures.there c.follower_mut.ensures.value delivers)))
-    c.deliver.ensures.delivered
+pub right_runners::pass_on-returns-in-Some-place : goal.right_runners::pass_on-returns-in-Some-place
+right_runners::pass_on-returns-in-Some-place t c = record {
+  passed = where_ok c.deliver.result _ _ (λ done delivers. subst (λ (left : Option Hit).
+      PassesOn seen_of (plain_of c.args.query.now.shape) c.args.runners.now left (record {
+        live = with_follower c.args.runners.now.live c.in-Some-place.place c.deliver.new.runner;
+        idle = c.args.runners.now.idle;
+        room = c.args.runners.now.room;
+      }) c.deliver.new.hit) (sym c.in-Some.is)
+      (inl (passed_one seen_of (plain_of c.args.query.now.shape) c.args.runners.now c.in-Some.left c.in-Some-place.place
+      c.follower_mut.result.now c.deliver.new.runner c.deliver.new.hit c.in-Some-place.ensures.there
+      c.follower_mut.ensures.value delivers)))
+      c.deliver.ensures.delivered;
+  no_memory = λ free. c.deliver.ensures.no_memory
+      (place_decides seen_of (plain_of c.args.query.now.shape) c.args.runners.now c.in-Some.left c.in-Some-place.place
+      c.follower_mut.result.now
+      (subst (PassesNumbers seen_of (plain_of c.args.query.now.shape) c.args.runners.now) c.in-Some.is free)
+      c.follower_mut.ensures.value);
+}
 
 pub right_runners::feed-begin-requires : goal.right_runners::feed-begin-requires
 right_runners::feed-begin-requires t c = (
@@ -226,23 +238,6 @@ pub right_runners::begin-returns-in_err-renew-clause-no_memory :
 right_runners::begin-returns-in_err-renew-clause-no_memory t c = λ free.
     absurd (false≢true (c.in_err-renew.ensures.no_memory
     (runner_renews seen_of (plain_of c.args.query.now.shape) c.args.runner.now c.args.left free)))
-
-pub right_runners::begin-returns-in-Some-clause-no_memory :
-    goal.right_runners::begin-returns-in-Some-clause-no_memory
-right_runners::begin-returns-in-Some-clause-no_memory t c = λ free.
-    c.deliver.ensures.no_memory
-    (begun_carries seen_of (plain_of c.args.query.now.shape) c.args.runner.now c.renew.new.runner c.in-Some.left
-    (subst (BeginsNumbers seen_of (plain_of c.args.query.now.shape) c.args.runner.now) c.in-Some.is free)
-    c.in_ok-renew.ensures.renewed)
-
-pub right_runners::pass_on-returns-in-Some-place-clause-no_memory :
-    goal.right_runners::pass_on-returns-in-Some-place-clause-no_memory
-right_runners::pass_on-returns-in-Some-place-clause-no_memory t c = λ free.
-    c.deliver.ensures.no_memory
-    (place_decides seen_of (plain_of c.args.query.now.shape) c.args.runners.now c.in-Some.left c.in-Some-place.place
-    c.follower_mut.result.now
-    (subst (PassesNumbers seen_of (plain_of c.args.query.now.shape) c.args.runners.now) c.in-Some.is free)
-    c.follower_mut.ensures.value)
 
 pub right_runners::feed-returns-in_err-begin-clause-no_memory :
     goal.right_runners::feed-returns-in_err-begin-clause-no_memory

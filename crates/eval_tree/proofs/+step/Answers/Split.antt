@@ -265,15 +265,14 @@ split::end_right-returns-clause-kept t c = (
 pub split::begin_right-start_and_join-requires : goal.split::begin_right-start_and_join-requires
 split::begin_right-start_and_join-requires t c = (search rules, (refl, c.requires.can))
 
-pub split::begin_right-returns-clause-joined : goal.split::begin_right-returns-clause-joined
-split::begin_right-returns-clause-joined t c =
-    (c.start_and_join.new.hit, c.in_ok-start_and_join.ensures.joined, c.put_if_none.ensures)
-
-pub split::begin_right-returns-clause-waits : goal.split::begin_right-returns-clause-waits
-split::begin_right-returns-clause-waits t c =
-    subst (λ (live : Bool). IsPut live c.args.held.now
-    (record { inner = c.args.at; outer = c.args.left.start; value = c.args.left.value }) c.wait.new.held)
-    c.is_live.ensures.read c.wait.ensures
+pub split::begin_right-returns : goal.split::begin_right-returns
+split::begin_right-returns t c = record {
+  joined = (c.start_and_join.new.hit, c.in_ok-start_and_join.ensures.joined, c.put_if_none.ensures);
+  waits = subst (λ (live : Bool). IsPut live c.args.held.now
+      (record { inner = c.args.at; outer = c.args.left.start; value = c.args.left.value }) c.wait.new.held)
+      c.is_live.ensures.read c.wait.ensures;
+  no_memory = λ free. refl;
+}
 
 pub split::start_split-unreachable-requires : goal.split::start_split-unreachable-requires
 split::start_split-unreachable-requires t c =
