@@ -16,6 +16,7 @@ use std::alloc::{AllocError, Global};
 use value_ops::Expr;
 
 #[cycle(step)]
+#[tactic(auto, using(crate::proofs::Unsound::unlike_apply))]
 #[inline(always)]
 pub(crate) fn start_apply(
     inner: &Query,
@@ -42,6 +43,7 @@ pub(crate) fn start_apply(
 }
 
 #[cycle(step)]
+#[tactic(auto, using(crate::proofs::Unsound::unlike_apply))]
 #[inline(always)]
 pub(crate) fn step_apply(
     inner: &Query,

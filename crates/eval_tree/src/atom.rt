@@ -16,6 +16,7 @@ use std::alloc::{AllocError, Global};
 use value_ops::Expr;
 
 /// An atom has no value on the empty word.
+#[tactic(auto, using(crate::proofs::Unsound::unlike_atom))]
 #[inline(always)]
 pub(crate) fn start_atom(node: &mut Node, at: u64)
     requires { (pred : Predicate) × (expression : values.Expression)
@@ -32,6 +33,7 @@ pub(crate) fn start_atom(node: &mut Node, at: u64)
     }
 }
 
+#[tactic(auto, using(crate::proofs::Unsound::unlike_atom))]
 #[inline(always)]
 pub(crate) fn step_atom(
     pred: &Pred,

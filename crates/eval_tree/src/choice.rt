@@ -14,6 +14,7 @@ use query_model::Query;
 use std::alloc::{AllocError, Global};
 
 #[cycle(step)]
+#[tactic(auto, using(crate::proofs::Unsound::unlike_choice))]
 #[inline(always)]
 pub(crate) fn start_choice(
     first: &Query,
@@ -42,6 +43,7 @@ pub(crate) fn start_choice(
 }
 
 #[cycle(step)]
+#[tactic(auto, using(crate::proofs::Unsound::unlike_choice))]
 #[inline(always)]
 pub(crate) fn step_choice(
     first: &Query,

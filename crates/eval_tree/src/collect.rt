@@ -23,6 +23,7 @@ use rate_expr::State as RateState;
 use std::alloc::{AllocError, Global};
 
 #[cycle(step)]
+#[tactic(auto, using(crate::proofs::Unsound::unlike_collect))]
 #[inline(always)]
 pub(crate) fn start_collect(
     inner: &Query,
@@ -45,6 +46,7 @@ pub(crate) fn start_collect(
 }
 
 #[cycle(step)]
+#[tactic(auto, using(crate::proofs::Unsound::unlike_collect))]
 #[inline(always)]
 pub(crate) fn step_collect(
     inner: &Query,

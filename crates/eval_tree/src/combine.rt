@@ -16,6 +16,7 @@ use std::alloc::{AllocError, Global};
 use value_ops::Expr;
 
 #[cycle(step)]
+#[tactic(auto, using(crate::proofs::Unsound::unlike_combine))]
 #[inline(always)]
 pub(crate) fn start_combine(
     first: &Query,
@@ -45,6 +46,7 @@ pub(crate) fn start_combine(
 }
 
 #[cycle(step)]
+#[tactic(auto, using(crate::proofs::Unsound::unlike_combine))]
 #[inline(always)]
 pub(crate) fn step_combine(
     first: &Query,

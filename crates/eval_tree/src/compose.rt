@@ -17,6 +17,7 @@ use query_model::Query;
 use std::alloc::{AllocError, Global};
 
 #[cycle(step)]
+#[tactic(auto, using(crate::proofs::Unsound::unlike_compose))]
 #[inline(always)]
 pub(crate) fn start_compose(
     first: &Query,
@@ -43,6 +44,7 @@ pub(crate) fn start_compose(
 }
 
 #[cycle(step)]
+#[tactic(auto, using(crate::proofs::Unsound::unlike_compose))]
 pub(crate) fn step_compose(
     first: &Query,
     second: &Query,

@@ -22,6 +22,7 @@ use std::alloc::{AllocError, Global};
 use value_ops::{Expr, Value};
 
 #[cycle(step)]
+#[tactic(auto, using(crate::proofs::Unsound::unlike_iter))]
 #[inline(always)]
 pub(crate) fn start_iter(
     inner: &Query,
@@ -52,6 +53,7 @@ pub(crate) fn start_iter(
 }
 
 #[cycle(step)]
+#[tactic(auto, using(crate::proofs::Unsound::unlike_iter))]
 #[inline(always)]
 pub(crate) fn step_iter(
     inner: &Query,

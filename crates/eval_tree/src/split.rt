@@ -25,6 +25,7 @@ use std::alloc::{AllocError, Global};
 use value_ops::{Expr, Value};
 
 #[cycle(step)]
+#[tactic(auto, using(crate::proofs::Unsound::unlike_split))]
 pub(crate) fn start_split(
     first: &Query,
     second: &Query,
@@ -59,6 +60,7 @@ pub(crate) fn start_split(
 }
 
 #[cycle(step)]
+#[tactic(auto, using(crate::proofs::Unsound::unlike_split))]
 pub(crate) fn step_split(
     first: &Query,
     second: &Query,

@@ -139,12 +139,6 @@ choice::step_choice-returns-in_err-step_into-in-Or = Choice.choice::step_choice-
 pub choice::step_choice-returns-in_err-step_into-in-Or-2 : goal.choice::step_choice-returns-in_err-step_into-in-Or-2
 choice::step_choice-returns-in_err-step_into-in-Or-2 = Choice.choice::step_choice-returns-in_err-step_into-in-Or-2
 
-pub choice::start_choice-unreachable-requires : goal.choice::start_choice-unreachable-requires
-choice::start_choice-unreachable-requires = Choice.choice::start_choice-unreachable-requires
-
-pub choice::step_choice-unreachable-requires : goal.choice::step_choice-unreachable-requires
-choice::step_choice-unreachable-requires = Choice.choice::step_choice-unreachable-requires
-
 -- an expression on a value
 pub apply::start_apply-returns : goal.apply::start_apply-returns
 apply::start_apply-returns = Apply.apply::start_apply-returns
@@ -157,12 +151,6 @@ apply::step_apply-returns = Apply.apply::step_apply-returns
 
 pub apply::step_apply-returns-in_err-step_into-in-Apply : goal.apply::step_apply-returns-in_err-step_into-in-Apply
 apply::step_apply-returns-in_err-step_into-in-Apply = Apply.apply::step_apply-returns-in_err-step_into-in-Apply
-
-pub apply::start_apply-unreachable-requires : goal.apply::start_apply-unreachable-requires
-apply::start_apply-unreachable-requires = Apply.apply::start_apply-unreachable-requires
-
-pub apply::step_apply-unreachable-requires : goal.apply::step_apply-unreachable-requires
-apply::step_apply-unreachable-requires = Apply.apply::step_apply-unreachable-requires
 
 -- a combine
 pub combine::start_combine-combine_with-requires : goal.combine::start_combine-combine_with-requires
@@ -188,12 +176,6 @@ combine::step_combine-returns-in_err-step_into-in-Combine = Combine.combine::ste
 
 pub combine::step_combine-returns-in_err-step_into-in-Combine-2 : goal.combine::step_combine-returns-in_err-step_into-in-Combine-2
 combine::step_combine-returns-in_err-step_into-in-Combine-2 = Combine.combine::step_combine-returns-in_err-step_into-in-Combine-2
-
-pub combine::start_combine-unreachable-requires : goal.combine::start_combine-unreachable-requires
-combine::start_combine-unreachable-requires = Combine.combine::start_combine-unreachable-requires
-
-pub combine::step_combine-unreachable-requires : goal.combine::step_combine-unreachable-requires
-combine::step_combine-unreachable-requires = Combine.combine::step_combine-unreachable-requires
 
 -- an operand whose value is joined with a left value
 pub operands::step_and_end-step_into-requires : goal.operands::step_and_end-step_into-requires
@@ -266,12 +248,6 @@ split::begin_right-start_and_join-requires = Split.split::begin_right-start_and_
 pub split::begin_right-returns : goal.split::begin_right-returns
 split::begin_right-returns = Split.split::begin_right-returns
 
-pub split::start_split-unreachable-requires : goal.split::start_split-unreachable-requires
-split::start_split-unreachable-requires = Split.split::start_split-unreachable-requires
-
-pub split::step_split-unreachable-requires : goal.split::step_split-unreachable-requires
-split::step_split-unreachable-requires = Split.split::step_split-unreachable-requires
-
 -- an iteration
 pub iter::start_iter-start_only-requires : goal.iter::start_iter-start_only-requires
 iter::start_iter-start_only-requires = Iter.iter::start_iter-start_only-requires
@@ -309,12 +285,6 @@ iter::next_piece-returns-clause-continues = Iter.iter::next_piece-returns-clause
 pub iter::next_piece-returns-in_err-start_only-clause-no_memory : goal.iter::next_piece-returns-in_err-start_only-clause-no_memory
 iter::next_piece-returns-in_err-start_only-clause-no_memory = Iter.iter::next_piece-returns-in_err-start_only-clause-no_memory
 
-pub iter::start_iter-unreachable-requires : goal.iter::start_iter-unreachable-requires
-iter::start_iter-unreachable-requires = Iter.iter::start_iter-unreachable-requires
-
-pub iter::step_iter-unreachable-requires : goal.iter::step_iter-unreachable-requires
-iter::step_iter-unreachable-requires = Iter.iter::step_iter-unreachable-requires
-
 -- a compose
 pub compose::start_compose-start_into-requires : goal.compose::start_compose-start_into-requires
 compose::start_compose-start_into-requires = Compose.compose::start_compose-start_into-requires
@@ -342,12 +312,6 @@ compose::step_compose-returns-in_err-step_into-in-Compose = Compose.compose::ste
 
 pub compose::step_compose-returns-in_err-pass_on-in-Compose : goal.compose::step_compose-returns-in_err-pass_on-in-Compose
 compose::step_compose-returns-in_err-pass_on-in-Compose = Compose.compose::step_compose-returns-in_err-pass_on-in-Compose
-
-pub compose::start_compose-unreachable-requires : goal.compose::start_compose-unreachable-requires
-compose::start_compose-unreachable-requires = Compose.compose::start_compose-unreachable-requires
-
-pub compose::step_compose-unreachable-requires : goal.compose::step_compose-unreachable-requires
-compose::step_compose-unreachable-requires = Compose.compose::step_compose-unreachable-requires
 
 -- the runners of its right operand
 pub right_runners::renew-start_into-requires : goal.right_runners::renew-start_into-requires
@@ -467,12 +431,6 @@ collect::push_all-returns-clause-pushed = Collect.collect::push_all-returns-clau
 
 pub collect::pass_by-advance-requires : goal.collect::pass_by-advance-requires
 collect::pass_by-advance-requires = Collect.collect::pass_by-advance-requires
-
-pub collect::start_collect-unreachable-requires : goal.collect::start_collect-unreachable-requires
-collect::start_collect-unreachable-requires = Collect.collect::start_collect-unreachable-requires
-
-pub collect::step_collect-unreachable-requires : goal.collect::step_collect-unreachable-requires
-collect::step_collect-unreachable-requires = Collect.collect::step_collect-unreachable-requires
 
 -- its runners for keys
 pub keys::keys_push-returns-then-holds-clause-pushed : goal.keys::keys_push-returns-then-holds-clause-pushed

@@ -10,7 +10,6 @@ use Rattle.eval_tree.proofs.Arms.{numbers_start_as, numbers_step_as, start_fails
 use Rattle.eval_tree.proofs.NumbersAllowed.{operand_starts, operand_steps}
 use Rattle.eval_tree.proofs.NumbersTyped.{applied_started, applied_stepped}
 use Rattle.eval_tree.proofs.PlainArms.{apply_starts, apply_steps}
-use Rattle.eval_tree.proofs.Unsound.{unsound_apply}
 use Rattle.eval_tree.proofs.+step.Goals as goal
 
 pub apply::start_apply-returns : goal.apply::start_apply-returns
@@ -72,15 +71,3 @@ apply::step_apply-returns-in_err-step_into-in-Apply t c =
     (sym same)
     (operand_steps seen_of (plain_of c.args.inner.now.shape) (values.plain_of c.args.expression.now)
     (holding_of s.a.value.state) c.args.now c.args.item.now free))))
-
-pub apply::start_apply-unreachable-requires : goal.apply::start_apply-unreachable-requires
-apply::start_apply-unreachable-requires t c =
-    unsound_apply c.requires.can.columns c.args.at _ c.args.node.now.state _ (values.plain_of c.args.expression.now)
-    refl c.in_default.not-Apply
-    c.requires.can.sound
-
-pub apply::step_apply-unreachable-requires : goal.apply::step_apply-unreachable-requires
-apply::step_apply-unreachable-requires t c =
-    unsound_apply c.requires.can.columns c.requires.can.position _ c.args.node.now.state _ (values.plain_of c.args.expression.now)
-    refl c.in_default.not-Apply
-    c.requires.can.sound

@@ -7,7 +7,6 @@ use Rattle.eval_nodes.specs.declared.node.State.TheViews.{out-State, roll-State}
 use Rattle.eval_tree.proofs.Arms.{numbers_start_as, numbers_step_as, start_fails, started_as, started_from, step_fails, stepped_as, stepped_from}
 use Rattle.eval_tree.proofs.NumbersAllowed.{first_starts, first_steps, second_starts, second_steps}
 use Rattle.eval_tree.proofs.PlainArms.{choice_starts, choice_steps}
-use Rattle.eval_tree.proofs.Unsound.{unsound_choice}
 use Rattle.eval_tree.proofs.+step.Goals as goal
 
 pub choice::start_choice-returns : goal.choice::start_choice-returns
@@ -76,13 +75,3 @@ choice::step_choice-returns-in_err-step_into-in-Or-2 t c =
     (numbers_step_as _ _ _ _ c.args.now c.args.item.now refl (sym same)
     (second_steps seen_of (plain_of c.args.first.now.shape) (plain_of c.args.second.now.shape)
     (holding_of s.a.value.state) (holding_of s.b.value.state) c.args.now c.args.item.now free))))
-
-pub choice::start_choice-unreachable-requires : goal.choice::start_choice-unreachable-requires
-choice::start_choice-unreachable-requires t c =
-    unsound_choice c.requires.can.columns c.args.at _ c.args.node.now.state _ _ refl c.in_default.not-Or
-    c.requires.can.sound
-
-pub choice::step_choice-unreachable-requires : goal.choice::step_choice-unreachable-requires
-choice::step_choice-unreachable-requires t c =
-    unsound_choice c.requires.can.columns c.requires.can.position _ c.args.node.now.state _ _ refl c.in_default.not-Or
-    c.requires.can.sound

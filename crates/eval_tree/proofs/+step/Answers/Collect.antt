@@ -17,7 +17,6 @@ use Rattle.eval_tree.proofs.CollectAllowed.{make_allowed, advanced_allowed, pass
 use Rattle.eval_tree.proofs.CollectArms.{collect_starts, collect_steps}
 use Rattle.eval_tree.proofs.CollectBegun.{made_new, start_made}
 use Rattle.map_collect.specs.Tracks.{KeepsExtending}
-use Rattle.eval_tree.proofs.Unsound.{unsound_collect}
 use Rattle.eval_tree.proofs.+step.Goals as goal
 
 abbrev Tracks : Type 0
@@ -180,15 +179,3 @@ collect::push_all-returns-clause-pushed t c =
 
 pub collect::pass_by-advance-requires : goal.collect::pass_by-advance-requires
 collect::pass_by-advance-requires t c = c.requires.can.is_item
-
-pub collect::start_collect-unreachable-requires : goal.collect::start_collect-unreachable-requires
-collect::start_collect-unreachable-requires t c =
-    let can = c.requires.can.3 in
-    unsound_collect can.columns c.args.at _ c.args.node.now.state c.requires.can.0 c.requires.can.1 c.requires.can.2
-    (plain_of c.args.inner.now.shape) refl c.in_default.not-Collect can.sound
-
-pub collect::step_collect-unreachable-requires : goal.collect::step_collect-unreachable-requires
-collect::step_collect-unreachable-requires t c =
-    let can = c.requires.can.2 in
-    unsound_collect can.columns can.position _ c.args.node.now.state c.args.column (predicates.plain_of c.args.sync.now)
-    c.requires.can.0 (plain_of c.args.inner.now.shape) refl c.in_default.not-Collect can.sound

@@ -9,7 +9,6 @@ use Rattle.eval_tree.proofs.FoldsAllowed.{started_combine, stepped_combine}
 use Rattle.eval_tree.proofs.NumbersAllowed.{one_starts, one_steps, other_starts, other_steps}
 use Rattle.eval_tree.proofs.NumbersTyped.{combined_started, combined_stepped}
 use Rattle.eval_tree.proofs.PlainArms.{combine_starts, combine_steps}
-use Rattle.eval_tree.proofs.Unsound.{unsound_combine}
 use Rattle.eval_tree.proofs.+step.Goals as goal
 
 pub combine::start_combine-combine_with-requires : goal.combine::start_combine-combine_with-requires
@@ -140,15 +139,3 @@ combine::step_combine-returns-in_err-step_into-in-Combine-2 t c =
     (other_steps seen_of (plain_of c.args.first.now.shape) (plain_of c.args.second.now.shape)
     (values.plain_of c.args.expression.now) (holding_of s.a.value.state) (holding_of s.b.value.state) c.args.now
     c.args.item.now free))))
-
-pub combine::start_combine-unreachable-requires : goal.combine::start_combine-unreachable-requires
-combine::start_combine-unreachable-requires t c =
-    unsound_combine c.requires.can.columns c.args.at _ c.args.node.now.state _ _
-    (values.plain_of c.args.expression.now) refl c.in_default.not-Combine
-    c.requires.can.sound
-
-pub combine::step_combine-unreachable-requires : goal.combine::step_combine-unreachable-requires
-combine::step_combine-unreachable-requires t c =
-    unsound_combine c.requires.can.columns c.requires.can.position _ c.args.node.now.state _ _
-    (values.plain_of c.args.expression.now) refl c.in_default.not-Combine
-    c.requires.can.sound

@@ -17,7 +17,6 @@ use Rattle.eval_tree.proofs.ComposeAllowed.{feeds_allowed, passes_allowed, start
 use Rattle.eval_tree.proofs.ComposeArms.{compose_starts, compose_steps}
 use Rattle.eval_tree.specs.Numbers.{FeedsNumbers, PassesNumbers}
 use Rattle.eval_tree.proofs.NumbersAllowed.{fed_starts, fed_steps, feeds_on, passes_on}
-use Rattle.eval_tree.proofs.Unsound.{unsound_compose}
 use Rattle.eval_tree.proofs.+step.Goals as goal
 
 abbrev Runners : Type 0
@@ -170,13 +169,3 @@ compose::step_compose-returns-in_err-pass_on-in-Compose t c =
     (holding_of c.step_into.new.node.state) s.runners c.args.now c.args.item.now c.step_into.new.hit free
     (soundly_stepped_as _ _ (holding_of c.deref_mut.result.now.state) (holding_of s.a.value.state) _ _ c.args.now
     c.args.item.now _ _ refl (search rules) refl refl c.in_ok-step_into-in-Compose.ensures.sound)))))
-
-pub compose::start_compose-unreachable-requires : goal.compose::start_compose-unreachable-requires
-compose::start_compose-unreachable-requires t c =
-    unsound_compose c.requires.can.columns c.args.at _ c.args.node.now.state _ _ refl c.in_default.not-Compose
-    c.requires.can.sound
-
-pub compose::step_compose-unreachable-requires : goal.compose::step_compose-unreachable-requires
-compose::step_compose-unreachable-requires t c =
-    unsound_compose c.requires.can.columns c.requires.can.position _ c.args.node.now.state _ _ refl c.in_default.not-Compose
-    c.requires.can.sound

@@ -20,7 +20,6 @@ use Rattle.eval_tree.proofs.FoldsAllowed.{start_next, start_piece, step_piece, s
 use Rattle.eval_tree.proofs.IterArms.{iter_starts, iter_steps_none, iter_steps_some}
 use Rattle.eval_tree.proofs.NumbersAllowed.{piece_begins, piece_starts, piece_steps}
 use Rattle.eval_tree.proofs.NumbersTyped.{ended_no_table, ended_piece}
-use Rattle.eval_tree.proofs.Unsound.{unsound_iter}
 use Rattle.eval_tree.proofs.+step.Goals as goal
 use Rattle.eval_tree.proofs.+step.Goals.{iter::step_iter-After-keep}
 
@@ -215,15 +214,3 @@ iter::next_piece-returns-clause-continues t c =
 pub iter::next_piece-returns-in_err-start_only-clause-no_memory : goal.iter::next_piece-returns-in_err-start_only-clause-no_memory
 iter::next_piece-returns-in_err-start_only-clause-no_memory t c = λ free none.
     absurd (false≢true (c.in_err-start_only.ensures.1.no_memory free))
-
-pub iter::start_iter-unreachable-requires : goal.iter::start_iter-unreachable-requires
-iter::start_iter-unreachable-requires t c =
-    let can = c.requires.can.1 in
-    unsound_iter can.columns c.args.at _ c.args.node.now.state _ c.args.number c.requires.can.0 refl c.in_default.not-Iter
-    can.sound
-
-pub iter::step_iter-unreachable-requires : goal.iter::step_iter-unreachable-requires
-iter::step_iter-unreachable-requires t c =
-    let can = c.requires.can.1 in
-    unsound_iter can.columns can.position _ c.args.node.now.state _ c.requires.can.0 (values.plain_of c.args.expression.now)
-    refl c.in_default.not-Iter can.sound

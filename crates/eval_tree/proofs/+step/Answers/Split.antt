@@ -17,7 +17,6 @@ use Rattle.eval_tree.proofs.Elsewhere.{elsewhere, fresh_elsewhere}
 use Rattle.eval_tree.proofs.NumbersAllowed.{left_starts, left_steps, right_begins, right_starts, right_steps}
 use Rattle.eval_tree.proofs.NumbersTyped.{ended_stepped, joined_started, joined_stepped}
 use Rattle.eval_tree.proofs.SplitArms.{split_starts, split_starts_none, split_steps_none, split_steps_some}
-use Rattle.eval_tree.proofs.Unsound.{unsound_split}
 use Rattle.eval_tree.proofs.+step.Goals as goal
 
 pub split::start_split-start_and_join-requires : goal.split::start_split-start_and_join-requires
@@ -273,15 +272,3 @@ split::begin_right-returns t c = record {
       c.is_live.ensures.read c.wait.ensures;
   no_memory = λ free. refl;
 }
-
-pub split::start_split-unreachable-requires : goal.split::start_split-unreachable-requires
-split::start_split-unreachable-requires t c =
-    unsound_split c.requires.can.columns c.args.at _ c.args.node.now.state _ _
-    (values.plain_of c.args.expression.now) refl c.in_default.not-Split
-    c.requires.can.sound
-
-pub split::step_split-unreachable-requires : goal.split::step_split-unreachable-requires
-split::step_split-unreachable-requires t c =
-    unsound_split c.requires.can.columns c.requires.can.position _ c.args.node.now.state _ _
-    (values.plain_of c.args.expression.now) refl c.in_default.not-Split
-    c.requires.can.sound

@@ -4,7 +4,6 @@ use Rattle.eval_nodes.specs.Plain.{holding_of}
 use Rattle.eval_nodes.specs.declared.node.State.TheViews.{out-State, roll-State}
 use Rattle.eval_tree.proofs.Arms.{started_as}
 use Rattle.eval_tree.proofs.PlainArms.{atom_starts}
-use Rattle.eval_tree.proofs.Unsound.{unsound_atom}
 use Rattle.eval_tree.proofs.atom.start_atom.Goals as goal
 
 pub returns : goal.returns
@@ -13,8 +12,3 @@ returns c =
     let s = c.in-Atom in
     λ pred e. started_as _ _ _ _ (atom_held (Some c.args.at)) _ c.args.at _ _ refl (ap holding_of s.is) (rw s.is refl) refl
     (atom_starts pred e _ c.args.at)
-
-pub unreachable-requires : goal.unreachable-requires
-unreachable-requires c =
-    let can = c.requires.2 in
-    unsound_atom can.columns c.args.at _ c.args.node.now.state c.requires.0 c.requires.1 refl c.in_default.not-Atom can.sound

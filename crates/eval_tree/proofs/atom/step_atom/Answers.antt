@@ -13,7 +13,6 @@ use Rattle.eval_tree.proofs.Allowed.{stepped_atom}
 use Rattle.eval_tree.proofs.Arms.{can_step_as, step_fails, stepped_as}
 use Rattle.eval_tree.proofs.NumbersTyped.{given_stepped}
 use Rattle.eval_tree.proofs.PlainArms.{atom_steps, atom_steps_none, atom_steps_other}
-use Rattle.eval_tree.proofs.Unsound.{unsound_atom}
 use Rattle.eval_tree.proofs.atom.step_atom.Goals as goal
 
 pub eval-requires : goal.eval-requires
@@ -69,9 +68,3 @@ returns-in_default-take-2 c =
     (sym (rw s.is at c.take.ensures.value) ∙ c.in_default-take.is))
     (rw s.is (ap (λ (start : Option ℕ). atom_held start) c.take.ensures.after)) (ap Ok c.requires.none)
     (atom_steps_none (predicates.plain_of c.args.pred.now) (values.plain_of c.args.expression.now) now c.args.item.now)
-
-pub unreachable-requires : goal.unreachable-requires
-unreachable-requires c =
-    let can = c.requires.can.1 in
-    unsound_atom can.columns can.position _ c.args.node.now.state (predicates.plain_of c.args.pred.now)
-    (values.plain_of c.args.expression.now) refl c.in_default.not-Atom can.sound
