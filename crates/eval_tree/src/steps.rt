@@ -23,6 +23,7 @@ use std::alloc::{AllocError, Global};
 
 /// Adds the start at the end of the word, after `at` items.
 #[cycle(step)]
+#[tactic(auto, using(query_model::specs::declared::query::Shape::TheViews::the_lemmas))]
 pub(crate) fn start_into(
     query: &Query,
     node: &mut Node,
@@ -60,6 +61,7 @@ pub(crate) fn start_into(
 
 /// Carries all starts over one more item, after which there are `now`.
 #[cycle(step)]
+#[tactic(auto, using(query_model::specs::declared::query::Shape::TheViews::the_lemmas))]
 pub(crate) fn step_into(
     query: &Query,
     node: &mut Node,

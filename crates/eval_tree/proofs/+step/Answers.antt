@@ -21,41 +21,11 @@ steps::start_into-returns-in-Atom = Steps.steps::start_into-returns-in-Atom
 pub steps::start_into-returns-in-Eps : goal.steps::start_into-returns-in-Eps
 steps::start_into-returns-in-Eps = Steps.steps::start_into-returns-in-Eps
 
-pub steps::start_into-start_choice-requires : goal.steps::start_into-start_choice-requires
-steps::start_into-start_choice-requires = Steps.steps::start_into-start_choice-requires
-
-pub steps::start_into-returns-in-Or : goal.steps::start_into-returns-in-Or
-steps::start_into-returns-in-Or = Steps.steps::start_into-returns-in-Or
-
-pub steps::start_into-start_apply-requires : goal.steps::start_into-start_apply-requires
-steps::start_into-start_apply-requires = Steps.steps::start_into-start_apply-requires
-
-pub steps::start_into-returns-in-Apply : goal.steps::start_into-returns-in-Apply
-steps::start_into-returns-in-Apply = Steps.steps::start_into-returns-in-Apply
-
-pub steps::start_into-start_split-requires : goal.steps::start_into-start_split-requires
-steps::start_into-start_split-requires = Steps.steps::start_into-start_split-requires
-
-pub steps::start_into-returns-in-Split : goal.steps::start_into-returns-in-Split
-steps::start_into-returns-in-Split = Steps.steps::start_into-returns-in-Split
-
-pub steps::start_into-start_combine-requires : goal.steps::start_into-start_combine-requires
-steps::start_into-start_combine-requires = Steps.steps::start_into-start_combine-requires
-
-pub steps::start_into-returns-in-Combine : goal.steps::start_into-returns-in-Combine
-steps::start_into-returns-in-Combine = Steps.steps::start_into-returns-in-Combine
-
 pub steps::start_into-start_iter-requires : goal.steps::start_into-start_iter-requires
 steps::start_into-start_iter-requires = Steps.steps::start_into-start_iter-requires
 
 pub steps::start_into-returns-in-Iter : goal.steps::start_into-returns-in-Iter
 steps::start_into-returns-in-Iter = Steps.steps::start_into-returns-in-Iter
-
-pub steps::start_into-start_compose-requires : goal.steps::start_into-start_compose-requires
-steps::start_into-start_compose-requires = Steps.steps::start_into-start_compose-requires
-
-pub steps::start_into-returns-in-Compose : goal.steps::start_into-returns-in-Compose
-steps::start_into-returns-in-Compose = Steps.steps::start_into-returns-in-Compose
 
 pub steps::start_into-start_collect-requires : goal.steps::start_into-start_collect-requires
 steps::start_into-start_collect-requires = Steps.steps::start_into-start_collect-requires
@@ -72,41 +42,11 @@ steps::step_into-returns-in-Atom = Steps.steps::step_into-returns-in-Atom
 pub steps::step_into-returns-in-Eps : goal.steps::step_into-returns-in-Eps
 steps::step_into-returns-in-Eps = Steps.steps::step_into-returns-in-Eps
 
-pub steps::step_into-step_choice-requires : goal.steps::step_into-step_choice-requires
-steps::step_into-step_choice-requires = Steps.steps::step_into-step_choice-requires
-
-pub steps::step_into-returns-in-Or : goal.steps::step_into-returns-in-Or
-steps::step_into-returns-in-Or = Steps.steps::step_into-returns-in-Or
-
-pub steps::step_into-step_apply-requires : goal.steps::step_into-step_apply-requires
-steps::step_into-step_apply-requires = Steps.steps::step_into-step_apply-requires
-
-pub steps::step_into-returns-in-Apply : goal.steps::step_into-returns-in-Apply
-steps::step_into-returns-in-Apply = Steps.steps::step_into-returns-in-Apply
-
-pub steps::step_into-step_split-requires : goal.steps::step_into-step_split-requires
-steps::step_into-step_split-requires = Steps.steps::step_into-step_split-requires
-
-pub steps::step_into-returns-in-Split : goal.steps::step_into-returns-in-Split
-steps::step_into-returns-in-Split = Steps.steps::step_into-returns-in-Split
-
-pub steps::step_into-step_combine-requires : goal.steps::step_into-step_combine-requires
-steps::step_into-step_combine-requires = Steps.steps::step_into-step_combine-requires
-
-pub steps::step_into-returns-in-Combine : goal.steps::step_into-returns-in-Combine
-steps::step_into-returns-in-Combine = Steps.steps::step_into-returns-in-Combine
-
 pub steps::step_into-step_iter-requires : goal.steps::step_into-step_iter-requires
 steps::step_into-step_iter-requires = Steps.steps::step_into-step_iter-requires
 
 pub steps::step_into-returns-in-Iter : goal.steps::step_into-returns-in-Iter
 steps::step_into-returns-in-Iter = Steps.steps::step_into-returns-in-Iter
-
-pub steps::step_into-step_compose-requires : goal.steps::step_into-step_compose-requires
-steps::step_into-step_compose-requires = Steps.steps::step_into-step_compose-requires
-
-pub steps::step_into-returns-in-Compose : goal.steps::step_into-returns-in-Compose
-steps::step_into-returns-in-Compose = Steps.steps::step_into-returns-in-Compose
 
 pub steps::step_into-step_collect-requires : goal.steps::step_into-step_collect-requires
 steps::step_into-step_collect-requires = Steps.steps::step_into-step_collect-requires

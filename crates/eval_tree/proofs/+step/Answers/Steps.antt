@@ -6,10 +6,9 @@ use Rattle.value_ops.specs.Expressions as values
 use Rattle.predicate_cells.specs.Plain as predicates
 use Rattle.rate_expr.specs.Plain as rates
 use Rattle.query_model.specs.declared.query.Shape.TheViews.{the_lemmas}
-use Rattle.query_model.specs.Queries.{apply, choice, collect, combine, compose, iter, plain_of, split}
+use Rattle.query_model.specs.Queries.{collect, iter, plain_of}
 use Rattle.eval_nodes.specs.Plain.{holding_of}
 use Rattle.eval_nodes.proofs.Same.{same_query}
-use Rattle.eval_nodes.proofs.NewParts.{of_both}
 use Rattle.eval_tree.proofs.Arms.{can_start_as, can_step_as, number_hit, started_as, started_from, stepped_as, stepped_from}
 use Rattle.eval_tree.proofs.PlainArms.{eps_starts, eps_steps}
 use Rattle.eval_tree.proofs.+step.Goals as goal
@@ -42,70 +41,6 @@ steps::start_into-returns-in-Eps t c =
     (ap Ok (c.put_number.ensures ∙ ap Some (number_hit _ _ _ fits refl)))
     (eps_starts s.number fits (holding_of c.args.node.now.state) c.args.at)
 
-pub steps::start_into-start_choice-requires : goal.steps::start_into-start_choice-requires
-steps::start_into-start_choice-requires t c =
-    let s = c.in-Or in
-    let same = ap plain_of s.is
-    ∙ of_both choice _ _ _ _ (same_query _ _ c.deref.ensures) (same_query _ _ c.deref-in-Or.ensures) in
-    (search (rules, the_lemmas), (c.requires.none, can_start_as _ _ _ _ c.args.at (sym same) refl c.requires.can))
-
-pub steps::start_into-returns-in-Or : goal.steps::start_into-returns-in-Or
-steps::start_into-returns-in-Or t c =
-    let s = c.in-Or in
-    let same = ap plain_of s.is
-    ∙ of_both choice _ _ _ _ (same_query _ _ c.deref.ensures) (same_query _ _ c.deref-in-Or.ensures) in
-    started_from _ _ _ _ _ c.args.at _ same refl c.start_choice.ensures
-
-pub steps::start_into-start_apply-requires : goal.steps::start_into-start_apply-requires
-steps::start_into-start_apply-requires t c =
-    let s = c.in-Apply in
-    let e = values.plain_of s.expression in
-    let same = ap plain_of s.is ∙ ap (λ f. apply f e) (same_query _ _ c.deref-in-Apply.ensures) in
-    (search (rules, the_lemmas), (c.requires.none, can_start_as _ _ _ _ c.args.at (sym same) refl c.requires.can))
-
-pub steps::start_into-returns-in-Apply : goal.steps::start_into-returns-in-Apply
-steps::start_into-returns-in-Apply t c =
-    let s = c.in-Apply in
-    let e = values.plain_of s.expression in
-    let same = ap plain_of s.is ∙ ap (λ f. apply f e) (same_query _ _ c.deref-in-Apply.ensures) in
-    started_from _ _ _ _ _ c.args.at _ same refl c.start_apply.ensures
-
-pub steps::start_into-start_split-requires : goal.steps::start_into-start_split-requires
-steps::start_into-start_split-requires t c =
-    let s = c.in-Split in
-    let e = values.plain_of s.expression in
-    let same = ap plain_of s.is
-    ∙ of_both (λ f g. split f g e) _ _ _ _ (same_query _ _ c.deref-in-Split.ensures)
-    (same_query _ _ c.deref-in-Split-2.ensures) in
-    (search (rules, the_lemmas), (c.requires.none, can_start_as _ _ _ _ c.args.at (sym same) refl c.requires.can))
-
-pub steps::start_into-returns-in-Split : goal.steps::start_into-returns-in-Split
-steps::start_into-returns-in-Split t c =
-    let s = c.in-Split in
-    let e = values.plain_of s.expression in
-    let same = ap plain_of s.is
-    ∙ of_both (λ f g. split f g e) _ _ _ _ (same_query _ _ c.deref-in-Split.ensures)
-    (same_query _ _ c.deref-in-Split-2.ensures) in
-    started_from _ _ _ _ _ c.args.at _ same refl c.start_split.ensures
-
-pub steps::start_into-start_combine-requires : goal.steps::start_into-start_combine-requires
-steps::start_into-start_combine-requires t c =
-    let s = c.in-Combine in
-    let e = values.plain_of s.expression in
-    let same = ap plain_of s.is
-    ∙ of_both (λ f g. combine f g e) _ _ _ _ (same_query _ _ c.deref-in-Combine.ensures)
-    (same_query _ _ c.deref-in-Combine-2.ensures) in
-    (search (rules, the_lemmas), (c.requires.none, can_start_as _ _ _ _ c.args.at (sym same) refl c.requires.can))
-
-pub steps::start_into-returns-in-Combine : goal.steps::start_into-returns-in-Combine
-steps::start_into-returns-in-Combine t c =
-    let s = c.in-Combine in
-    let e = values.plain_of s.expression in
-    let same = ap plain_of s.is
-    ∙ of_both (λ f g. combine f g e) _ _ _ _ (same_query _ _ c.deref-in-Combine.ensures)
-    (same_query _ _ c.deref-in-Combine-2.ensures) in
-    started_from _ _ _ _ _ c.args.at _ same refl c.start_combine.ensures
-
 iter_number_fits : (t : ℕ) (c : steps::start_into-In-Iter t) → FitsSigned w64 c.in-Iter.number
 iter_number_fits t c = search rules
 
@@ -128,22 +63,6 @@ steps::start_into-returns-in-Iter t c =
     let same = ap plain_of s.is ∙ ap (λ f. iter f s.number e) (same_query _ _ c.deref-in-Iter.ensures)
     ∙ ap (λ (n : ℤ). iter (plain_of c.deref-in-Iter.result.now.shape) n e) (sym fixed) in
     started_from _ _ _ _ _ c.args.at _ same refl (c.start_iter.ensures e)
-
-pub steps::start_into-start_compose-requires : goal.steps::start_into-start_compose-requires
-steps::start_into-start_compose-requires t c =
-    let s = c.in-Compose in
-    let same = ap plain_of s.is
-    ∙ of_both compose _ _ _ _ (same_query _ _ c.deref-in-Compose.ensures)
-    (same_query _ _ c.deref-in-Compose-2.ensures) in
-    (search (rules, the_lemmas), (c.requires.none, can_start_as _ _ _ _ c.args.at (sym same) refl c.requires.can))
-
-pub steps::start_into-returns-in-Compose : goal.steps::start_into-returns-in-Compose
-steps::start_into-returns-in-Compose t c =
-    let s = c.in-Compose in
-    let same = ap plain_of s.is
-    ∙ of_both compose _ _ _ _ (same_query _ _ c.deref-in-Compose.ensures)
-    (same_query _ _ c.deref-in-Compose-2.ensures) in
-    started_from _ _ _ _ _ c.args.at _ same refl c.start_compose.ensures
 
 pub steps::start_into-start_collect-requires : goal.steps::start_into-start_collect-requires
 steps::start_into-start_collect-requires t c =
@@ -185,78 +104,6 @@ steps::step_into-returns-in-Eps t c =
     stepped_as _ _ _ _ _ _ c.args.now c.args.item.now _ _ (ap plain_of c.in-Eps.is) refl refl (ap Ok c.requires.none)
     (eps_steps c.in-Eps.field-0 (holding_of c.args.node.now.state) c.args.now c.args.item.now)
 
-pub steps::step_into-step_choice-requires : goal.steps::step_into-step_choice-requires
-steps::step_into-step_choice-requires t c =
-    let s = c.in-Or in
-    let same = ap plain_of s.is
-    ∙ of_both choice _ _ _ _ (same_query _ _ c.deref.ensures) (same_query _ _ c.deref-in-Or.ensures) in (
-      search (rules, the_lemmas),
-      (c.requires.none, can_step_as _ _ _ _ c.args.now c.args.item.now (sym same) refl c.requires.can),
-    )
-
-pub steps::step_into-returns-in-Or : goal.steps::step_into-returns-in-Or
-steps::step_into-returns-in-Or t c =
-    let s = c.in-Or in
-    let same = ap plain_of s.is
-    ∙ of_both choice _ _ _ _ (same_query _ _ c.deref.ensures) (same_query _ _ c.deref-in-Or.ensures) in
-    stepped_from _ _ _ _ _ c.args.now c.args.item.now _ same refl c.step_choice.ensures
-
-pub steps::step_into-step_apply-requires : goal.steps::step_into-step_apply-requires
-steps::step_into-step_apply-requires t c =
-    let s = c.in-Apply in
-    let e = values.plain_of s.expression in
-    let same = ap plain_of s.is ∙ ap (λ f. apply f e) (same_query _ _ c.deref-in-Apply.ensures) in (
-      search (rules, the_lemmas),
-      (c.requires.none, can_step_as _ _ _ _ c.args.now c.args.item.now (sym same) refl c.requires.can),
-    )
-
-pub steps::step_into-returns-in-Apply : goal.steps::step_into-returns-in-Apply
-steps::step_into-returns-in-Apply t c =
-    let s = c.in-Apply in
-    let e = values.plain_of s.expression in
-    let same = ap plain_of s.is ∙ ap (λ f. apply f e) (same_query _ _ c.deref-in-Apply.ensures) in
-    stepped_from _ _ _ _ _ c.args.now c.args.item.now _ same refl c.step_apply.ensures
-
-pub steps::step_into-step_split-requires : goal.steps::step_into-step_split-requires
-steps::step_into-step_split-requires t c =
-    let s = c.in-Split in
-    let e = values.plain_of s.expression in
-    let same = ap plain_of s.is
-    ∙ of_both (λ f g. split f g e) _ _ _ _ (same_query _ _ c.deref-in-Split.ensures)
-    (same_query _ _ c.deref-in-Split-2.ensures) in (
-      search (rules, the_lemmas),
-      (c.requires.none, can_step_as _ _ _ _ c.args.now c.args.item.now (sym same) refl c.requires.can),
-    )
-
-pub steps::step_into-returns-in-Split : goal.steps::step_into-returns-in-Split
-steps::step_into-returns-in-Split t c =
-    let s = c.in-Split in
-    let e = values.plain_of s.expression in
-    let same = ap plain_of s.is
-    ∙ of_both (λ f g. split f g e) _ _ _ _ (same_query _ _ c.deref-in-Split.ensures)
-    (same_query _ _ c.deref-in-Split-2.ensures) in
-    stepped_from _ _ _ _ _ c.args.now c.args.item.now _ same refl c.step_split.ensures
-
-pub steps::step_into-step_combine-requires : goal.steps::step_into-step_combine-requires
-steps::step_into-step_combine-requires t c =
-    let s = c.in-Combine in
-    let e = values.plain_of s.expression in
-    let same = ap plain_of s.is
-    ∙ of_both (λ f g. combine f g e) _ _ _ _ (same_query _ _ c.deref-in-Combine.ensures)
-    (same_query _ _ c.deref-in-Combine-2.ensures) in (
-      search (rules, the_lemmas),
-      (c.requires.none, can_step_as _ _ _ _ c.args.now c.args.item.now (sym same) refl c.requires.can),
-    )
-
-pub steps::step_into-returns-in-Combine : goal.steps::step_into-returns-in-Combine
-steps::step_into-returns-in-Combine t c =
-    let s = c.in-Combine in
-    let e = values.plain_of s.expression in
-    let same = ap plain_of s.is
-    ∙ of_both (λ f g. combine f g e) _ _ _ _ (same_query _ _ c.deref-in-Combine.ensures)
-    (same_query _ _ c.deref-in-Combine-2.ensures) in
-    stepped_from _ _ _ _ _ c.args.now c.args.item.now _ same refl c.step_combine.ensures
-
 pub steps::step_into-step_iter-requires : goal.steps::step_into-step_iter-requires
 steps::step_into-step_iter-requires t c =
     let s = c.in-Iter in
@@ -272,24 +119,6 @@ steps::step_into-returns-in-Iter t c =
     let e = values.plain_of s.expression in
     let same = ap plain_of s.is ∙ ap (λ f. iter f s.field-1 e) (same_query _ _ c.deref-in-Iter.ensures) in
     stepped_from _ _ _ _ _ c.args.now c.args.item.now _ same refl (c.step_iter.ensures s.field-1)
-
-pub steps::step_into-step_compose-requires : goal.steps::step_into-step_compose-requires
-steps::step_into-step_compose-requires t c =
-    let s = c.in-Compose in
-    let same = ap plain_of s.is
-    ∙ of_both compose _ _ _ _ (same_query _ _ c.deref-in-Compose.ensures)
-    (same_query _ _ c.deref-in-Compose-2.ensures) in (
-      search (rules, the_lemmas),
-      (c.requires.none, can_step_as _ _ _ _ c.args.now c.args.item.now (sym same) refl c.requires.can),
-    )
-
-pub steps::step_into-returns-in-Compose : goal.steps::step_into-returns-in-Compose
-steps::step_into-returns-in-Compose t c =
-    let s = c.in-Compose in
-    let same = ap plain_of s.is
-    ∙ of_both compose _ _ _ _ (same_query _ _ c.deref-in-Compose.ensures)
-    (same_query _ _ c.deref-in-Compose-2.ensures) in
-    stepped_from _ _ _ _ _ c.args.now c.args.item.now _ same refl c.step_compose.ensures
 
 pub steps::step_into-step_collect-requires : goal.steps::step_into-step_collect-requires
 steps::step_into-step_collect-requires t c =
