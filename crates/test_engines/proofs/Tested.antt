@@ -95,11 +95,11 @@ module _ (q : Qre) (is : q ≡ difference) where
   module _ (item : List Field) (is_item : IsItemOf numbers item) where
     pub can_step : (h : Holding Progress) (now position : ℕ) → now ≡ position + 1 → now < 100
         → IsSound seen_of numbers q position h → CanStep seen_of q h now item
-    can_step h now position after few sound = record {
+    can_step h now position is_next few sound = record {
       standing = bound;
       columns = numbers;
       position = position;
-      after = after;
+      is_next = is_next;
       clear = clear_as;
       sound = sound;
       is_item = is_item;
@@ -109,5 +109,5 @@ module _ (q : Qre) (is : q ≡ difference) where
     pub stepped : (h k : Holding Progress) (hit : Option Hit) (now position : ℕ) → now ≡ position + 1
         → IsSound seen_of numbers q position h → StepsSoundly seen_of q h now item k hit
         → IsSound seen_of numbers q now k
-    stepped h k hit now position after sound steps =
-        let x = steps bound numbers position after clear_as is_item sound in x.node
+    stepped h k hit now position is_next sound steps =
+        let x = steps bound numbers position is_next clear_as is_item sound in x.node
