@@ -74,7 +74,7 @@ module _ (first second : Automaton) where
           words = words_to pairs all;
           items = all_items pairs all;
           each_two = all_apart pairs all distinct;
-          so_many = as_many pairs all ∙ is;
+          word_count = as_many pairs all ∙ is;
         }
 
   module _ (pairs : List Pair) (all : AreAll first second pairs) (count : ℕ)
@@ -85,7 +85,7 @@ module _ (first second : Automaton) where
         let few' = as_many_places (AreAfter first second) (LeadToApart first.sets second.sets)
         (λ u v pair at to apart. apart pair.first pair.first pair.second pair.second at.0 to.0 at.1 to.1 refl refl)
         reach.words pairs (all_as _ _ reach.words all.whole reach.items) reach.each_two in
-        omega (arith, reach.so_many, all.reached.few)
+        omega (arith, reach.word_count, all.reached.few)
 
     -- nor different states of the first automaton
     pub no_more_states : ReachStates first.cells.layout.columns first.sets count → ⊥
@@ -95,7 +95,7 @@ module _ (first second : Automaton) where
         reach.words pairs
         (all_as _ _ reach.words (λ w is. let (pair, c, (at, to)) = all.whole w is in (pair, c, at)) reach.items)
         reach.each_two in
-        omega (arith, reach.so_many, all.reached.few)
+        omega (arith, reach.word_count, all.reached.few)
 
 -- different pairs of states of one automaton are different states
 pub states_of_pairs : (columns : List Column) (sets : Sets) (count : ℕ)
@@ -105,5 +105,5 @@ states_of_pairs columns sets count reach = record {
   items = reach.items;
   each_two = λ i j d lt within s s' at to same.
       reach.each_two i j d lt within s s' s s' at to at to same same;
-  so_many = reach.so_many;
+  word_count = reach.word_count;
 }

@@ -25,7 +25,7 @@ pub record Differ (columns : List Column) (different : Word → Word → Type 0)
   pub words : List Word
   pub items : AllByRecursion (IsWordOf columns) words
   pub each_two : AllPairs different words
-  pub so_many : length words ≡ count
+  pub word_count : length words ≡ count
 
 -- words lead to at least `count` states
 abbrev pub ReachStates : List Column → Sets → ℕ → Type 0

@@ -65,7 +65,7 @@ module _ (columns : List Column) (r s : Regex) (first second : Sets) (firsts : A
     items = many.items;
     each_two = λ i j d before within.
         apart_too first' second' firsts' seconds' _ _ (many.each_two i j d before within);
-    so_many = many.so_many;
+    word_count = many.word_count;
   }
 
 module _ (columns : List Column) (r : Regex) (sets : Sets) (are : AreSetsOf sets r) where
@@ -77,5 +77,5 @@ module _ (columns : List Column) (r : Regex) (sets : Sets) (are : AreSetsOf sets
     each_two = λ i j d before within. λ s s' a b.
         many.each_two i j d before within s s' (after_too r sets others are ares _ s a)
         (after_too r sets others are ares _ s' b);
-    so_many = many.so_many;
+    word_count = many.word_count;
   }
