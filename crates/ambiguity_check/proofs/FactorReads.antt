@@ -13,7 +13,7 @@ use Rattle.rate_expr.proofs.Wording.{word_more}
 use Rattle.ambiguity_check.specs.declared.graph.Node.{Node}
 use Rattle.ambiguity_check.specs.declared.graph.Phase.{Phase}
 use Rattle.ambiguity_check.specs.declared.graph.Phase.TheVariants.{Together, Parted, Rejoined}
-use Rattle.ambiguity_check.specs.Factorings.{BeginsFactors, FactorsOn, Factors, GoesOnward}
+use Rattle.ambiguity_check.specs.Factorings.{BeginsFactors, FactorsOn, Factors, FollowsInIteration}
 use Rattle.ambiguity_check.specs.Lengths.{TwoFactoringsOf}
 use Rattle.ambiguity_check.specs.Meetings.{MeetOne, AreMeetings}
 use Rattle.ambiguity_check.specs.Overlaps.{IsInRows}
@@ -47,7 +47,7 @@ module _ (columns : List Column) (sets : Sets) (rows : List ℕ)
 
   -- one more item is read by each in its own way
   parted_on : (items left right : ℕ) (node : Node) → AreParted items left right
-      → GoesOnward sets left node.left → GoesOnward sets right node.right
+      → FollowsInIteration sets left node.left → FollowsInIteration sets right node.right
       → MeetOne columns sets sets node.left node.right → AreParted (items + 1) node.left node.right
   parted_on items left right node reads goes goes' one = record {
     read = reads.read ++ one.0 ∷ [];

@@ -8,7 +8,7 @@ use Rattle.rate_expr.specs.Sets.{Sets, Has}
 use Rattle.rate_expr.specs.Words.{Word, join}
 use Rattle.rate_expr.proofs.PathSteps.{leads_one, leads_more}
 use Rattle.rate_expr.proofs.PathsOn.{spells_at}
-use Rattle.ambiguity_check.specs.Factorings.{GoesOnward}
+use Rattle.ambiguity_check.specs.Factorings.{FollowsInIteration}
 
 -- one more word at the end
 pub join_more : (words : List Word) (word : Word) → join (words ++ word ∷ []) ≡ join words ++ word
@@ -32,7 +32,7 @@ all_as P Q is (x ∷ xs) all = (is x all.0, all_as P Q is xs all.1)
 abbrev pub RunsOn : Sets → ℕ → Word → ℕ → Type 0
 RunsOn sets from [] to = from ≡ to
 RunsOn sets from (item ∷ word) to =
-    (next : ℕ) × GoesOnward sets from next × Meets sets next item × RunsOn sets next word to
+    (next : ℕ) × FollowsInIteration sets from next × Meets sets next item × RunsOn sets next word to
 
 module _ (sets : Sets) where
   -- a path is a run, and another one may follow it
@@ -87,7 +87,8 @@ module _ (sets : Sets) where
   -- one more item, in the last word or at the beginning of another
   pub factors_on : (first word : Word) (to : ℕ) (item : List Field) (next : ℕ)
       → ReadsFactors first word to
-      → GoesOnward sets to next → Meets sets next item → ReadsFactors first (word ++ item ∷ []) next
+      → FollowsInIteration sets to next → Meets sets next item
+      → ReadsFactors first (word ++ item ∷ []) next
   factors_on first word to item next reads (inl follows) meets = record {
     words = reads.words;
     last = reads.last ++ item ∷ [];
@@ -124,7 +125,8 @@ module _ (sets : Sets) where
   -- one more item
   pub longer_on : (first word : Word) (to : ℕ) (item : List Field) (next : ℕ)
       → ReadsLonger first word to
-      → GoesOnward sets to next → Meets sets next item → ReadsLonger first (word ++ item ∷ []) next
+      → FollowsInIteration sets to next → Meets sets next item
+      → ReadsLonger first (word ++ item ∷ []) next
   longer_on first word to item next reads (inl follows) meets = record {
     words = reads.words;
     last = reads.last ++ item ∷ [];

@@ -8,8 +8,9 @@ use Rattle.ambiguity_check.specs.declared.graph.Phase.{Phase}
 use Rattle.ambiguity_check.specs.declared.graph.Phase.TheVariants.{Together, Parted}
 
 -- the one position may follow the other, in its word or at the beginning of a next word
-abbrev pub GoesOnward : Sets → ℕ → ℕ → Type 0
-GoesOnward sets before next = Follows sets before next ⊎ (Has sets.last before × Has sets.first next)
+abbrev pub FollowsInIteration : Sets → ℕ → ℕ → Type 0
+FollowsInIteration sets before next =
+    Follows sets before next ⊎ (Has sets.last before × Has sets.first next)
 
 -- both readings may begin at the node
 abbrev pub BeginsFactors : Sets → Node → Type 0
@@ -24,7 +25,8 @@ FactorsOn sets Together left right node =
     ⊎ (Has sets.last left × (node.phase ≡ Parted) × Has sets.first node.left
     × Follows sets right node.right)
 FactorsOn sets _ left right node =
-    (node.phase ≡ Parted) × GoesOnward sets left node.left × GoesOnward sets right node.right
+    (node.phase ≡ Parted) × FollowsInIteration sets left node.left
+    × FollowsInIteration sets right node.right
 
 -- one more item may lead from the first node to the second
 abbrev pub Factors : Sets → Node → Node → Type 0

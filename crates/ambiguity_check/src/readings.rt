@@ -2,7 +2,7 @@
 ghost use Rattle.std.specs.Prelude.{◌≡◌, ◌↔◌, ℕ, slice_index};
 ghost use Rattle.rate_expr.specs.Paths.{Follows};
 ghost use Rattle.rate_expr.specs.Sets.{Has};
-ghost use Rattle.ambiguity_check.specs.Factorings.{GoesOnward};
+ghost use Rattle.ambiguity_check.specs.Factorings.{FollowsInIteration};
 
 use rate_expr::Positions;
 use rate_expr::masks::{has, lowest, overlap, without_lowest};
@@ -41,7 +41,7 @@ pub(crate) fn row(rows: &[u128], place: u32) -> u128
 
 /// The positions that may follow a position, in its word or at the beginning of a next word.
 pub(crate) fn onward(positions: &Positions, position: u32) -> u128
-    ensures { (next : ℕ) → Has result next ↔ GoesOnward positions.now position next }
+    ensures { (next : ℕ) → Has result next ↔ FollowsInIteration positions.now position next }
 {
     let within = after(positions, position);
     if has(positions.last(), position) {
@@ -54,7 +54,7 @@ pub(crate) fn onward(positions: &Positions, position: u32) -> u128
 /// The same for some position of the mask.
 pub(crate) fn all_onward(positions: &Positions, mask: u128) -> u128
     ensures { (next : ℕ) → Has result next
-        ↔ ((from : ℕ) × Has mask from × GoesOnward positions.now from next) }
+        ↔ ((from : ℕ) × Has mask from × FollowsInIteration positions.now from next) }
 {
     let followers = all_after(positions, mask);
     if overlap(mask, positions.last()) {

@@ -1,7 +1,7 @@
 use Rattle.std.proofs.Common.{ℕ, ◌≡◌, inl, inr}
 use Rattle.rate_expr.specs.Paths.{Follows}
 use Rattle.rate_expr.specs.Sets.{Has}
-use Rattle.ambiguity_check.specs.Factorings.{GoesOnward}
+use Rattle.ambiguity_check.specs.Factorings.{FollowsInIteration}
 use Rattle.ambiguity_check.specs.Walks.{IsOf}
 use Rattle.ambiguity_check.specs.declared.graph.Phase.TheVariants.{Together, Parted}
 use Rattle.ambiguity_check.proofs.Either.{from_some, only_way, some_each, then_says, turn_from_some}
@@ -25,6 +25,6 @@ returns-in-Together c = λ node.
 pub returns-in-Parted : goal.returns-in-Parted
 returns-in-Parted c = λ node.
     let moves = from_some c.args.rights
-    (λ (right : ℕ). GoesOnward c.args.self.now.positions.now right node.right)
+    (λ (right : ℕ). FollowsInIteration c.args.self.now.positions.now right node.right)
     (c.onward.ensures node.left) (c.all_onward.ensures node.right) in
     elim c.in-Parted.is [ inl e ↦ rw e (only_way moves) | inr e ↦ rw e (only_way moves) ]
