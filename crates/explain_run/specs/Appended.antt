@@ -4,7 +4,7 @@ use Rattle.std.specs.Prelude.{◌≡◌, ℕ, List, []}
 use Rattle.language_base.specs.declared.refusal.Refusal.{Refusal}
 use Rattle.language_base.specs.declared.rule.Rule.TheVariants.{Rates}
 use Rattle.query_syntax.specs.Programs.{Program}
-use Rattle.separating_word.specs.Telling.{separation_text}
+use Rattle.separating_word.specs.SeparationText.{separation_text}
 use Rattle.type_checker.specs.Blames.{ForbidsTwoReadings}
 use Rattle.explain_run.specs.Apart.{SeparatesMain, alone}
 use Rattle.explain_run.specs.TwoReadings.{DrawsWhy}

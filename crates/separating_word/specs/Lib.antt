@@ -4,4 +4,4 @@ pub mod Letters
 pub mod Pairs
 pub mod Searched
 pub mod Separations
-pub mod Telling
+pub mod SeparationText

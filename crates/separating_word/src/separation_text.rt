@@ -1,7 +1,7 @@
 //! The text that says by which lines two queries differ.
 ghost use Rattle.std.specs.Prelude.{◌≡◌, ◌++◌, OnOk};
 ghost use Rattle.std.specs.List.{flat_map};
-ghost use Rattle.separating_word.specs.Telling.{said_of, separation_text, shown_line};
+ghost use Rattle.separating_word.specs.SeparationText.{said_of, separation_text, shown_line};
 
 use crate::{Separation, Side};
 use language_base::Bytes;
@@ -16,7 +16,7 @@ pub fn push_separation(found: &Separation, shown: &mut Vec<u8>) -> Result<(), Al
     push_lines(&found.lines, shown)
 }
 
-#[tactic(auto, unfolding(crate::specs::Telling::said_of))]
+#[tactic(auto, unfolding(crate::specs::SeparationText::said_of))]
 fn said_of(side: Side, lines: &[Bytes]) -> &'static str
     ensures { result.now ≡ said_of side lines.now }
 {

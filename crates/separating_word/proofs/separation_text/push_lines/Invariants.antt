@@ -1,6 +1,6 @@
 use Rattle.std.proofs.Common.{◌≡◌, ◌++◌, take}
 use Rattle.std.specs.List.{flat_map}
-use Rattle.separating_word.specs.Telling.{shown_line}
+use Rattle.separating_word.specs.SeparationText.{shown_line}
 use Rattle.separating_word.proofs.separation_text.push_lines.Given as goal
 
 -- the lines so far
