@@ -19,7 +19,7 @@ use Rattle.sqre_run.specs.Call.{CompletesOf, OutcomeOf}
 use Rattle.sqre_run.specs.Carried.{Carried, LineCarried}
 use Rattle.sqre_run.specs.Compiled.{Compiles}
 use Rattle.sqre_run.specs.Drilled.{drilled}
-use Rattle.sqre_run.specs.Handed.{Refuses, Reported}
+use Rattle.sqre_run.specs.Written.{Refuses, Reported}
 use Rattle.sqre_run.specs.Meanings.{IsMeaning, KeepsRules, Meaning}
 use Rattle.sqre_run.specs.OneLine.{CompletesLine, HoldsOfLine, WritesLine}
 use Rattle.sqre_run.specs.Outside.{Outside}

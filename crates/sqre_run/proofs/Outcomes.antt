@@ -14,7 +14,7 @@ use Rattle.sqre_run.specs.Output.{Spoken, Reports, answering, output, refusing, 
 use Rattle.sqre_run.specs.Outside.{Ended, Outside, WrotePart}
 use Rattle.sqre_run.specs.Call.{Completes, Outcome}
 use Rattle.sqre_run.specs.Carried.{RefusalCarried}
-use Rattle.sqre_run.specs.Handed.{Refuses}
+use Rattle.sqre_run.specs.Written.{Refuses}
 use Rattle.sqre_run.specs.declared.status.Status.{Status}
 use Rattle.sqre_run.specs.declared.status.Status.TheVariants.{Done, Refused, ItemFault, SinkFault, Memory, Limit}
 

@@ -5,7 +5,7 @@ use Rattle.std.specs.Io.KnownBytes.{IsAtEnd}
 use Rattle.io_edge.specs.Taken.{TakesFirst}
 use Rattle.language_base.specs.Limits.{max_text}
 use Rattle.sqre_run.specs.Carried.{Carried, LineCarried}
-use Rattle.sqre_run.specs.Handed.{Refuses}
+use Rattle.sqre_run.specs.Written.{Refuses}
 use Rattle.sqre_run.specs.Outside.{Outside, Ended}
 use Rattle.query_model.specs.Monitors.{Monitor}
 use Rattle.sqre_run.specs.QueryRead.{max_read, ReadsText, ReadsQuery}

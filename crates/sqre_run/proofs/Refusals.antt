@@ -15,7 +15,7 @@ use Rattle.type_checker.proofs.Judging.{blame_refused}
 use Rattle.sqre_run.specs.Call.{CompletesOf, OutcomeOf}
 use Rattle.sqre_run.specs.Carried.{RefusalCarried}
 use Rattle.sqre_run.specs.Compiled.{Compiles, judged, unread}
-use Rattle.sqre_run.specs.Handed.{Refuses}
+use Rattle.sqre_run.specs.Written.{Refuses}
 use Rattle.sqre_run.specs.OneLine.{CompletesLine, WritesLine}
 use Rattle.sqre_run.specs.Outside.{Outside}
 use Rattle.sqre_run.specs.Reasons.{IsReason, WritesReason, by_line, by_word}

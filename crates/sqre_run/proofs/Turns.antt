@@ -23,7 +23,7 @@ use Rattle.sqre_run.specs.Sessions.{IsAfter, RepliesTo}
 use Rattle.sqre_run.specs.declared.session.Session.{Session}
 use Rattle.sqre_run.specs.Outside.{Ended, Outside, Wrote}
 use Rattle.sqre_run.specs.Running.{Showed, Running}
-use Rattle.sqre_run.specs.Handed.{HandedOver}
+use Rattle.sqre_run.specs.Written.{Replied}
 use Rattle.sqre_run.specs.declared.status.Status.{Status}
 use Rattle.sqre_run.specs.declared.status.Status.TheVariants.{Done, ItemFault, SinkFault, Memory, Limit as AtLimit}
 use Rattle.sqre_run.proofs.EndedPart.{all_part, cut_short, ended_part, one_at_most, one_more, replied, showed_begin}
@@ -290,32 +290,32 @@ module _ {F : Type 0} (follows : F → Word → Type 0) (on : OnStream) (old now
 
 module _ {F : Type 0} (follows : F → Word → Type 0) (now new : Outside) (reading next : Reading) (kept kept' : Session F) (line : Shown) where
   -- where the text was written, whatever run there is continues
-  pub Handed-continues : (status : Option Status) (reply : Result (Bor (List ℕ)) AllocError)
+  pub Replied-continues : (status : Option Status) (reply : Result (Bor (List ℕ)) AllocError)
       → TakesLine now.left new.left now.ends new.ends reading next line
       → IfOk reply (λ said. RepliesTo follows line said.now kept kept')
-      → HandedOver status reply now.taken new.taken
+      → Replied status reply now.taken new.taken
       → IfNone status ((on : OnStream) (old : Outside)
       → Running follows on old now reading kept → Running follows on old new next kept')
-  Handed-continues None (Ok said) takes replies handed = λ on old run.
-      Running-line follows on old now new reading next kept kept' line said.now takes replies handed run
-  Handed-continues None (Err error) takes replies handed = absurd handed
-  Handed-continues (Some status) reply takes replies handed = tt
+  Replied-continues None (Ok said) takes replies written = λ on old run.
+      Running-line follows on old now new reading next kept kept' line said.now takes replies written run
+  Replied-continues None (Err error) takes replies written = absurd written
+  Replied-continues (Some status) reply takes replies written = tt
 
   -- and ends where it was not
-  pub Handed-stops : (status : Option Status) (reply : Result (Bor (List ℕ)) AllocError)
+  pub Replied-stops : (status : Option Status) (reply : Result (Bor (List ℕ)) AllocError)
       → TakesLine now.left new.left now.ends new.ends reading next line
       → IfOk reply (λ said. RepliesTo follows line said.now kept kept')
-      → HandedOver status reply now.taken new.taken
+      → Replied status reply now.taken new.taken
       → IfSome status (λ status. (on : OnStream) (old : Outside)
       → Running follows on old now reading kept → Ended (monitor_of on) status old new)
-  Handed-stops None reply takes replies handed = tt
-  Handed-stops (Some SinkFault) (Ok said) takes replies handed = λ on old run.
-      Ended-cut_short follows on old now new reading next kept kept' line said.now takes replies handed run
-  Handed-stops (Some Memory) (Err error) takes replies handed = λ on old run.
-      Ended-no_memory follows on old now new reading next kept line takes handed run
-  Handed-stops (Some SinkFault) (Err error) takes replies handed = λ on old run.
-      Ended-no_memory_held follows on old now new reading next kept line takes handed run
-  Handed-stops (Some status) reply takes replies handed = absurd handed
+  Replied-stops None reply takes replies written = tt
+  Replied-stops (Some SinkFault) (Ok said) takes replies written = λ on old run.
+      Ended-cut_short follows on old now new reading next kept kept' line said.now takes replies written run
+  Replied-stops (Some Memory) (Err error) takes replies written = λ on old run.
+      Ended-no_memory follows on old now new reading next kept line takes written run
+  Replied-stops (Some SinkFault) (Err error) takes replies written = λ on old run.
+      Ended-no_memory_held follows on old now new reading next kept line takes written run
+  Replied-stops (Some status) reply takes replies written = absurd written
 
 -- before the first line nothing was read and nothing was written
 pub Running-begins : {F : Type 0} (follows : F → Word → Type 0) (on : OnStream) (here : Outside) (reading : Reading)

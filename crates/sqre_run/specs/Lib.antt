@@ -5,7 +5,6 @@ pub mod Compiled
 pub mod Drilled
 pub mod Drilling
 pub mod Faults
-pub mod Handed
 pub mod Meanings
 pub mod OneLine
 pub mod Output
@@ -16,3 +15,4 @@ pub mod Running
 pub mod Sessions
 pub mod Statuses
 pub mod Stops
+pub mod Written

@@ -1,6 +1,6 @@
 //! Refusing a query.
 ghost use Rattle.sqre_run.specs.Faults.{LeavesFlushed, ReportsFault};
-ghost use Rattle.sqre_run.specs.Handed.{Refuses};
+ghost use Rattle.sqre_run.specs.Written.{Refuses};
 
 use crate::Status;
 use crate::writer::end;

@@ -13,7 +13,7 @@ ghost use Rattle.sqre_run.specs.Sessions.{IsReady};
 use crate::Status;
 use crate::line_texts::{line_text, long_text};
 use crate::session::Session;
-use crate::writer::{end, flush_before_read, hand_over};
+use crate::writer::{end, flush_before_read, write_reply};
 use io_edge::{Failed, Line, LineStop, Lines, Sink, Source};
 use query_model::{Checked, Follower};
 use std::alloc::{AllocError, Global};
@@ -85,8 +85,8 @@ fn turn<F: Follower, S: Source, W: Sink>(
     ensures sink_faults { ReportsFault result (Some Status.SinkFault) W.faults out.old out.new }
 {
     match lines.next(items) {
-        Ok(Line::Whole(line)) => hand_over(line_text(alloc, session, line, buffer), out),
-        Ok(Line::Long) => hand_over(long_text(session, buffer), out),
+        Ok(Line::Whole(line)) => write_reply(line_text(alloc, session, line, buffer), out),
+        Ok(Line::Long) => write_reply(long_text(session, buffer), out),
         Ok(Line::End) => Some(end(Status::Done, out)),
         Err(LineStop::Failed) => Some(Status::ItemFault),
         Err(LineStop::Limit) => Some(end(Status::Limit, out)),

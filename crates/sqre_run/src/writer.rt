@@ -3,7 +3,7 @@ ghost use Rattle.std.specs.Prelude.{◌≡◌, ◌⊎◌, IfSome, OnOk};
 ghost use Rattle.io_edge.specs.Counts.{FailsByFault};
 ghost use Rattle.io_edge.specs.Reported.{IsQuiet};
 ghost use Rattle.sqre_run.specs.Faults.{EndsFlushed, ReportsFault};
-ghost use Rattle.sqre_run.specs.Handed.{HandedOver, Reported};
+ghost use Rattle.sqre_run.specs.Written.{Replied, Reported};
 
 use crate::Status;
 use io_edge::{Failed, Lines, Sink, write_all};
@@ -12,8 +12,8 @@ use std::alloc::AllocError;
 
 /// Writes a text whole, or returns the status with which the call ends since it cannot.
 #[inline(always)]
-pub fn hand_over<W: Sink>(reply: Result<&[u8], AllocError>, out: &mut W) -> Option<Status>
-    ensures handed { HandedOver result reply.entry (W.taken out.old) (W.taken out.new) }
+pub fn write_reply<W: Sink>(reply: Result<&[u8], AllocError>, out: &mut W) -> Option<Status>
+    ensures replied { Replied result reply.entry (W.taken out.old) (W.taken out.new) }
     ensures flushed { IfSome result (λ status.
         EndsFlushed status Status.SinkFault W.held out.new) }
     ensures sink_faults { ReportsFault result (Some Status.SinkFault) W.faults out.old out.new }

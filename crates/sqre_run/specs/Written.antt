@@ -9,13 +9,13 @@ use Rattle.sqre_run.specs.declared.status.Status.TheVariants.{Done, Refused, Sin
 
 -- there is no status if the text was written whole, and SinkFault if only a part of it was. Out of
 -- memory for the text the status is Memory, or SinkFault if the sink cannot be flushed.
-abbrev pub HandedOver : Option Status → Result (Bor (List ℕ)) AllocError
+abbrev pub Replied : Option Status → Result (Bor (List ℕ)) AllocError
     → Option (List ℕ) → Option (List ℕ) → Type 0
-HandedOver None (Ok text) old new = Appends old new text.now
-HandedOver (Some SinkFault) (Ok text) old new = AppendsSome old new text.now
-HandedOver (Some Memory) (Err error) old new = new ≡ old
-HandedOver (Some SinkFault) (Err error) old new = new ≡ old
-HandedOver _ _ old new = ⊥
+Replied None (Ok text) old new = Appends old new text.now
+Replied (Some SinkFault) (Ok text) old new = AppendsSome old new text.now
+Replied (Some Memory) (Err error) old new = new ≡ old
+Replied (Some SinkFault) (Err error) old new = new ≡ old
+Replied _ _ old new = ⊥
 
 -- the one line of a call was written whole and flushed, or only a part of it; out of memory for the
 -- line, nothing was written
