@@ -39,7 +39,7 @@ fn explain_text<W: Sink>(alloc: Global, name: &str, text: &[u8], out: &mut W) ->
 {
     match explanation_of(alloc, name, text) {
         Ok(None) => Status::Accepted,
-        Ok(Some(shown)) => match hand_over(shown.as_slice(), out) {
+        Ok(Some(shown)) => match write_and_flush(shown.as_slice(), out) {
             Ok(()) => Status::Explained,
             Err(Failed) => Status::SinkFault,
         },
@@ -48,7 +48,7 @@ fn explain_text<W: Sink>(alloc: Global, name: &str, text: &[u8], out: &mut W) ->
 }
 
 // Writes all of the bytes and flushes them.
-fn hand_over<W: Sink>(bytes: &[u8], out: &mut W) -> Result<(), Failed>
+fn write_and_flush<W: Sink>(bytes: &[u8], out: &mut W) -> Result<(), Failed>
     ensures written { MatchResult result
         (λ _. Appends (W.taken out.old) (W.taken out.new) bytes.now)
         (λ _. AppendsSome (W.taken out.old) (W.taken out.new) bytes.now) }
