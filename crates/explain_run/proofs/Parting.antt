@@ -1,4 +1,4 @@
--- From what tells two parts of a text apart to what tells the operands of its main query apart.
+-- From what distinguishes two parts of a text to what distinguishes the operands of its main query.
 use Rattle.std.proofs.Common.{◌≡◌, ℕ, List, Option, None, Some, IfSome, sym, subst}
 use Rattle.std.specs.Prelude.{Result, Ok, Err, IfOk}
 use Rattle.language_base.specs.declared.span.Span.{Span}

@@ -150,7 +150,7 @@ text_at column (text ∷ texts) key there =
           (other, or_second (bytes_eq other text) (list_any (bytes_eq other) texts) among, same)
     ]
 
--- the keys that a collect tells apart are keys that were met
+-- the keys that a collect distinguishes are keys that were met
 pub keys_few : (column : ℕ) (sync : Predicate) (rate : rates.Regex) (f : Qre) (word : Word)
     → length (keys_after column sync [] word) ≤ keys_met (collect column sync rate f) word
 keys_few column sync rate f word =

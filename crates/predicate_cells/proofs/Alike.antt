@@ -1,4 +1,4 @@
--- Fields that no test of a predicate tells apart, and that predicates say the same of their items.
+-- Fields that no test of a predicate distinguishes, and that predicates say the same of their items.
 use Rattle.std.proofs.Common.{◌≡◌, ℕ, not, ◌&&◌, ◌||◌, ℤ, List, [], ◌∷◌, ◌++◌, Option, None, Some, int_eq, refl, ap, ap₂, subst, is_some, eq-eqb}
 use Rattle.std.specs.Prelude.{int_lt, int_le}
 use Rattle.std.specs.List.{AllByRecursion}
@@ -22,7 +22,7 @@ TextsAlike named None None = Unit {0}
 TextsAlike named (Some s) (Some t) = AllByRecursion (λ text. bytes_eq s text ≡ bytes_eq t text) named
 TextsAlike named _ _ = ⊥
 
--- no test of the predicate tells the fields in any column apart
+-- no test of the predicate distinguishes the fields in any column
 abbrev pub FieldsAlike : Predicate → List Field → List Field → Type 0
 FieldsAlike pred x y = (column : ℕ) → NumbersAlike (beginnings column pred) (number_in x column) (number_in y column)
     × TextsAlike (named_texts column pred) (text_in x column) (text_in y column)
@@ -101,7 +101,7 @@ own_numbers column bs x y h = subst (λ found. NumbersAlike found x y) (at_own c
 own_texts : (column : ℕ) (ns : List (List ℕ)) (x y : Option (List ℕ)) → TextsAlike (at_column column column ns) x y → TextsAlike ns x y
 own_texts column ns x y h = subst (λ found. TextsAlike found x y) (at_own column ns) h
 
--- items whose fields no test of a predicate tells apart are both met by it or neither
+-- items whose fields no test of a predicate distinguishes are both met by it or neither
 pub holds_alike : (pred : Predicate) (x y : List Field) → FieldsAlike pred x y → holds pred x ≡ holds pred y
 holds_alike any x y h = refl
 holds_alike (eq column n) x y h = eq_alike n _ _ (own_numbers column _ _ _ (h column).0)

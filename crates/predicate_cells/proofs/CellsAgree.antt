@@ -23,7 +23,7 @@ use Rattle.predicate_cells.proofs.RanksBelow.{number_rank-le}
 use Rattle.predicate_cells.proofs.SameClass.{numbers_agree, named_agree}
 
 module _ (preds : List Predicate) (pred : Predicate) (one : Contains preds pred) where
-  -- no test of the column tells two fields apart
+  -- no test of the column distinguishes two fields
   abbrev Alike : ℕ → Field → Field → Type 0
   Alike column f g = NumbersAlike (beginnings column pred) (number_of (Some f)) (number_of (Some g))
       × TextsAlike (named_texts column pred) (text_of (Some f)) (text_of (Some g))

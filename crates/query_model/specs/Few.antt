@@ -6,6 +6,6 @@ use Rattle.predicate_cells.specs.Cells.{count_from}
 use Rattle.query_model.specs.Queries.{Qre}
 use Rattle.query_model.specs.Sizes.{predicates_of}
 
--- the query's predicates tell apart few items of its stream
+-- the query's predicates distinguish few items of its stream
 abbrev pub has_few_cells : List Column → Qre → Bool
 has_few_cells columns query = nat_le (count_from 0 columns (predicates_of query)) max_cells

@@ -26,7 +26,7 @@ predicates_of (apply f expression) = predicates_of f
 predicates_of (compose f g) = predicates_of f
 predicates_of (collect column sync rate f) = sync ∷ preds_of rate ++ predicates_of f
 
--- the predicates of a query tell apart few items of its stream
+-- the predicates of a query distinguish few items of its stream
 abbrev pub HasFewCells : List Column → Qre → Type 0
 HasFewCells columns query = count_from 0 columns (predicates_of query) ≤ max_cells
 

@@ -112,7 +112,7 @@ pair_kept also there mid new between places pair added has = record {
   has = added.kept has.place has.has;
 }
 
--- one pair and its place, by the equality that tells the pairs apart
+-- one pair and its place, by the equality that distinguishes the pairs
 pub added_one : (eq : Pair → Pair → Bool) (old new : List Pair) (pair : Pair) (held places : List ℕ) (place : ℕ)
     → IsDistinct eq new → new ≡ insert_key eq old pair → ((x y : Pair) → eq x y ≡ true → x ≡ y) → length new ≤ max_reach
     → (k : Pair) × (slice_get new place ≡ Some k) × (eq pair k ≡ true) → AddsPlace held places place

@@ -83,7 +83,7 @@ module _ (first second : Automaton) where
       more_gone pairs' explored,
     )
 
-    -- with its ways they went on before
+    -- with its ways they continued before
     pub searched_known : Contains gone ways → IsSearched first second pairs (end + 1) × AreGone pairs gone'
     searched_known known =
         let (one, of_one, leads) = before ways known in

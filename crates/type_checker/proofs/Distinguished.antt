@@ -1,4 +1,4 @@
--- The first composition that tells too many values apart, by those in the operands of a query.
+-- The first composition that distinguishes too many values, by those in the operands of a query.
 use Rattle.std.proofs.Common.{◌≡◌, Bool, true, false, cond, not, List, [], ◌∷◌, ◌++◌, Option, Some, None, refl, sym, subst, ap, ap₂, ◌∙◌}
 use Rattle.std.specs.Option.{option_or}
 use Rattle.item_schema.specs.Layout.{Layout, derived_layout}

@@ -1,4 +1,4 @@
--- Where no composition tells too many values apart, all of them tell few apart.
+-- Where no composition distinguishes too many values, all of them distinguish few.
 use Rattle.std.proofs.Common.{◌≡◌, Bool, true, false, not, cond, List, [], ◌∷◌, ◌++◌, Some, None, refl, arith}
 use Rattle.std.specs.List.{AllByRecursion}
 use Rattle.std.proofs.lemmas.Bool.Decides.{nat_tests}
@@ -12,7 +12,7 @@ use Rattle.type_checker.specs.Findings.{derives_many}
 use Rattle.type_checker.specs.Nodes.{Node, Places, first_places, first_where, nodes_in, root, second_places}
 use Rattle.query_model.specs.Few.{has_few_cells}
 
--- the node is no composition that tells too many apart
+-- the node is no composition that distinguishes too many
 abbrev DerivesFew : Node → Type 0
 DerivesFew node = derives_many node ≡ false
 

@@ -29,7 +29,7 @@ member P (first ∷ xs) x all (suc k, within, is) = member P xs x all.1 (k, omeg
 apart : (columns : List Column) (pred : Predicate) → IsUnmet columns pred → IsMet columns pred → ⊥
 apart columns pred unmet (item, is, meets) = let fails : holds pred item ≡ false = unmet item is in cc
 
--- words do not tell rates apart that have the same
+-- words do not distinguish rates that have the same
 alike : (columns : List Column) (r s : Regex) → HaveDifference columns r s → AreEqual columns r s → ⊥
 alike columns r s (word, is, inl (here, none)) equal = none ((equal word is).0 here)
 alike columns r s (word, is, inr (here, none)) equal = none ((equal word is).1 here)
