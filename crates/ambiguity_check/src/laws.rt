@@ -11,7 +11,8 @@ ghost use Rattle.ambiguity_check.specs.Levels.{Searched, IsLevel};
 ghost use Rattle.ambiguity_check.specs.Marked.{IsMarked, AreReached};
 ghost use Rattle.ambiguity_check.specs.Meetings.{AreMeetings};
 ghost use Rattle.ambiguity_check.specs.Overlaps.{BeginsBoth, FollowsBoth, IsInRows, EndsBoth};
-ghost use Rattle.ambiguity_check.specs.Splits.{AreRows, BeginsSplits, Continues, MeetIn, EndsSplits};
+ghost use Rattle.ambiguity_check.specs.Splits.{AreRows, BeginsSplits, Continues, MeetIn};
+ghost use Rattle.ambiguity_check.specs.Splits.{EndsSplits};
 
 use crate::graph::Graph;
 
@@ -42,13 +43,15 @@ pub fn overlaps_are_walks()
 
 /// A walk of splits to an end is a word with two splits.
 pub fn two_splits_are_walks()
-    ensures sound { (columns : List Column) (first second : Sets) (together parted rejoined : List ℕ)
+    ensures sound { (columns : List Column) (first second : Sets)
+        (together parted rejoined : List ℕ)
         → AreRows columns first second together parted rejoined
         → (r s : Regex) → AreOf first r → AreOf second s → (items : ℕ)
         → EndsAfter (BeginsSplits first second) (Continues first second)
         (MeetIn together parted rejoined) (EndsSplits first second) items
         → TwoSplitsOf columns r s items }
-    ensures whole { (columns : List Column) (first second : Sets) (together parted rejoined : List ℕ)
+    ensures whole { (columns : List Column) (first second : Sets)
+        (together parted rejoined : List ℕ)
         → AreRows columns first second together parted rejoined
         → (r s : Regex) → AreOf first r → AreOf second s → (items : ℕ)
         → TwoSplitsOf columns r s items

@@ -4,7 +4,8 @@ ghost use Rattle.rate_expr.specs.Paths.{AreOf};
 ghost use Rattle.rate_expr.specs.Rates.{Regex};
 ghost use Rattle.rate_expr.specs.Words.{IsWordOf};
 ghost use Rattle.ambiguity_example.specs.Asks.{Asks, ShareCells, columns_of};
-ghost use Rattle.ambiguity_example.specs.Shows.{Question, Shows, ShowsOverlap, ShowsSplits, ShowsFactorings};
+ghost use Rattle.ambiguity_example.specs.Shows.{Question, Shows, ShowsOverlap, ShowsSplits};
+ghost use Rattle.ambiguity_example.specs.Shows.{ShowsFactorings};
 
 use crate::membership::{parts_into, reads, reads_both};
 use crate::pieces::{is_whole, middle_of};

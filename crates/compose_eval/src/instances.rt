@@ -1,8 +1,11 @@
 //! Instances by their outer start, and idle followers. Memory for all of them is reserved once.
-ghost use Rattle.std.specs.Prelude.{◌≡◌, ◌<◌, ◌≤◌, ◌+◌, ◌++◌, ℕ, Bool, [], ◌∷◌, length, None, Some, IfNone, IfSome, IfOk, slice_get};
+ghost use Rattle.std.specs.Prelude.{◌≡◌, ◌<◌, ◌≤◌, ◌+◌, ◌++◌, ℕ, Bool, [], ◌∷◌, length, None, Some};
+ghost use Rattle.std.specs.Prelude.{IfNone, IfSome, IfOk, slice_get};
 ghost use Rattle.std.specs.Borrow.{sem};
 ghost use Rattle.std.specs.List.{position_from};
-ghost use Rattle.compose_eval.specs.Followers.{instance_at, is_at, outers_of, followers_of, live_instances, retired, AnswersAs, IsAt, AreDistinct, Wakes};
+ghost use Rattle.compose_eval.specs.Followers.{instance_at, is_at, outers_of, followers_of};
+ghost use Rattle.compose_eval.specs.Followers.{live_instances, retired, AnswersAs, IsAt};
+ghost use Rattle.compose_eval.specs.Followers.{AreDistinct, Wakes};
 ghost use Rattle.compose_eval.specs.Lending.{LendsFollower, LendsResting};
 
 use crate::Instance;

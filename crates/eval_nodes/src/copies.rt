@@ -1,9 +1,11 @@
 //! Copies of nodes.
 ghost use Rattle.std.specs.Prelude.{◌≡◌, ◌+◌, ◌≤◌, [], length, IfOk};
 ghost use Rattle.compose_eval.specs.Followers.{followers_of, outers_of};
-ghost use Rattle.map_collect.specs.Keys.{fallback_of, followers_of as keyed_followers, keyed_of, names_of};
+ghost use Rattle.map_collect.specs.Keys.{fallback_of, followers_of as keyed_followers, keyed_of};
+ghost use Rattle.map_collect.specs.Keys.{names_of};
 ghost use Rattle.query_model.specs.Queries.{plain_of};
-ghost use Rattle.eval_nodes.specs.Copies.{AreAlike, AreCopied, AreCopiedKeys, AreCopiedTracks, IsCopy, IsCopyOf};
+ghost use Rattle.eval_nodes.specs.Copies.{AreAlike, AreCopied, AreCopiedKeys, AreCopiedTracks};
+ghost use Rattle.eval_nodes.specs.Copies.{IsCopy, IsCopyOf};
 ghost use Rattle.eval_nodes.specs.Plain.{holding_of, seen_of};
 
 use crate::node_copies::{

@@ -3,7 +3,9 @@ ghost use Rattle.std.specs.Prelude.{◌≡◌, ◌+◌, ◌-◌, ◌^◌, min};
 ghost use Rattle.std.specs.List.{sum_by};
 ghost use Rattle.compose_eval.specs.Followers.{followers_of};
 ghost use Rattle.query_model.specs.Queries.{plain_of};
-ghost use Rattle.eval_nodes.specs.Counts.{size_of_answer, size_of_keys, size_of_runner, size_of_state, size_of_track, size_of_value, sizes_of, stored_in};
+ghost use Rattle.eval_nodes.specs.Counts.{size_of_answer, size_of_keys, size_of_runner};
+ghost use Rattle.eval_nodes.specs.Counts.{size_of_state, size_of_track, size_of_value, sizes_of};
+ghost use Rattle.eval_nodes.specs.Counts.{stored_in};
 ghost use Rattle.eval_nodes.specs.Plain.{holding_of, seen_of};
 
 use crate::node_counts::{

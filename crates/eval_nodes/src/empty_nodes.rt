@@ -2,7 +2,8 @@
 ghost use Rattle.std.specs.Prelude.{◌≡◌, ℤ, length};
 ghost use Rattle.predicate_cells.specs.Predicates.{Predicate};
 ghost use Rattle.value_ops.specs.Expressions.{Expression};
-ghost use Rattle.query_model.specs.Queries.{apply, atom, choice, combine, compose, iter, plain_of, split};
+ghost use Rattle.query_model.specs.Queries.{apply, atom, choice, combine, compose, iter, plain_of};
+ghost use Rattle.query_model.specs.Queries.{split};
 ghost use Rattle.eval_nodes.specs.Cleared.{AreCleared, IsCleared};
 ghost use Rattle.eval_nodes.specs.Plain.{holding_of, seen_of};
 

@@ -4,7 +4,8 @@ ghost use Rattle.std.specs.Prelude.{ℕ, ℤ, IfOk};
 ghost use Rattle.predicate_cells.specs.Predicates.{Predicate};
 ghost use Rattle.rate_expr.specs.Rates as rates;
 ghost use Rattle.value_ops.specs.Expressions.{Expression};
-ghost use Rattle.query_model.specs.Queries.{apply, atom, choice, collect, combine, compose, iter, plain_of, split};
+ghost use Rattle.query_model.specs.Queries.{apply, atom, choice, collect, combine, compose, iter};
+ghost use Rattle.query_model.specs.Queries.{plain_of, split};
 ghost use Rattle.eval_nodes.specs.Copies.{IsCopy};
 ghost use Rattle.eval_nodes.specs.Plain.{holding_of, seen_of};
 

@@ -11,13 +11,15 @@ use std::mem::replace;
 use value_ops::Value;
 
 impl Follower for Runner<'_> {
-    ghost use Rattle.std.specs.Prelude.{◌≡◌, ◌≤◌, ◌+◌, ◌-◌, ◌*◌, ◌^◌, min, false, true, [], IsOk, OnErr, OnOk};
+    ghost use Rattle.std.specs.Prelude.{◌≡◌, ◌≤◌, ◌+◌, ◌-◌, ◌*◌, ◌^◌, min, false, true, [], IsOk};
+    ghost use Rattle.std.specs.Prelude.{OnErr, OnOk};
     ghost use Rattle.memory_bound.specs.KeysMet.{keys_met};
     ghost use Rattle.query_model.specs.Bounds.{slots_of};
     ghost use Rattle.query_model.specs.Following.{Carries, FitsNext};
     ghost use Rattle.query_model.specs.Rules.{HasNoCollect};
     ghost use Rattle.rate_expr.specs.Words.{Word};
-    ghost use Rattle.eval_runner.specs.Following.{columns_of, Follows, is_lost, IsSoundly, kept_of, position_of, query_of};
+    ghost use Rattle.eval_runner.specs.Following.{columns_of, Follows, is_lost, IsSoundly, kept_of};
+    ghost use Rattle.eval_runner.specs.Following.{position_of, query_of};
     ghost use Rattle.eval_runner.specs.Laws.{follows_ends, follows_found, follows_sound};
 
     ghost query = { query_of };

@@ -19,7 +19,8 @@ pub struct Runner<'q> {
 impl<'q> Runner<'q> {
     ghost use Rattle.std.specs.Prelude.{[], false, IfOk};
     ghost use Rattle.query_model.specs.Rules.{HasNoCollect};
-    ghost use Rattle.eval_runner.specs.Following.{columns_of, Follows, is_lost, IsSoundly, position_of, query_of};
+    ghost use Rattle.eval_runner.specs.Following.{columns_of, Follows, is_lost, IsSoundly};
+    ghost use Rattle.eval_runner.specs.Following.{position_of, query_of};
 
     /// A runner that follows the empty word.
     pub fn new(alloc: Global, checked: &'q Checked) -> Result<Runner<'q>, AllocError>

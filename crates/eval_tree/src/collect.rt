@@ -6,7 +6,8 @@ ghost use Rattle.rate_expr.specs.Rates as rates;
 ghost use Rattle.query_model.specs.Queries.{collect, plain_of};
 ghost use Rattle.eval_nodes.specs.Plain.{holding_of, seen_of};
 ghost use Rattle.eval_tree.specs.Calls.{HasStarted, HasStepped, found_in};
-ghost use Rattle.eval_tree.specs.Pushes.{AddsStart, ArePushed, BeginsAt, CanMake, CanPassBy, CanPushAll, CanTrack, IsNew, PassesBy};
+ghost use Rattle.eval_tree.specs.Pushes.{AddsStart, ArePushed, BeginsAt, CanMake, CanPassBy};
+ghost use Rattle.eval_tree.specs.Pushes.{CanPushAll, CanTrack, IsNew, PassesBy};
 ghost use Rattle.eval_tree.specs.Steps.{CanStart, CanStep};
 
 use crate::Hit;

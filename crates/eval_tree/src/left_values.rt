@@ -1,9 +1,13 @@
 //! Left values of a split: they wait for right values, and are joined with them.
-ghost use Rattle.std.specs.Prelude.{◌≡◌, ◌<◌, ◌++◌, ◌∷◌, [], ℕ, Bool, None, Some, length, IfOk, IsOk};
+ghost use Rattle.std.specs.Prelude.{◌≡◌, ◌<◌, ◌++◌, ◌∷◌, [], ℕ, Bool, None, Some, length, IfOk};
+ghost use Rattle.std.specs.Prelude.{IsOk};
 ghost use Rattle.std.specs.Option.{option_copied};
 ghost use Rattle.value_ops.specs.Expressions.{plain_of};
 ghost use Rattle.split_eval.specs.Entries.{entry_at};
-ghost use Rattle.eval_tree.specs.Lefts.{AreCombined, AreNumbersOnHits, AreNumbersWith, AreTypedOnHits, AreTypedWith, IsApplied, IsEnded, IsJoined, IsNumberOnBoth, IsNumberOnHit, IsNumberWith, IsPut, IsTypedOnBoth, IsTypedOnHit, IsTypedWith};
+ghost use Rattle.eval_tree.specs.Lefts.{AreCombined, AreNumbersOnHits, AreNumbersWith};
+ghost use Rattle.eval_tree.specs.Lefts.{AreTypedOnHits, AreTypedWith, IsApplied, IsEnded, IsJoined};
+ghost use Rattle.eval_tree.specs.Lefts.{IsNumberOnBoth, IsNumberOnHit, IsNumberWith, IsPut};
+ghost use Rattle.eval_tree.specs.Lefts.{IsTypedOnBoth, IsTypedOnHit, IsTypedWith};
 
 use crate::Hit;
 use split_eval::Pending;

@@ -3,8 +3,10 @@
 ghost use Rattle.std.specs.Prelude.{◌≡◌, IfOk, None, IsOk};
 ghost use Rattle.query_model.specs.Queries.{plain_of};
 ghost use Rattle.eval_nodes.specs.Plain.{seen_of};
-ghost use Rattle.eval_tree.specs.Feeds.{CanBegin, CanCarry, CanFeed, CanPassOn, Feeds, IsBegun, IsCarried, IsRenewed, IsDelivered, PassesOn, item_of};
-ghost use Rattle.eval_tree.specs.Numbers.{BeginsNumbers, CarriesNumbers, FeedsNumbers, PassesNumbers};
+ghost use Rattle.eval_tree.specs.Feeds.{CanBegin, CanCarry, CanFeed, CanPassOn, Feeds, IsBegun};
+ghost use Rattle.eval_tree.specs.Feeds.{IsCarried, IsRenewed, IsDelivered, PassesOn, item_of};
+ghost use Rattle.eval_tree.specs.Numbers.{BeginsNumbers, CarriesNumbers, FeedsNumbers};
+ghost use Rattle.eval_tree.specs.Numbers.{PassesNumbers};
 
 use crate::Hit;
 use crate::hit::value_of;
@@ -104,7 +106,8 @@ fn deliver(
 ) -> Result<(), AllocError>
     requires none { hit.old ≡ None }
     requires can { CanCarry seen_of (plain_of query.now.shape) runner.old (item_of left.value) }
-    ensures delivered { IfOk result (λ done. IsDelivered seen_of (plain_of query.now.shape) runner.old left
+    ensures delivered { IfOk result (λ done.
+        IsDelivered seen_of (plain_of query.now.shape) runner.old left
         runner.new hit.new) }
     ensures no_memory { CarriesNumbers seen_of (plain_of query.now.shape) runner.old
         (item_of left.value) → IsOk result }

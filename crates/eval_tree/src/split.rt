@@ -8,7 +8,8 @@ ghost use Rattle.eval_nodes.specs.Live.{live_of};
 ghost use Rattle.eval_nodes.specs.Plain.{holding_of, seen_of};
 ghost use Rattle.eval_tree.specs.Calls.{HasStarted, HasStepped, found_in};
 ghost use Rattle.eval_tree.specs.Lefts.{IsPut};
-ghost use Rattle.eval_tree.specs.Operands.{CanEnd, CanJoin, EndsNumbers, HasEnded, HasJoined, JoinsNumbers, KeepsLive};
+ghost use Rattle.eval_tree.specs.Operands.{CanEnd, CanJoin, EndsNumbers, HasEnded, HasJoined};
+ghost use Rattle.eval_tree.specs.Operands.{JoinsNumbers, KeepsLive};
 ghost use Rattle.eval_tree.specs.Steps.{CanStart, CanStep};
 ghost use Rattle.eval_tree.specs.declared.hit.Hit.{Hit};
 

@@ -7,7 +7,8 @@ ghost use Rattle.query_syntax.specs.Plain.{plain_program};
 ghost use Rattle.sqre_run.specs.Compiled.{Compiles};
 ghost use Rattle.type_checker.specs.Blames.{ForbidsTwoReadings};
 ghost use Rattle.type_checker.specs.Judged.{accepted};
-ghost use Rattle.explain_run.specs.Apart.{SeparatesFrom, SeparatesMain, SeparatesParts, SeparatesTexts};
+ghost use Rattle.explain_run.specs.Apart.{SeparatesFrom, SeparatesMain, SeparatesParts};
+ghost use Rattle.explain_run.specs.Apart.{SeparatesTexts};
 ghost use Rattle.explain_run.specs.Appended.{IsFound};
 
 use crate::findings::Found;

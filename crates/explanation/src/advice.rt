@@ -1,6 +1,7 @@
 //! The rule, and how a query that breaks it is mended.
 ghost use Rattle.std.specs.Prelude.{◌≡◌, ◌++◌, OnOk};
-ghost use Rattle.explanation.specs.Advice.{advice, form_lines, hint_line, line, mending, nearest_line, open_call_line, open_line, repair};
+ghost use Rattle.explanation.specs.Advice.{advice, form_lines, hint_line, line, mending};
+ghost use Rattle.explanation.specs.Advice.{nearest_line, open_call_line, open_line, repair};
 ghost use Rattle.explanation.specs.Nearest.{nearest_to};
 
 use crate::calls::{Word, call_at, level_of};

@@ -1,7 +1,8 @@
 //! A second place that helps to understand a refusal.
 ghost use Rattle.std.specs.Prelude.{◌≡◌, IfOk};
 ghost use Rattle.query_syntax.specs.Plain.{plain_predicate, plain_program, plain_query};
-ghost use Rattle.explanation.specs.Asides.{aside_of, lack_at, lack_of, test_in, test_of, use_inside, values_for};
+ghost use Rattle.explanation.specs.Asides.{aside_of, lack_at, lack_of, test_in, test_of};
+ghost use Rattle.explanation.specs.Asides.{use_inside, values_for};
 
 use crate::culprit::Culprit;
 use crate::culprit_search::{culprit_on_items, culprit_on_values, query_at};

@@ -1,7 +1,8 @@
 //! The calls that are open at the end of a text.
 ghost use Rattle.std.specs.Prelude.{◌≡◌, ◌≤◌, ◌<◌, ◌+◌, length};
 ghost use Rattle.query_tokens.specs.Raw.{is_word_byte};
-ghost use Rattle.explanation.specs.Calls.{call_at, in_part, level_of, opened, part_after, parted, scan_of, scanned, token_byte, worded};
+ghost use Rattle.explanation.specs.Calls.{call_at, in_part, level_of, opened, part_after, parted};
+ghost use Rattle.explanation.specs.Calls.{scan_of, scanned, token_byte, worded};
 
 use crate::recognizers::is_word_byte;
 

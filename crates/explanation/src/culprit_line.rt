@@ -1,6 +1,7 @@
 //! The lines that say which name a refusal is about.
 ghost use Rattle.std.specs.Prelude.{◌≡◌, ◌++◌, OnOk};
-ghost use Rattle.explanation.specs.CulpritLines.{culprit_line, known_there, named_line, place_of, said_of};
+ghost use Rattle.explanation.specs.CulpritLines.{culprit_line, known_there, named_line, place_of};
+ghost use Rattle.explanation.specs.CulpritLines.{said_of};
 
 use crate::culprit::Culprit;
 use crate::recognizers::term_at;

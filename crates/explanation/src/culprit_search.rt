@@ -2,7 +2,8 @@
 ghost use Rattle.std.specs.Prelude.{◌≡◌, find, option_copied, IfOk};
 ghost use Rattle.std.specs.List.{list_any};
 ghost use Rattle.query_syntax.specs.Plain.{plain_program, plain_query};
-ghost use Rattle.explanation.specs.Culprits.{culprit_in, culprit_of, culprit_on_items, culprit_on_values, declared_at, own_culprit, query_at};
+ghost use Rattle.explanation.specs.Culprits.{culprit_in, culprit_of, culprit_on_items};
+ghost use Rattle.explanation.specs.Culprits.{culprit_on_values, declared_at, own_culprit, query_at};
 ghost use Rattle.explanation.specs.Scopes.{plain_scope};
 ghost use Rattle.explanation.specs.Spots.{has_in, is_at};
 

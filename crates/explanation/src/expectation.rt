@@ -1,7 +1,8 @@
 //! What has to stand at a place of a text.
 ghost use Rattle.std.specs.Prelude.{◌≡◌};
 ghost use Rattle.query_forms.specs.Forms.{places_of};
-ghost use Rattle.explanation.specs.Standing.{argument_in, argument_of, place_or, standing_at, standing_in, standing_of, top_argument};
+ghost use Rattle.explanation.specs.Standing.{argument_in, argument_of, place_or, standing_at};
+ghost use Rattle.explanation.specs.Standing.{standing_in, standing_of, top_argument};
 
 use crate::calls::{call_at, level_of};
 use place_in_text::bytes_between;

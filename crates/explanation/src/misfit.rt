@@ -1,7 +1,9 @@
 //! The first column of an atom or a collection whose kind does not fit where it is used.
 ghost use Rattle.std.specs.Prelude.{◌≡◌};
 ghost use Rattle.query_syntax.specs.Plain.{plain_expression, plain_predicate, plain_rate};
-ghost use Rattle.explanation.specs.Misfits.{has_numbers, has_texts, is_text, misfit_item, misfit_read, misfit_test, misfit_with, unless_key, unless_number, unless_table, unless_text};
+ghost use Rattle.explanation.specs.Misfits.{has_numbers, has_texts, is_text, misfit_item};
+ghost use Rattle.explanation.specs.Misfits.{misfit_read, misfit_test, misfit_with, unless_key};
+ghost use Rattle.explanation.specs.Misfits.{unless_number, unless_table, unless_text};
 
 use crate::culprit::Culprit;
 use crate::scope::has_name;

@@ -1,7 +1,9 @@
 //! The name in a node by which it breaks the rule `name` or the rule `type`.
 ghost use Rattle.std.specs.Prelude.{◌≡◌};
-ghost use Rattle.query_syntax.specs.Plain.{plain_expression, plain_predicate, plain_query, plain_rate};
-ghost use Rattle.explanation.specs.Culprits.{in_atom, in_fold, in_keys, in_name, kinds_in_atom, kinds_in_keys, node_culprit};
+ghost use Rattle.query_syntax.specs.Plain.{plain_expression, plain_predicate, plain_query};
+ghost use Rattle.query_syntax.specs.Plain.{plain_rate};
+ghost use Rattle.explanation.specs.Culprits.{in_atom, in_fold, in_keys, in_name, kinds_in_atom};
+ghost use Rattle.explanation.specs.Culprits.{kinds_in_keys, node_culprit};
 ghost use Rattle.explanation.specs.Scopes.{plain_scope};
 
 use crate::culprit::Culprit;

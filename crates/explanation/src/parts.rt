@@ -2,7 +2,8 @@
 ghost use Rattle.std.specs.Prelude.{◌≡◌, ◌++◌, IfOk, OnOk};
 ghost use Rattle.query_syntax.specs.Plain.{plain_program};
 ghost use Rattle.explanation.specs.Asides.{place_aside, said_of_place};
-ghost use Rattle.explanation.specs.Explanations.{aside_lines, column_unit, explanation, heading, place_text, program_explanation, text_explanation};
+ghost use Rattle.explanation.specs.Explanations.{aside_lines, column_unit, explanation, heading};
+ghost use Rattle.explanation.specs.Explanations.{place_text, program_explanation, text_explanation};
 
 use crate::advice::push_advice;
 use crate::aside::{Aside, aside_of};

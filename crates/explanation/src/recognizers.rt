@@ -2,7 +2,9 @@
 ghost use Rattle.std.specs.Prelude.{◌≡◌, ◌≤◌, ◌<◌, ◌-◌, length, slice_get};
 ghost use Rattle.std.specs.List.{prefix_len};
 ghost use Rattle.query_tokens.specs.Raw.{is_word_byte};
-ghost use Rattle.explanation.specs.Hints.{ascii_hint, begins_comment, foreign_hint, foreign_of, head_of, hint_at, hint_of, is_digit, mark_hint, piece_hint, term_at, token_hint, type_hint, word_at};
+ghost use Rattle.explanation.specs.Hints.{ascii_hint, begins_comment, foreign_hint, foreign_of};
+ghost use Rattle.explanation.specs.Hints.{head_of, hint_at, hint_of, is_digit, mark_hint};
+ghost use Rattle.explanation.specs.Hints.{piece_hint, term_at, token_hint, type_hint, word_at};
 
 use crate::hint::Hint;
 use language_base::{Refusal, Rule, Span};

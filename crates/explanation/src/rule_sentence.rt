@@ -1,6 +1,7 @@
 //! A sentence for each rule.
 ghost use Rattle.std.specs.Prelude.{◌≡◌, ◌≤◌, length};
-ghost use Rattle.explanation.specs.Sentences.{broken_at, broken_in, broken_where, ended_where, passed};
+ghost use Rattle.explanation.specs.Sentences.{broken_at, broken_in, broken_where, ended_where};
+ghost use Rattle.explanation.specs.Sentences.{passed};
 
 use crate::limit::Limit;
 use language_base::{Refusal, Rule};

@@ -1,6 +1,7 @@
 //! Which names are known at a node.
 ghost use Rattle.std.specs.Prelude.{◌≡◌};
-ghost use Rattle.explanation.specs.Scopes.{has_name, is_known, plain_scope, unknown_in, unless_known};
+ghost use Rattle.explanation.specs.Scopes.{has_name, is_known, plain_scope, unknown_in};
+ghost use Rattle.explanation.specs.Scopes.{unless_known};
 
 use crate::culprit::Culprit;
 use language_base::Span;

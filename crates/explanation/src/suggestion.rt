@@ -1,6 +1,8 @@
 //! What is often meant by a word at its place.
 ghost use Rattle.std.specs.Prelude.{◌≡◌, None, Some, MatchOption};
-ghost use Rattle.explanation.specs.Nearest.{has_forms, has_upper, has_words, nearest_in, nearest_to, rows_at, rows_of, said_in, shown_row, shown_rows};
+ghost use Rattle.explanation.specs.Nearest.{has_forms, has_upper, has_words, nearest_in};
+ghost use Rattle.explanation.specs.Nearest.{nearest_to, rows_at, rows_of, said_in, shown_row};
+ghost use Rattle.explanation.specs.Nearest.{shown_rows};
 
 use crate::expectation::Standing;
 use crate::nearest_words::{

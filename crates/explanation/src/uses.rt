@@ -2,7 +2,8 @@
 ghost use Rattle.std.specs.Prelude.{◌≡◌, [], IfOk, List, map};
 ghost use Rattle.query_syntax.specs.Plain.{plain_let, plain_program, plain_query};
 ghost use Rattle.explanation.specs.Leads.{AreLeads};
-ghost use Rattle.explanation.specs.Uses.{Known, first_inside, first_lead, first_use, is_on_values, known_after, lead_of, lead_to, leads_outside};
+ghost use Rattle.explanation.specs.Uses.{Known, first_inside, first_lead, first_use, is_on_values};
+ghost use Rattle.explanation.specs.Uses.{known_after, lead_of, lead_to, leads_outside};
 
 use crate::spots::has_in;
 use language_base::Span;

@@ -7,7 +7,8 @@
 //! The line that was cut off last stays in place until the next read, so that a line which lies
 //! whole in one read is not copied. `lines_end` is the place after the last LF: more whole lines
 //! are unread exactly if `from` is below it.
-ghost use Rattle.std.specs.Prelude.{◌≡◌, ◌<◌, ◌≤◌, ℕ, ◌+◌, [], length, drop, take, Ok, IfOk, IsFalse, IsTrue, OnErr, vec_len};
+ghost use Rattle.std.specs.Prelude.{◌≡◌, ◌<◌, ◌≤◌, ℕ, ◌+◌, [], length, drop, take, Ok, IfOk};
+ghost use Rattle.std.specs.Prelude.{IsFalse, IsTrue, OnErr, vec_len};
 ghost use Rattle.std.specs.Io.BufRead.{strip_last};
 ghost use Rattle.std.specs.Io.KnownBytes.{Consumes, Keeps};
 ghost use Rattle.io_edge.specs.Counts.{FailsByFault};

@@ -4,7 +4,9 @@
 //!
 //! A line that lies whole in the chunk is answered from there. A line that lies in several reads is
 //! gathered in the second buffer, and answered from there.
-ghost use Rattle.std.specs.Prelude.{◌≡◌, ℕ, ◌+◌, ◌^◌, ◌<◌, ◌≤◌, ◌↔◌, List, [], ◌∷◌, ◌++◌, length, take, drop, true, false, Ok, Err, None, IfOk, OnErr, IsErrOf, IsTrue, MatchOption, MatchResult};
+ghost use Rattle.std.specs.Prelude.{◌≡◌, ℕ, ◌+◌, ◌^◌, ◌<◌, ◌≤◌, ◌↔◌, List, [], ◌∷◌, ◌++◌, length};
+ghost use Rattle.std.specs.Prelude.{take, drop, true, false, Ok, Err, None, IfOk, OnErr, IsErrOf};
+ghost use Rattle.std.specs.Prelude.{IsTrue, MatchOption, MatchResult};
 ghost use Rattle.std.specs.Io.KnownBytes.{Consumes};
 ghost use Rattle.io_edge.specs.Counts.{FailsBy};
 ghost use Rattle.io_edge.specs.Ended.{MeetsEnd};
@@ -76,7 +78,8 @@ impl Model for Lines {
       shown = shown_at l.place l.chunk.line l.line.shown;
     } };
 
-    ghost invariant = { λ l. (l.answered + (length l.line.start + length l.chunk.unread) ≤ max_count)
+    ghost invariant = { λ l.
+        (l.answered + (length l.line.start + length l.chunk.unread) ≤ max_count)
         × (l.met ≡ true → (l.line.start ≡ []) × (l.chunk.unread ≡ [])) };
 }
 

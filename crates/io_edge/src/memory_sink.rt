@@ -1,5 +1,6 @@
 //! A sink over memory of a fixed size, whose writes may be cut short or fail.
-ghost use Rattle.std.specs.Prelude.{◌≡◌, ◌<◌, ◌≤◌, ℕ, List, [], Option, Ok, Some, length, vec_len, vec_capacity, IfOk, IsOk};
+ghost use Rattle.std.specs.Prelude.{◌≡◌, ◌<◌, ◌≤◌, ℕ, List, [], Option, Ok, Some, length, vec_len};
+ghost use Rattle.std.specs.Prelude.{vec_capacity, IfOk, IsOk};
 ghost use Rattle.std.specs.Io.{WritesAtMost};
 ghost use Rattle.std.specs.Io.KnownBytes.{WriteAppends};
 ghost use Rattle.io_edge.specs.Counts.{FailsByFault, next_count};

@@ -15,8 +15,8 @@ pub fn drilled_lines_have_items()
         → item_of columns (line_from columns state) ≡ Ok (item_from columns state) }
 {}
 
-/// The lines of all bytes of a drill are its header and the lines that were drawn, and no others, if
-/// no name of a column has an LF.
+/// The lines of all bytes of a drill are its header and the lines that were drawn, and no others,
+/// if no name of a column has an LF.
 pub fn drilled_bytes_have_lines()
     ensures { (layout : Layout) (count seed : ℕ) → length layout.columns ≤ max_columns
         → IsTrue (are_read layout.columns) → AllByRecursion NoLf (names_of layout.columns)

@@ -1,5 +1,6 @@
 //! Fields as columns read them.
-ghost use Rattle.std.specs.Prelude.{◌≡◌, ◌+◌, ◌<◌, ◌∷◌, ℕ, List, Ok, IfErr, IfOk, OnOk, length, vec_len};
+ghost use Rattle.std.specs.Prelude.{◌≡◌, ◌+◌, ◌<◌, ◌∷◌, ℕ, List, Ok, IfErr, IfOk, OnOk, length};
+ghost use Rattle.std.specs.Prelude.{vec_len};
 ghost use Rattle.item_schema.specs.Reading.{IsStopOf, field_of, in_column, read_on};
 
 use crate::number::{fixed_field, int_field};

@@ -2,7 +2,8 @@
 ghost use Rattle.std.specs.Prelude.{◌≡◌, ◌≤◌, ℕ, List, min, true, false, MatchOption};
 ghost use Rattle.std.specs.Str.Parse.{without_leading_sign, digits_value_after};
 ghost use Rattle.item_schema.specs.Decimals.{KeepsDecimal};
-ghost use Rattle.item_schema.specs.Reading.{field_of, fraction_of, is_decimal, is_numeral, signed, stored, units, whole_of};
+ghost use Rattle.item_schema.specs.Reading.{field_of, fraction_of, is_decimal, is_numeral, signed};
+ghost use Rattle.item_schema.specs.Reading.{stored, units, whole_of};
 
 use crate::cut::cut_at;
 use crate::{Cause, Kind};

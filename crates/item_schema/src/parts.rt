@@ -1,5 +1,6 @@
 //! What a line is cut into.
-ghost use Rattle.std.specs.Prelude.{◌≡◌, ◌+◌, List, ℕ, IfErr, IfOk, MatchOption, Ok, false, length, true};
+ghost use Rattle.std.specs.Prelude.{◌≡◌, ◌+◌, List, ℕ, IfErr, IfOk, MatchOption, Ok, false, length};
+ghost use Rattle.std.specs.Prelude.{true};
 ghost use Rattle.std.specs.List.{list_any};
 ghost use Rattle.item_schema.specs.CutLines.{is_break, texts_in};
 ghost use Rattle.item_schema.specs.LineParts.{ArePartsOf};

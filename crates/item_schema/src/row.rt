@@ -1,5 +1,6 @@
 //! The row that `csv` reads of a line.
-ghost use Rattle.std.specs.Prelude.{◌≡◌, ◌+◌, ◌<◌, ◌∷◌, None, Ok, Some, IfErr, IfOk, drop, false, length, option_map, true};
+ghost use Rattle.std.specs.Prelude.{◌≡◌, ◌+◌, ◌<◌, ◌∷◌, None, Ok, Some, IfErr, IfOk, drop, false};
+ghost use Rattle.std.specs.Prelude.{length, option_map, true};
 ghost use Rattle.csv.specs.Records as csv;
 ghost use Rattle.item_schema.specs.Reading.{IsStopOf, fields_of, record_of};
 

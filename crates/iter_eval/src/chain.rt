@@ -1,5 +1,6 @@
 //! Values so far by their inner start. Memory for all of them is reserved once.
-ghost use Rattle.std.specs.Prelude.{◌≡◌, ◌<◌, ◌≤◌, ◌++◌, ℕ, Bool, [], ◌∷◌, length, None, Some, IfNone, IfOk, slice_get};
+ghost use Rattle.std.specs.Prelude.{◌≡◌, ◌<◌, ◌≤◌, ◌++◌, ℕ, Bool, [], ◌∷◌, length, None, Some};
+ghost use Rattle.std.specs.Prelude.{IfNone, IfOk, slice_get};
 ghost use Rattle.std.specs.Option.{option_copied};
 ghost use Rattle.split_eval.specs.Entries.{entry_at, live_entries, without, AnswersAs, AreDistinct};
 

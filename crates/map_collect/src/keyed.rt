@@ -1,5 +1,6 @@
 //! Followers by the bytes of their keys, which an index finds in constant time.
-ghost use Rattle.std.specs.Prelude.{◌≡◌, ◌<◌, ◌++◌, [], ◌∷◌, length, Some, IfNone, IfSome, OnErr, OnOk, slice_get};
+ghost use Rattle.std.specs.Prelude.{◌≡◌, ◌<◌, ◌++◌, [], ◌∷◌, length, Some, IfNone, IfSome, OnErr};
+ghost use Rattle.std.specs.Prelude.{OnOk, slice_get};
 ghost use Rattle.std.specs.Borrow.{sem};
 ghost use Rattle.std.specs.List.{Contains};
 ghost use Rattle.map_collect.specs.Followers.{with_key, AreDistinct};

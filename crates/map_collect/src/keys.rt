@@ -1,5 +1,6 @@
 //! A follower for each key that came, and a default one for the keys that have not come yet.
-ghost use Rattle.std.specs.Prelude.{◌≡◌, ◌<◌, [], length, Some, IfNone, IfSome, OnErr, OnOk, slice_get};
+ghost use Rattle.std.specs.Prelude.{◌≡◌, ◌<◌, [], length, Some, IfNone, IfSome, OnErr, OnOk};
+ghost use Rattle.std.specs.Prelude.{slice_get};
 ghost use Rattle.std.specs.Borrow.{sem};
 ghost use Rattle.std.specs.List.{Contains};
 ghost use Rattle.map_collect.specs.Followers.{with_key, AreDistinct};

@@ -1,7 +1,8 @@
 //! The states of tracks. All are states of one automaton.
 ghost use Rattle.std.specs.Prelude.{◌↔◌, IfNone, IfSome, IsTrue};
 ghost use Rattle.item_schema.specs.Items.{IsItemOf};
-ghost use Rattle.map_collect.specs.Tracks.{AllAdvance, AreStates, IsFirstAccepted, IsLiveAmong, IsLiveAt, KeepsExtending, NoneAccepted};
+ghost use Rattle.map_collect.specs.Tracks.{AllAdvance, AreStates, IsFirstAccepted, IsLiveAmong};
+ghost use Rattle.map_collect.specs.Tracks.{IsLiveAt, KeepsExtending, NoneAccepted};
 
 use crate::Track;
 use item_schema::Item;

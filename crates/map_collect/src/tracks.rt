@@ -1,11 +1,14 @@
 //! The live starts of a collect, each with a state of the automaton and with its followers by key.
-ghost use Rattle.std.specs.Prelude.{◌≡◌, ◌<◌, ◌↔◌, ◌++◌, [], ◌∷◌, length, Some, IfNone, IfSome, IsTrue, OnErr, OnOk, slice_get};
+ghost use Rattle.std.specs.Prelude.{◌≡◌, ◌<◌, ◌↔◌, ◌++◌, [], ◌∷◌, length, Some, IfNone, IfSome};
+ghost use Rattle.std.specs.Prelude.{IsTrue, OnErr, OnOk, slice_get};
 ghost use Rattle.std.specs.Borrow.{sem};
 ghost use Rattle.std.specs.List.{position_from, Contains};
 ghost use Rattle.item_schema.specs.Items.{IsItemOf};
 ghost use Rattle.rate_expr.specs.After.{IsStateOf};
 ghost use Rattle.map_collect.specs.LendingTracks.{LendsKeys};
-ghost use Rattle.map_collect.specs.Tracks.{begins_at, keys_of, starts_of, states_of, AllAdvance, AreDistinct, AreStates, IsFirstAccepted, IsLiveAmong, KeepsExtending, NoneAccepted};
+ghost use Rattle.map_collect.specs.Tracks.{begins_at, keys_of, starts_of, states_of, AllAdvance};
+ghost use Rattle.map_collect.specs.Tracks.{AreDistinct, AreStates, IsFirstAccepted, IsLiveAmong};
+ghost use Rattle.map_collect.specs.Tracks.{KeepsExtending, NoneAccepted};
 
 use crate::states::{advance_all, first_accepted, is_any_live, keep_extending};
 use crate::{Keys, Track};

@@ -55,9 +55,11 @@ impl Cells {
     /// Finds the cells, and for each predicate those whose items meet it.
     pub fn new(alloc: Global, schema: &Schema, preds: &Preds) -> Result<Cells, CellStop>
         requires { AllFit schema.now.columns preds.now }
-        ensures ok { IfOk result (λ cells. cells ≡ record { layout = schema.now; preds = preds.now }) }
+        ensures ok { IfOk result (λ cells.
+            cells ≡ record { layout = schema.now; preds = preds.now }) }
         ensures few { OnOk result (count_from 0 schema.now.columns preds.now ≤ max_cells) }
-        ensures too_many { result ≡ Err TooMany → max_cells < count_from 0 schema.now.columns preds.now }
+        ensures too_many { result ≡ Err TooMany
+            → max_cells < count_from 0 schema.now.columns preds.now }
     {
         let columns = classes_of(alloc, schema.columns(), preds.as_slice())?;
         let Some(count) = count_of(&columns) else {

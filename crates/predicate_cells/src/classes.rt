@@ -3,10 +3,13 @@
 //!
 //!     numbers    from -2^63 on | from starts[0] on | from starts[1] on | ...
 //!     class      0             | 1                 | 2                 | ...
-ghost use Rattle.std.specs.Prelude.{◌≡◌, ◌<◌, ◌≤◌, length, map, option_map, slice_index_or, true, Some, IfOk};
+ghost use Rattle.std.specs.Prelude.{◌≡◌, ◌<◌, ◌≤◌, length, map, option_map, slice_index_or, true};
+ghost use Rattle.std.specs.Prelude.{Some, IfOk};
 ghost use Rattle.predicate_cells.specs.Fits.{is_text};
 ghost use Rattle.predicate_cells.specs.Plain.{plain_of};
-ghost use Rattle.predicate_cells.specs.Ranks.{ranks_of, count_in, class_in, field_in, number_rank, text_rank, number_of_class, scalar_of_class, other_text};
+ghost use Rattle.predicate_cells.specs.Ranks.{ranks_of, count_in, class_in, field_in, number_rank};
+ghost use Rattle.predicate_cells.specs.Ranks.{text_rank, number_of_class, scalar_of_class};
+ghost use Rattle.predicate_cells.specs.Ranks.{other_text};
 ghost use Rattle.predicate_cells.specs.Truth.{number_of, text_of};
 
 use crate::Pred;

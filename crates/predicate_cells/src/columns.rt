@@ -1,6 +1,7 @@
 //! The classes of all columns, and the cells that they make. A cell is a class for each column,
 //! read as a number whose digits are the classes.
-ghost use Rattle.std.specs.Prelude.{◌≡◌, ◌<◌, ◌≤◌, ◌*◌, ◌^◌, length, map, slice_get, IfOk, IfSome, IfNone};
+ghost use Rattle.std.specs.Prelude.{◌≡◌, ◌<◌, ◌≤◌, ◌*◌, ◌^◌, length, map, slice_get, IfOk, IfSome};
+ghost use Rattle.std.specs.Prelude.{IfNone};
 ghost use Rattle.std.specs.Option.{option_map_or};
 ghost use Rattle.language_base.specs.Limits.{max_cells};
 ghost use Rattle.predicate_cells.specs.Plain.{plain_of};
@@ -23,7 +24,8 @@ pub(crate) fn classes_of(
     preds: &[Pred],
 ) -> Result<Vec<Classes>, AllocError>
     requires { length columns.now < 2 ^ 32 }
-    ensures { IfOk result (λ classes. classes.items ≡ ranks_from 0 columns.now (map plain_of preds.now)) }
+    ensures { IfOk result (λ classes.
+        classes.items ≡ ranks_from 0 columns.now (map plain_of preds.now)) }
 {
     let mut classes = Vec::with_capacity(alloc, columns.len())?;
     for (at, column) in columns.iter().enumerate() {

@@ -1,7 +1,8 @@
 //! Copies of predicates.
 ghost use Rattle.std.specs.Prelude.{◌≡◌, IfOk};
 ghost use Rattle.predicate_cells.specs.Plain.{plain_of};
-ghost use Rattle.predicate_cells.specs.Predicates.{conjunction, disjunction, eq_text, ne_text, negation};
+ghost use Rattle.predicate_cells.specs.Predicates.{conjunction, disjunction, eq_text, ne_text};
+ghost use Rattle.predicate_cells.specs.Predicates.{negation};
 
 use crate::Pred;
 use std::alloc::{AllocError, Global};

@@ -58,7 +58,8 @@ fn truths_of_both(
 ) -> Result<Vec<bool>, AllocError>
     requires { cells_in columns.now ≤ max_cells }
     ensures { IfOk result (λ truths. truths.items
-        ≡ map (holds (conjunction (plain_of left.now) (plain_of right.now))) (samples columns.now)) }
+        ≡ map (holds (conjunction (plain_of left.now) (plain_of right.now)))
+        (samples columns.now)) }
 {
     let truths = truths_of(alloc, columns, left)?;
     let others = truths_of(alloc, columns, right)?;
@@ -74,7 +75,8 @@ fn truths_of_either(
 ) -> Result<Vec<bool>, AllocError>
     requires { cells_in columns.now ≤ max_cells }
     ensures { IfOk result (λ truths. truths.items
-        ≡ map (holds (disjunction (plain_of left.now) (plain_of right.now))) (samples columns.now)) }
+        ≡ map (holds (disjunction (plain_of left.now) (plain_of right.now)))
+        (samples columns.now)) }
 {
     let truths = truths_of(alloc, columns, left)?;
     let others = truths_of(alloc, columns, right)?;
@@ -90,7 +92,8 @@ fn column_truths(
 ) -> Result<Vec<bool>, AllocError>
     requires { cells_in columns.now ≤ max_cells }
     ensures { IfOk result (λ truths. truths.items
-        ≡ map (λ item. holds (plain_of pred.now) (row_of column (slice_get item column))) (samples columns.now)) }
+        ≡ map (λ item. holds (plain_of pred.now) (row_of column (slice_get item column)))
+        (samples columns.now)) }
 {
     let at = column as usize;
     match columns.get(at) {
@@ -113,7 +116,8 @@ fn class_truths(
     column: u32,
 ) -> Result<Vec<bool>, AllocError>
     ensures { IfOk result (λ truths. truths.items
-        ≡ map (λ class. holds (plain_of pred.now) (row_of column (Some (field_in classes.now class))))
+        ≡ map (λ class.
+        holds (plain_of pred.now) (row_of column (Some (field_in classes.now class))))
         (range_with_len 0 (count_in classes.now))) }
 {
     let mut truths = Vec::with_capacity(alloc, classes.count())?;

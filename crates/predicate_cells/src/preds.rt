@@ -1,5 +1,6 @@
 //! A list of predicates.
-ghost use Rattle.std.specs.Prelude.{◌≡◌, ◌<◌, [], ◌∷◌, ◌++◌, Some, length, map, slice_get, IfOk, IfSome, IfNone, OnOk, OnErr};
+ghost use Rattle.std.specs.Prelude.{◌≡◌, ◌<◌, [], ◌∷◌, ◌++◌, Some, length, map, slice_get, IfOk};
+ghost use Rattle.std.specs.Prelude.{IfSome, IfNone, OnOk, OnErr};
 ghost use Rattle.std.specs.List.{list_all, Contains};
 ghost use Rattle.predicate_cells.specs.Fits.{fits};
 ghost use Rattle.predicate_cells.specs.Plain.{plain_of};
@@ -81,7 +82,8 @@ impl Preds {
 
     /// The index of an equal predicate, if there is one.
     pub fn place_of(&self, pred: &Pred) -> Option<usize>
-        ensures found { IfSome result (λ index. slice_get self.now index ≡ Some (plain_of pred.now)) }
+        ensures found { IfSome result (λ index.
+            slice_get self.now index ≡ Some (plain_of pred.now)) }
         ensures missing { IfNone result (Contains self.now (plain_of pred.now) → ⊥) }
     {
         self.preds.iter().position(|known| known.is_same(pred))

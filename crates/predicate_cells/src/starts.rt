@@ -12,7 +12,8 @@ use std::alloc::{AllocError, Global};
 /// Where all classes but the first begin, from the least number to the greatest.
 pub(crate) fn starts_of(alloc: Global, preds: &[Pred], column: u32) -> Result<Vec<i64>, AllocError>
     ensures { IfOk result (λ starts. starts.items
-        ≡ rising int_cmp (filter begins_class (flat_map (beginnings column) (map plain_of preds.now)))) }
+        ≡ rising int_cmp
+        (filter begins_class (flat_map (beginnings column) (map plain_of preds.now)))) }
 {
     let mut starts = Vec::new(alloc);
     for pred in preds {
@@ -70,7 +71,8 @@ fn push_interval(first: i64, last: i64, starts: &mut Vec<i64>) -> Result<(), All
 
 // The least number of all begins no class, since the first class begins there anyway.
 fn push_start(number: i64, starts: &mut Vec<i64>) -> Result<(), AllocError>
-    ensures { OnOk result (starts.new.items ≡ starts.old.items ++ filter begins_class (number ∷ [])) }
+    ensures { OnOk result (starts.new.items
+        ≡ starts.old.items ++ filter begins_class (number ∷ [])) }
 {
     if number > i64::MIN {
         starts.push(number)?;
@@ -80,7 +82,8 @@ fn push_start(number: i64, starts: &mut Vec<i64>) -> Result<(), AllocError>
 
 // After the greatest number there is none at which a class could begin.
 fn push_next(number: i64, starts: &mut Vec<i64>) -> Result<(), AllocError>
-    ensures { OnOk result (starts.new.items ≡ starts.old.items ++ filter begins_class (next number ∷ [])) }
+    ensures { OnOk result (starts.new.items
+        ≡ starts.old.items ++ filter begins_class (next number ∷ [])) }
 {
     if let Some(next) = number.checked_add(1) {
         starts.push(next)?;

@@ -29,7 +29,8 @@ pub(crate) fn texts_of(alloc: Global, preds: &[Pred], column: u32) -> Result<Vec
 
 fn push_named<'p>(pred: &'p Pred, column: u32, named: &mut Vec<&'p [u8]>) -> Result<(), AllocError>
     ensures { OnOk result (map (λ t. t.now) named.new.items
-        ≡ map (λ t. t.now) named.old.items ++ filter are_bytes (named_texts column (plain_of pred.now))) }
+        ≡ map (λ t. t.now) named.old.items
+        ++ filter are_bytes (named_texts column (plain_of pred.now))) }
 {
     match pred {
         Pred::EqText(tested, text) | Pred::NeText(tested, text) if *tested == column => {

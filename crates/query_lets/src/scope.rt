@@ -1,7 +1,8 @@
 //! A query and the lets that it may use.
 ghost use Rattle.std.specs.Prelude.{◌≡◌, ◌<◌, [], IfNone, IfOk, IfSome, None, length, map};
 ghost use Rattle.query_syntax.specs.Plain.{plain_let, plain_program};
-ghost use Rattle.query_lets.specs.Places.{AreNamedApart, ArePlaces, IsPlaced, IsRoot, Leads, unfolded_of};
+ghost use Rattle.query_lets.specs.Places.{AreNamedApart, ArePlaces, IsPlaced, IsRoot, Leads};
+ghost use Rattle.query_lets.specs.Places.{unfolded_of};
 ghost use Rattle.query_lets.specs.Unfolded.{unfolded};
 ghost use Rattle.query_lets.specs.Words.{wrong_name};
 

@@ -32,7 +32,8 @@ impl Model for Checked {
 impl Checked {
     /// The rules are for the caller to have asked.
     pub fn new(schema: Schema, main: Box<Query>) -> Checked
-        requires { let on : OnStream = record { layout = schema; main = main.value } in IsChecked on }
+        requires { let on : OnStream = record { layout = schema; main = main.value } in
+            IsChecked on }
         ensures { result ≡ record { layout = schema; main = main.value } }
     {
         Checked { schema, main }

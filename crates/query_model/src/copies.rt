@@ -1,7 +1,8 @@
 //! Shapes that are copied with their operands, in which each place stays.
 ghost use Rattle.std.specs.Prelude.{◌≡◌, [], ◌∷◌, ◌++◌, IfOk};
 ghost use Rattle.predicate_cells.specs.Plain as predicates;
-ghost use Rattle.query_model.specs.Queries.{plain_of, spans_of, apply, atom, choice, collect, combine, compose, iter, split};
+ghost use Rattle.query_model.specs.Queries.{plain_of, spans_of, apply, atom, choice, collect};
+ghost use Rattle.query_model.specs.Queries.{combine, compose, iter, split};
 ghost use Rattle.rate_expr.specs.Plain as rates;
 ghost use Rattle.value_ops.specs.Expressions as values;
 

@@ -1,5 +1,6 @@
 //! What follows the words of a query, item by item.
-ghost use Rattle.std.specs.Prelude.{◌≡◌, ◌+◌, ◌-◌, ◌^◌, true, false, [], min, ℕ, Bool, List, length, None, IfOk, OnOk, OnErr};
+ghost use Rattle.std.specs.Prelude.{◌≡◌, ◌+◌, ◌-◌, ◌^◌, true, false, [], min, ℕ, Bool, List};
+ghost use Rattle.std.specs.Prelude.{length, None, IfOk, OnOk, OnErr};
 ghost use Rattle.std.specs.Option.{option_copied};
 ghost use Rattle.item_schema.specs.declared.column.Column.{Column};
 ghost use Rattle.rate_expr.specs.Words.{Word};

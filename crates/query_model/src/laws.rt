@@ -1,4 +1,5 @@
-//! What holds of every query that keeps the rules, at every node and on words of items of the node's stream.
+//! What holds of every query that keeps the rules, at every node and on words of items of the
+//! node's stream.
 ghost use Rattle.std.specs.Prelude.{◌≡◌, ◌⊎◌, List};
 ghost use Rattle.value_ops.specs.Types.{IsValueOf};
 ghost use Rattle.value_ops.specs.declared.value.Value.{Value};
@@ -27,7 +28,8 @@ pub fn queries_have_values_on_their_rates()
         → IsWordOf columns word → In (rate_of query) word → (value : Value) × Den query word value }
 {}
 
-/// It is decided whether a query has a value on a word, since it is decided of which rates the word is.
+/// It is decided whether a query has a value on a word, since it is decided of which
+/// rates the word is.
 pub fn each_word_has_a_value_or_none()
     ensures { (standing : Standing) (columns : List Column) (query : Qre) (word : Word)
         → IsClear standing columns query → IsWordOf columns word

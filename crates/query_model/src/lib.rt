@@ -1,4 +1,5 @@
-//! Queries and what they mean: the value of a query on a word, its rate, and the rules that make it one value.
+//! Queries and what they mean: the value of a query on a word, its rate, and the rules that
+//! make it one value.
 #![tactic(auto)]
 
 mod cells;

@@ -40,7 +40,8 @@ fn print_term(term: &Term, text: &mut Vec<u8>) -> Result<(), AllocError>
 
 #[cycle(print)]
 fn print_arguments(arguments: &[Term], text: &mut Vec<u8>) -> Result<(), AllocError>
-    ensures { OnOk result (text.new.items ≡ text.old.items ++ arguments_text (terms_of arguments.now)) }
+    ensures { OnOk result (text.new.items
+        ≡ text.old.items ++ arguments_text (terms_of arguments.now)) }
 {
     let [first, others @ ..] = arguments else {
         return Ok(());

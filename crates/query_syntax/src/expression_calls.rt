@@ -6,7 +6,8 @@ ghost use Rattle.query_parser.specs.Plain.{term_before, terms_of};
 ghost use Rattle.query_syntax.specs.Calls.{IsCall};
 ghost use Rattle.query_syntax.specs.Fits.{AllFit, Fits};
 ghost use Rattle.query_syntax.specs.Plain.{plain_expression};
-ghost use Rattle.query_syntax.specs.Words.{binary_word, compare_word, extremum_word, summary_word, unary_word};
+ghost use Rattle.query_syntax.specs.Words.{binary_word, compare_word, extremum_word, summary_word};
+ghost use Rattle.query_syntax.specs.Words.{unary_word};
 ghost use Rattle.query_syntax.specs.Written.{expression_before};
 
 use crate::expression_head::comparison_head;

@@ -1,7 +1,9 @@
 //! The calls that are expressions and comparisons, by their head words.
 ghost use Rattle.std.specs.Prelude.{◌≡◌};
 ghost use Rattle.query_forms.specs.declared.term_place.TermPlace.TheVariants as place;
-ghost use Rattle.query_syntax.specs.ExpressionHeads.{binaries, comparisons, compare_places, expression_places, expression_word, expressions, extrema};
+ghost use Rattle.query_syntax.specs.ExpressionHeads.{binaries, comparisons, compare_places};
+ghost use Rattle.query_syntax.specs.ExpressionHeads.{expression_places, expression_word};
+ghost use Rattle.query_syntax.specs.ExpressionHeads.{expressions, extrema};
 ghost use Rattle.query_syntax.specs.Fits.{AllFit, HasForm};
 ghost use Rattle.query_syntax.specs.Rows.{head_in};
 ghost use Rattle.query_syntax.specs.Words.{compare_word};

@@ -4,7 +4,8 @@ ghost use Rattle.query_forms.specs.declared.term_place.TermPlace.TheVariants as 
 ghost use Rattle.query_forms.specs.Terms.{Terms};
 ghost use Rattle.query_parser.specs.Plain.{term_before};
 ghost use Rattle.query_syntax.specs.Fits.{Fits};
-ghost use Rattle.query_syntax.specs.Written.{literal_before, name_before, number_before, text_before};
+ghost use Rattle.query_syntax.specs.Written.{literal_before, name_before, number_before};
+ghost use Rattle.query_syntax.specs.Written.{text_before};
 
 use crate::{Literal, Name, Number, Text};
 use query_parser::Term;

@@ -1,4 +1,5 @@
-//! The syntax tree of a query file: a constructor for each form of the language, with its place in the text.
+//! The syntax tree of a query file: a constructor for each form of the language, with its
+//! place in the text.
 #![tactic(auto)]
 
 mod expression;

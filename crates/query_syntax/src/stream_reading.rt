@@ -4,7 +4,8 @@ ghost use Rattle.query_forms.specs.declared.term_place.TermPlace.TheVariants as 
 ghost use Rattle.query_forms.specs.Terms.{Terms, none};
 ghost use Rattle.query_forms.specs.Tops.{stream_places};
 ghost use Rattle.query_parser.specs.Plain.{term_before, terms_of};
-ghost use Rattle.query_syntax.specs.Files.{all_before, column_before, digits_before, kind_before, mode_before, stream_before};
+ghost use Rattle.query_syntax.specs.Files.{all_before, column_before, digits_before, kind_before};
+ghost use Rattle.query_syntax.specs.Files.{mode_before, stream_before};
 ghost use Rattle.query_syntax.specs.Fits.{AllFit, Fits, HasForm};
 ghost use Rattle.query_syntax.specs.Plain.{plain_stream};
 ghost use Rattle.query_syntax.specs.Tops.{FitsStream};

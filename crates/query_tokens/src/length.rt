@@ -2,7 +2,8 @@
 ghost use Rattle.std.specs.Prelude.{◌≡◌, length, take_while};
 ghost use Rattle.std.specs.Char.{is_ascii_digit};
 ghost use Rattle.query_tokens.specs.Raw.{is_word_byte};
-ghost use Rattle.query_tokens.specs.Front.{kind_of, kind_at, sign_len, number_len, IsLength, IsFirst};
+ghost use Rattle.query_tokens.specs.Front.{kind_of, kind_at, sign_len, number_len, IsLength};
+ghost use Rattle.query_tokens.specs.Front.{IsFirst};
 
 use crate::part::closing_len;
 use crate::token::TokenKind;

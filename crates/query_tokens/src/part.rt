@@ -1,6 +1,7 @@
 //! The parts of a string.
 ghost use Rattle.std.specs.Prelude.{◌≡◌};
-ghost use Rattle.query_tokens.specs.StringParts.{code_of, escape_of, hex_of, is_plain, part_of, IsClosing};
+ghost use Rattle.query_tokens.specs.StringParts.{code_of, escape_of, hex_of, is_plain, part_of};
+ghost use Rattle.query_tokens.specs.StringParts.{IsClosing};
 
 fn hex_value(digit: u8) -> Option<u8>
     ensures { result ≡ hex_of digit }

@@ -6,7 +6,8 @@
 //!
 //!     1: AfterWord(0)   2: Argument(0)   3: AfterTerm(1)   6: Argument(1)   9: AfterTerm(0)
 ghost use Rattle.std.specs.Prelude.{◌≡◌, ◌+◌, ◌<◌, ◌≤◌, ◌^◌, IfSome};
-ghost use Rattle.query_trees.specs.Steps.{begin, continue_inside, continue_calls, call_or_continue, step, may_end, calls_of};
+ghost use Rattle.query_trees.specs.Steps.{begin, continue_inside, continue_calls, call_or_continue};
+ghost use Rattle.query_trees.specs.Steps.{step, may_end, calls_of};
 
 use query_tokens::TokenKind;
 

@@ -1,5 +1,6 @@
 //! The letters of two automata, and which of them have a position.
-ghost use Rattle.std.specs.Prelude.{◌≡◌, ◌≤◌, ◌<◌, ◌/◌, ◌%◌, ◌⊎◌, ◌↔◌, ℕ, IfOk, IfSome, None, OnOk, Some, length, slice_get};
+ghost use Rattle.std.specs.Prelude.{◌≡◌, ◌≤◌, ◌<◌, ◌/◌, ◌%◌, ◌⊎◌, ◌↔◌, ℕ, IfOk, IfSome, None, OnOk};
+ghost use Rattle.std.specs.Prelude.{Some, length, slice_get};
 ghost use Rattle.std.specs.List.{Contains};
 ghost use Rattle.rate_expr.specs.Sets.{Has};
 ghost use Rattle.rate_equal.specs.Free.{AreKnownFree};

@@ -5,7 +5,8 @@
 //! lack these positions.
 ghost use Rattle.std.specs.Prelude.{◌≡◌, IfOk, IsTrue, length};
 ghost use Rattle.std.specs.List.{Contains};
-ghost use Rattle.rate_equal.specs.Free.{AreAllFree, AreFree, AreKnownFree, AreMet, CanLack, HasOther};
+ghost use Rattle.rate_equal.specs.Free.{AreAllFree, AreFree, AreKnownFree, AreMet, CanLack};
+ghost use Rattle.rate_equal.specs.Free.{HasOther};
 ghost use Rattle.rate_equal.specs.Patterns.{HasAt};
 ghost use Rattle.rate_equal.specs.Reach.{max_reach};
 ghost use Rattle.rate_equal.specs.declared.pattern.Position.{Position};

@@ -60,8 +60,10 @@ impl Holders {
             → Has mask (place % 128) → HasRow self.now.second.items position place
             → Has result (place % 128) }
         ensures only { (place : ℕ) → place / 128 ≡ block → Has result (place % 128)
-            → ((position : ℕ) × Has positions.0 position × HasRow self.now.first.items position place)
-            ⊎ ((position : ℕ) × Has positions.1 position × HasRow self.now.second.items position place) }
+            → ((position : ℕ) × Has positions.0 position
+            × HasRow self.now.first.items position place)
+            ⊎ ((position : ℕ) × Has positions.1 position
+            × HasRow self.now.second.items position place) }
     {
         // Most blocks have no place in the mask.
         if mask == 0 {

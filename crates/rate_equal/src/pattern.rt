@@ -1,7 +1,8 @@
 //! Letters that have some positions and lack others.
 ghost use Rattle.std.specs.Prelude.{◌≡◌, ◌↔◌, ◌⊎◌, IfSome, IsTrue, None};
 ghost use Rattle.rate_equal.specs.declared.letters.Letter.{Letter as LetterOf};
-ghost use Rattle.rate_equal.specs.Patterns.{HasAt, HaveSameAt, IsBelow, IsLike, IsRest, positions_of};
+ghost use Rattle.rate_equal.specs.Patterns.{HasAt, HaveSameAt, IsBelow, IsLike, IsRest};
+ghost use Rattle.rate_equal.specs.Patterns.{positions_of};
 
 use crate::letters::Letter;
 use rate_expr::masks::{has, lowest, only, without_lowest};

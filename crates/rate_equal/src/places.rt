@@ -1,6 +1,7 @@
 //! Sets of places in a list.
 ghost use Rattle.std.specs.Prelude.{◌≡◌, ◌<◌, ℕ, IfOk, slice_index};
-ghost use Rattle.rate_equal.specs.PlaceSets.{block_count, AddsBlock, AddsPlace, HasPlace, KeepsBlock};
+ghost use Rattle.rate_equal.specs.PlaceSets.{block_count, AddsBlock, AddsPlace, HasPlace};
+ghost use Rattle.rate_equal.specs.PlaceSets.{KeepsBlock};
 ghost use Rattle.rate_equal.specs.Reach.{max_reach};
 
 use rate_expr::masks::{lowest, only};

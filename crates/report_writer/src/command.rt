@@ -23,7 +23,8 @@ pub fn bound_text(alloc: Global, places: u32, slots: u32) -> Result<Bytes, Alloc
     Ok(Bytes::from_vec(text.into_bytes()))
 }
 
-/// How many items there were, after how many of them there was a value, and the answer after the last.
+/// How many items there were, after how many of them there was a value, and the answer
+/// after the last.
 pub fn drill_text(
     alloc: Global,
     items: u32,

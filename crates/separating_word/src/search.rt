@@ -1,11 +1,14 @@
 //! The search for a shortest word that only one of two automata accepts, level by level: by words
 //! of one cell more each time.
-ghost use Rattle.std.specs.Prelude.{◌≡◌, ◌+◌, ◌++◌, ℕ, [], ◌∷◌, All, IfNone, IfOk, IfSome, MatchBool, OnOk, length};
+ghost use Rattle.std.specs.Prelude.{◌≡◌, ◌+◌, ◌++◌, ℕ, [], ◌∷◌, All, IfNone, IfOk, IfSome};
+ghost use Rattle.std.specs.Prelude.{MatchBool, OnOk, length};
 ghost use Rattle.rate_expr.specs.declared.state.State.TheVariants.{Initial};
 ghost use Rattle.separating_word.specs.declared.automata.Automata.{Automata};
 ghost use Rattle.separating_word.specs.Letters.{AreLetters};
 ghost use Rattle.separating_word.specs.Pairs.{AreCellsOf, ShareCells};
-ghost use Rattle.separating_word.specs.Searched.{Agree, AreAmong, HaveItems, IsExpanded, IsReachedIn, IsSearched, IsSearchedOn, IsShortestApart, LeadsOn};
+ghost use Rattle.separating_word.specs.Searched.{Agree, AreAmong, HaveItems, IsExpanded};
+ghost use Rattle.separating_word.specs.Searched.{IsReachedIn, IsSearched, IsSearchedOn};
+ghost use Rattle.separating_word.specs.Searched.{IsShortestApart, LeadsOn};
 
 use crate::automata::Automata;
 use crate::known_pairs::note;

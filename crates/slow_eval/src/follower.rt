@@ -9,7 +9,8 @@ use std::alloc::{AllocError, Global};
 use value_ops::Value;
 
 impl Follower for Slow<'_> {
-    ghost use Rattle.slow_eval.specs.Following.{columns_of, Follows, is_lost, IsSound, kept_of, position_of, query_of};
+    ghost use Rattle.slow_eval.specs.Following.{columns_of, Follows, is_lost, IsSound, kept_of};
+    ghost use Rattle.slow_eval.specs.Following.{position_of, query_of};
     ghost use Rattle.slow_eval.specs.Laws.{follows_ends, follows_found, follows_sound};
 
     ghost query = { query_of };

@@ -7,7 +7,8 @@ ghost use Rattle.std.specs.Prelude.{◌≡◌, ◌<◌, ◌≤◌, ◌+◌, ◌^
 ghost use Rattle.std.specs.Option.{option_or};
 ghost use Rattle.value_ops.specs.declared.value.Value.{Value};
 ghost use Rattle.value_ops.specs.Expressions.{plain_of};
-ghost use Rattle.slow_eval.specs.Rows.{answer_at, IsJoined, IsOnBoth, IsOnOne, IsPut, IsTypedOnBoth, IsTypedOnOne};
+ghost use Rattle.slow_eval.specs.Rows.{answer_at, IsJoined, IsOnBoth, IsOnOne, IsPut};
+ghost use Rattle.slow_eval.specs.Rows.{IsTypedOnBoth, IsTypedOnOne};
 
 use std::alloc::{AllocError, Global};
 use value_ops::{Expr, Value};

@@ -19,7 +19,8 @@ pub struct Slow<'q> {
 
 impl<'q> Slow<'q> {
     ghost use Rattle.std.specs.Prelude.{◌≡◌, [], true, false, IfOk, OnOk, OnErr};
-    ghost use Rattle.slow_eval.specs.Following.{columns_of, Follows, is_lost, IsSound, position_of, query_of};
+    ghost use Rattle.slow_eval.specs.Following.{columns_of, Follows, is_lost, IsSound, position_of};
+    ghost use Rattle.slow_eval.specs.Following.{query_of};
 
     /// The engine on the empty word.
     pub fn new(alloc: Global, checked: &'q Checked) -> Result<Slow<'q>, AllocError>

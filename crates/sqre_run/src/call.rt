@@ -39,7 +39,8 @@ pub fn sqre<Q: Source, S: Source, W: Sink>(
     ensures faults { FirstFault result (Q.faults query.old) (Q.faults query.new)
         (S.faults items.old) (S.faults items.new) (W.faults out.old) (W.faults out.new) }
     ensures ends { result ≡ Status.Done → Rose (Q.ends query.old) (Q.ends query.new)
-        × EndsItems (command_of (map string_bytes words.now)) (S.ends items.old) (S.ends items.new) }
+        × EndsItems (command_of (map string_bytes words.now)) (S.ends items.old)
+        (S.ends items.new) }
     ensures first_end { ReadsToFirstEnd (command_of (map string_bytes words.now)) result
         (S.ends items.old) (S.ends items.new) }
     ensures flushed { W.held out.old ≡ 0 → (result ≡ Status.SinkFault → ⊥)

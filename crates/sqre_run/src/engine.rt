@@ -32,7 +32,8 @@ pub fn carry_out<S: Source, W: Sink>(
 ) -> Status
     requires { IsDrillable checked.now.layout }
     ensures carried { let at = outside S.left S.ends W.taken in
-        Carried command (monitor_of checked.now) result (at items.old out.old) (at items.new out.new) }
+        Carried command (monitor_of checked.now) result (at items.old out.old)
+        (at items.new out.new) }
     ensures items { LeavesItems (Some command) items.old items.new }
     ensures flushed { LeavesFlushed result Status.SinkFault W.held out.old out.new }
     ensures item_faults { ReportsFault result Status.ItemFault S.faults items.old items.new }

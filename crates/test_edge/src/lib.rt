@@ -1,5 +1,5 @@
-//! Calls of `place_in_text`, `io_edge`, `item_drill` and `report_writer` with ample memory, and what
-//! they give at their edges. They stand here because a crate with tests is proved twice.
+//! Calls of `place_in_text`, `io_edge`, `item_drill` and `report_writer` with ample memory, and
+//! what they give at their edges. They stand here because a crate with tests is proved twice.
 #![tactic(auto)]
 
 #[cfg(test)]

@@ -58,7 +58,8 @@ fn ticked(alloc: Global) -> Result<Rate, AllocError>
     Ok(Rate::Seq(all, last))
 }
 
-// collect(k, eq(k, "tick"), seq(star(item(any)), item(eq(k, "tick"))), iter(atom(any, a), 0, add(x, y)))
+// collect(k, eq(k, "tick"), seq(star(item(any)), item(eq(k, "tick"))),
+//     iter(atom(any, a), 0, add(x, y)))
 fn totals_by_key(alloc: Global) -> Result<Box<Query>, AllocError>
     ensures { IfOk result (λ query. plain_of query.value.shape ≡ tested.totals_by_key) }
 {

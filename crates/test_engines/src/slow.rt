@@ -21,7 +21,8 @@ use value_ops::{BinaryOp, Bytes, Expr, Field, Scalar, Value, Var};
 // split(eps(3), eps(4), sub(x, y))
 fn difference(alloc: Global) -> Result<Box<Query>, AllocError>
     ensures { IfOk result (λ query. plain_of query.value.shape
-        ≡ split (eps (pos 3)) (eps (pos 4)) (binary BinaryOp.Sub (read Var.Left) (read Var.Right))) }
+        ≡ split (eps (pos 3)) (eps (pos 4))
+        (binary BinaryOp.Sub (read Var.Left) (read Var.Right))) }
 {
     let left = query(alloc, Shape::Eps(3))?;
     let right = query(alloc, Shape::Eps(4))?;

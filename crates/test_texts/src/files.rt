@@ -1,5 +1,5 @@
-// The longest texts, and the canonical text. The program `cases_queries` shows the other rules of reading at
-// their edges.
+// The longest texts, and the canonical text. The program `cases_queries` shows the other rules of
+// reading at their edges.
 use crate::assertions::same;
 use language_base::Bytes;
 use query_parser::{ReadStop, print_file, read_file};

@@ -1,4 +1,5 @@
-// Places and counts were found by hand. The program cases_queries goes through a table of more lets.
+// Places and counts were found by hand. The program cases_queries goes through a
+// table of more lets.
 ghost use Rattle.query_lets.specs.Places.{IsPlaced};
 
 use crate::assertions::same;

@@ -1,4 +1,5 @@
-// What no clause says: that a text of tokens is read where memory suffices, and a few of them by name.
+// What no clause says: that a text of tokens is read where memory suffices, and a few
+// of them by name.
 use crate::assertions::same;
 use language_base::Span;
 use query_tokens::TokenKind::{Close, Comma, Number, Open, Text, Word};

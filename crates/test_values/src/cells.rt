@@ -1,5 +1,5 @@
-// What no clause says: that cells, masks, samples and copies are made at all, and how many cells there may be. The
-// program cases_rates goes through a table of tests and the cells that they make.
+// What no clause says: that cells, masks, samples and copies are made at all, and how many cells
+// there may be. The program cases_rates goes through a table of tests and the cells that they make.
 use crate::assertions::same;
 use item_schema::{Column, Item, Kind, Schema};
 use predicate_cells::{

@@ -81,7 +81,8 @@ fn scalar(alloc: Global, scalar: Scalar) -> Result<Box<Value>, AllocError>
     Ok(Box::new(alloc, Value::Scalar(scalar))?)
 }
 
-// What the name stands for: the fields are 7 and a failed one, on the left is -2, on the right another failed one.
+// What the name stands for: the fields are 7 and a failed one, on the left is -2, on the right
+// another failed one.
 fn stands_for(rt: &impl Abort, alloc: Global, name: Var) -> Result<Scalar, AllocError> {
     let kinds = [Some(ValueType::Number), Some(ValueType::Number)];
     let types = Types {
@@ -182,7 +183,8 @@ fn entry(alloc: Global) -> Result<Box<Expr>, AllocError> {
     boxed(alloc, Expr::Get(Var::Left, key, missing))
 }
 
-// The forms that take a table: the sum, the count, the extremes from 3 on, and the entry under `b` or 3.
+// The forms that take a table: the sum, the count, the extremes from 3 on, and the entry
+// under `b` or 3.
 fn forms(alloc: Global) -> Result<Vec<Box<Expr>>, AllocError> {
     let mut forms = Vec::new(alloc);
     forms.push(boxed(alloc, Expr::Sum(Var::Left))?)?;

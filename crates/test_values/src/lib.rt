@@ -1,5 +1,6 @@
-//! Calls of `language_base`, `value_ops`, `item_schema`, `predicate_cells`, `plain_items` and `item_lines` with ample memory,
-//! and what they give at their edges. They stand here because a crate with tests is proved twice.
+//! Calls of `language_base`, `value_ops`, `item_schema`, `predicate_cells`, `plain_items` and
+//! `item_lines` with ample memory, and what they give at their edges. They stand here because a
+//! crate with tests is proved twice.
 #![tactic(auto)]
 
 #[cfg(test)]

@@ -1,5 +1,5 @@
-// What no clause says: that the lines of items and the plainest items of cells are made at all. Expected lines are worked
-// out by hand.
+// What no clause says: that the lines of items and the plainest items of cells are made at all.
+// Expected lines are worked out by hand.
 use crate::assertions::same;
 use crate::lines::two_columns;
 use item_lines::{is_shown, shown_line, shown_lines_are_read_to_their_items};

@@ -7,7 +7,8 @@ ghost use Rattle.query_syntax.specs.Plain.{plain_predicate};
 ghost use Rattle.type_checker.specs.Findings.{IsUnresolved};
 ghost use Rattle.type_checker.specs.Names.{column_named};
 ghost use Rattle.type_checker.specs.Steps.{found};
-ghost use Rattle.type_checker.specs.Tests.{both, equality_test, joined_by, order_test, resolved_over};
+ghost use Rattle.type_checker.specs.Tests.{both, equality_test, joined_by, order_test};
+ghost use Rattle.type_checker.specs.Tests.{resolved_over};
 
 use crate::CheckStop;
 use crate::columns::column_named;

@@ -1,5 +1,6 @@
 //! The entries of a table: the bytes of all keys in one list, and for each where they end.
-ghost use Rattle.std.specs.Prelude.{◌≡◌, ◌<◌, ◌↔◌, ℕ, List, [], ◌∷◌, ◌++◌, length, slice_get, IsTrue, IfOk, OnOk, OnErr};
+ghost use Rattle.std.specs.Prelude.{◌≡◌, ◌<◌, ◌↔◌, ℕ, List, [], ◌∷◌, ◌++◌, length, slice_get};
+ghost use Rattle.std.specs.Prelude.{IsTrue, IfOk, OnOk, OnErr};
 ghost use Rattle.value_ops.specs.Entries.{keys_of, values_of, value_at};
 ghost use Rattle.value_ops.specs.KeyBytes.{ends_of};
 ghost use Rattle.value_ops.specs.declared.scalar.Scalar.{Scalar};

@@ -26,7 +26,8 @@ impl Expr {
     ) -> Scalar
         requires { let inputs = given fields.now (option_copied left) (option_copied right) in
             IsNumber (types_of inputs) (plain_of self.now) }
-        ensures { let inputs = given fields.now (option_copied left.entry) (option_copied right.entry)
+        ensures { let inputs = given fields.now (option_copied left.entry)
+            (option_copied right.entry)
             in scalar_of inputs (plain_of self.now) ≡ Some result }
     {
         scalar(

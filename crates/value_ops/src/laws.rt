@@ -9,7 +9,8 @@ ghost use Rattle.value_ops.specs.Texts.{IsText};
 ghost use Rattle.value_ops.specs.Types.{IsValueOf, type_of};
 ghost use Rattle.value_ops.specs.Typing.{AreValues, HasType, types_of};
 
-/// A well-typed expression gives a value, and one of its type where what its names stand for is in range.
+/// A well-typed expression gives a value, and one of its type where what its names stand
+/// for is in range.
 pub fn typed_expressions_have_values()
     ensures value { (inputs : Inputs) (expression : Expression) (type : ValueType)
         → HasType (types_of inputs) expression type

@@ -1,5 +1,6 @@
 //! Scalars under keys.
-ghost use Rattle.std.specs.Prelude.{◌≡◌, ◌<◌, ◌↔◌, ℕ, List, [], ◌∷◌, ◌++◌, length, slice_get, IsTrue, IfOk, Contains, OnOk, OnErr};
+ghost use Rattle.std.specs.Prelude.{◌≡◌, ◌<◌, ◌↔◌, ℕ, List, [], ◌∷◌, ◌++◌, length, slice_get};
+ghost use Rattle.std.specs.Prelude.{IsTrue, IfOk, Contains, OnOk, OnErr};
 ghost use Rattle.value_ops.specs.Entries.{keys_of, values_of, value_at};
 ghost use Rattle.value_ops.specs.declared.scalar.Scalar.{Scalar};
 

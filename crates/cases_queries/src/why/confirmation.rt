@@ -29,8 +29,8 @@ pub(crate) fn push_confirmed(
     push_with_others(alloc, ask, example, readings, text)
 }
 
-/// Reports whether its items are confirmed with the cuts of the first reading for both readings, and
-/// with the cuts of the two readings exchanged.
+/// Reports whether its items are confirmed with the cuts of the first reading for both readings,
+/// and with the cuts of the two readings exchanged.
 fn push_with_these_cuts(
     alloc: Global,
     ask: Ask<'_>,

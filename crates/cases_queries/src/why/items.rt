@@ -17,7 +17,8 @@ pub(crate) fn copied(alloc: Global, items: &[Item]) -> Result<Vec<Item>, AllocEr
 /// All items but the one at the place.
 pub(crate) fn without(alloc: Global, items: &[Item], place: usize) -> Result<Vec<Item>, AllocError>
     requires { place < length items.now }
-    ensures { IfOk result (λ left. left.items ≡ take place items.now ++ drop (place + 1) items.now) }
+    ensures { IfOk result (λ left.
+        left.items ≡ take place items.now ++ drop (place + 1) items.now) }
 {
     let mut left = copied(alloc, &items[..place])?;
     let mut after = copied(alloc, &items[place + 1..])?;
