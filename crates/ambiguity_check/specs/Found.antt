@@ -23,4 +23,5 @@ IsAfter continues meet level node =
 -- the same from some node of the level in this phase
 abbrev pub IsAfterPhase : (Node → Node → Type 0) → (Node → Type 0) → List ℕ → Phase → Node → Type 0
 IsAfterPhase continues meet level phase node =
-    (before : Node) × (before.phase ≡ phase) × IsMarked level before × continues before node × meet node
+    (before : Node) × (before.phase ≡ phase) × IsMarked level before
+    × continues before node × meet node

@@ -13,11 +13,13 @@ OverlapOf columns r s items = (two : Overlap columns r s) × (length two.0 ≡ i
 
 -- a word of `items` items splits in two ways
 abbrev pub TwoSplitsOf : List Column → Regex → Regex → ℕ → Type 0
-TwoSplitsOf columns r s items = (two : HaveTwoSplits columns r s) × (length (two.u ++ two.v) ≡ items)
+TwoSplitsOf columns r s items =
+    (two : HaveTwoSplits columns r s) × (length (two.u ++ two.v) ≡ items)
 
 -- a word of `items` items factors in two ways
 abbrev pub TwoFactoringsOf : List Column → Regex → ℕ → Type 0
-TwoFactoringsOf columns r items = (two : HasTwoFactorings columns r) × (length (join two.us) ≡ items)
+TwoFactoringsOf columns r items =
+    (two : HasTwoFactorings columns r) × (length (join two.us) ≡ items)
 
 -- a walk of `items` items leads to an end
 abbrev pub EndsAfter : (Node → Type 0) → (Node → Node → Type 0) → (Node → Type 0)

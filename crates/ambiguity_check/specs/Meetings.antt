@@ -22,6 +22,7 @@ AreMeetings columns first second rows = (left right : ℕ)
 pub record IsJoined (old : List ℕ) (first second : ℕ) (new : List ℕ) : Type 0 where
   pub same : length new ≡ length old
   pub kept : (left right : ℕ) → Has (slice_index old left) right → Has (slice_index new left) right
-  pub joined : (left right : ℕ) → Has first left → Has second right → Has (slice_index new left) right
+  pub joined : (left right : ℕ) → Has first left → Has second right
+      → Has (slice_index new left) right
   pub only : (left right : ℕ) → Has (slice_index new left) right
       → Has (slice_index old left) right ⊎ (Has first left × Has second right)

@@ -21,9 +21,11 @@ Rises (one ∷ others) =
     ((other : Reached) → Contains others other → one.items ≤ other.items) × Rises others
 
 -- these are the nodes of all levels before this one, level by level
-pub record AreKnown (begins : Node → Type 0) (continues : Node → Node → Type 0) (meet : Node → Type 0)
+pub record AreKnown (begins : Node → Type 0) (continues : Node → Node → Type 0)
+    (meet : Node → Type 0)
     (level : ℕ) (reached : List Reached) : Type 0 where
-  pub only : (one : Reached) → Contains reached one → IsShortest begins continues meet one.items one.node
+  pub only : (one : Reached) → Contains reached one
+      → IsShortest begins continues meet one.items one.node
       × (one.items < level) × (one.node.right < 128)
   pub each : (node : Node) (fewer : ℕ) → fewer < level → IsShortest begins continues meet fewer node
       → Contains reached (record { node = node; items = fewer })
@@ -31,7 +33,8 @@ pub record AreKnown (begins : Node → Type 0) (continues : Node → Node → Ty
 
 -- the node is an end, no walk of fewer items leads to any end, and the nodes of all levels before
 -- its own are known
-pub record IsFirstEnd (begins : Node → Type 0) (continues : Node → Node → Type 0) (meet : Node → Type 0)
+pub record IsFirstEnd (begins : Node → Type 0) (continues : Node → Node → Type 0)
+    (meet : Node → Type 0)
     (ends : Node → Type 0) (reached : List Reached) (end : Reached) : Type 0 where
   pub ended : ends end.node
   pub shortest : IsShortest begins continues meet end.items end.node

@@ -3,7 +3,8 @@ use Rattle.std.specs.Prelude.{◌≢◌, ◌<◌, ℕ, List, [], ◌∷◌, leng
 use Rattle.item_schema.specs.declared.column.Column.{Column}
 use Rattle.rate_expr.specs.Language.{In}
 use Rattle.rate_expr.specs.Rates.{Regex}
-use Rattle.rate_expr.specs.Readings.{AreDisjoint, Overlap, HaveOneSplit, HaveTwoSplits, HasOneFactoring, HasTwoFactorings}
+use Rattle.rate_expr.specs.Readings.{AreDisjoint, Overlap, HaveOneSplit, HaveTwoSplits}
+use Rattle.rate_expr.specs.Readings.{HasOneFactoring, HasTwoFactorings}
 use Rattle.rate_expr.specs.Words.{Word, IsWordOf}
 use Rattle.ambiguity_example.specs.Cuts.{ArePieces, PartsInto}
 
@@ -76,7 +77,8 @@ abbrev pub Shows : List Column → Question → Shown → Type 0
 Shows columns question shown = IsWordOf columns shown.items × HasReadings question shown
 
 -- the same, and no example has fewer items
-pub record IsShortestShown (columns : List Column) (question : Question) (shown : Shown) : Type 0 where
+pub record IsShortestShown (columns : List Column) (question : Question)
+    (shown : Shown) : Type 0 where
   pub shows : Shows columns question shown
   pub none : (other : Shown) → length other.items < length shown.items
       → Shows columns question other → ⊥

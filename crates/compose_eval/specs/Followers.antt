@@ -1,6 +1,7 @@
 -- Statement. The followers of a right operand: those that a start of the left one feeds, and idle
 -- ones.
-use Rattle.std.specs.Prelude.{◌≡◌, ◌==◌, ◌+◌, ◌≤◌, ℕ, zero, suc, Bool, not, List, [], ◌∷◌, ◌++◌, length, filter, map, find, slice_get, Option, Some, refl}
+use Rattle.std.specs.Prelude.{◌≡◌, ◌==◌, ◌+◌, ◌≤◌, ℕ, zero, suc, Bool, not, List, [], ◌∷◌, ◌++◌}
+use Rattle.std.specs.Prelude.{length, filter, map, find, slice_get, Option, Some, refl}
 use Rattle.std.specs.List.{IsDistinct}
 use Rattle.std.specs.Coded.{Coded, code_by, coded×, coded_list, coded_ℕ}
 use Rattle.compose_eval.specs.declared.instance.Instance.{Instance}
@@ -75,7 +76,8 @@ AnswersAs post live is_live =
 
 -- stored as the start and the follower
 abbrev pub instance_code : {R : Type 0} → Coded R → Coded (Instance R)
-instance_code {R} code = code_by (ℕ × R) (coded× coded_ℕ code) (λ instance. (instance.outer, instance.follower))
+instance_code {R} code =
+    code_by (ℕ × R) (coded× coded_ℕ code) (λ instance. (instance.outer, instance.follower))
     (λ pair. record { outer = pair.0; follower = pair.1 }) (λ _. refl)
 
 -- stored as the lists and the room

@@ -1,6 +1,7 @@
 -- Statement. A word with two readings, drawn: a row for each item, with what reads the item in one
 -- reading and in the other.
-use Rattle.std.specs.Prelude.{◌+◌, ◌-◌, ◌==◌, nat_le, min, max, ℕ, List, [], ◌∷◌, ◌++◌, length, take, drop, count_by, codes, decimal, if◌then◌else◌}
+use Rattle.std.specs.Prelude.{◌+◌, ◌-◌, ◌==◌, nat_le, min, max, ℕ, List, [], ◌∷◌, ◌++◌, length}
+use Rattle.std.specs.Prelude.{take, drop, count_by, codes, decimal, if◌then◌else◌}
 use Rattle.std.specs.Option.{unwrap_or}
 use Rattle.value_ops.specs.declared.field.Field.{Field}
 use Rattle.item_schema.specs.declared.column.Column.{Column}
@@ -26,7 +27,8 @@ unfoldable pub said_of : Readers → Word → List ℕ
 said_of Both [] = codes "Both operands have a value on no items at all.\n"
 said_of Both (item ∷ items) = codes "Both operands have a value on these items:\n"
 said_of Operands items =
-    codes "These items can be parted in two ways between the left and the right operand:\n" ++ heading
+    codes "These items can be parted in two ways between the left and the right operand:\n"
+    ++ heading
 said_of Pieces [] =
     codes "The operand has a value on no items at all: these are no piece, or one piece.\n"
 said_of Pieces (item ∷ items) =

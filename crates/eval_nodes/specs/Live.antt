@@ -2,10 +2,12 @@
 use Rattle.std.specs.Prelude.{◌==◌, ◌||◌, ℕ, Bool, false, List, Option, None, Some}
 use Rattle.std.specs.List.{list_any}
 use Rattle.value_ops.specs.declared.value.Value.{Value}
-use Rattle.query_model.specs.Queries.{Qre, atom, choice, split, iter, combine, apply, compose, collect}
+use Rattle.query_model.specs.Queries.{Qre, atom, choice, split, iter, combine, apply, compose}
+use Rattle.query_model.specs.Queries.{collect}
 use Rattle.split_eval.specs.declared.entry.Entry.{Entry}
 use Rattle.map_collect.specs.Tracks.{begins_at}
-use Rattle.eval_nodes.specs.Holdings.{Holding, atom_held, choice_held, combine_held, apply_held, split_held, iter_held, compose_held, collect_held}
+use Rattle.eval_nodes.specs.Holdings.{Holding, atom_held, choice_held, combine_held, apply_held}
+use Rattle.eval_nodes.specs.Holdings.{split_held, iter_held, compose_held, collect_held}
 
 -- this is the start that waits
 abbrev pub is_waiting : Option ℕ → ℕ → Bool

@@ -2,11 +2,14 @@
 use Rattle.std.specs.Prelude.{false, []}
 use Rattle.compose_eval.specs.Followers.{Contents}
 use Rattle.map_collect.specs.Tracks as tracks
-use Rattle.eval_nodes.specs.Holdings.{Holding, atom_held, eps_held, choice_held, combine_held, apply_held, split_held, iter_held, compose_held, collect_held, Seen}
+use Rattle.eval_nodes.specs.Holdings.{Holding, atom_held, eps_held, choice_held, combine_held}
+use Rattle.eval_nodes.specs.Holdings.{apply_held, split_held, iter_held, compose_held, collect_held}
+use Rattle.eval_nodes.specs.Holdings.{Seen}
 use Rattle.eval_nodes.specs.declared.node.Node.{Node}
 use Rattle.eval_nodes.specs.declared.node.State.{State, out-State}
 use Rattle.eval_nodes.specs.declared.node.State.TheOpen.{State-F}
-use Rattle.eval_nodes.specs.declared.node.State.TheVariants.{Atom, Eps, Or', Apply', Split', Combine', Iter', Compose', Collect'}
+use Rattle.eval_nodes.specs.declared.node.State.TheVariants.{Atom, Eps, Or', Apply', Split'}
+use Rattle.eval_nodes.specs.declared.node.State.TheVariants.{Combine', Iter', Compose', Collect'}
 use Rattle.eval_nodes.specs.declared.progress.Progress.{Progress}
 
 -- the runners of a compose; none in a node of another shape

@@ -13,7 +13,8 @@ use Rattle.rate_expr.specs.Words.{Word}
 use Rattle.query_model.specs.Bounds.{places_of, slots_of}
 use Rattle.query_model.specs.Denotation.{Den, Outputs}
 use Rattle.query_model.specs.Following.{IsAnswer}
-use Rattle.query_model.specs.Queries.{Qre, atom, eps, choice, split, iter, combine, apply, compose, collect}
+use Rattle.query_model.specs.Queries.{Qre, atom, eps, choice, split, iter, combine, apply, compose}
+use Rattle.query_model.specs.Queries.{collect}
 use Rattle.query_model.specs.QueryTypes.{derived_columns, type_of}
 use Rattle.query_model.specs.Rates.{rate_of}
 use Rattle.split_eval.specs.Entries.{entry_at, AreDistinct}
@@ -21,7 +22,9 @@ use Rattle.split_eval.specs.declared.entry.Entry.{Entry}
 use Rattle.compose_eval.specs.Followers.{Contents, outers_of}
 use Rattle.memory_bound.specs.KeysMet.{keys_met}
 use Rattle.eval_nodes.specs.Counts.{size_of_runner, stored_in}
-use Rattle.eval_nodes.specs.Holdings.{Holding, atom_held, eps_held, choice_held, combine_held, apply_held, split_held, iter_held, compose_held, collect_held, Seen}
+use Rattle.eval_nodes.specs.Holdings.{Holding, atom_held, eps_held, choice_held, combine_held}
+use Rattle.eval_nodes.specs.Holdings.{apply_held, split_held, iter_held, compose_held, collect_held}
+use Rattle.eval_nodes.specs.Holdings.{Seen}
 use Rattle.eval_nodes.specs.Keyed.{AreTracked, StandFor}
 use Rattle.eval_nodes.specs.Starts.{IsLive, IsPiece, AreDifferent}
 

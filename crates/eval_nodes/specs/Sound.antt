@@ -9,7 +9,8 @@ use Rattle.value_ops.specs.Types.{IsValueOf}
 use Rattle.item_schema.specs.declared.column.Column.{Column}
 use Rattle.rate_expr.specs.FirstLastFollow.{AreSetsOf}
 use Rattle.query_model.specs.Bounds.{places_of, slots_of}
-use Rattle.query_model.specs.Queries.{Qre, atom, eps, choice, split, iter, combine, apply, compose, collect}
+use Rattle.query_model.specs.Queries.{Qre, atom, eps, choice, split, iter, combine, apply, compose}
+use Rattle.query_model.specs.Queries.{collect}
 use Rattle.query_model.specs.QueryTypes.{derived_columns, type_of}
 use Rattle.query_model.specs.Sizes.{max_slots}
 use Rattle.split_eval.specs.Entries.{Contents, AreDistinct}
@@ -17,7 +18,9 @@ use Rattle.compose_eval.specs.Followers.{outers_of}
 use Rattle.map_collect.specs.Keys.{fallback_of, followers_of}
 use Rattle.map_collect.specs.Tracks.{starts_of}
 use Rattle.map_collect.specs.declared.keys.Keys.{Keys}
-use Rattle.eval_nodes.specs.Holdings.{Holding, atom_held, eps_held, choice_held, combine_held, apply_held, split_held, iter_held, compose_held, collect_held, Seen}
+use Rattle.eval_nodes.specs.Holdings.{Holding, atom_held, eps_held, choice_held, combine_held}
+use Rattle.eval_nodes.specs.Holdings.{apply_held, split_held, iter_held, compose_held, collect_held}
+use Rattle.eval_nodes.specs.Holdings.{Seen}
 use Rattle.eval_nodes.specs.Starts.{AreDifferent}
 
 -- the answer, if there is one, has the type

@@ -5,7 +5,8 @@ use Rattle.language_base.specs.Limits.{max_positions}
 use Rattle.item_schema.specs.declared.column.Column.{Column}
 use Rattle.predicate_cells.specs.Cells.{Partition}
 use Rattle.rate_expr.specs.Rates.{Regex, preds_of, size_of}
-use Rattle.query_model.specs.Queries.{Qre, atom, eps, choice, split, iter, combine, apply, compose, collect}
+use Rattle.query_model.specs.Queries.{Qre, atom, eps, choice, split, iter, combine, apply, compose}
+use Rattle.query_model.specs.Queries.{collect}
 
 -- the rate does not have too many positions, and its predicates distinguish the cells
 pub record CanRead (cells : Partition) (rate : Regex) : Type 0 where

@@ -33,7 +33,8 @@ kept_of runner =
 
 -- it is sound if it is not lost, and it is never lost if the query has no collect
 pub record IsSoundly (runner : Runner) : Type 0 where
-  pub sound : ((runner.failed ≡ true) × (HasNoCollect (query_of runner) → ⊥)) ⊎ IsSoundRunner seen_of
+  pub sound : ((runner.failed ≡ true) × (HasNoCollect (query_of runner) → ⊥))
+      ⊎ IsSoundRunner seen_of
       (IsSound seen_of (columns_of runner) (query_of runner))
       (type_of (columns_of runner) (query_of runner)) runner.progress
 

@@ -1,6 +1,7 @@
 -- For the prover. What becomes of runners: they take items and are put back before the first one.
 -- Those of a compose do so by the hits of its left operand.
-use Rattle.std.specs.Prelude.{◌≡◌, ◌<◌, ◌⊎◌, ℕ, ◌+◌, ◌^◌, Bool, List, [], ◌∷◌, ◌++◌, Option, None, Some, MatchOption, if◌then◌else◌, length, slice_get}
+use Rattle.std.specs.Prelude.{◌≡◌, ◌<◌, ◌⊎◌, ℕ, ◌+◌, ◌^◌, Bool, List, [], ◌∷◌, ◌++◌, Option, None}
+use Rattle.std.specs.Prelude.{Some, MatchOption, if◌then◌else◌, length, slice_get}
 use Rattle.std.specs.Option.{option_map}
 use Rattle.std.specs.List.{AllByRecursion}
 use Rattle.value_ops.specs.declared.field.Field.{Field}
@@ -97,14 +98,16 @@ module _ {R : Type 0} (seen : R → Seen R) where
     pub position : (seen new).position ≡ 0
 
   -- the runner takes the value of a hit, and its answer is a hit of the same start
-  pub record IsDelivered (query : Qre) (old : R) (left : Hit) (new : R) (hit : Option Hit) : Type 0 where
+  pub record IsDelivered (query : Qre) (old : R) (left : Hit) (new : R)
+      (hit : Option Hit) : Type 0 where
     pub carried : IsCarried query old (item_of left.value) new
     pub answers : hit ≡ hit_at left.start (seen new).answer
 
   -- the runner is put back before the first item, and takes the value of a hit if there is one
   abbrev pub IsBegun : Qre → R → Option Hit → R → Option Hit → Type 0
   IsBegun query old left new hit = MatchOption left (IsRenewed query old new × (hit ≡ None))
-      (λ found. (between : R) × IsRenewed query old between × IsDelivered query between found new hit)
+      (λ found. (between : R) × IsRenewed query old between
+      × IsDelivered query between found new hit)
 
   -- the runner that is fed from the start of the hit takes its value
   pub record IsPassed (query : Qre) (old : Contents R) (left : Hit) (new : Contents R)

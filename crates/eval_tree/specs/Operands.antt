@@ -12,7 +12,8 @@ use Rattle.eval_nodes.specs.Holdings.{Holding, Seen}
 use Rattle.eval_nodes.specs.Live.{live_of}
 use Rattle.eval_tree.specs.declared.hit.Hit.{Hit}
 use Rattle.eval_tree.specs.Calls.{HasStarted, HasStepped}
-use Rattle.eval_tree.specs.Lefts.{AreNumbersWith, AreTypedWith, IsEnded, IsJoined, IsNumberWith, IsPut, IsTypedWith}
+use Rattle.eval_tree.specs.Lefts.{AreNumbersWith, AreTypedWith, IsEnded, IsJoined, IsNumberWith}
+use Rattle.eval_tree.specs.Lefts.{IsPut, IsTypedWith}
 use Rattle.eval_tree.specs.Numbers.{StartsNumbers, StepsNumbers}
 use Rattle.eval_tree.specs.Steps.{CanStart, CanStep, StartsSoundly, StepsSoundly}
 

@@ -1,6 +1,7 @@
 -- For the prover. What becomes of the starts of a collect: an item goes by at each, the first one
 -- whose piece is then in the rate gives a table, and one more start may be put in.
-use Rattle.std.specs.Prelude.{◌≡◌, ◌≤◌, ◌<◌, ◌⊎◌, ℕ, zero, suc, ◌+◌, ◌^◌, List, [], ◌∷◌, ◌++◌, Option, None, Some, MatchOption, slice_get}
+use Rattle.std.specs.Prelude.{◌≡◌, ◌≤◌, ◌<◌, ◌⊎◌, ℕ, zero, suc, ◌+◌, ◌^◌, List, [], ◌∷◌, ◌++◌}
+use Rattle.std.specs.Prelude.{Option, None, Some, MatchOption, slice_get}
 use Rattle.std.specs.List.{AllByRecursion, AllZip, Contains, cons_option}
 use Rattle.value_ops.specs.declared.field.Field.{Field}
 use Rattle.value_ops.specs.declared.scalar.Scalar.{Scalar}
@@ -21,7 +22,8 @@ use Rattle.symbolic_nfa.specs.States.{Extends, IsAccepted}
 use Rattle.map_collect.specs.Followers.{with_key}
 use Rattle.map_collect.specs.Keys.{fallback_of, followers_of, keyed_of, names_of}
 use Rattle.map_collect.specs.Lending.{with_follower}
-use Rattle.map_collect.specs.Tracks.{AllAdvance, Contents, keys_of, starts_of, IsFirstAccepted, KeepsExtending, NoneAccepted}
+use Rattle.map_collect.specs.Tracks.{AllAdvance, Contents, keys_of, starts_of, IsFirstAccepted}
+use Rattle.map_collect.specs.Tracks.{KeepsExtending, NoneAccepted}
 use Rattle.map_collect.specs.declared.keys.Keys.{Keys}
 use Rattle.map_collect.specs.declared.track.Track.{Track}
 use Rattle.eval_nodes.specs.Copies.{IsCopy, IsCopyOf}
@@ -99,7 +101,8 @@ module _ {R : Type 0} (seen : R → Seen R) where
         × (keyed_of new ≡ with_key key runner (keyed_of old)))
 
   -- the runner at the place takes the item
-  pub record IsCarriedAt (query : Qre) (place : ℕ) (item : List Field) (old new : Keys R) : Type 0 where
+  pub record IsCarriedAt (query : Qre) (place : ℕ) (item : List Field)
+      (old new : Keys R) : Type 0 where
     pub runner : R
     pub carried : R
     pub read : slice_get (followers_of old) place ≡ Some runner

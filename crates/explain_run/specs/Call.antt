@@ -6,13 +6,15 @@ use Rattle.io_edge.specs.Written.{AppendsSome}
 use Rattle.sqre_run.specs.QueryRead.{max_read}
 use Rattle.explain_run.specs.Explained.{Explains, IsAccepted}
 use Rattle.explain_run.specs.declared.status.Status.{Status}
-use Rattle.explain_run.specs.declared.status.Status.TheVariants.{Accepted, Explained, QueryFault, SinkFault, Memory}
+use Rattle.explain_run.specs.declared.status.Status.TheVariants.{Accepted, Explained, QueryFault}
+use Rattle.explain_run.specs.declared.status.Status.TheVariants.{SinkFault, Memory}
 
 -- What was written about the text that was read, which is called by this name: its explanation,
 -- whole or in part, and nothing if the query is accepted.
 abbrev pub Reported : List ℕ → List ℕ → Option (List ℕ) → Option (List ℕ) → Status → Type 0
 Reported name text old new Accepted = IsAccepted text × (new ≡ old)
-Reported name text old new Explained = (shown : List ℕ) × Explains name text shown × Appends old new shown
+Reported name text old new Explained =
+    (shown : List ℕ) × Explains name text shown × Appends old new shown
 Reported name text old new SinkFault =
     (shown : List ℕ) × Explains name text shown × AppendsSome old new shown
 Reported name text old new Memory = new ≡ old

@@ -1,7 +1,8 @@
 -- Statement. The exit status of the program for each way in which an explanation ends.
 use Rattle.std.specs.Prelude.{ℕ}
 use Rattle.explain_run.specs.declared.status.Status.{Status}
-use Rattle.explain_run.specs.declared.status.Status.TheVariants.{Accepted, Explained, QueryFault, SinkFault, Memory}
+use Rattle.explain_run.specs.declared.status.Status.TheVariants.{Accepted, Explained, QueryFault}
+use Rattle.explain_run.specs.declared.status.Status.TheVariants.{SinkFault, Memory}
 
 -- the number of each status
 abbrev pub number_of : Status → ℕ

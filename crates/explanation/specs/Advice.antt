@@ -1,7 +1,8 @@
 -- Statement. What is said about the rule that is broken: a sentence for it, how to mend the query,
 -- and what is often meant. For the rule `form` these are the forms of what has to stand at the
 -- place.
-use Rattle.std.specs.Prelude.{ℕ, List, [], length, nat_lt, ◌++◌, codes, Option, Some, None, if◌then◌else◌}
+use Rattle.std.specs.Prelude.{ℕ, List, [], length, nat_lt, ◌++◌, codes, Option, Some, None}
+use Rattle.std.specs.Prelude.{if◌then◌else◌}
 use Rattle.language_base.specs.declared.refusal.Refusal.{Refusal}
 use Rattle.language_base.specs.declared.rule.Rule.{Rule}
 use Rattle.language_base.specs.declared.rule.Rule.TheVariants as rule

@@ -3,7 +3,10 @@ use Rattle.std.specs.Prelude.{ℕ, List, [], ◌++◌, codes, Option, Some, None
 use Rattle.language_base.specs.declared.span.Span.{Span}
 use Rattle.explanation.specs.Hints.{term_at}
 use Rattle.explanation.specs.declared.culprit.Culprit.{Culprit}
-use Rattle.explanation.specs.declared.culprit.Culprit.TheVariants.{TwiceColumn, TwiceLet, NoLet, NoColumn, NoValue, OfValue, NotOne, NotTwo, Texts, Numbers, Key, NoTable}
+use Rattle.explanation.specs.declared.culprit.Culprit.TheVariants.{TwiceColumn, TwiceLet, NoLet}
+use Rattle.explanation.specs.declared.culprit.Culprit.TheVariants.{NoColumn, NoValue, OfValue}
+use Rattle.explanation.specs.declared.culprit.Culprit.TheVariants.{NotOne, NotTwo, Texts, Numbers}
+use Rattle.explanation.specs.declared.culprit.Culprit.TheVariants.{Key, NoTable}
 use Rattle.explanation.specs.declared.culprit_line.TheConstants as words
 
 -- which names are known where it stands, if that is why it is refused

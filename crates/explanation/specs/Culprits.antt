@@ -17,7 +17,8 @@ use Rattle.query_syntax.specs.Rates.{Rate}
 use Rattle.query_syntax.specs.Spans.{query_span}
 use Rattle.query_syntax.specs.declared.leaf.Name.{Name}
 use Rattle.explanation.specs.Misfits.{misfit_item, misfit_read, misfit_test, unless_key}
-use Rattle.explanation.specs.Scopes.{Scope, of_item, of_mistyped, of_one, of_two, of_value, unless_known}
+use Rattle.explanation.specs.Scopes.{Scope, of_item, of_mistyped, of_one, of_two, of_value}
+use Rattle.explanation.specs.Scopes.{unless_known}
 use Rattle.explanation.specs.Spots.{has_in, is_at}
 use Rattle.explanation.specs.Unknown.{first_of, unknown_column, unknown_item, unknown_name}
 use Rattle.explanation.specs.Uses.{is_on_values}

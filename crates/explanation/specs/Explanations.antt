@@ -24,7 +24,8 @@ column_unit = codes " (the column in bytes): "
 
 -- where the query is refused, and the refusal as a run writes it
 unfoldable pub heading : List ℕ → ℕ → ℕ → Refusal → List ℕ
-heading name line column refusal = place_text name line column ++ column_unit ++ refusal_text refusal
+heading name line column refusal =
+    place_text name line column ++ column_unit ++ refusal_text refusal
 
 -- a second place, where there is one
 unfoldable pub aside_lines : List ℕ → List ℕ → Option Aside → List ℕ
@@ -37,7 +38,8 @@ aside_lines name text None = []
 
 -- the explanation of a refusal of this text, which is called by this name, with the limit that is
 -- exceeded, the name in the query that it is about, and the second place
-unfoldable pub explanation : List ℕ → List ℕ → Refusal → Option Limit → Option Culprit → Option Aside → List ℕ
+unfoldable pub explanation : List ℕ → List ℕ → Refusal → Option Limit → Option Culprit
+    → Option Aside → List ℕ
 explanation name text refusal limit culprit aside =
     heading name (line_of text refusal.span.from) (column_of text refusal.span.from) refusal
     ++ marked_line text refusal.span.from refusal.span.to
@@ -51,4 +53,5 @@ text_explanation name text refusal = explanation name text refusal None None Non
 -- the explanation for a text that is this program
 abbrev pub program_explanation : List ℕ → List ℕ → Program → Refusal → List ℕ
 program_explanation name text program refusal =
-    explanation name text refusal (limit_of program refusal) (culprit_of program refusal) (aside_of program refusal)
+    explanation name text refusal (limit_of program refusal) (culprit_of program refusal)
+    (aside_of program refusal)

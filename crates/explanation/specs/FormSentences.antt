@@ -2,7 +2,10 @@
 -- the code.
 use Rattle.std.specs.Prelude.{ℕ, List}
 use Rattle.query_forms.specs.declared.term_place.TermPlace.{TermPlace}
-use Rattle.query_forms.specs.declared.term_place.TermPlace.TheVariants.{Mode, Column, Kind, Query, Rate, Pred, Literal, Expr, Compare, Name, Number, Text, Digits}
+use Rattle.query_forms.specs.declared.term_place.TermPlace.TheVariants.{Mode, Column, Kind, Query}
+use Rattle.query_forms.specs.declared.term_place.TermPlace.TheVariants.{Rate, Pred, Literal, Expr}
+use Rattle.query_forms.specs.declared.term_place.TermPlace.TheVariants.{Compare, Name, Number, Text}
+use Rattle.query_forms.specs.declared.term_place.TermPlace.TheVariants.{Digits}
 use Rattle.explanation.specs.declared.form_sentence.TheConstants as words
 use Rattle.explanation.specs.declared.expectation.Standing.{Standing}
 use Rattle.explanation.specs.declared.expectation.Standing.TheVariants.{Top, In, Nothing}

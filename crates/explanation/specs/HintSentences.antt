@@ -1,7 +1,13 @@
 -- Statement. The sentence for each hint. The words are constants of the code.
 use Rattle.std.specs.Prelude.{ℕ, List}
 use Rattle.explanation.specs.declared.hint.Hint.{Hint}
-use Rattle.explanation.specs.declared.hint.Hint.TheVariants.{Point, SingleQuote, SmartQuote, BadString, Comment, Comparison, Arithmetic, Connective, Mark, ByteOrderMark, NotAscii, MissingComma, MissingTerm, NoHead, EmptyWord, TwoKinds, TableOrNumber, ValueCells, RateItem}
+use Rattle.explanation.specs.declared.hint.Hint.TheVariants.{Point, SingleQuote, SmartQuote}
+use Rattle.explanation.specs.declared.hint.Hint.TheVariants.{BadString, Comment, Comparison}
+use Rattle.explanation.specs.declared.hint.Hint.TheVariants.{Arithmetic, Connective, Mark}
+use Rattle.explanation.specs.declared.hint.Hint.TheVariants.{ByteOrderMark, NotAscii, MissingComma}
+use Rattle.explanation.specs.declared.hint.Hint.TheVariants.{MissingTerm, NoHead, EmptyWord}
+use Rattle.explanation.specs.declared.hint.Hint.TheVariants.{TwoKinds, TableOrNumber, ValueCells}
+use Rattle.explanation.specs.declared.hint.Hint.TheVariants.{RateItem}
 use Rattle.explanation.specs.declared.hint_sentence.TheConstants as words
 
 -- what is often meant

@@ -1,6 +1,7 @@
 -- Statement. Which hint fits the place of a refusal, by the bytes there and around it and by the
 -- head of the term.
-use Rattle.std.specs.Prelude.{ℕ, ◌+◌, ◌-◌, Bool, false, ◌==◌, ◌&&◌, ◌||◌, nat_le, List, [], length, take, drop, codes, slice_get, Option, Some, None, if◌then◌else◌}
+use Rattle.std.specs.Prelude.{ℕ, ◌+◌, ◌-◌, Bool, false, ◌==◌, ◌&&◌, ◌||◌, nat_le, List, [], length}
+use Rattle.std.specs.Prelude.{take, drop, codes, slice_get, Option, Some, None, if◌then◌else◌}
 use Rattle.std.specs.Char.{is_ascii_digit}
 use Rattle.std.specs.List.{prefix_len, take_while}
 use Rattle.std.specs.Str.{bytes_eq}
@@ -10,7 +11,13 @@ use Rattle.language_base.specs.declared.rule.Rule.TheVariants as rule
 use Rattle.language_base.specs.declared.span.Span.{Span}
 use Rattle.query_tokens.specs.Raw.{is_word_byte}
 use Rattle.explanation.specs.declared.hint.Hint.{Hint}
-use Rattle.explanation.specs.declared.hint.Hint.TheVariants.{Point, SingleQuote, SmartQuote, BadString, Comment, Comparison, Arithmetic, Connective, Mark, ByteOrderMark, NotAscii, MissingComma, MissingTerm, NoHead, EmptyWord, TwoKinds, TableOrNumber, ValueCells, RateItem}
+use Rattle.explanation.specs.declared.hint.Hint.TheVariants.{Point, SingleQuote, SmartQuote}
+use Rattle.explanation.specs.declared.hint.Hint.TheVariants.{BadString, Comment, Comparison}
+use Rattle.explanation.specs.declared.hint.Hint.TheVariants.{Arithmetic, Connective, Mark}
+use Rattle.explanation.specs.declared.hint.Hint.TheVariants.{ByteOrderMark, NotAscii, MissingComma}
+use Rattle.explanation.specs.declared.hint.Hint.TheVariants.{MissingTerm, NoHead, EmptyWord}
+use Rattle.explanation.specs.declared.hint.Hint.TheVariants.{TwoKinds, TableOrNumber, ValueCells}
+use Rattle.explanation.specs.declared.hint.Hint.TheVariants.{RateItem}
 
 -- the bytes of a term
 abbrev pub term_at : List ℕ → Span → List ℕ

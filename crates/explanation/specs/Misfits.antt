@@ -2,7 +2,8 @@
 -- kind does not fit where it is used. A column of texts may only be compared with a text; other
 -- tests and expressions need columns of numbers, a key needs a column of texts, and no column has
 -- tables.
-use Rattle.std.specs.Prelude.{ℕ, Bool, true, false, not, ◌&&◌, List, Option, None, Some, if◌then◌else◌}
+use Rattle.std.specs.Prelude.{ℕ, Bool, true, false, not, ◌&&◌, List, Option, None, Some}
+use Rattle.std.specs.Prelude.{if◌then◌else◌}
 use Rattle.std.specs.List.{list_any}
 use Rattle.std.specs.Str.{bytes_eq}
 use Rattle.query_syntax.specs.Expressions as e
@@ -34,7 +35,8 @@ has_texts columns name = list_any (λ c. bytes_eq name c.name.bytes && is_text c
 
 -- a column of this name has numbers
 abbrev pub has_numbers : List Column → List ℕ → Bool
-has_numbers columns name = list_any (λ c. bytes_eq name c.name.bytes && not (is_text c.kind)) columns
+has_numbers columns name =
+    list_any (λ c. bytes_eq name c.name.bytes && not (is_text c.kind)) columns
 
 -- the name, if a number is needed and the column has texts
 abbrev pub unless_number : List Column → Name → Option Culprit

@@ -6,7 +6,8 @@ use Rattle.language_base.specs.declared.span.Span.{Span}
 use Rattle.query_syntax.specs.declared.leaf.Name.{Name}
 use Rattle.query_syntax.specs.declared.stream.Column.{Column}
 use Rattle.explanation.specs.declared.culprit.Culprit.{Culprit}
-use Rattle.explanation.specs.declared.culprit.Culprit.TheVariants.{NoColumn, NoValue, OfValue, NotOne, NotTwo}
+use Rattle.explanation.specs.declared.culprit.Culprit.TheVariants.{NoColumn, NoValue, OfValue}
+use Rattle.explanation.specs.declared.culprit.Culprit.TheVariants.{NotOne, NotTwo}
 use Rattle.explanation.specs.declared.scope.Scope as memory
 use Rattle.explanation.specs.declared.scope.Scope.TheVariants.{Item, Value, Mistyped, One, Two}
 

@@ -3,7 +3,10 @@
 use Rattle.std.specs.Prelude.{ℕ, List, [], length, nat_lt, Option, None, Some, if◌then◌else◌}
 use Rattle.language_base.specs.declared.refusal.Refusal.{Refusal}
 use Rattle.language_base.specs.declared.rule.Rule.{Rule}
-use Rattle.language_base.specs.declared.rule.Rule.TheVariants.{Long, Token, Term, Depth, Form, Name, Nested, Size, Literal, Mismatch, Cells, Empty, Choice, Split, Iter, Reach, Rates, Compose}
+use Rattle.language_base.specs.declared.rule.Rule.TheVariants.{Long, Token, Term, Depth, Form, Name}
+use Rattle.language_base.specs.declared.rule.Rule.TheVariants.{Nested, Size, Literal, Mismatch}
+use Rattle.language_base.specs.declared.rule.Rule.TheVariants.{Cells, Empty, Choice, Split, Iter}
+use Rattle.language_base.specs.declared.rule.Rule.TheVariants.{Reach, Rates, Compose}
 use Rattle.explanation.specs.declared.limit.Limit.{Limit}
 use Rattle.explanation.specs.declared.limit.Limit.TheVariants.{Nodes, Positions, Slots}
 use Rattle.explanation.specs.declared.remedy.TheConstants as mended

@@ -1,6 +1,7 @@
 -- Statement. What has to stand at a place of a text, by the calls around it: from the outermost one
 -- on, the forms of the language say what each of its arguments is.
-use Rattle.std.specs.Prelude.{ℕ, zero, suc, ◌+◌, ◌-◌, ◌==◌, ◌&&◌, List, codes, slice_get, take, drop, Option, Some, None, if◌then◌else◌}
+use Rattle.std.specs.Prelude.{ℕ, zero, suc, ◌+◌, ◌-◌, ◌==◌, ◌&&◌, List, codes, slice_get, take}
+use Rattle.std.specs.Prelude.{drop, Option, Some, None, if◌then◌else◌}
 use Rattle.std.specs.Str.{bytes_eq}
 use Rattle.query_forms.specs.Forms.{places_of}
 use Rattle.query_forms.specs.declared.term_place.TermPlace.{TermPlace}
@@ -41,8 +42,10 @@ standing_of None = Nothing
 abbrev pub argument_of : Standing → List ℕ → ℕ → Standing
 argument_of Top head argument = top_argument head argument
 argument_of (In place) head argument = standing_of (place_or
-    (place_or (argument_in (places_of place head 1) argument) (argument_in (places_of place head 2) argument))
-    (place_or (argument_in (places_of place head 3) argument) (argument_in (places_of place head 4) argument)))
+    (place_or (argument_in (places_of place head 1) argument)
+    (argument_in (places_of place head 2) argument))
+    (place_or (argument_in (places_of place head 3) argument)
+    (argument_in (places_of place head 4) argument)))
 argument_of Nothing head argument = Nothing
 
 -- after a text, by the calls at the first levels alone

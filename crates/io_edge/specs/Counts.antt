@@ -1,6 +1,7 @@
 -- Statement. The counts by which a source or a sink reports that it failed, or that its input
 -- ended.
-use Rattle.std.specs.Prelude.{◌≡◌, ◌<◌, ◌≤◌, ℕ, ◌+◌, ◌-◌, ◌^◌, min, Result, MatchResult, is_err, ◌==◌, if◌then◌else◌}
+use Rattle.std.specs.Prelude.{◌≡◌, ◌<◌, ◌≤◌, ℕ, ◌+◌, ◌-◌, ◌^◌, min, Result, MatchResult, is_err}
+use Rattle.std.specs.Prelude.{◌==◌, if◌then◌else◌}
 
 -- the count after one more event; it stays at its greatest value
 abbrev pub next_count : ℕ → ℕ

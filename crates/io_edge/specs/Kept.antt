@@ -1,5 +1,6 @@
 -- For the prover. How a line under way is kept.
-use Rattle.std.specs.Prelude.{◌≡◌, ◌<◌, ◌≤◌, ◌+◌, true, [], ◌++◌, replicate, vec_len, vec_capacity, if◌then◌else◌}
+use Rattle.std.specs.Prelude.{◌≡◌, ◌<◌, ◌≤◌, ◌+◌, true, [], ◌++◌, replicate, vec_len, vec_capacity}
+use Rattle.std.specs.Prelude.{if◌then◌else◌}
 use Rattle.io_edge.specs.Limits.{max_count, max_line}
 use Rattle.io_edge.specs.Started.{Started}
 use Rattle.io_edge.specs.declared.partial_line.UnderWay.TheInside.{Inside}

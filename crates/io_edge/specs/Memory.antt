@@ -1,5 +1,6 @@
 -- Statement. A source and a sink in memory: what they hold, and what each of their calls does.
-use Rattle.std.specs.Prelude.{◌≡◌, ◌↔◌, ◌⊎◌, ℕ, ◌-◌, min, max, List, length, Result, IfOk, IsErr, nat_lt, if◌then◌else◌, slice_index}
+use Rattle.std.specs.Prelude.{◌≡◌, ◌↔◌, ◌⊎◌, ℕ, ◌-◌, min, max, List, length, Result, IfOk, IsErr}
+use Rattle.std.specs.Prelude.{nat_lt, if◌then◌else◌, slice_index}
 use Rattle.std.specs.List.{Contains}
 use Rattle.io_edge.specs.Counts.{next_count, CountsFault, CountsEnd}
 

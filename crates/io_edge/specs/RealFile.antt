@@ -1,6 +1,7 @@
 -- Statement. A source over the file of a path, or over standard input. Its bytes are not known
 -- before it is opened; after that, they are known if the system's reader knows them.
-use Rattle.std.specs.Prelude.{◌≡◌, ◌<◌, ℕ, Bool, false, List, Option, Some, None, Result, Ok, is_some}
+use Rattle.std.specs.Prelude.{◌≡◌, ◌<◌, ℕ, Bool, false, List, Option, Some, None, Result, Ok}
+use Rattle.std.specs.Prelude.{is_some}
 use Rattle.io_edge.specs.Counts.{CountsFault, CountsEnd}
 use Rattle.io_edge.specs.Readers.{left_of}
 use Rattle.io_edge.specs.declared.input.Opened.{Opened}

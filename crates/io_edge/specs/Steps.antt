@@ -1,5 +1,6 @@
 -- For the prover. The steps by which a line is found.
-use Rattle.std.specs.Prelude.{◌≡◌, ◌≤◌, ℕ, true, false, List, [], ◌∷◌, Option, Some, None, Result, Ok, Err}
+use Rattle.std.specs.Prelude.{◌≡◌, ◌≤◌, ℕ, true, false, List, [], ◌∷◌, Option, Some, None, Result}
+use Rattle.std.specs.Prelude.{Ok, Err}
 use Rattle.std.specs.Io.KnownBytes.{Consumes}
 use Rattle.io_edge.specs.Lines.{Shown, NoLf}
 use Rattle.io_edge.specs.Reading.{Reading, count_of, Shows, CutAt, Answers, Ends, Waits}

@@ -1,5 +1,6 @@
 -- Statement. The field of a column that belongs to a draw.
-use Rattle.std.specs.Prelude.{ℕ, ◌+◌, ◌-◌, ◌/◌, ◌%◌, ◌^◌, ℤ, pos, ◌-ℤ◌, List, [], ◌∷◌, ◌++◌, length, codes, replicate, unsigned_abs}
+use Rattle.std.specs.Prelude.{ℕ, ◌+◌, ◌-◌, ◌/◌, ◌%◌, ◌^◌, ℤ, pos, ◌-ℤ◌, List, [], ◌∷◌, ◌++◌, length}
+use Rattle.std.specs.Prelude.{codes, replicate, unsigned_abs}
 use Rattle.std.specs.Fmt.{decimal, sign_text, signed_decimal}
 use Rattle.std.specs.Int.{is_negative}
 use Rattle.value_ops.specs.declared.field.Field.{Field}

@@ -1,5 +1,7 @@
 -- Statement. The line of an item, as a person would type it.
-use Rattle.std.specs.Prelude.{ℕ, ◌/◌, ◌%◌, ◌^◌, ◌-◌, ◌==◌, ◌&&◌, ◌||◌, not, nat_lt, if◌then◌else◌, Bool, false, ℤ, List, [], ◌∷◌, ◌++◌, length, codes, replicate, unsigned_abs, Option, None, Some}
+use Rattle.std.specs.Prelude.{ℕ, ◌/◌, ◌%◌, ◌^◌, ◌-◌, ◌==◌, ◌&&◌, ◌||◌, not, nat_lt, if◌then◌else◌}
+use Rattle.std.specs.Prelude.{Bool, false, ℤ, List, [], ◌∷◌, ◌++◌, length, codes, replicate}
+use Rattle.std.specs.Prelude.{unsigned_abs, Option, None, Some}
 use Rattle.std.specs.Char.{is_control}
 use Rattle.std.specs.Fmt.{decimal, sign_text, signed_decimal}
 use Rattle.std.specs.Int.{is_negative}
@@ -54,7 +56,8 @@ field_text kind (field.Val value) = value_text value
 -- the fields of an item of these columns, with commas between them
 abbrev pub line_of : List Column → List Field → List ℕ
 line_of (column ∷ []) (field ∷ []) = field_text column.kind field
-line_of (column ∷ columns) (field ∷ fields) = field_text column.kind field ++ codes "," ++ line_of columns fields
+line_of (column ∷ columns) (field ∷ fields) =
+    field_text column.kind field ++ codes "," ++ line_of columns fields
 line_of _ _ = []
 
 -- UTF-8 without control characters, and so without a line end
@@ -67,4 +70,5 @@ is_shown line = not (nat_lt 96 (length line)) && is_plain line
 
 -- the line of an item, if it is shown
 abbrev pub shown_line : List Column → List Field → Option (List ℕ)
-shown_line columns item = if is_shown (line_of columns item) then Some (line_of columns item) else None
+shown_line columns item =
+    if is_shown (line_of columns item) then Some (line_of columns item) else None

@@ -1,7 +1,9 @@
 -- Statement. The texts of a line: what stands between its commas, but for those between quotes.
-use Rattle.std.specs.Prelude.{ℕ, Bool, true, false, ◌==◌, ◌||◌, not, if◌then◌else◌, List, [], ◌∷◌, ◌++◌, Option, None, Some}
+use Rattle.std.specs.Prelude.{ℕ, Bool, true, false, ◌==◌, ◌||◌, not, if◌then◌else◌, List, [], ◌∷◌}
+use Rattle.std.specs.Prelude.{◌++◌, Option, None, Some}
 use Rattle.item_schema.specs.declared.quote_state.QuoteState.{QuoteState}
-use Rattle.item_schema.specs.declared.quote_state.QuoteState.TheVariants.{Front, Plain, Quoted, Closed}
+use Rattle.item_schema.specs.declared.quote_state.QuoteState.TheVariants.{Front, Plain, Quoted}
+use Rattle.item_schema.specs.declared.quote_state.QuoteState.TheVariants.{Closed}
 
 -- a comma
 abbrev pub is_comma : ℕ → Bool

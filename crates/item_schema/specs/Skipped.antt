@@ -51,7 +51,8 @@ pub record HasOtherTexts (columns : List Column) (line : List ℕ) : Type 0 wher
   pub other : (texts : List (List ℕ)) → record_of line ≡ Some texts → length texts ≢ length columns
 
 -- the line has a text for each column, and a first one that fails
-pub record HasFailure (columns : List Column) (line : List ℕ) (cause : Cause) (number : ℕ) : Type 0 where
+pub record HasFailure (columns : List Column) (line : List ℕ) (cause : Cause)
+    (number : ℕ) : Type 0 where
   pub no_return : HasNoReturn line
   pub texts : List (List ℕ)
   pub row : record_of line ≡ Some texts

@@ -1,7 +1,10 @@
 -- Statement. The rules of the language by their numbers.
 use Rattle.std.specs.Prelude.{ℕ}
 use Rattle.language_base.specs.declared.rule.Rule.{Rule}
-use Rattle.language_base.specs.declared.rule.Rule.TheVariants.{Long, Token, Term, Depth, Form, Name, Nested, Size, Literal, Mismatch, Cells, Empty, Choice, Split, Iter, Reach, Rates, Compose}
+use Rattle.language_base.specs.declared.rule.Rule.TheVariants.{Long, Token, Term, Depth, Form, Name}
+use Rattle.language_base.specs.declared.rule.Rule.TheVariants.{Nested, Size, Literal, Mismatch}
+use Rattle.language_base.specs.declared.rule.Rule.TheVariants.{Cells, Empty, Choice, Split, Iter}
+use Rattle.language_base.specs.declared.rule.Rule.TheVariants.{Reach, Rates, Compose}
 
 -- the number of each rule
 abbrev pub number_of : Rule → ℕ

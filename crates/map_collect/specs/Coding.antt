@@ -25,12 +25,14 @@ module _ {R : Type 0} (code : Coded R) where
 
   -- the start, the state and the keys
   abbrev pub code_of_track : Coded (Track R)
-  code_of_track = code_by (ℕ × (State × Keys R)) (coded× coded_ℕ (coded× code_of_state code_of_keys))
+  code_of_track =
+      code_by (ℕ × (State × Keys R)) (coded× coded_ℕ (coded× code_of_state code_of_keys))
       (λ track. (track.start, (track.state, track.keys)))
       (λ parts. record { start = parts.0; state = parts.1.0; keys = parts.1.1 }) (λ _. refl)
 
   -- the automaton and the tracks
   abbrev pub code_of_contents : Coded (Contents R)
-  code_of_contents = code_by (Automaton × List (Track R)) (coded× code_of_nfa (coded_list code_of_track))
+  code_of_contents =
+      code_by (Automaton × List (Track R)) (coded× code_of_nfa (coded_list code_of_track))
       (λ seen. (seen.nfa, seen.tracks))
       (λ parts. record { nfa = parts.0; tracks = parts.1 }) (λ _. refl)

@@ -1,6 +1,7 @@
 -- Statement. How many keys a query has met in a word. What is kept for the query grows with this
 -- number alone.
-use Rattle.std.specs.Prelude.{◌==◌, ◌&&◌, ◌+◌, ℕ, max, Bool, List, [], ◌∷◌, ◌++◌, length, map, flat_map}
+use Rattle.std.specs.Prelude.{◌==◌, ◌&&◌, ◌+◌, ℕ, max, Bool, List, [], ◌∷◌, ◌++◌, length, map}
+use Rattle.std.specs.Prelude.{flat_map}
 use Rattle.std.specs.Set.{distinct_count}
 use Rattle.std.specs.Str.{bytes_eq}
 use Rattle.value_ops.specs.declared.field.Field.{Field}
@@ -9,7 +10,8 @@ use Rattle.value_ops.specs.declared.value.Value.{Value}
 use Rattle.value_ops.specs.declared.value.Value.TheVariants as value
 use Rattle.rate_expr.specs.Words.{Word}
 use Rattle.query_model.specs.Denotation.{key_of}
-use Rattle.query_model.specs.Queries.{Qre, atom, eps, choice, split, iter, combine, apply, compose, collect}
+use Rattle.query_model.specs.Queries.{Qre, atom, eps, choice, split, iter, combine, apply, compose}
+use Rattle.query_model.specs.Queries.{collect}
 
 -- the columns in which the collects of the query find their keys; the right operand of a compose,
 -- which reads other items, has no collect

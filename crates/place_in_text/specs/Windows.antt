@@ -1,5 +1,6 @@
 -- Statement. What is shown of the line of a place, and the marks under it.
-use Rattle.std.specs.Prelude.{ℕ, ◌-◌, ◌/◌, min, max, List, ◌++◌, length, take, drop, map, replicate, codes}
+use Rattle.std.specs.Prelude.{ℕ, ◌-◌, ◌/◌, min, max, List, ◌++◌, length, take, drop, map, replicate}
+use Rattle.std.specs.Prelude.{codes}
 use Rattle.place_in_text.specs.Places.{before_place, from_place}
 use Rattle.place_in_text.specs.Shown.{shown_byte}
 

@@ -1,5 +1,6 @@
 -- For the prover. Items that become plain, column by column.
-use Rattle.std.specs.Prelude.{◌≡◌, ◌≢◌, ◌<◌, ◌≤◌, ℕ, ℤ, pos, negsuc, neg_ℤ, Bool, true, false, List, slice_get, slice_set, unsigned_abs}
+use Rattle.std.specs.Prelude.{◌≡◌, ◌≢◌, ◌<◌, ◌≤◌, ℕ, ℤ, pos, negsuc, neg_ℤ, Bool, true, false, List}
+use Rattle.std.specs.Prelude.{slice_get, slice_set, unsigned_abs}
 use Rattle.value_ops.specs.declared.field.Field.{Field}
 use Rattle.value_ops.specs.declared.field.Field.TheVariants as field
 use Rattle.value_ops.specs.declared.scalar.Scalar.TheVariants as scalar

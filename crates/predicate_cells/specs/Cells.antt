@@ -52,4 +52,5 @@ CellsDecide cells = (pred : Predicate) (x y : List Field) → Contains cells.pre
 
 -- each cell has an item
 abbrev pub CellsHaveItems : Partition → Type 0
-CellsHaveItems cells = (cell : ℕ) → cell < cell_count cells → (item : List Field) × IsIn cells cell item
+CellsHaveItems cells =
+    (cell : ℕ) → cell < cell_count cells → (item : List Field) × IsIn cells cell item

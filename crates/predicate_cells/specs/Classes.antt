@@ -1,5 +1,6 @@
 -- Statement. The classes of a column. No test distinguishes the fields of one class.
-use Rattle.std.specs.Prelude.{ℕ, ◌+◌, ◌==◌, ◌^◌, ℤ, pos, neg_ℤ, ◌+ℤ◌, Bool, ◌&&◌, List, [], ◌∷◌, ◌++◌, length, filter, count_by, if◌then◌else◌, int_lt, int_le}
+use Rattle.std.specs.Prelude.{ℕ, ◌+◌, ◌==◌, ◌^◌, ℤ, pos, neg_ℤ, ◌+ℤ◌, Bool, ◌&&◌, List, [], ◌∷◌}
+use Rattle.std.specs.Prelude.{◌++◌, length, filter, count_by, if◌then◌else◌, int_lt, int_le}
 use Rattle.std.specs.List.{list_any, flat_map}
 use Rattle.std.specs.Ordering.{int_eq, nat_cmp, is_lt}
 use Rattle.std.specs.Cmp.Lexicographic.{slice_cmp}
@@ -11,7 +12,9 @@ use Rattle.value_ops.specs.declared.scalar.Scalar.TheVariants as scalar
 use Rattle.value_ops.specs.declared.value.Value.TheVariants as value
 use Rattle.item_schema.specs.declared.column.Kind.{Kind}
 use Rattle.item_schema.specs.declared.column.Kind.TheVariants.{Int, Fixed, Text, Number, Table}
-use Rattle.predicate_cells.specs.Predicates.{Predicate, any, eq, ne, lt, le, gt, ge, between, eq_text, ne_text, is_num, conjunction, disjunction, negation}
+use Rattle.predicate_cells.specs.Predicates.{Predicate, any, eq, ne, lt, le, gt, ge, between}
+use Rattle.predicate_cells.specs.Predicates.{eq_text, ne_text, is_num, conjunction, disjunction}
+use Rattle.predicate_cells.specs.Predicates.{negation}
 
 -- the list, if the test is one of the column, and else nothing
 abbrev pub at_column : {A : Type 0} → ℕ → ℕ → List A → List A
@@ -42,8 +45,10 @@ beginnings column (negation inner) = beginnings column inner
 abbrev pub named_texts : ℕ → Predicate → List (List ℕ)
 named_texts column (eq_text tested text) = at_column column tested (text ∷ [])
 named_texts column (ne_text tested text) = at_column column tested (text ∷ [])
-named_texts column (conjunction first second) = named_texts column first ++ named_texts column second
-named_texts column (disjunction first second) = named_texts column first ++ named_texts column second
+named_texts column (conjunction first second) =
+    named_texts column first ++ named_texts column second
+named_texts column (disjunction first second) =
+    named_texts column first ++ named_texts column second
 named_texts column (negation inner) = named_texts column inner
 named_texts column _ = []
 

@@ -2,7 +2,9 @@
 use Rattle.std.specs.Prelude.{◌≡◌, ◌==◌, ℕ, ℤ, pos, List, [], ◌∷◌, if◌then◌else◌, refl}
 use Rattle.std.specs.Coded.{Coded, code_by, coded×, coded_ℕ, coded_ℤ, coded_list}
 use Rattle.std.proofs.Common.{◌∙◌, ap}
-use Rattle.predicate_cells.specs.Predicates.{Predicate, any, eq, ne, lt, le, gt, ge, between, eq_text, ne_text, is_num, conjunction, disjunction, negation}
+use Rattle.predicate_cells.specs.Predicates.{Predicate, any, eq, ne, lt, le, gt, ge, between}
+use Rattle.predicate_cells.specs.Predicates.{eq_text, ne_text, is_num, conjunction, disjunction}
+use Rattle.predicate_cells.specs.Predicates.{negation}
 
 -- a step that builds a predicate from those that were built last: its kind, and the column, the
 -- numbers and the text of a test
@@ -103,5 +105,6 @@ built-again p = ap last_built (build-steps p [] [])
 abbrev pub coded_predicate : Coded Predicate
 coded_predicate =
     code_by (List Step)
-    (coded_list (coded× coded_ℕ (coded× coded_ℕ (coded× coded_ℤ (coded× coded_ℤ (coded_list coded_ℕ))))))
+    (coded_list (coded× coded_ℕ
+    (coded× coded_ℕ (coded× coded_ℤ (coded× coded_ℤ (coded_list coded_ℕ))))))
     (λ p. steps_onto p []) (λ steps. last_built (build steps [])) built-again

@@ -3,7 +3,9 @@ use Rattle.std.specs.Prelude.{ℕ, Bool, true, false, ◌&&◌, List, slice_get}
 use Rattle.item_schema.specs.declared.column.Column.{Column}
 use Rattle.item_schema.specs.declared.column.Kind.{Kind}
 use Rattle.item_schema.specs.declared.column.Kind.TheVariants.{Int, Fixed, Text, Number, Table}
-use Rattle.predicate_cells.specs.Predicates.{Predicate, any, eq, ne, lt, le, gt, ge, between, eq_text, ne_text, is_num, conjunction, disjunction, negation}
+use Rattle.predicate_cells.specs.Predicates.{Predicate, any, eq, ne, lt, le, gt, ge, between}
+use Rattle.predicate_cells.specs.Predicates.{eq_text, ne_text, is_num, conjunction, disjunction}
+use Rattle.predicate_cells.specs.Predicates.{negation}
 use Rattle.predicate_cells.specs.Truth.{passes}
 
 -- a column of this kind can have a number

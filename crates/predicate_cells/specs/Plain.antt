@@ -1,7 +1,9 @@
 -- Statement. A `Pred` in memory as a predicate.
 use Rattle.predicate_cells.specs.Predicates as plain
 use Rattle.predicate_cells.specs.declared.pred.Pred.{Pred}
-use Rattle.predicate_cells.specs.declared.pred.Pred.TheVariants.{Any, Eq, Ne, Lt, Le, Gt, Ge, Between, EqText, NeText, IsNum, And', Or', Not'}
+use Rattle.predicate_cells.specs.declared.pred.Pred.TheVariants.{Any, Eq, Ne, Lt, Le, Gt, Ge}
+use Rattle.predicate_cells.specs.declared.pred.Pred.TheVariants.{Between, EqText, NeText, IsNum}
+use Rattle.predicate_cells.specs.declared.pred.Pred.TheVariants.{And', Or', Not'}
 
 abbrev pub plain_of : Pred → plain.Predicate
 plain_of Any = plain.any

@@ -1,5 +1,7 @@
 -- For the prover. The sorted lists in which the class of a field is looked up.
-use Rattle.std.specs.Prelude.{ℕ, ◌+◌, ◌-◌, ◌*◌, ◌==◌, ◌^◌, ℤ, pos, neg_ℤ, List, [], ◌∷◌, ◌++◌, length, filter, count_by, if◌then◌else◌, nat_le, int_le, slice_index_or}
+use Rattle.std.specs.Prelude.{ℕ, ◌+◌, ◌-◌, ◌*◌, ◌==◌, ◌^◌, ℤ, pos, neg_ℤ, List, [], ◌∷◌, ◌++◌}
+use Rattle.std.specs.Prelude.{length, filter, count_by, if◌then◌else◌, nat_le, int_le}
+use Rattle.std.specs.Prelude.{slice_index_or}
 use Rattle.std.specs.List.{list_any, flat_map}
 use Rattle.std.specs.Ordering.{int_cmp, nat_cmp, is_lt}
 use Rattle.std.specs.Cmp.Lexicographic.{slice_cmp}
@@ -28,7 +30,8 @@ pub record Ranks : Type 0 where
 -- the starts, if the column has numbers
 abbrev pub rising_starts : Kind → ℕ → List Predicate → List ℤ
 rising_starts kind column preds =
-    if is_number kind then rising int_cmp (filter begins_class (flat_map (beginnings column) preds)) else []
+    if is_number kind
+    then rising int_cmp (filter begins_class (flat_map (beginnings column) preds)) else []
 
 -- the texts, if the column has texts
 abbrev pub rising_texts : Kind → ℕ → List Predicate → List (List ℕ)
@@ -68,7 +71,8 @@ abbrev pub class_by_kind : Kind → List ℤ → List (List ℕ) → Field → �
 class_by_kind Int starts texts (field.Int number) = number_rank starts number
 class_by_kind (Fixed digits) starts texts (field.Int number) = number_rank starts number
 class_by_kind Text starts texts (field.Text text) = text_rank texts text
-class_by_kind Number starts texts (field.Val (value.Scalar (scalar.Number number))) = number_rank starts number
+class_by_kind Number starts texts (field.Val (value.Scalar (scalar.Number number))) =
+    number_rank starts number
 class_by_kind Number starts texts (field.Val (value.Scalar scalar.Overflow)) = length starts + 1
 class_by_kind Number starts texts (field.Val (value.Scalar scalar.DivZero)) = length starts + 2
 class_by_kind kind starts texts field = 0
@@ -111,7 +115,8 @@ field_in ranks class = field_by_kind ranks.kind ranks.starts ranks.texts class
 -- the ranks of columns, of which the first has the number `at`
 abbrev pub ranks_from : ℕ → List Column → List Predicate → List Ranks
 ranks_from at [] preds = []
-ranks_from at (column ∷ columns) preds = ranks_of column.kind at preds ∷ ranks_from (at + 1) columns preds
+ranks_from at (column ∷ columns) preds =
+    ranks_of column.kind at preds ∷ ranks_from (at + 1) columns preds
 
 -- how many cells the columns make
 abbrev pub cells_in : List Ranks → ℕ
@@ -120,5 +125,6 @@ cells_in (ranks ∷ others) = count_in ranks * cells_in others
 
 -- the cell of fields
 abbrev pub cell_in : List Ranks → List Field → ℕ
-cell_in (ranks ∷ others) (field ∷ fields) = class_in ranks field * cells_in others + cell_in others fields
+cell_in (ranks ∷ others) (field ∷ fields) =
+    class_in ranks field * cells_in others + cell_in others fields
 cell_in _ _ = 0

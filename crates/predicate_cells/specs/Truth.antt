@@ -1,5 +1,6 @@
 -- Statement. Whether an item meets a predicate.
-use Rattle.std.specs.Prelude.{ℕ, ℤ, Bool, true, false, ◌&&◌, ◌||◌, not, List, Option, None, Some, is_some, slice_get, int_lt, int_le}
+use Rattle.std.specs.Prelude.{ℕ, ℤ, Bool, true, false, ◌&&◌, ◌||◌, not, List, Option, None, Some}
+use Rattle.std.specs.Prelude.{is_some, slice_get, int_lt, int_le}
 use Rattle.std.specs.Ordering.{int_eq}
 use Rattle.std.specs.Option.{option_map_or}
 use Rattle.std.specs.Str.{bytes_eq}
@@ -7,7 +8,9 @@ use Rattle.value_ops.specs.declared.field.Field.{Field}
 use Rattle.value_ops.specs.declared.scalar.Scalar.{Scalar}
 use Rattle.value_ops.specs.declared.scalar.Scalar.TheVariants.{Number}
 use Rattle.value_ops.specs.Fields as fields
-use Rattle.predicate_cells.specs.Predicates.{Predicate, any, eq, ne, lt, le, gt, ge, between, eq_text, ne_text, is_num, conjunction, disjunction, negation}
+use Rattle.predicate_cells.specs.Predicates.{Predicate, any, eq, ne, lt, le, gt, ge, between}
+use Rattle.predicate_cells.specs.Predicates.{eq_text, ne_text, is_num, conjunction, disjunction}
+use Rattle.predicate_cells.specs.Predicates.{negation}
 
 -- the number that the scalar is, if it is one
 abbrev pub number_in_scalar : Option Scalar → Option ℤ

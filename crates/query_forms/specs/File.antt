@@ -1,5 +1,6 @@
 -- Statement. The form of a whole file, and the numbers in it.
-use Rattle.std.specs.Prelude.{ℕ, ◌+◌, ◌-◌, ◌^◌, ℤ, pos, negsuc, Bool, ◌&&◌, ◌==◌, List, [], ◌∷◌, nat_le, nat_lt, codes, replicate, Option, Some, None, if◌then◌else◌}
+use Rattle.std.specs.Prelude.{ℕ, ◌+◌, ◌-◌, ◌^◌, ℤ, pos, negsuc, Bool, ◌&&◌, ◌==◌, List, [], ◌∷◌}
+use Rattle.std.specs.Prelude.{nat_le, nat_lt, codes, replicate, Option, Some, None, if◌then◌else◌}
 use Rattle.std.specs.Str.{bytes_eq}
 use Rattle.language_base.specs.Limits.{max_columns}
 use Rattle.language_base.specs.declared.span.Span.{Span}
@@ -22,7 +23,8 @@ first_place (call head arguments span rest) = Some span
 
 -- `stream` with a mode and 1 to `max_columns` columns
 abbrev pub is_stream : List ℕ → ℕ → Bool
-is_stream head count = bytes_eq head (codes "stream") && nat_le 2 count && nat_le count (max_columns + 1)
+is_stream head count =
+    bytes_eq head (codes "stream") && nat_le 2 count && nat_le count (max_columns + 1)
 
 -- `let` with a name and a query
 abbrev pub is_let : List ℕ → ℕ → Bool
@@ -43,8 +45,8 @@ unfit_body end (call head arguments span rest) =
     else Some span
 unfit_body end terms = first_place terms
 
--- The place of the first term, in text order, that keeps the list from being a file: `stream`, any number of
--- lets, and `main`. Where a top term is missing, the end of the text.
+-- The place of the first term, in text order, that keeps the list from being a file: `stream`, any
+-- number of lets, and `main`. Where a top term is missing, the end of the text.
 abbrev pub unfit_file : ℕ → Terms → Option Span
 unfit_file end none = Some (at_end end)
 unfit_file end (call head arguments span rest) =
@@ -65,4 +67,5 @@ first_large none = None
 first_large (word bytes span rest) = first_large rest
 first_large (number value span rest) = if is_within value then first_large rest else Some span
 first_large (string bytes span rest) = first_large rest
-first_large (call head arguments span rest) = first_of_two (first_large arguments) (first_large rest)
+first_large (call head arguments span rest) =
+    first_of_two (first_large arguments) (first_large rest)

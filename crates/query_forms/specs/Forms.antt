@@ -1,10 +1,14 @@
 -- Statement. The forms: at each place the words, numbers, strings and calls that may stand there.
-use Rattle.std.specs.Prelude.{ℕ, ℤ, pos, Bool, true, false, ◌&&◌, ◌||◌, ◌==◌, List, [], ◌∷◌, length, nat_le, codes, Option, Some, None, if◌then◌else◌}
+use Rattle.std.specs.Prelude.{ℕ, ℤ, pos, Bool, true, false, ◌&&◌, ◌||◌, ◌==◌, List, [], ◌∷◌, length}
+use Rattle.std.specs.Prelude.{nat_le, codes, Option, Some, None, if◌then◌else◌}
 use Rattle.std.specs.Str.{bytes_eq}
 use Rattle.language_base.specs.declared.span.Span.{Span}
 use Rattle.query_trees.specs.Trees.{first_of_two}
 use Rattle.query_forms.specs.declared.term_place.TermPlace.{TermPlace}
-use Rattle.query_forms.specs.declared.term_place.TermPlace.TheVariants.{Mode, Column, Kind, Query, Rate, Pred, Literal, Expr, Compare, Name, Number, Text, Digits}
+use Rattle.query_forms.specs.declared.term_place.TermPlace.TheVariants.{Mode, Column, Kind, Query}
+use Rattle.query_forms.specs.declared.term_place.TermPlace.TheVariants.{Rate, Pred, Literal, Expr}
+use Rattle.query_forms.specs.declared.term_place.TermPlace.TheVariants.{Compare, Name, Number, Text}
+use Rattle.query_forms.specs.declared.term_place.TermPlace.TheVariants.{Digits}
 use Rattle.query_forms.specs.Terms.{Terms, word, number, string, call, count_of}
 
 -- a head word and the places of its arguments
@@ -76,14 +80,16 @@ forms_at Compare =
     ∷ []
 forms_at _ = []
 
--- the places of the arguments of the first of these forms that has this head word and number of arguments
+-- the places of the arguments of the first of these forms that has this head word and
+-- number of arguments
 abbrev pub places_in : List Form → List ℕ → ℕ → Option (List TermPlace)
 places_in [] head count = None
 places_in (first ∷ rest) head count =
     if bytes_eq first.head head && (length first.arguments == count) then Some first.arguments
     else places_in rest head count
 
--- the places of the arguments, where a call of this head word with this many has a form of its place
+-- the places of the arguments, where a call of this head word with this many has a
+-- form of its place
 abbrev pub places_of : TermPlace → List ℕ → ℕ → Option (List TermPlace)
 places_of place head count = places_in (forms_at place) head count
 
@@ -122,8 +128,8 @@ abbrev pub unfit_in : Option (List TermPlace) → Span → (List TermPlace → O
 unfit_in None span inside = Some span
 unfit_in (Some places) span inside = inside places
 
--- The place of the first term, in text order, that has none of the forms of its place, where the terms
--- themselves have these places. A term comes before its arguments.
+-- The place of the first term, in text order, that has none of the forms of its place, where the
+-- terms themselves have these places. A term comes before its arguments.
 abbrev pub first_unfit : List TermPlace → Terms → Option Span
 first_unfit (place ∷ places) (word bytes span rest) =
     if fits_word place bytes then first_unfit places rest else Some span
@@ -132,6 +138,7 @@ first_unfit (place ∷ places) (number value span rest) =
 first_unfit (place ∷ places) (string bytes span rest) =
     if fits_string place then first_unfit places rest else Some span
 first_unfit (place ∷ places) (call head arguments span rest) = first_of_two
-    (unfit_in (places_of place head (count_of arguments)) span (λ inner. first_unfit inner arguments))
+    (unfit_in (places_of place head (count_of arguments)) span
+    (λ inner. first_unfit inner arguments))
     (first_unfit places rest)
 first_unfit _ _ = None

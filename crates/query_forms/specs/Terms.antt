@@ -39,14 +39,17 @@ AreOf text (trees.call head arguments span rest) =
 abbrev pub Say : List ℕ → Trees → Terms → Type 0
 Say text trees.none none = Unit {0}
 Say text (trees.leaf token rest) (word bytes span more) =
-    (token.kind ≡ Word) × (bytes ≡ bytes_at text token.span) × (span ≡ token.span) × Say text rest more
+    (token.kind ≡ Word) × (bytes ≡ bytes_at text token.span) × (span ≡ token.span)
+    × Say text rest more
 Say text (trees.leaf token rest) (number value span more) =
     (token.kind ≡ Number) × (value ≡ signed_digits_value 10 (bytes_at text token.span))
     × (span ≡ token.span) × Say text rest more
 Say text (trees.leaf token rest) (string bytes span more) =
-    (token.kind ≡ Text) × IsString (bytes_at text token.span) bytes × (span ≡ token.span) × Say text rest more
+    (token.kind ≡ Text) × IsString (bytes_at text token.span) bytes × (span ≡ token.span)
+    × Say text rest more
 Say text (trees.call head arguments place rest) (call bytes inner span more) =
-    (bytes ≡ bytes_at text head.span) × (span ≡ place) × Say text arguments inner × Say text rest more
+    (bytes ≡ bytes_at text head.span) × (span ≡ place) × Say text arguments inner
+    × Say text rest more
 Say text _ _ = ⊥
 
 -- how many terms there are

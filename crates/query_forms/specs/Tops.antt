@@ -1,5 +1,6 @@
 -- For the prover. The top terms of a file, each by itself.
-use Rattle.std.specs.Prelude.{ℕ, ◌+◌, ◌-◌, Bool, false, ◌&&◌, ◌==◌, List, ◌∷◌, length, replicate, codes, nat_le, Option, if◌then◌else◌}
+use Rattle.std.specs.Prelude.{ℕ, ◌+◌, ◌-◌, Bool, false, ◌&&◌, ◌==◌, List, ◌∷◌, length, replicate}
+use Rattle.std.specs.Prelude.{codes, nat_le, Option, if◌then◌else◌}
 use Rattle.std.specs.Str.{bytes_eq}
 use Rattle.language_base.specs.Limits.{max_columns}
 use Rattle.language_base.specs.declared.span.Span.{Span}
@@ -11,7 +12,8 @@ use Rattle.query_forms.specs.File.{first_place}
 
 -- the first term is a call of this word with this many arguments
 abbrev pub is_call : List ℕ → ℕ → Terms → Bool
-is_call name count (call head arguments span rest) = bytes_eq head name && (count_of arguments == count)
+is_call name count (call head arguments span rest) =
+    bytes_eq head name && (count_of arguments == count)
 is_call name count _ = false
 
 -- the arguments of the first term
@@ -19,7 +21,8 @@ abbrev pub arguments_in : Terms → Terms
 arguments_in (call head arguments span rest) = arguments
 arguments_in _ = none
 
--- the first unfit term in the first, which is to be a call of this word with arguments at these places
+-- the first unfit term in the first, which is to be a call of this word with arguments
+-- at these places
 abbrev pub unfit_call : List ℕ → List TermPlace → Terms → Option Span
 unfit_call name places terms =
     if is_call name (length places) terms then first_unfit places (arguments_in terms)
@@ -29,9 +32,11 @@ unfit_call name places terms =
 abbrev pub stream_places : ℕ → List TermPlace
 stream_places count = Mode ∷ replicate (count - 1) Column
 
--- the first unfit term in the first, which is to be a `stream` with a mode and 1 to `max_columns` columns
+-- the first unfit term in the first, which is to be a `stream` with a mode and 1 to
+-- `max_columns` columns
 abbrev pub unfit_stream : Terms → Option Span
 unfit_stream terms =
     let count = count_of (arguments_in terms) in
-    if nat_le 2 count && nat_le count (max_columns + 1) then unfit_call (codes "stream") (stream_places count) terms
+    if nat_le 2 count && nat_le count (max_columns + 1)
+    then unfit_call (codes "stream") (stream_places count) terms
     else first_place terms

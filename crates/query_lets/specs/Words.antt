@@ -1,6 +1,7 @@
 -- Statement. The words of a program that declare or use the names of columns and lets, in the order
 -- of the text, and which of them are wrong. A let may be called like a column.
-use Rattle.std.specs.Prelude.{ℕ, Bool, not, List, [], ◌∷◌, ◌++◌, map, Option, None, Some, if◌then◌else◌}
+use Rattle.std.specs.Prelude.{ℕ, Bool, not, List, [], ◌∷◌, ◌++◌, map, Option, None, Some}
+use Rattle.std.specs.Prelude.{if◌then◌else◌}
 use Rattle.std.specs.List.{list_any}
 use Rattle.std.specs.Str.{bytes_eq}
 use Rattle.language_base.specs.declared.span.Span.{Span}

@@ -1,7 +1,8 @@
 -- Statement. How many starts of a query may live at one time, and how much is kept for them.
 use Rattle.std.specs.Prelude.{ℕ, ◌+◌, ◌*◌}
 use Rattle.rate_expr.specs.Rates.{size_of}
-use Rattle.query_model.specs.Queries.{Qre, atom, eps, choice, split, iter, combine, apply, compose, collect}
+use Rattle.query_model.specs.Queries.{Qre, atom, eps, choice, split, iter, combine, apply, compose}
+use Rattle.query_model.specs.Queries.{collect}
 
 -- the starts that may live at one time
 abbrev pub places_of : Qre → ℕ
@@ -15,7 +16,8 @@ places_of (apply f expression) = places_of f
 places_of (compose f g) = places_of f
 places_of (collect column sync rate f) = size_of rate + 1
 
--- what a node of the query keeps; one that follows a word keeps two more, its position and its answer
+-- what a node of the query keeps; one that follows a word keeps two more, its position
+-- and its answer
 abbrev pub inner_of : Qre → ℕ
 inner_of (atom pred expression) = 1
 inner_of (eps number) = 0

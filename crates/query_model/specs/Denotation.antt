@@ -1,6 +1,7 @@
--- Statement. What queries mean: the value of a query on a word of items. It looks at the whole word anew, and knows
--- of no state.
-use Rattle.std.specs.Prelude.{◌≡◌, ◌⊎◌, ℕ, pos, ◌||◌, true, List, [], ◌∷◌, ◌++◌, Option, Some, None, filter, if◌then◌else◌, slice_get}
+-- Statement. What queries mean: the value of a query on a word of items. It looks at the whole word
+-- anew, and knows of no state.
+use Rattle.std.specs.Prelude.{◌≡◌, ◌⊎◌, ℕ, pos, ◌||◌, true, List, [], ◌∷◌, ◌++◌, Option, Some, None}
+use Rattle.std.specs.Prelude.{filter, if◌then◌else◌, slice_get}
 use Rattle.std.specs.Option.{option_and_then, unwrap_or}
 use Rattle.std.specs.List.{list_any}
 use Rattle.std.specs.Str.{bytes_eq}
@@ -17,7 +18,8 @@ use Rattle.predicate_cells.specs.Predicates.{Predicate}
 use Rattle.predicate_cells.specs.Truth.{holds}
 use Rattle.rate_expr.specs.Language.{In}
 use Rattle.rate_expr.specs.Words.{Word, join}
-use Rattle.query_model.specs.Queries.{Qre, atom, eps, choice, split, iter, combine, apply, compose, collect}
+use Rattle.query_model.specs.Queries.{Qre, atom, eps, choice, split, iter, combine, apply, compose}
+use Rattle.query_model.specs.Queries.{collect}
 
 -- what an expression gives on one value
 abbrev pub on_one : Expression → Value → Option Value
@@ -59,7 +61,8 @@ projection column sync key word =
 abbrev pub with_key : List (List ℕ) → List ℕ → List (List ℕ)
 with_key keys key = if list_any (bytes_eq key) keys then keys else keys ++ key ∷ []
 
--- the keys of the items that do not meet the predicate, in the order in which they appear, after others
+-- the keys of the items that do not meet the predicate, in the order in which they
+-- appear, after others
 abbrev pub keys_after : ℕ → Predicate → List (List ℕ) → Word → List (List ℕ)
 keys_after column sync keys [] = keys
 keys_after column sync keys (item ∷ word) = keys_after column sync

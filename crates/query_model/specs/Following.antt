@@ -6,11 +6,13 @@ use Rattle.item_schema.specs.declared.column.Column.{Column}
 use Rattle.item_schema.specs.Items.{IsItemOf}
 use Rattle.rate_expr.specs.Words.{Word}
 use Rattle.query_model.specs.Denotation.{Den}
-use Rattle.query_model.specs.Queries.{Qre, atom, eps, choice, split, iter, combine, apply, compose, collect}
+use Rattle.query_model.specs.Queries.{Qre, atom, eps, choice, split, iter, combine, apply, compose}
+use Rattle.query_model.specs.Queries.{collect}
 
 -- the value of the query on the word, or that there is none
 abbrev pub IsAnswer : Qre → Word → Option Value → Type 0
-IsAnswer query word answer = MatchOption answer ((value : Value) → Den query word value → ⊥) (Den query word)
+IsAnswer query word answer =
+    MatchOption answer ((value : Value) → Den query word value → ⊥) (Den query word)
 
 -- whatever word was followed, the word and the item after it is now
 abbrev pub Carries : {S : Type 0} → (S → Word → Type 0) → S → List Field → S → Type 0
@@ -32,8 +34,9 @@ composes_of (apply f expression) = composes_of f
 composes_of (compose f g) = composes_of f + composes_of g + 1
 composes_of (collect column sync rate f) = composes_of f
 
--- One more item fits: it is one of the stream, and its position can be counted, also on the streams of values
--- inside, each of which may have one item more than the stream that it is made of.
-pub record FitsNext (columns : List Column) (query : Qre) (position : ℕ) (item : List Field) : Type 0 where
+-- One more item fits: it is one of the stream, and its position can be counted, also on the streams
+-- of values inside, each of which may have one item more than the stream that it is made of.
+pub record FitsNext (columns : List Column) (query : Qre) (position : ℕ)
+    (item : List Field) : Type 0 where
   pub is_item : IsItemOf columns item
   pub room : position + composes_of query + 1 < 2 ^ 64

@@ -7,7 +7,8 @@ use Rattle.predicate_cells.specs.Predicates.{Predicate}
 use Rattle.rate_expr.specs.Plain as rates
 use Rattle.rate_expr.specs.Rates as rate
 use Rattle.query_model.specs.declared.query.Shape.{Shape}
-use Rattle.query_model.specs.declared.query.Shape.TheVariants.{Atom, Eps, Or', Split', Iter', Combine', Apply', Compose', Collect'}
+use Rattle.query_model.specs.declared.query.Shape.TheVariants.{Atom, Eps, Or', Split', Iter'}
+use Rattle.query_model.specs.declared.query.Shape.TheVariants.{Combine', Apply', Compose', Collect'}
 
 -- a query of one of the nine shapes
 pub data Qre : Type 0 where
@@ -27,8 +28,8 @@ pub data Qre : Type 0 where
   apply : Qre → values.Expression → Qre
   -- a query on the values of another
   compose : Qre → Qre → Qre
-  -- For each key in a column the value on the items with this key and on those that meet the predicate, on
-  -- the words of the rate
+  -- For each key in a column the value on the items with this key and on those that meet the
+  -- predicate, on the words of the rate
   collect : ℕ → Predicate → rate.Regex → Qre → Qre
 
 -- the query of a shape

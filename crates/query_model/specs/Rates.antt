@@ -1,7 +1,8 @@
 -- Statement. The rate of a query: the words on which it can have a value.
 use Rattle.rate_expr.specs.Rates as rate
 use Rattle.rate_expr.specs.Rates.{Regex}
-use Rattle.query_model.specs.Queries.{Qre, atom, eps, choice, split, iter, combine, apply, compose, collect}
+use Rattle.query_model.specs.Queries.{Qre, atom, eps, choice, split, iter, combine, apply, compose}
+use Rattle.query_model.specs.Queries.{collect}
 
 abbrev pub rate_of : Qre → Regex
 rate_of (atom pred expression) = rate.one pred

@@ -1,5 +1,5 @@
--- Statement. The rules that make queries mean one thing: types, one reading, and words on which operands agree. They
--- are asked at every node, over all words of items of the node's stream.
+-- Statement. The rules that make queries mean one thing: types, one reading, and words on which
+-- operands agree. They are asked at every node, over all words of items of the node's stream.
 use Rattle.std.specs.Prelude.{◌≡◌, ℕ, true, List, [], ◌∷◌, FitsSigned}
 use Rattle.std.specs.Int.{w64}
 use Rattle.std.specs.List.{AllByRecursion}
@@ -14,13 +14,16 @@ use Rattle.predicate_cells.specs.Fits.{fits, has_texts}
 use Rattle.predicate_cells.specs.Predicates.{Predicate}
 use Rattle.predicate_cells.specs.Truth.{holds}
 use Rattle.rate_expr.specs.Rates.{preds_of}
-use Rattle.rate_expr.specs.Readings.{AreDisjoint, AreEqual, HasAllButEmpty, HasOneFactoring, HaveOneSplit}
-use Rattle.query_model.specs.Queries.{Qre, atom, eps, choice, split, iter, combine, apply, compose, collect}
-use Rattle.query_model.specs.QueryTypes.{derived_columns, of_columns, of_one, of_two, type_of, type_of_expression}
+use Rattle.rate_expr.specs.Readings.{AreDisjoint, AreEqual, HasAllButEmpty, HasOneFactoring}
+use Rattle.rate_expr.specs.Readings.{HaveOneSplit}
+use Rattle.query_model.specs.Queries.{Qre, atom, eps, choice, split, iter, combine, apply, compose}
+use Rattle.query_model.specs.Queries.{collect}
+use Rattle.query_model.specs.QueryTypes.{derived_columns, of_columns, of_one, of_two, type_of}
+use Rattle.query_model.specs.QueryTypes.{type_of_expression}
 use Rattle.query_model.specs.Rates.{rate_of}
 
--- A compose is free where only composes stand above it: its value may be missing on words of its rate.
--- Everything else is bound.
+-- A compose is free where only composes stand above it: its value may be missing on words of its
+-- rate. Everything else is bound.
 pub data Standing : Type 0 where
   free : Standing
   bound : Standing
@@ -67,7 +70,8 @@ IsClear standing columns (split f g expression) =
     × HaveOneSplit columns (rate_of f) (rate_of g)
 IsClear standing columns (iter f number expression) =
     IsClear bound columns f × FitsSigned w64 number
-    × HasType (of_two Number (type_of columns f)) expression Number × HasOneFactoring columns (rate_of f)
+    × HasType (of_two Number (type_of columns f)) expression Number
+    × HasOneFactoring columns (rate_of f)
 IsClear standing columns (combine f g expression) =
     IsClear bound columns f × IsClear bound columns g
     × IsTyped (of_two (type_of columns f) (type_of columns g)) expression

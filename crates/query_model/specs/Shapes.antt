@@ -1,5 +1,6 @@
 -- Statement. Queries without composition and collection.
-use Rattle.query_model.specs.Queries.{Qre, atom, eps, choice, split, iter, combine, apply, compose, collect}
+use Rattle.query_model.specs.Queries.{Qre, atom, eps, choice, split, iter, combine, apply, compose}
+use Rattle.query_model.specs.Queries.{collect}
 
 -- no compose and no collect stands in the query
 abbrev pub HasPlainShapes : Qre → Type 0

@@ -1,4 +1,5 @@
--- Statement. The limits that a query keeps: nodes, positions, slots, and the cells of each of its streams.
+-- Statement. The limits that a query keeps: nodes, positions, slots, and the cells of each
+-- of its streams.
 use Rattle.std.specs.Prelude.{◌≤◌, ◌+◌, ℕ, List, [], ◌∷◌, ◌++◌}
 use Rattle.language_base.specs.Limits.{max_cells, max_nodes, max_positions}
 use Rattle.item_schema.specs.declared.column.Column.{Column}
@@ -6,7 +7,8 @@ use Rattle.predicate_cells.specs.Cells.{count_from}
 use Rattle.predicate_cells.specs.Predicates.{Predicate}
 use Rattle.rate_expr.specs.Rates.{preds_of, size_of}
 use Rattle.query_model.specs.Bounds.{nodes_of, slots_of}
-use Rattle.query_model.specs.Queries.{Qre, atom, eps, choice, split, iter, combine, apply, compose, collect}
+use Rattle.query_model.specs.Queries.{Qre, atom, eps, choice, split, iter, combine, apply, compose}
+use Rattle.query_model.specs.Queries.{collect}
 use Rattle.query_model.specs.QueryTypes.{derived_columns, type_of}
 use Rattle.query_model.specs.Rates.{rate_of}
 
@@ -49,9 +51,11 @@ abbrev pub HasFewPositions : Qre → Type 0
 HasFewPositions (atom pred expression) = Unit {0}
 HasFewPositions (eps number) = Unit {0}
 HasFewPositions (choice f g) =
-    HasFewPositions f × HasFewPositions g × (size_of (rate_of f) + size_of (rate_of g) ≤ max_positions)
+    HasFewPositions f × HasFewPositions g
+    × (size_of (rate_of f) + size_of (rate_of g) ≤ max_positions)
 HasFewPositions (split f g expression) =
-    HasFewPositions f × HasFewPositions g × (size_of (rate_of f) + size_of (rate_of g) ≤ max_positions)
+    HasFewPositions f × HasFewPositions g
+    × (size_of (rate_of f) + size_of (rate_of g) ≤ max_positions)
 HasFewPositions (iter f number expression) = HasFewPositions f
 HasFewPositions (combine f g expression) = HasFewPositions f × HasFewPositions g
 HasFewPositions (apply f expression) = HasFewPositions f

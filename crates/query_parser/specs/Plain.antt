@@ -1,7 +1,8 @@
 -- Statement. Terms as plain ones, without where they lie in memory.
 use Rattle.std.specs.Prelude.{List, [], ◌∷◌}
 use Rattle.query_forms.specs.Terms as plain
-use Rattle.query_parser.specs.declared.term.Term.{Term, Word, Number, Text, Call', Row_of-Term, end_of-Term, more_of-Term}
+use Rattle.query_parser.specs.declared.term.Term.{Term, Word, Number, Text, Call', Row_of-Term}
+use Rattle.query_parser.specs.declared.term.Term.{end_of-Term, more_of-Term}
 
 abbrev mutual
   -- a term before others
@@ -9,7 +10,8 @@ abbrev mutual
   term_before (Word bytes span) rest = plain.word bytes span rest
   term_before (Number value span) rest = plain.number value span rest
   term_before (Text bytes span) rest = plain.string bytes span rest
-  term_before (Call' head shape arguments span) rest = plain.call head (row_terms arguments) span rest
+  term_before (Call' head shape arguments span) rest =
+      plain.call head (row_terms arguments) span rest
 
   -- the arguments of a call
   pub row_terms : {m : _} → Row_of-Term m → plain.Terms

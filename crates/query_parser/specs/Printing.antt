@@ -1,5 +1,6 @@
 -- Statement. The canonical text of a file.
-use Rattle.std.specs.Prelude.{◌≡◌, ◌<◌, ◌≤◌, ℕ, ◌+◌, ◌/◌, ◌%◌, Bool, true, false, ◌&&◌, ◌||◌, ◌==◌, List, [], ◌∷◌, ◌++◌, All, nat_le, nat_lt, codes, None, if◌then◌else◌}
+use Rattle.std.specs.Prelude.{◌≡◌, ◌<◌, ◌≤◌, ℕ, ◌+◌, ◌/◌, ◌%◌, Bool, true, false, ◌&&◌, ◌||◌, ◌==◌}
+use Rattle.std.specs.Prelude.{List, [], ◌∷◌, ◌++◌, All, nat_le, nat_lt, codes, None, if◌then◌else◌}
 use Rattle.std.specs.List.{flat_map}
 use Rattle.std.specs.Fmt.{signed_decimal}
 use Rattle.language_base.specs.Limits.{max_level}
@@ -12,8 +13,8 @@ use Rattle.query_forms.specs.File.{unfit_file, first_large}
 abbrev pub hex_digit : ℕ → ℕ
 hex_digit digit = if nat_lt digit 10 then 48 + digit else 55 + digit
 
--- a byte as it stands in a string: from a space to `~` as it is, but for the quote and the backslash, and
--- every other byte by its two digits
+-- a byte as it stands in a string: from a space to `~` as it is, but for the quote and the
+-- backslash, and every other byte by its two digits
 abbrev pub byte_text : ℕ → List ℕ
 byte_text byte =
     if nat_le 32 byte && nat_le byte 126 && not_quoted byte then byte ∷ []
@@ -65,14 +66,17 @@ abbrev pub HasTerm : Terms → Type 0
 HasTerm none = ⊥
 HasTerm _ = Unit {0}
 
--- words are words, a call has an argument, bytes are bytes, and no term is too deep, where the first have this level
+-- words are words, a call has an argument, bytes are bytes, and no term is too deep, where the
+-- first have this level
 abbrev pub AreWritable : ℕ → Terms → Type 0
 AreWritable level none = Unit {0}
-AreWritable level (word bytes span rest) = (level ≤ max_level) × IsWord bytes × AreWritable level rest
+AreWritable level (word bytes span rest) =
+    (level ≤ max_level) × IsWord bytes × AreWritable level rest
 AreWritable level (number value span rest) = (level ≤ max_level) × AreWritable level rest
 AreWritable level (string bytes span rest) =
     (level ≤ max_level) × All (λ byte. byte < 256) bytes × AreWritable level rest
-AreWritable level (call head arguments span rest) = (level ≤ max_level) × IsWord head × HasTerm arguments
+AreWritable level (call head arguments span rest) =
+    (level ≤ max_level) × IsWord head × HasTerm arguments
     × AreWritable (level + 1) arguments × AreWritable level rest
 
 -- terms that a file may have

@@ -1,5 +1,5 @@
--- Statement. What a text is read to, and its first refusal. The relations are those of the language: tokens, terms over
--- tokens, levels, forms and numbers, in this order.
+-- Statement. What a text is read to, and its first refusal. The relations are those of the
+-- language: tokens, terms over tokens, levels, forms and numbers, in this order.
 use Rattle.std.specs.Prelude.{◌≡◌, ◌<◌, ◌≤◌, ℕ, ◌+◌, List, length, Some, None}
 use Rattle.language_base.specs.Limits.{max_text}
 use Rattle.language_base.specs.declared.span.Span.{Span}
@@ -50,16 +50,18 @@ pub data IsRefused (text : List ℕ) : Refusal → Type 0 where
   -- it is too long
   long : max_text < length text → IsRefused text (refusal rule.Long max_text (max_text + 1))
   -- after some tokens no token begins
-  token : (before : List Token) (place : ℕ) → length text ≤ max_text → FaultAfter 0 text before place
-      → IsRefused text (refusal rule.Token place (place + 1))
+  token : (before : List Token) (place : ℕ) → length text ≤ max_text
+      → FaultAfter 0 text before place → IsRefused text (refusal rule.Token place (place + 1))
   -- its tokens are no list of terms
-  term : (tokens : List Token) (span : Span) → HasTokens text tokens → IsNoList tokens (length text) span
+  term : (tokens : List Token) (span : Span) → HasTokens text tokens
+      → IsNoList tokens (length text) span
       → IsRefused text (record { rule = rule.Term; span = span })
   -- a term is too deep
   depth : (trees : Trees) (span : Span) → HasTrees text trees → first_deep 1 trees ≡ Some span
       → IsRefused text (record { rule = rule.Depth; span = span })
   -- a term has none of the forms of its place
-  form : (terms : Terms) (span : Span) → HasTerms text terms → unfit_file (length text) terms ≡ Some span
+  form : (terms : Terms) (span : Span) → HasTerms text terms
+      → unfit_file (length text) terms ≡ Some span
       → IsRefused text (record { rule = rule.Form; span = span })
   -- a number is out of range
   literal : (terms : Terms) (span : Span) → HasForms text terms → first_large terms ≡ Some span

@@ -11,7 +11,8 @@ use Rattle.query_forms.specs.Terms.{bytes_at}
 -- a token that is a term by itself; if it is a number, one that 64 bits hold
 pub record IsSayable (text : List ℕ) (token : Token) : Type 0 where
   pub leaf : IsLeaf token
-  pub within : token.kind ≡ Number → FitsSigned w64 (signed_digits_value 10 (bytes_at text token.span))
+  pub within : token.kind ≡ Number
+      → FitsSigned w64 (signed_digits_value 10 (bytes_at text token.span))
 
 -- each leaf is such a token
 abbrev pub AreSayable : List ℕ → Trees → Type 0

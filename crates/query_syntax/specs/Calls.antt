@@ -7,4 +7,5 @@ use Rattle.query_parser.specs.Plain.{terms_of}
 
 -- what is written before other terms is the call of this word with these arguments
 abbrev pub IsCall : List ℕ → List Term → Span → (Terms → Terms) → Type 0
-IsCall word arguments span written = (rest : Terms) → call word (terms_of arguments) span rest ≡ written rest
+IsCall word arguments span written =
+    (rest : Terms) → call word (terms_of arguments) span rest ≡ written rest

@@ -3,7 +3,8 @@ use Rattle.std.specs.Prelude.{ℕ, List, [], ◌∷◌, codes}
 use Rattle.query_forms.specs.declared.term_place.TermPlace.{TermPlace}
 use Rattle.query_forms.specs.declared.term_place.TermPlace.TheVariants as place
 use Rattle.language_base.specs.declared.unary.UnaryOp.TheVariants.{Neg, Abs}
-use Rattle.language_base.specs.declared.binary.BinaryOp.TheVariants.{Add, Sub, Mul, Div, Rem, Min, Max}
+use Rattle.language_base.specs.declared.binary.BinaryOp.TheVariants.{Add, Sub, Mul, Div, Rem, Min}
+use Rattle.language_base.specs.declared.binary.BinaryOp.TheVariants.{Max}
 use Rattle.language_base.specs.declared.compare.Compare.{Compare}
 use Rattle.language_base.specs.declared.compare.Compare.TheVariants.{Lt, Le, Gt, Ge, Eq, Ne}
 use Rattle.query_syntax.specs.declared.operator.Summary.TheVariants.{Sum, Count}
@@ -11,7 +12,8 @@ use Rattle.query_syntax.specs.declared.operator.Extremum.TheVariants as extremum
 use Rattle.query_syntax.specs.declared.expression_head.ExpressionHead.{ExpressionHead}
 use Rattle.query_syntax.specs.declared.expression_head.ExpressionHead.TheVariants as head
 use Rattle.query_syntax.specs.Rows.{Row, row}
-use Rattle.query_syntax.specs.Words.{unary_word, binary_word, compare_word, summary_word, extremum_word}
+use Rattle.query_syntax.specs.Words.{unary_word, binary_word, compare_word, summary_word}
+use Rattle.query_syntax.specs.Words.{extremum_word}
 
 -- the head word of each
 abbrev pub expression_word : ExpressionHead → List ℕ
@@ -81,4 +83,5 @@ comparison compare = row compare (compare_word compare) (compare_places compare)
 
 -- all calls that are comparisons
 abbrev pub comparisons : List (Row Compare)
-comparisons = comparison Lt ∷ comparison Le ∷ comparison Gt ∷ comparison Ge ∷ comparison Eq ∷ comparison Ne ∷ []
+comparisons = comparison Lt ∷ comparison Le ∷ comparison Gt ∷ comparison Ge ∷ comparison Eq
+    ∷ comparison Ne ∷ []

@@ -42,7 +42,8 @@ stream_before stream rest = call (codes "stream")
 
 -- a let before other terms
 abbrev pub let_before : Let → Terms → Terms
-let_before one rest = call (codes "let") (name_before one.name (query_before one.query none)) one.span rest
+let_before one rest =
+    call (codes "let") (name_before one.name (query_before one.query none)) one.span rest
 
 -- the main query before other terms
 abbrev pub main_before : Main → Terms → Terms
@@ -51,4 +52,5 @@ main_before main rest = call (codes "main") (query_before main.query none) main.
 -- a whole file
 abbrev pub program_terms : Program → Terms
 program_terms program =
-    stream_before program.stream (all_before let_before program.lets (main_before program.main none))
+    stream_before program.stream
+    (all_before let_before program.lets (main_before program.main none))

@@ -19,11 +19,14 @@ abbrev pub plain_expression : expression.Expression → e.Expression
 plain_expression (expression.Number n) = e.number n
 plain_expression (expression.Name n) = e.name n
 plain_expression (expression.Unary' op _ a span) = e.unary op (plain_expression a) span
-plain_expression (expression.Binary' op _ a _ b span) = e.binary op (plain_expression a) (plain_expression b) span
+plain_expression (expression.Binary' op _ a _ b span) =
+    e.binary op (plain_expression a) (plain_expression b) span
 plain_expression (expression.If' op _ a _ b at _ c _ d span) =
-    e.choice op (plain_expression a) (plain_expression b) at (plain_expression c) (plain_expression d) span
+    e.choice op (plain_expression a) (plain_expression b) at (plain_expression c)
+    (plain_expression d) span
 plain_expression (expression.Summary op table span) = e.summary op table span
-plain_expression (expression.Extremum' op table _ a span) = e.extremum op table (plain_expression a) span
+plain_expression (expression.Extremum' op table _ a span) =
+    e.extremum op table (plain_expression a) span
 plain_expression (expression.Get' table key _ a span) = e.get table key (plain_expression a) span
 
 -- a predicate
@@ -33,7 +36,8 @@ plain_predicate (predicate.Equality op column literal span) = p.equality op colu
 plain_predicate (predicate.Order op column bound span) = p.order op column bound span
 plain_predicate (predicate.Between column low high span) = p.between column low high span
 plain_predicate (predicate.IsNum column span) = p.is_num column span
-plain_predicate (predicate.Joined' op _ a _ b span) = p.joined op (plain_predicate a) (plain_predicate b) span
+plain_predicate (predicate.Joined' op _ a _ b span) =
+    p.joined op (plain_predicate a) (plain_predicate b) span
 plain_predicate (predicate.Not' _ a span) = p.negated (plain_predicate a) span
 
 -- a rate
@@ -49,9 +53,11 @@ plain_query (query.Name n) = q.name n
 plain_query (query.Atom f v span) = q.atom (plain_predicate f.value) (plain_expression v.value) span
 plain_query (query.Eps n span) = q.eps n span
 plain_query (query.Or' _ a _ b span) = q.or (plain_query a) (plain_query b) span
-plain_query (query.Split' _ a _ b v span) = q.split (plain_query a) (plain_query b) (plain_expression v.value) span
+plain_query (query.Split' _ a _ b v span) =
+    q.split (plain_query a) (plain_query b) (plain_expression v.value) span
 plain_query (query.Iter' _ a n v span) = q.iter (plain_query a) n (plain_expression v.value) span
-plain_query (query.Combine' _ a _ b v span) = q.combine (plain_query a) (plain_query b) (plain_expression v.value) span
+plain_query (query.Combine' _ a _ b v span) =
+    q.combine (plain_query a) (plain_query b) (plain_expression v.value) span
 plain_query (query.Apply' _ a v span) = q.apply (plain_query a) (plain_expression v.value) span
 plain_query (query.Compose' _ a _ b span) = q.compose (plain_query a) (plain_query b) span
 plain_query (query.Collect' key f t _ a span) =
@@ -59,7 +65,8 @@ plain_query (query.Collect' key f t _ a span) =
 
 -- the parts of a file
 abbrev pub plain_stream : Stream → plain.Stream
-plain_stream stream = record { mode = stream.mode; columns = stream.columns.items; span = stream.span }
+plain_stream stream =
+    record { mode = stream.mode; columns = stream.columns.items; span = stream.span }
 
 abbrev pub plain_let : Let → plain.Let
 plain_let one = record { name = one.name; query = plain_query one.query.value; span = one.span }

@@ -3,7 +3,9 @@ use Rattle.std.specs.Prelude.{ℕ, List, [], ◌∷◌, codes}
 use Rattle.query_forms.specs.declared.term_place.TermPlace.{TermPlace}
 use Rattle.query_forms.specs.declared.term_place.TermPlace.TheVariants as place
 use Rattle.query_syntax.specs.declared.query_head.QueryHead.{QueryHead}
-use Rattle.query_syntax.specs.declared.query_head.QueryHead.TheVariants.{Atom, Eps, Or, Split, Iter, Combine, Apply, Compose, Collect}
+use Rattle.query_syntax.specs.declared.query_head.QueryHead.TheVariants.{Atom, Eps, Or, Split, Iter}
+use Rattle.query_syntax.specs.declared.query_head.QueryHead.TheVariants.{Combine, Apply, Compose}
+use Rattle.query_syntax.specs.declared.query_head.QueryHead.TheVariants.{Collect}
 use Rattle.query_syntax.specs.Rows.{Row, row}
 
 -- the head word of each
@@ -37,4 +39,5 @@ query head = row head (query_word head) (query_places head)
 -- all calls that are queries
 abbrev pub queries : List (Row QueryHead)
 queries =
-    query Atom ∷ query Eps ∷ query Or ∷ query Split ∷ query Iter ∷ query Combine ∷ query Apply ∷ query Compose ∷ query Collect ∷ []
+    query Atom ∷ query Eps ∷ query Or ∷ query Split ∷ query Iter ∷ query Combine ∷ query Apply
+    ∷ query Compose ∷ query Collect ∷ []

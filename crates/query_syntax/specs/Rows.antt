@@ -1,5 +1,6 @@
 -- For the prover. The calls that may stand at a place, each with what it is.
-use Rattle.std.specs.Prelude.{ℕ, ◌&&◌, ◌==◌, List, [], ◌∷◌, length, Option, Some, None, if◌then◌else◌}
+use Rattle.std.specs.Prelude.{ℕ, ◌&&◌, ◌==◌, List, [], ◌∷◌, length, Option, Some, None}
+use Rattle.std.specs.Prelude.{if◌then◌else◌}
 use Rattle.std.specs.Str.{bytes_eq}
 use Rattle.query_forms.specs.declared.term_place.TermPlace.{TermPlace}
 
@@ -16,4 +17,5 @@ row is word places = record { is = is; word = word; places = places }
 abbrev pub head_in : {H : Type 0} → List (Row H) → List ℕ → ℕ → Option H
 head_in [] word count = None
 head_in (first ∷ rest) word count =
-    if bytes_eq first.word word && (length first.places == count) then Some first.is else head_in rest word count
+    if bytes_eq first.word word && (length first.places == count) then Some first.is
+    else head_in rest word count

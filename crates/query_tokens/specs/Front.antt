@@ -1,9 +1,12 @@
 -- For the prover. The length of what is at the front of a text.
-use Rattle.std.specs.Prelude.{◌≡◌, ◌≤◌, ◌⊎◌, ℕ, ◌+◌, Bool, ◌||◌, ◌==◌, nat_lt, if◌then◌else◌, List, [], ◌∷◌, ◌++◌, length, take, take_while, drop, Option, Some, None}
+use Rattle.std.specs.Prelude.{◌≡◌, ◌≤◌, ◌⊎◌, ℕ, ◌+◌, Bool, ◌||◌, ◌==◌, nat_lt, if◌then◌else◌, List}
+use Rattle.std.specs.Prelude.{[], ◌∷◌, ◌++◌, length, take, take_while, drop, Option, Some, None}
 use Rattle.std.specs.Char.{is_ascii_digit}
 use Rattle.query_tokens.specs.declared.token.TokenKind.{TokenKind}
-use Rattle.query_tokens.specs.declared.token.TokenKind.TheVariants.{Word, Number, Text, Open, Close, Comma}
-use Rattle.query_tokens.specs.Raw.{is_word_start, IsRaw, IsLongest, BeginsNone, BeginsNoBlank, IsBlank, IsBlankToEnd}
+use Rattle.query_tokens.specs.declared.token.TokenKind.TheVariants.{Word, Number, Text, Open, Close}
+use Rattle.query_tokens.specs.declared.token.TokenKind.TheVariants.{Comma}
+use Rattle.query_tokens.specs.Raw.{is_word_start, IsRaw, IsLongest, BeginsNone, BeginsNoBlank}
+use Rattle.query_tokens.specs.Raw.{IsBlank, IsBlankToEnd}
 
 -- the bytes begin with blank of this length, after which comes a byte that is no blank
 pub record BlankUpTo (bytes : List ℕ) (len : ℕ) : Type 0 where

@@ -1,11 +1,13 @@
 -- Statement. The bytes of one token, and what may stand between tokens.
-use Rattle.std.specs.Prelude.{◌≡◌, ◌≢◌, ◌≤◌, ◌<◌, ◌⊎◌, ℕ, ◌+◌, ◌*◌, Bool, ◌||◌, ◌==◌, false, List, [], ◌∷◌, ◌++◌, All, IsTrue}
+use Rattle.std.specs.Prelude.{◌≡◌, ◌≢◌, ◌≤◌, ◌<◌, ◌⊎◌, ℕ, ◌+◌, ◌*◌, Bool, ◌||◌, ◌==◌, false, List}
+use Rattle.std.specs.Prelude.{[], ◌∷◌, ◌++◌, All, IsTrue}
 use Rattle.std.specs.List.{flat_map, AllByRecursion}
 use Rattle.std.specs.Char.{is_ascii_alphabetic, is_ascii_alphanumeric}
 use Rattle.std.specs.Char.{digit_value}
 use Rattle.std.specs.Str.Parse.{IsNumeral, without_leading_sign}
 use Rattle.query_tokens.specs.declared.token.TokenKind.{TokenKind}
-use Rattle.query_tokens.specs.declared.token.TokenKind.TheVariants.{Word, Number, Text, Open, Close, Comma}
+use Rattle.query_tokens.specs.declared.token.TokenKind.TheVariants.{Word, Number, Text, Open, Close}
+use Rattle.query_tokens.specs.declared.token.TokenKind.TheVariants.{Comma}
 
 -- a word can begin with the byte
 abbrev pub is_word_start : ℕ → Bool
@@ -18,7 +20,8 @@ is_word_byte byte = is_ascii_alphanumeric byte || byte == 95
 -- the bytes are one word
 abbrev pub IsWord : List ℕ → Type 0
 IsWord [] = ⊥
-IsWord (byte ∷ rest) = IsTrue (is_word_start byte) × AllByRecursion (λ b. IsTrue (is_word_byte b)) rest
+IsWord (byte ∷ rest) =
+    IsTrue (is_word_start byte) × AllByRecursion (λ b. IsTrue (is_word_byte b)) rest
 
 -- a byte that stands for itself in a string: from a space to `~` except for the quote and the
 -- backslash, or 0x80 and above
@@ -41,7 +44,8 @@ pub data IsPart : List ℕ → ℕ → Type 0 where
 abbrev pub AreParts : List ℕ → List ℕ → Type 0
 AreParts raw [] = raw ≡ []
 AreParts raw (byte ∷ bytes) =
-    (part : List ℕ) × (rest : List ℕ) × (raw ≡ part ++ rest) × IsPart part byte × AreParts rest bytes
+    (part : List ℕ) × (rest : List ℕ) × (raw ≡ part ++ rest) × IsPart part byte
+    × AreParts rest bytes
 
 -- the bytes of a string with its quotes, and the bytes for which it stands
 pub record IsString (raw bytes : List ℕ) : Type 0 where
@@ -62,11 +66,13 @@ IsRaw Comma raw = raw ≡ 44 ∷ []
 -- token
 pub record IsLongest (kind : TokenKind) (raw rest : List ℕ) : Type 0 where
   pub token : IsRaw kind raw
-  pub longest : (other : TokenKind) (more beyond : List ℕ) → rest ≡ more ++ beyond → IsRaw other (raw ++ more) → more ≡ []
+  pub longest : (other : TokenKind) (more beyond : List ℕ) → rest ≡ more ++ beyond
+      → IsRaw other (raw ++ more) → more ≡ []
 
 -- the bytes begin with no token
 abbrev pub BeginsNone : List ℕ → Type 0
-BeginsNone bytes = (kind : TokenKind) (raw beyond : List ℕ) → bytes ≡ raw ++ beyond → IsRaw kind raw → ⊥
+BeginsNone bytes =
+    (kind : TokenKind) (raw beyond : List ℕ) → bytes ≡ raw ++ beyond → IsRaw kind raw → ⊥
 
 -- a space, a tab, a CR or an LF
 abbrev pub is_space : ℕ → Bool
@@ -87,7 +93,8 @@ pub record IsBlank (bytes : List ℕ) : Type 0 where
 pub record IsBlankToEnd (bytes : List ℕ) : Type 0 where
   pub front : List ℕ
   pub blank : IsBlank front
-  pub last : (bytes ≡ front) ⊎ ((comment : List ℕ) × All (λ b. b ≢ 10) comment × (bytes ≡ front ++ 35 ∷ comment))
+  pub last : (bytes ≡ front)
+      ⊎ ((comment : List ℕ) × All (λ b. b ≢ 10) comment × (bytes ≡ front ++ 35 ∷ comment))
 
 -- there are bytes, and they do not begin with a piece that may stand between tokens
 abbrev pub BeginsNoBlank : List ℕ → Type 0

@@ -1,5 +1,6 @@
 -- For the prover. The parts of a string, read from the front.
-use Rattle.std.specs.Prelude.{◌≡◌, ℕ, ◌+◌, ◌*◌, Bool, ◌||◌, ◌&&◌, not, ◌==◌, nat_lt, nat_le, if◌then◌else◌, List, [], ◌∷◌, ◌++◌, length, Option, Some, None}
+use Rattle.std.specs.Prelude.{◌≡◌, ℕ, ◌+◌, ◌*◌, Bool, ◌||◌, ◌&&◌, not, ◌==◌, nat_lt, nat_le}
+use Rattle.std.specs.Prelude.{if◌then◌else◌, List, [], ◌∷◌, ◌++◌, length, Option, Some, None}
 use Rattle.std.specs.Char.{digit_value}
 use Rattle.query_tokens.specs.Raw.{AreParts}
 
@@ -28,11 +29,13 @@ coded (Some byte) = Some (byte, 4)
 abbrev pub escape_of : List ℕ → Option (ℕ × ℕ)
 escape_of [] = None
 escape_of (second ∷ rest) =
-    if second == 34 || second == 92 then Some (second, 2) else (if second == 120 then coded (code_of rest) else None)
+    if second == 34 || second == 92 then Some (second, 2)
+    else (if second == 120 then coded (code_of rest) else None)
 
 -- the byte stands for itself
 abbrev pub is_plain : ℕ → Bool
-is_plain byte = (nat_le 32 byte && nat_le byte 126 && not (byte == 34) && not (byte == 92)) || nat_le 128 byte
+is_plain byte =
+    (nat_le 32 byte && nat_le byte 126 && not (byte == 34) && not (byte == 92)) || nat_le 128 byte
 
 -- the part at the front: the byte for which it stands, and its length
 abbrev pub part_of : List ℕ → Option (ℕ × ℕ)

@@ -1,5 +1,6 @@
 -- For the prover. What is read from tokens that are known to be terms.
-use Rattle.std.specs.Prelude.{◌≡◌, ℕ, ◌+◌, nat_lt, if◌then◌else◌, List, [], ◌∷◌, ◌++◌, Option, Some, None, Vec, Result, Ok, Err}
+use Rattle.std.specs.Prelude.{◌≡◌, ℕ, ◌+◌, nat_lt, if◌then◌else◌, List, [], ◌∷◌, ◌++◌, Option, Some}
+use Rattle.std.specs.Prelude.{None, Vec, Result, Ok, Err}
 use Rattle.std.specs.declared.alloc.Global.{Global}
 use Rattle.language_base.specs.Limits.{max_level}
 use Rattle.language_base.specs.declared.span.Span.{Span}
@@ -69,13 +70,15 @@ IsDeepFirst trees Memory = ⊥
 -- tokens
 abbrev pub IsFirst : ℕ → Trees → List Token → List Token → Result Tree TreeStop → Type 0
 IsFirst level trees others left (Ok tree) =
-    (trees ≡ tree_before tree (after_first trees)) × (left ≡ others) × (deep_in_first level trees ≡ None)
+    (trees ≡ tree_before tree (after_first trees)) × (left ≡ others)
+    × (deep_in_first level trees ≡ None)
 IsFirst level trees others left (Err (NoList span)) = ⊥
 IsFirst level trees others left (Err (Deep span)) = deep_in_first level trees ≡ Some span
 IsFirst level trees others left (Err Memory) = Unit {0}
 
 -- what reading all terms gives, which have this level and are followed by the other tokens
-abbrev pub AreRead : ℕ → Trees → List Token → List Token → Result (Vec Tree Global) TreeStop → Type 0
+abbrev pub AreRead : ℕ → Trees → List Token → List Token
+    → Result (Vec Tree Global) TreeStop → Type 0
 AreRead level trees others left (Ok list) =
     (trees ≡ trees_of list.items) × (left ≡ others) × (first_deep level trees ≡ None)
 AreRead level trees others left (Err (NoList span)) = ⊥

@@ -2,7 +2,8 @@
 use Rattle.std.specs.Prelude.{◌≡◌, ◌⊎◌, ℕ, List, [], ◌∷◌, ◌++◌}
 use Rattle.language_base.specs.declared.span.Span.{Span}
 use Rattle.query_tokens.specs.declared.token.Token.{Token}
-use Rattle.query_tokens.specs.declared.token.TokenKind.TheVariants.{Word, Number, Text, Open, Close, Comma}
+use Rattle.query_tokens.specs.declared.token.TokenKind.TheVariants.{Word, Number, Text, Open, Close}
+use Rattle.query_tokens.specs.declared.token.TokenKind.TheVariants.{Comma}
 use Rattle.query_trees.specs.Trees.{Trees, none, leaf, call}
 
 -- a term by itself
@@ -11,7 +12,8 @@ IsLeaf token = (token.kind ≡ Word) ⊎ (token.kind ≡ Number) ⊎ (token.kind
 
 -- the tokens begin with a word, `(`, tokens for which `inside` holds, and `)`, which together have
 -- this span; others follow
-pub record Calls (head : Token) (span : Span) (inside : List Token → Type 0) (tokens others : List Token) : Type 0 where
+pub record Calls (head : Token) (span : Span) (inside : List Token → Type 0)
+    (tokens others : List Token) : Type 0 where
   pub open_ : Token
   pub inner : List Token
   pub close : Token
@@ -26,13 +28,15 @@ pub record Calls (head : Token) (span : Span) (inside : List Token → Type 0) (
 abbrev pub AreMore : (List Token → Type 0) → Trees → List Token → Type 0
 AreMore arguments none tokens = tokens ≡ []
 AreMore arguments _ tokens =
-    (comma : Token) × (more : List Token) × (tokens ≡ comma ∷ more) × (comma.kind ≡ Comma) × arguments more
+    (comma : Token) × (more : List Token) × (tokens ≡ comma ∷ more) × (comma.kind ≡ Comma)
+    × arguments more
 
 -- the tokens are one or more terms with commas between them
 abbrev pub AreArguments : Trees → List Token → Type 0
 AreArguments none tokens = ⊥
 AreArguments (leaf token rest) tokens =
-    (others : List Token) × (tokens ≡ token ∷ others) × IsLeaf token × AreMore (AreArguments rest) rest others
+    (others : List Token) × (tokens ≡ token ∷ others) × IsLeaf token
+    × AreMore (AreArguments rest) rest others
 AreArguments (call head arguments span rest) tokens =
     (others : List Token) × Calls head span (AreArguments arguments) tokens others
     × AreMore (AreArguments rest) rest others
@@ -43,7 +47,8 @@ AreTerms none tokens = tokens ≡ []
 AreTerms (leaf token rest) tokens =
     (others : List Token) × (tokens ≡ token ∷ others) × IsLeaf token × AreTerms rest others
 AreTerms (call head arguments span rest) tokens =
-    (others : List Token) × Calls head span (AreArguments arguments) tokens others × AreTerms rest others
+    (others : List Token) × Calls head span (AreArguments arguments) tokens others
+    × AreTerms rest others
 
 -- with more tokens, these tokens are a list of terms
 abbrev pub BeginTerms : List Token → Type 0

@@ -3,7 +3,8 @@ use Rattle.std.specs.Prelude.{ℕ, ◌+◌, List, [], ◌∷◌, nat_lt, if◌th
 use Rattle.language_base.specs.Limits.{max_level}
 use Rattle.language_base.specs.declared.span.Span.{Span}
 use Rattle.query_tokens.specs.declared.token.Token.{Token}
-use Rattle.query_trees.specs.declared.tree.Tree.{Tree, Leaf, Call', Row_of-Tree, end_of-Tree, more_of-Tree}
+use Rattle.query_trees.specs.declared.tree.Tree.{Tree, Leaf, Call', Row_of-Tree, end_of-Tree}
+use Rattle.query_trees.specs.declared.tree.Tree.{more_of-Tree}
 
 -- a list of terms: none, or a first term and the terms after it
 pub data Trees : Type 0 where

@@ -1,5 +1,6 @@
 -- For the prover. Which pairs, and which letters, have a position.
-use Rattle.std.specs.Prelude.{◌≡◌, ◌≤◌, ◌<◌, ◌↔◌, ◌+◌, ◌*◌, ◌/◌, ◌%◌, ℕ, List, Some, slice_get, slice_index}
+use Rattle.std.specs.Prelude.{◌≡◌, ◌≤◌, ◌<◌, ◌↔◌, ◌+◌, ◌*◌, ◌/◌, ◌%◌, ℕ, List, Some, slice_get}
+use Rattle.std.specs.Prelude.{slice_index}
 use Rattle.rate_expr.specs.Sets.{Has}
 use Rattle.rate_equal.specs.Pairs.{mask_of}
 use Rattle.rate_equal.specs.PlaceSets.{block_count}

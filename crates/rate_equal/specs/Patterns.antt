@@ -24,7 +24,8 @@ positions_of letter = (letter.first, letter.second)
 
 -- the letter has the positions that the pattern asks for, and lacks those that it forbids
 pub record IsLike (pattern : Pattern) (letter : Letter) : Type 0 where
-  pub has : (position : Position) → HasAt pattern.has position → HasAt (positions_of letter) position
+  pub has : (position : Position) → HasAt pattern.has position
+      → HasAt (positions_of letter) position
   pub lacks : (position : Position) → HasAt pattern.lacks position
       → HasAt (positions_of letter) position → ⊥
 
@@ -37,11 +38,13 @@ pub record IsRest (masks : ℕ × ℕ) (position : Position) (rest : ℕ × ℕ)
 
 -- both letters have the position, or neither has
 abbrev pub HaveSameAt : Position → Letter → Letter → Type 0
-HaveSameAt position one other = HasAt (positions_of one) position ↔ HasAt (positions_of other) position
+HaveSameAt position one other =
+    HasAt (positions_of one) position ↔ HasAt (positions_of other) position
 
 -- of the positions in the masks, both letters have the same
 abbrev pub HaveSame : ℕ × ℕ → Letter → Letter → Type 0
-HaveSame masks one other = (position : Position) → HasAt masks position → HaveSameAt position one other
+HaveSame masks one other =
+    (position : Position) → HasAt masks position → HaveSameAt position one other
 
 -- letters of the pattern that have the same of these positions have the same target
 abbrev pub Decide : List Letter → ℕ × ℕ → Pattern → ℕ × ℕ → Type 0

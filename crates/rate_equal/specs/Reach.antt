@@ -21,7 +21,8 @@ LeadToApart first second u v = (s s' t t' : State) → IsAfter first u s → IsA
     → IsAfter second u t → IsAfter second v t' → s ≡ s' → t ≡ t' → ⊥
 
 -- there are `count` words of items of these columns, of which each two differ in a given way
-pub record Differ (columns : List Column) (different : Word → Word → Type 0) (count : ℕ) : Type 0 where
+pub record Differ (columns : List Column) (different : Word → Word → Type 0)
+    (count : ℕ) : Type 0 where
   pub words : List Word
   pub items : AllByRecursion (IsWordOf columns) words
   pub each_two : AllPairs different words

@@ -18,4 +18,5 @@ IsAfter sets [] Initial = Unit {0}
 IsAfter sets [] (At mask) = ⊥
 IsAfter sets (item ∷ word) Initial = ⊥
 IsAfter sets (item ∷ word) (At mask) =
-    (to : ℕ) → (Has mask to → Leads sets (item ∷ word) to) × (Leads sets (item ∷ word) to → Has mask to)
+    (to : ℕ)
+    → (Has mask to → Leads sets (item ∷ word) to) × (Leads sets (item ∷ word) to → Has mask to)

@@ -1,5 +1,6 @@
 -- For the prover. The sets of a rate, put together from those of its parts.
-use Rattle.std.specs.Prelude.{◌+◌, ◌^◌, ◌==◌, ◌&&◌, ◌||◌, ℕ, Bool, true, false, if◌then◌else◌, List, [], ◌∷◌, ◌++◌, bit_or, length}
+use Rattle.std.specs.Prelude.{◌+◌, ◌^◌, ◌==◌, ◌&&◌, ◌||◌, ℕ, Bool, true, false, if◌then◌else◌, List}
+use Rattle.std.specs.Prelude.{[], ◌∷◌, ◌++◌, bit_or, length}
 use Rattle.std.specs.Int.{bit_at}
 use Rattle.rate_expr.specs.declared.part.Part.{Part}
 use Rattle.rate_expr.specs.Rates.{Regex, empty, one, sequence, choice, star, size_of}

@@ -37,4 +37,5 @@ Spells sets (item ∷ word) = (end : ℕ) × Leads sets (item ∷ word) end × H
 
 -- the paths over the sets spell exactly the words of the rate
 abbrev pub AreOf : Sets → Regex → Type 0
-AreOf sets rate = (word : Word) → (In rate word → Spells sets word) × (Spells sets word → In rate word)
+AreOf sets rate =
+    (word : Word) → (In rate word → Spells sets word) × (Spells sets word → In rate word)

@@ -1,5 +1,7 @@
 -- Statement. The texts that are written. Each is one line and ends with an LF.
-use Rattle.std.specs.Prelude.{ℕ, zero, suc, ◌+◌, ◌/◌, ◌%◌, ◌==◌, ◌&&◌, ◌||◌, not, nat_le, nat_lt, List, [], ◌∷◌, ◌++◌, codes, decimal, Option, Some, None, if◌then◌else◌}
+use Rattle.std.specs.Prelude.{ℕ, zero, suc, ◌+◌, ◌/◌, ◌%◌, ◌==◌, ◌&&◌, ◌||◌, not, nat_le, nat_lt}
+use Rattle.std.specs.Prelude.{List, [], ◌∷◌, ◌++◌, codes, decimal, Option, Some, None}
+use Rattle.std.specs.Prelude.{if◌then◌else◌}
 use Rattle.std.specs.Fmt.{signed_decimal}
 use Rattle.std.specs.List.{flat_map}
 use Rattle.value_ops.specs.declared.scalar.Scalar.{Scalar}
@@ -11,7 +13,10 @@ use Rattle.item_schema.specs.declared.stop.Cause.TheVariants as cause
 use Rattle.item_schema.specs.declared.stop.Skip.{Skip}
 use Rattle.language_base.specs.declared.refusal.Refusal.{Refusal}
 use Rattle.language_base.specs.declared.rule.Rule.{Rule}
-use Rattle.language_base.specs.declared.rule.Rule.TheVariants.{Long, Token, Term, Depth, Form, Name, Nested, Size, Literal, Mismatch, Cells, Empty, Choice, Split, Iter, Reach, Rates, Compose}
+use Rattle.language_base.specs.declared.rule.Rule.TheVariants.{Long, Token, Term, Depth, Form, Name}
+use Rattle.language_base.specs.declared.rule.Rule.TheVariants.{Nested, Size, Literal, Mismatch}
+use Rattle.language_base.specs.declared.rule.Rule.TheVariants.{Cells, Empty, Choice, Split, Iter}
+use Rattle.language_base.specs.declared.rule.Rule.TheVariants.{Reach, Rates, Compose}
 
 -- a number, or why there is none
 abbrev pub scalar_text : Scalar → List ℕ
@@ -23,8 +28,8 @@ scalar_text DivZero = codes "divzero"
 abbrev pub hex_digit : ℕ → ℕ
 hex_digit digit = if nat_lt digit 10 then 48 + digit else 55 + digit
 
--- a byte of a key: from a space to `~` as it is, but for the quote and the backslash, and every other
--- byte by its two digits
+-- a byte of a key: from a space to `~` as it is, but for the quote and the backslash, and every
+-- other byte by its two digits
 abbrev pub byte_text : ℕ → List ℕ
 byte_text byte =
     if nat_le 32 byte && nat_le byte 126 && not (byte == 34 || byte == 92) then byte ∷ []

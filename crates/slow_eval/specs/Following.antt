@@ -1,5 +1,6 @@
 -- Statement. What the engine follows, and what it keeps.
-use Rattle.std.specs.Prelude.{◌≡◌, ℕ, ◌+◌, Bool, false, List, Option, Some, None, length, MatchOption}
+use Rattle.std.specs.Prelude.{◌≡◌, ℕ, ◌+◌, Bool, false, List, Option, Some, None, length}
+use Rattle.std.specs.Prelude.{MatchOption}
 use Rattle.value_ops.specs.declared.value.Value.{Value}
 use Rattle.value_ops.specs.declared.value.Value.TheVariants as value
 use Rattle.value_ops.specs.Types.{IsValueOf}
@@ -38,7 +39,8 @@ kept_of slow = length slow.items.items + size_of_answer slow.answer
 -- the items are of the stream, and the answer, if there is one, has the type of the query
 pub record IsSound (slow : Slow) : Type 0 where
   pub is_word : IsWordOf (columns_of slow) slow.items.items
-  pub typed : MatchOption slow.answer (Unit {0}) (IsValueOf (type_of (columns_of slow) (query_of slow)))
+  pub typed : MatchOption slow.answer (Unit {0})
+      (IsValueOf (type_of (columns_of slow) (query_of slow)))
 
 -- the engine keeps exactly this word, and the answer is that of the query on it
 pub record Follows (slow : Slow) (word : Word) : Type 0 where

@@ -1,5 +1,6 @@
 -- For the prover. Which fronts of a word are in a rate, and which positions may be next.
-use Rattle.std.specs.Prelude.{◌≡◌, ◌≤◌, ◌↔◌, ℕ, ◌+◌, Bool, false, List, IsTrue, length, take, slice_index_or}
+use Rattle.std.specs.Prelude.{◌≡◌, ◌≤◌, ◌↔◌, ℕ, ◌+◌, Bool, false, List, IsTrue, length, take}
+use Rattle.std.specs.Prelude.{slice_index_or}
 use Rattle.value_ops.specs.declared.field.Field.{Field}
 use Rattle.rate_expr.specs.Language.{In}
 use Rattle.rate_expr.specs.Paths.{Follows, Meets, Spells}

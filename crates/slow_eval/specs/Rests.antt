@@ -20,4 +20,5 @@ abbrev pub IsJoinedWithRest : Qre → Word → Expression → Option Value → �
     → List (Option Value) → Type 0
 IsJoinedWithRest query rest expression None from old new = new ≡ old
 IsJoinedWithRest query rest expression (Some left) from old new =
-    (rights : List (Option Value)) × AreAnswers query rest rights × IsJoined expression left rights from old new
+    (rights : List (Option Value)) × AreAnswers query rest rights
+    × IsJoined expression left rights from old new

@@ -1,5 +1,6 @@
 -- For the prover. Rows of answers, and what expressions give on the values in them.
-use Rattle.std.specs.Prelude.{◌≡◌, ◌<◌, ℕ, ◌+◌, List, [], Option, Some, None, length, slice_index_or}
+use Rattle.std.specs.Prelude.{◌≡◌, ◌<◌, ℕ, ◌+◌, List, [], Option, Some, None, length}
+use Rattle.std.specs.Prelude.{slice_index_or}
 use Rattle.value_ops.specs.declared.value.Value.{Value}
 use Rattle.value_ops.specs.declared.value.ValueType.{ValueType}
 use Rattle.value_ops.specs.Evaluation.{given}
@@ -45,9 +46,11 @@ IsPut expression left None old new = new ≡ old
 IsPut expression left (Some right) old new = IsGiven expression left right new
 
 -- from the place `from` on, the row has what the left value and the values of the right row give
-pub record IsJoined (expression : Expression) (left : Value) (right : List (Option Value)) (from : ℕ)
+pub record IsJoined (expression : Expression) (left : Value)
+    (right : List (Option Value)) (from : ℕ)
     (old new : List (Option Value)) : Type 0 where
   pub count : length new ≡ length old
   pub before : (place : ℕ) → place < from → answer_at new place ≡ answer_at old place
   pub after : (place : ℕ) → place < length right
-      → IsPut expression left (answer_at right place) (answer_at old (from + place)) (answer_at new (from + place))
+      → IsPut expression left (answer_at right place) (answer_at old (from + place))
+      (answer_at new (from + place))

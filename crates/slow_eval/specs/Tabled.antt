@@ -1,5 +1,6 @@
 -- For the prover. The tables that the answers for keys make.
-use Rattle.std.specs.Prelude.{◌≡◌, ◌≤◌, ◌<◌, ℕ, ◌+◌, Bool, false, List, Option, None, Some, if◌then◌else◌, length, map, slice_index, slice_index_or, take}
+use Rattle.std.specs.Prelude.{◌≡◌, ◌≤◌, ◌<◌, ℕ, ◌+◌, Bool, false, List, Option, None, Some}
+use Rattle.std.specs.Prelude.{if◌then◌else◌, length, map, slice_index, slice_index_or, take}
 use Rattle.std.specs.List.{AllByRecursion, filter_map}
 use Rattle.value_ops.specs.declared.scalar.Scalar.{Scalar}
 use Rattle.value_ops.specs.declared.value.Value.{Value}
@@ -13,10 +14,12 @@ use Rattle.slow_eval.specs.declared.keyed_answers.Keyed.{Keyed}
 use Rattle.slow_eval.specs.Rows.{answer_at}
 
 -- an answer of the query on the items that each front of the word has for the key
-pub record IsKeyed (query : Qre) (column : ℕ) (sync : Predicate) (word : Word) (one : Keyed) : Type 0 where
+pub record IsKeyed (query : Qre) (column : ℕ) (sync : Predicate) (word : Word)
+    (one : Keyed) : Type 0 where
   pub count : length one.answers.items ≡ length word + 1
   pub each : (place : ℕ) → place ≤ length word
-      → IsAnswer query (projection column sync one.key (take place word)) (answer_at one.answers.items place)
+      → IsAnswer query (projection column sync one.key (take place word))
+      (answer_at one.answers.items place)
 
 -- the scalar that the answer is, if it is one
 abbrev pub scalar_of : Option Value → Option Scalar

@@ -1,5 +1,6 @@
 -- Statement. Entries of left values, as a list and as a finite map from inner starts.
-use Rattle.std.specs.Prelude.{◌≡◌, ◌==◌, ◌≤◌, ℕ, Bool, not, List, [], ◌∷◌, length, filter, find, Option, None}
+use Rattle.std.specs.Prelude.{◌≡◌, ◌==◌, ◌≤◌, ℕ, Bool, not, List, [], ◌∷◌, length, filter, find}
+use Rattle.std.specs.Prelude.{Option, None}
 use Rattle.split_eval.specs.declared.entry.Entry.{Entry}
 
 -- the entries in the order in which they were put, and for how many there is room

@@ -15,7 +15,8 @@ use Rattle.sqre_run.specs.Reasons.{WritesReason}
 use Rattle.sqre_run.specs.declared.command.Command.{Command}
 use Rattle.sqre_run.specs.declared.command.Command.TheVariants.{Run, Why}
 use Rattle.sqre_run.specs.declared.status.Status.{Status}
-use Rattle.sqre_run.specs.declared.status.Status.TheVariants.{Done, Refused, Usage, QueryFault, ItemFault, SinkFault, Memory, Limit}
+use Rattle.sqre_run.specs.declared.status.Status.TheVariants.{Done, Refused, Usage, QueryFault}
+use Rattle.sqre_run.specs.declared.status.Status.TheVariants.{ItemFault, SinkFault, Memory, Limit}
 
 -- A fault is reported only where the count of faults of its object is one more, and then the two
 -- other counts have not changed. With every other status no count has changed.

@@ -12,8 +12,10 @@ use Rattle.sqre_run.specs.declared.status.Status.TheVariants.{Done, Refused, Sin
 
 -- its line was written whole, in part, or not at all
 abbrev pub LineCarried : Command → Monitor → Status → Option (List ℕ) → Option (List ℕ) → Type 0
-LineCarried command monitor Done old new = HoldsOfLine command monitor (λ line. Appends old new line)
-LineCarried command monitor SinkFault old new = HoldsOfLine command monitor (λ line. AppendsSome old new line)
+LineCarried command monitor Done old new =
+    HoldsOfLine command monitor (λ line. Appends old new line)
+LineCarried command monitor SinkFault old new =
+    HoldsOfLine command monitor (λ line. AppendsSome old new line)
 LineCarried command monitor Memory old new = new ≡ old
 LineCarried command monitor _ old new = ⊥
 

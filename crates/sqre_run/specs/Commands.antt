@@ -1,5 +1,6 @@
 -- Statement. The words of the command line, and what they ask for.
-use Rattle.std.specs.Prelude.{ℕ, ◌-◌, ◌^◌, Bool, ◌&&◌, nat_eq, nat_le, nat_lt, if◌then◌else◌, List, [], ◌∷◌, length, codes, Option, Some, None}
+use Rattle.std.specs.Prelude.{ℕ, ◌-◌, ◌^◌, Bool, ◌&&◌, nat_eq, nat_le, nat_lt, if◌then◌else◌, List}
+use Rattle.std.specs.Prelude.{[], ◌∷◌, length, codes, Option, Some, None}
 use Rattle.std.specs.Char.{is_ascii_digit}
 use Rattle.std.specs.Cmp.Lexicographic.{pointwise}
 use Rattle.std.specs.List.{list_all}
@@ -47,7 +48,8 @@ drill_from _ _ = None
 -- `drill`, with a count of 1 to 7 digits and a seed of 1 to 20 digits
 abbrev pub drill_of : List ℕ → List ℕ → List ℕ → Option Command
 drill_of word count seed =
-    if says word (codes "drill") then drill_from (number_in 7 max_items count) (number_in 20 max_seed seed)
+    if says word (codes "drill")
+    then drill_from (number_in 7 max_items count) (number_in 20 max_seed seed)
     else None
 
 -- what the words ask for, if they have one of the forms: `check QUERY`, `bound QUERY`, `why QUERY`,

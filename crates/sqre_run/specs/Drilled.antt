@@ -1,5 +1,6 @@
 -- Statement. What a drill reports of a query: the answers to items that a seed draws, summed up.
-use Rattle.std.specs.Prelude.{ℕ, true, List, [], ◌∷◌, ◌++◌, length, count_by, is_some, if◌then◌else◌, Option, Some, None, Result, Ok}
+use Rattle.std.specs.Prelude.{ℕ, true, List, [], ◌∷◌, ◌++◌, length, count_by, is_some}
+use Rattle.std.specs.Prelude.{if◌then◌else◌, Option, Some, None, Result, Ok}
 use Rattle.io_edge.specs.Lines.{Shown, lines}
 use Rattle.value_ops.specs.declared.field.Field.{Field}
 use Rattle.value_ops.specs.declared.value.Value.{Value}
@@ -42,4 +43,5 @@ summary values = drill_text (length values) (count_by is_some values) (last_of v
 
 -- what a drill of `count` items from a seed reports of a query
 abbrev pub drilled : Meaning → ℕ → ℕ → List ℕ
-drilled meaning count seed = summary (values_of meaning (lines (drill_bytes meaning.layout count seed) true))
+drilled meaning count seed =
+    summary (values_of meaning (lines (drill_bytes meaning.layout count seed) true))

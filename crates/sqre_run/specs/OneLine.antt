@@ -13,7 +13,8 @@ use Rattle.sqre_run.specs.Meanings.{IsMeaning, KeepsRules, Meaning}
 use Rattle.sqre_run.specs.declared.command.Command.{Command}
 use Rattle.sqre_run.specs.declared.command.Command.TheVariants.{Run, Check, Bound, Why, Drill}
 use Rattle.sqre_run.specs.declared.status.Status.{Status}
-use Rattle.sqre_run.specs.declared.status.Status.TheVariants.{Done, Refused, Usage, QueryFault, ItemFault, SinkFault, Memory, Limit}
+use Rattle.sqre_run.specs.declared.status.Status.TheVariants.{Done, Refused, Usage, QueryFault}
+use Rattle.sqre_run.specs.declared.status.Status.TheVariants.{ItemFault, SinkFault, Memory, Limit}
 
 -- P holds of the line for a query that is accepted: that it is, its bounds, or what a drill reports
 -- of it, whatever function gives its values. `run` and `slow` have no such line.

@@ -1,5 +1,6 @@
 -- Statement. What a run writes, as a function of what the query means and the item bytes.
-use Rattle.std.specs.Prelude.{◌≡◌, ℕ, Bool, true, false, List, [], ◌∷◌, ◌++◌, drop, Option, Some, None, Result, Ok, Err, if◌then◌else◌}
+use Rattle.std.specs.Prelude.{◌≡◌, ℕ, Bool, true, false, List, [], ◌∷◌, ◌++◌, drop, Option, Some}
+use Rattle.std.specs.Prelude.{None, Result, Ok, Err, if◌then◌else◌}
 use Rattle.std.specs.List.{flat_map}
 use Rattle.io_edge.specs.Lines.{Shown, text, long, lines}
 use Rattle.language_base.specs.declared.refusal.Refusal.{Refusal}

@@ -23,7 +23,8 @@ use Rattle.type_checker.specs.Steps.{refusal}
 use Rattle.sqre_run.specs.Compiled.{Compiles, KeepsRulesIfAccepted}
 use Rattle.sqre_run.specs.Meanings.{KeepsRules}
 use Rattle.sqre_run.specs.declared.status.Status.{Status}
-use Rattle.sqre_run.specs.declared.status.Status.TheVariants.{Done, Refused, Usage, QueryFault, ItemFault, SinkFault, Memory, Limit}
+use Rattle.sqre_run.specs.declared.status.Status.TheVariants.{Done, Refused, Usage, QueryFault}
+use Rattle.sqre_run.specs.declared.status.Status.TheVariants.{ItemFault, SinkFault, Memory, Limit}
 
 -- the first node of the text's query that breaks a rule of words, and the rule
 pub record IsRefusedAt (text : List ℕ) (node : Node) (broken : Rule) : Type 0 where

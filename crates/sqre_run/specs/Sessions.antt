@@ -1,6 +1,7 @@
 -- Statement. A session takes the lines of a stream one by one, and its follower, the engine, takes
 -- the items among them: what it has after some lines, and what one more line does.
-use Rattle.std.specs.Prelude.{◌≡◌, ℕ, Bool, ◌&&◌, not, true, false, List, [], ◌∷◌, ◌++◌, Option, Some, None, Result, Ok, Err, if◌then◌else◌}
+use Rattle.std.specs.Prelude.{◌≡◌, ℕ, Bool, ◌&&◌, not, true, false, List, [], ◌∷◌, ◌++◌, Option}
+use Rattle.std.specs.Prelude.{Some, None, Result, Ok, Err, if◌then◌else◌}
 use Rattle.io_edge.specs.Lines.{Shown}
 use Rattle.value_ops.specs.declared.field.Field.{Field}
 use Rattle.value_ops.specs.declared.value.Value.{Value}
@@ -45,7 +46,8 @@ IsReplyTo _ _ = ⊥
 -- to this word and the item; a skip, or nothing, does not move it
 abbrev pub FollowsOn : {F : Type 0} → (F → Word → Type 0) → List Column
     → Option (Result (List Field) Skip) → F → F → Type 0
-FollowsOn follows columns (Some (Ok item)) old new = IsItemOf columns item × Carries follows old item new
+FollowsOn follows columns (Some (Ok item)) old new =
+    IsItemOf columns item × Carries follows old item new
 FollowsOn follows columns _ old new = new ≡ old
 
 -- the session can take a line: its follower has the session's query and columns, is sound, and is

@@ -1,7 +1,8 @@
 -- Statement. The exit status of the program for each way in which a run ends.
 use Rattle.std.specs.Prelude.{ℕ}
 use Rattle.sqre_run.specs.declared.status.Status.{Status}
-use Rattle.sqre_run.specs.declared.status.Status.TheVariants.{Done, Refused, Usage, QueryFault, ItemFault, SinkFault, Memory, Limit}
+use Rattle.sqre_run.specs.declared.status.Status.TheVariants.{Done, Refused, Usage, QueryFault}
+use Rattle.sqre_run.specs.declared.status.Status.TheVariants.{ItemFault, SinkFault, Memory, Limit}
 
 -- the number of each status
 abbrev pub number_of : Status → ℕ

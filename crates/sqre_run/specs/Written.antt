@@ -19,7 +19,8 @@ Replied _ _ old new = ⊥
 
 -- the one line of a call was written whole and flushed, or only a part of it; out of memory for the
 -- line, nothing was written
-abbrev pub Reported : Status → Result (List ℕ) AllocError → Option (List ℕ) → Option (List ℕ) → Type 0
+abbrev pub Reported : Status → Result (List ℕ) AllocError → Option (List ℕ)
+    → Option (List ℕ) → Type 0
 Reported Done (Ok line) old new = Appends old new line
 Reported SinkFault (Ok line) old new = AppendsSome old new line
 Reported Memory (Err error) old new = new ≡ old
@@ -28,7 +29,8 @@ Reported _ _ old new = ⊥
 
 -- the lines of a refusal were written whole and flushed, or only a part of them; out of memory for
 -- them, nothing was written
-abbrev pub Refuses : Status → Result (List ℕ) AllocError → Option (List ℕ) → Option (List ℕ) → Type 0
+abbrev pub Refuses : Status → Result (List ℕ) AllocError → Option (List ℕ)
+    → Option (List ℕ) → Type 0
 Refuses Refused (Ok lines) old new = Appends old new lines
 Refuses SinkFault (Ok lines) old new = AppendsSome old new lines
 Refuses Memory (Err error) old new = new ≡ old

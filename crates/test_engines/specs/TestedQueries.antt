@@ -33,7 +33,8 @@ total_of_totals = compose (total (read (var.Field 0))) (total (read (var.Field 0
 
 -- items of a key and a number
 abbrev pub keyed : List Column
-keyed = record { name = codes "k"; kind = kind.Text } ∷ record { name = codes "a"; kind = kind.Int } ∷ []
+keyed = record { name = codes "k"; kind = kind.Text }
+    ∷ record { name = codes "a"; kind = kind.Int } ∷ []
 
 -- the key is a tick
 abbrev pub tick : Predicate

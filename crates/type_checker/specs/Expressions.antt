@@ -1,5 +1,6 @@
 -- Statement. Expressions whose names are resolved, and which of them are well typed.
-use Rattle.std.specs.Prelude.{ℕ, Bool, true, false, ◌&&◌, ◌||◌, List, Option, None, Some, codes, option_map, if◌then◌else◌}
+use Rattle.std.specs.Prelude.{ℕ, Bool, true, false, ◌&&◌, ◌||◌, List, Option, None, Some, codes}
+use Rattle.std.specs.Prelude.{option_map, if◌then◌else◌}
 use Rattle.std.specs.Str.{bytes_eq}
 use Rattle.item_schema.specs.declared.column.Column.{Column}
 use Rattle.query_syntax.specs.Expressions as e
@@ -7,7 +8,8 @@ use Rattle.query_syntax.specs.declared.operator.Extremum.{Extremum}
 use Rattle.query_syntax.specs.declared.operator.Extremum.TheVariants as extremum
 use Rattle.query_syntax.specs.declared.operator.Summary.{Summary}
 use Rattle.query_syntax.specs.declared.operator.Summary.TheVariants as summary
-use Rattle.value_ops.specs.Expressions.{Expression, literal, read, unary, binary, choice, sum, count, most, least, entry}
+use Rattle.value_ops.specs.Expressions.{Expression, literal, read, unary, binary, choice, sum}
+use Rattle.value_ops.specs.Expressions.{count, most, least, entry}
 use Rattle.value_ops.specs.Typing.{Types, type_named}
 use Rattle.value_ops.specs.declared.expr.Var.{Var}
 use Rattle.value_ops.specs.declared.expr.Var.TheVariants.{Field, Left, Right}

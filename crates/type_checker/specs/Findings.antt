@@ -1,12 +1,14 @@
 -- For the prover. What a pass over a query finds, as its caller needs it.
-use Rattle.std.specs.Prelude.{◌≡◌, Bool, true, Result, Err, List, ◌∷◌, [], ◌++◌, Option, None, Some, FitsSigned, if◌then◌else◌}
+use Rattle.std.specs.Prelude.{◌≡◌, Bool, true, Result, Err, List, ◌∷◌, [], ◌++◌, Option, None, Some}
+use Rattle.std.specs.Prelude.{FitsSigned, if◌then◌else◌}
 use Rattle.std.specs.List.{Contains}
 use Rattle.std.specs.Option.{option_or}
 use Rattle.language_base.specs.declared.refusal.Refusal.{Refusal}
 use Rattle.language_base.specs.declared.rule.Rule.{Rule}
 use Rattle.language_base.specs.declared.span.Span.{Span}
 use Rattle.predicate_cells.specs.Predicates.{Predicate}
-use Rattle.query_model.specs.Queries.{Qre, atom, eps, choice, split, iter, combine, apply, compose, collect, plain_of}
+use Rattle.query_model.specs.Queries.{Qre, atom, eps, choice, split, iter, combine, apply, compose}
+use Rattle.query_model.specs.Queries.{collect, plain_of}
 use Rattle.item_schema.specs.declared.column.Column.{Column}
 use Rattle.predicate_cells.specs.Cells.{AllFit, Partition}
 use Rattle.rate_expr.specs.FirstLastFollow.{AreSetsOf}
@@ -21,9 +23,11 @@ use Rattle.query_model.specs.Rules.{HasNoCollect, Standing, bound, IsTyped}
 use Rattle.query_model.specs.Sizes.{HasFewPositions, HaveFewCells, predicates_of}
 use Rattle.query_model.specs.declared.query.Query.{Query}
 use Rattle.query_model.specs.declared.query.Shape.{Shape}
-use Rattle.query_model.specs.declared.query.Shape.TheVariants.{Atom, Eps, Or', Split', Iter', Combine', Apply', Compose', Collect'}
+use Rattle.query_model.specs.declared.query.Shape.TheVariants.{Atom, Eps, Or', Split', Iter'}
+use Rattle.query_model.specs.declared.query.Shape.TheVariants.{Combine', Apply', Compose', Collect'}
 use Rattle.type_checker.specs.Blames.{ForbidsTwoReadings, IsBlameAt, IsFirstBroken}
-use Rattle.type_checker.specs.Nodes.{Node, Places, alone, first_places, first_where, nodes_in, second_places, with_one, with_two}
+use Rattle.type_checker.specs.Nodes.{Node, Places, alone, first_places, first_where, nodes_in}
+use Rattle.type_checker.specs.Nodes.{second_places, with_one, with_two}
 use Rattle.type_checker.specs.Sizes.{derives_many_cells}
 use Rattle.type_checker.specs.Steps.{refusal}
 use Rattle.type_checker.specs.WordRules.{BreaksAt, BreaksFed}

@@ -17,7 +17,8 @@ use Rattle.type_checker.specs.Layouts.{layout_of}
 use Rattle.type_checker.specs.Nodes.{nodes_in, places_of}
 use Rattle.type_checker.specs.Resolved.{outside, resolved}
 use Rattle.query_model.specs.Few.{has_few_cells}
-use Rattle.type_checker.specs.Sizes.{derives_many_cells, first_node, has_few_nodes, has_few_slots, has_many_positions}
+use Rattle.type_checker.specs.Sizes.{derives_many_cells, first_node, has_few_nodes, has_few_slots}
+use Rattle.type_checker.specs.Sizes.{has_many_positions}
 use Rattle.type_checker.specs.Steps.{◌>>=◌, because, provided, unless}
 use Rattle.type_checker.specs.WordRules.{FirstBroken}
 

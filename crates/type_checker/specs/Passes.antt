@@ -15,7 +15,8 @@ use Rattle.query_model.specs.declared.query.Query as memory
 use Rattle.query_syntax.specs.Programs.{Program}
 use Rattle.query_syntax.specs.Queries.{Query}
 use Rattle.query_syntax.specs.Spans.{query_span}
-use Rattle.type_checker.specs.Findings.{CanBeAsked, IsUnresolved, KeepsTypes, derives_many, first_in, places_in}
+use Rattle.type_checker.specs.Findings.{CanBeAsked, IsUnresolved, KeepsTypes, derives_many}
+use Rattle.type_checker.specs.Findings.{first_in, places_in}
 use Rattle.type_checker.specs.Judged.{limited, measured}
 use Rattle.type_checker.specs.Layouts.{layout_of}
 use Rattle.type_checker.specs.Nodes.{places_of}

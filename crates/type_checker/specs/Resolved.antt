@@ -11,12 +11,14 @@ use Rattle.value_ops.specs.declared.value.ValueType.{ValueType}
 use Rattle.value_ops.specs.declared.value.ValueType.TheVariants.{Number, Table}
 use Rattle.predicate_cells.specs.Fits.{fits, has_texts}
 use Rattle.rate_expr.specs.Rates.{preds_of}
-use Rattle.query_model.specs.Queries.{Qre, atom, eps, choice, split, iter, combine, apply, compose, collect}
+use Rattle.query_model.specs.Queries.{Qre, atom, eps, choice, split, iter, combine, apply, compose}
+use Rattle.query_model.specs.Queries.{collect}
 use Rattle.query_model.specs.QueryTypes as types
 use Rattle.query_model.specs.QueryTypes.{derived_columns, type_of}
 use Rattle.query_syntax.specs.Queries as q
 use Rattle.query_syntax.specs.Queries.{Query}
-use Rattle.type_checker.specs.Expressions.{expression_over, is_number, is_typed, of_item, of_one, of_two}
+use Rattle.type_checker.specs.Expressions.{expression_over, is_number, is_typed, of_item, of_one}
+use Rattle.type_checker.specs.Expressions.{of_two}
 use Rattle.type_checker.specs.Names.{column_named}
 use Rattle.type_checker.specs.Rates.{rate_over}
 use Rattle.type_checker.specs.Steps.{◌>>=◌, found, provided, refusal}

@@ -2,7 +2,8 @@
 -- memory.
 use Rattle.std.specs.Prelude.{FitsSigned}
 use Rattle.std.specs.Int.{w64}
-use Rattle.value_ops.specs.Expressions.{Expression, literal, read, unary, binary, choice, sum, count, most, least, entry}
+use Rattle.value_ops.specs.Expressions.{Expression, literal, read, unary, binary, choice, sum}
+use Rattle.value_ops.specs.Expressions.{count, most, least, entry}
 use Rattle.type_checker.specs.Expressions.{Scope, of_item, of_one, of_two}
 use Rattle.type_checker.specs.declared.expression.Scope as memory
 use Rattle.type_checker.specs.declared.expression.Scope.TheVariants.{Item, One, Two}

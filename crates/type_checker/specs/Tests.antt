@@ -2,8 +2,10 @@
 use Rattle.std.specs.Prelude.{ℕ, ℤ, List, Option, None, Some, option_map}
 use Rattle.item_schema.specs.declared.column.Column.{Column}
 use Rattle.predicate_cells.specs.Predicates as plain
-use Rattle.predicate_cells.specs.Predicates.{eq, ne, lt, le, gt, ge, eq_text, ne_text, conjunction, disjunction, negation}
-use Rattle.query_syntax.specs.Predicates.{Predicate, any, equality, order, between, is_num, joined, negated}
+use Rattle.predicate_cells.specs.Predicates.{eq, ne, lt, le, gt, ge, eq_text, ne_text, conjunction}
+use Rattle.predicate_cells.specs.Predicates.{disjunction, negation}
+use Rattle.query_syntax.specs.Predicates.{Predicate, any, equality, order, between, is_num, joined}
+use Rattle.query_syntax.specs.Predicates.{negated}
 use Rattle.query_syntax.specs.declared.leaf.Literal.{Literal}
 use Rattle.query_syntax.specs.declared.leaf.Literal.TheVariants.{Number, Text}
 use Rattle.query_syntax.specs.declared.operator.Connective.{Connective}

@@ -4,7 +4,8 @@ use Rattle.std.specs.Prelude.{◌+◌, ◌⊎◌, ◌≡◌, List, [], ◌∷◌
 use Rattle.std.specs.List.{AllByRecursion, Contains}
 use Rattle.language_base.specs.declared.refusal.Refusal.{Refusal}
 use Rattle.language_base.specs.declared.rule.Rule.{Rule}
-use Rattle.language_base.specs.declared.rule.Rule.TheVariants.{Choice, Compose, Empty, Iter, Rates, Reach, Split}
+use Rattle.language_base.specs.declared.rule.Rule.TheVariants.{Choice, Compose, Empty, Iter, Rates}
+use Rattle.language_base.specs.declared.rule.Rule.TheVariants.{Reach, Split}
 use Rattle.item_schema.specs.declared.column.Column.{Column}
 use Rattle.predicate_cells.specs.Met.{IsMet, IsUnmet}
 use Rattle.predicate_cells.specs.Predicates.{Predicate}
@@ -12,9 +13,11 @@ use Rattle.rate_equal.specs.Differences.{HaveDifference, LacksSome}
 use Rattle.rate_equal.specs.Reach.{ReachPairs, ReachStates, max_reach}
 use Rattle.rate_expr.specs.FirstLastFollow.{AreSetsOf}
 use Rattle.rate_expr.specs.Rates.{Regex, preds_of}
-use Rattle.rate_expr.specs.Readings.{AreDisjoint, AreEqual, HasAllButEmpty, HasOneFactoring, HasTwoFactorings, HaveOneSplit, HaveTwoSplits, Overlap}
+use Rattle.rate_expr.specs.Readings.{AreDisjoint, AreEqual, HasAllButEmpty, HasOneFactoring}
+use Rattle.rate_expr.specs.Readings.{HasTwoFactorings, HaveOneSplit, HaveTwoSplits, Overlap}
 use Rattle.rate_expr.specs.Sets.{Sets}
-use Rattle.query_model.specs.Queries.{Qre, atom, eps, choice, split, iter, combine, apply, compose, collect}
+use Rattle.query_model.specs.Queries.{Qre, atom, eps, choice, split, iter, combine, apply, compose}
+use Rattle.query_model.specs.Queries.{collect}
 use Rattle.query_model.specs.QueryTypes.{derived_columns, type_of}
 use Rattle.query_model.specs.Rates.{rate_of}
 use Rattle.query_model.specs.Rules.{Standing, free, bound}

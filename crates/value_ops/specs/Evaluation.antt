@@ -1,5 +1,6 @@
 -- Statement. What expressions give, on the fields of an item or on a left and a right value.
-use Rattle.std.specs.Prelude.{ℕ, pos, if◌then◌else◌, List, fold, length, Option, None, Some, slice_get}
+use Rattle.std.specs.Prelude.{ℕ, pos, if◌then◌else◌, List, fold, length, Option, None, Some}
+use Rattle.std.specs.Prelude.{slice_get}
 use Rattle.std.specs.Option.{option_map}
 use Rattle.value_ops.specs.declared.expr.Var.{Var}
 use Rattle.value_ops.specs.declared.expr.Var.TheVariants as var
@@ -12,7 +13,8 @@ use Rattle.value_ops.specs.declared.scalar.Scalar.TheVariants.{Number}
 use Rattle.value_ops.specs.declared.value.Value.{Value}
 use Rattle.value_ops.specs.declared.value.Value.TheVariants as value
 use Rattle.value_ops.specs.Entries.{values_of, value_at}
-use Rattle.value_ops.specs.Expressions.{Expression, literal, read, unary, binary, choice, sum, count, most, least, entry}
+use Rattle.value_ops.specs.Expressions.{Expression, literal, read, unary, binary, choice, sum}
+use Rattle.value_ops.specs.Expressions.{count, most, least, entry}
 use Rattle.language_base.specs.Comparisons.{compares}
 use Rattle.value_ops.specs.Operators.{binary_of, unary_of}
 use Rattle.value_ops.specs.Scalar.{in_range}
@@ -63,7 +65,8 @@ chosen test (Number first) failed met other = Some failed
 chosen test failed second met other = Some failed
 
 -- the same where both operands are there
-abbrev pub chosen_of : Compare → Option Scalar → Option Scalar → Option Scalar → Option Scalar → Option Scalar
+abbrev pub chosen_of : Compare → Option Scalar → Option Scalar → Option Scalar
+    → Option Scalar → Option Scalar
 chosen_of test (Some first) (Some second) met other = chosen test first second met other
 chosen_of test _ _ met other = None
 

@@ -1,14 +1,15 @@
 -- Statement. Expressions, without where they lie in memory.
 use Rattle.std.specs.Prelude.{ℤ, ℕ, List}
 use Rattle.value_ops.specs.declared.expr.Expr.{Expr}
-use Rattle.value_ops.specs.declared.expr.Expr.TheVariants.{Literal, Read, Unary', Binary', If', Sum, Count, Most', Least', Get'}
+use Rattle.value_ops.specs.declared.expr.Expr.TheVariants.{Literal, Read, Unary', Binary', If', Sum}
+use Rattle.value_ops.specs.declared.expr.Expr.TheVariants.{Count, Most', Least', Get'}
 use Rattle.value_ops.specs.declared.expr.Var.{Var}
 use Rattle.language_base.specs.declared.binary.BinaryOp.{BinaryOp}
 use Rattle.language_base.specs.declared.compare.Compare.{Compare}
 use Rattle.language_base.specs.declared.unary.UnaryOp.{UnaryOp}
 
--- a number, what a name stands for, an operator on expressions, a choice by a comparison of the first
--- two, or a number that is made of a table
+-- a number, what a name stands for, an operator on expressions, a choice by a comparison of the
+-- first two, or a number that is made of a table
 pub data Expression : Type 0 where
   literal : ℤ → Expression
   read : Var → Expression

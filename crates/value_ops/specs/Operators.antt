@@ -1,9 +1,11 @@
 -- Statement. What the operators do with scalars: the exact result first, and its range afterwards.
-use Rattle.std.specs.Prelude.{ℤ, pos, ◌+ℤ◌, ◌-ℤ◌, ◌*ℤ◌, neg_ℤ, int_div, int_rem, unsigned_abs, if◌then◌else◌, Option, Some, None}
+use Rattle.std.specs.Prelude.{ℤ, pos, ◌+ℤ◌, ◌-ℤ◌, ◌*ℤ◌, neg_ℤ, int_div, int_rem, unsigned_abs}
+use Rattle.std.specs.Prelude.{if◌then◌else◌, Option, Some, None}
 use Rattle.std.specs.Ordering.{int_eq}
 use Rattle.std.specs.Int.{int_min, int_max}
 use Rattle.language_base.specs.declared.binary.BinaryOp.{BinaryOp}
-use Rattle.language_base.specs.declared.binary.BinaryOp.TheVariants.{Add, Sub, Mul, Div, Rem, Min, Max}
+use Rattle.language_base.specs.declared.binary.BinaryOp.TheVariants.{Add, Sub, Mul, Div, Rem, Min}
+use Rattle.language_base.specs.declared.binary.BinaryOp.TheVariants.{Max}
 use Rattle.language_base.specs.declared.unary.UnaryOp.{UnaryOp}
 use Rattle.language_base.specs.declared.unary.UnaryOp.TheVariants.{Neg, Abs}
 use Rattle.value_ops.specs.declared.scalar.Scalar.{Scalar}

@@ -10,7 +10,8 @@ use Rattle.value_ops.specs.declared.value.ValueType.{ValueType}
 use Rattle.value_ops.specs.declared.value.ValueType.TheVariants as type
 use Rattle.value_ops.specs.Evaluation.{Inputs, value_named, value_of_field}
 use Rattle.value_ops.specs.Types.{IsValueOf, type_of}
-use Rattle.value_ops.specs.Expressions.{Expression, literal, read, unary, binary, choice, sum, count, most, least, entry}
+use Rattle.value_ops.specs.Expressions.{Expression, literal, read, unary, binary, choice, sum}
+use Rattle.value_ops.specs.Expressions.{count, most, least, entry}
 
 -- the types of what names stand for; a text has none
 pub record Types : Type 0 where
@@ -32,12 +33,13 @@ types_of inputs = record {
 
 -- the type of what a name stands for
 abbrev pub type_named : Types → Var → Option ValueType
-type_named types (var.Field column) = option_and_then (λ found. found) (slice_get types.fields column)
+type_named types (var.Field column) =
+    option_and_then (λ found. found) (slice_get types.fields column)
 type_named types var.Left = types.left
 type_named types var.Right = types.right
 
--- Well typed, and a number: literals are of 64 bits, operators, comparisons and branches take numbers,
--- and the table forms a name of a table.
+-- Well typed, and a number: literals are of 64 bits, operators, comparisons and branches take
+-- numbers, and the table forms a name of a table.
 abbrev pub IsNumber : Types → Expression → Type 0
 IsNumber types (literal number) = FitsSigned w64 number
 IsNumber types (read name) = type_named types name ≡ Some type.Number

@@ -32,7 +32,8 @@ with_start g = via (pair (const ℕ) g) (λ X. Instance (g.Of X)) (λ X x. (x.ou
     (λ X v. record { outer = v.0; follower = v.1 }) (λ X x. refl) (λ X v. refl)
 
 abbrev weighed_start : {g : Former {0}} → Weighed g → Weighed (with_start g)
-weighed_start {g} w = w_via (w_pair (w_const ℕ) w) (λ X. Instance (g.Of X)) (λ X x. (x.outer, x.follower))
+weighed_start {g} w =
+    w_via (w_pair (w_const ℕ) w) (λ X. Instance (g.Of X)) (λ X x. (x.outer, x.follower))
     (λ X v. record { outer = v.0; follower = v.1 }) (λ X x. refl) (λ X v. refl)
 
 abbrev pub the_former : Former {0} → Former {0}
@@ -49,7 +50,8 @@ pub the_empty : Contents ⊥
 the_empty = record { live = []; idle = []; room = 0 }
 
 abbrev fields : Former {0}
-fields = via (pair (vec.the_former (with_start this) Global) (pair (vec.the_former this Global) (const ℕ)))
+fields = via (pair (vec.the_former (with_start this) Global)
+    (pair (vec.the_former this Global) (const ℕ)))
     Inside (λ X a. (a.live, (a.idle, a.room)))
     (λ X v. record { live = v.0; idle = v.1.0; room = v.1.1 }) (λ X a. refl) (λ X v. refl)
 
@@ -102,26 +104,32 @@ module _ (R S : RattleType) (h : R.Denot → S.Denot) where
   instance_places a = struct_places (instance.the_type R) (instance.the_type S) ((λ n. n), (h, tt))
       (on_follower h) (λ x. refl) refl ((refl, (λ n. refl, λ n. refl)), (laid _ _ _ a, tt))
 
-  pub the_places : Alike R S h → Alike (C.the_row R) (C.the_row S) ((the_former this).map R.Denot S.Denot h)
+  pub the_places : Alike R S h
+      → Alike (C.the_row R) (C.the_row S) ((the_former this).map R.Denot S.Denot h)
   the_places a = view_places fields (the_former this) view (λ X Y k u. refl) (λ X u. refl)
       R.Denot S.Denot h (C.the_row R).coded (C.the_row S).coded
       (invariant R.Denot) (invariant S.Denot)
       (λ u. IsKept-prop _ _ _ _ _) (λ u. IsKept-prop _ _ _ _ _)
       (λ u. IsKept-over h _ _ _ _ _) (λ u. IsKept-under h _ _ _ _ _)
       (over (I.the_row R)) (over (I.the_row S))
-      (struct_places (I.the_type R) (I.the_type S) (vec.mapped (on_follower h), (vec.mapped h, (λ n. n, tt)))
-      _ (λ d. refl) refl (
+      (struct_places (I.the_type R) (I.the_type S)
+      (vec.mapped (on_follower h), (vec.mapped h, (λ n. n, tt))) _ (λ d. refl) refl (
         laid _ _ _ (vec.the_places heap.the_row ghosts (instance.the_row R) (instance.the_row S)
             (on_follower h) (instance_places a)),
-        (laid _ _ _ (vec.the_places heap.the_row ghosts R S h a), ((refl, (λ n. refl, λ n. refl)), tt)),
+        (
+          laid _ _ _ (vec.the_places heap.the_row ghosts R S h a),
+          ((refl, (λ n. refl, λ n. refl)), tt),
+        ),
       ))
 
   recoded : Recodes R S h → (x : Instance R.Denot)
       → (instance_code S.coded).code (on_follower h x) ≡ (instance_code R.coded).code x
   recoded e x = ap (λ c. gcons (coded_ℕ.code x.outer) c) (e x.follower)
 
-  pub the_codes_placed : Recodes R S h → Recodes (C.the_row R) (C.the_row S) ((the_former this).map R.Denot S.Denot h)
+  pub the_codes_placed : Recodes R S h
+      → Recodes (C.the_row R) (C.the_row S) ((the_former this).map R.Denot S.Denot h)
   the_codes_placed e c = λ i. gcons
       (sym (code_map (instance_code R.coded).code (instance_code S.coded).code (on_follower h)
       (λ x. sym (recoded e x)) c.live) i)
-      (gcons (sym (code_map R.coded.code S.coded.code h (λ x. sym (e x)) c.idle) i) (coded_ℕ.code c.room))
+      (gcons (sym (code_map R.coded.code S.coded.code h (λ x. sym (e x)) c.idle) i)
+      (coded_ℕ.code c.room))

@@ -64,15 +64,19 @@ module _ {X Y : Type 0} (h : X → Y) where
   }
 
 module _ (R S : RattleType) (h : R.Denot → S.Denot) where
-  pub the_places : Alike R S h → Alike (C.the_row R) (C.the_row S) ((the_former this).map R.Denot S.Denot h)
+  pub the_places : Alike R S h
+      → Alike (C.the_row R) (C.the_row S) ((the_former this).map R.Denot S.Denot h)
   the_places a = view_places fields (the_former this) view (λ X Y k u. refl) (λ X u. refl)
       R.Denot S.Denot h (C.the_row R).coded (C.the_row S).coded
       (invariant R.Denot) (invariant S.Denot) (λ u. AreKept-prop _ _) (λ u. AreKept-prop _ _)
       (λ u. AreKept-over h _ _) (λ u. AreKept-under h _ _)
       (over (I.the_row R)) (over (I.the_row S))
-      (struct_places (I.the_type R) (I.the_type S) (λ n. n, (vec.mapped h, tt)) _ (λ d. refl) refl
-      ((refl, (λ n. refl, λ n. refl)), (laid _ _ _ (vec.the_places heap.the_row ghosts R S h a), tt)))
+      (struct_places (I.the_type R) (I.the_type S) (λ n. n, (vec.mapped h, tt)) _ (λ d. refl) refl (
+        (refl, (λ n. refl, λ n. refl)),
+        (laid _ _ _ (vec.the_places heap.the_row ghosts R S h a), tt),
+      ))
 
-  pub the_codes_placed : Recodes R S h → Recodes (C.the_row R) (C.the_row S) ((the_former this).map R.Denot S.Denot h)
+  pub the_codes_placed : Recodes R S h
+      → Recodes (C.the_row R) (C.the_row S) ((the_former this).map R.Denot S.Denot h)
   the_codes_placed e k = ap (λ c. gcons ((coded_list (coded_list coded_ℕ)).code k.names) c)
       (sym (code_map R.coded.code S.coded.code h (λ x. sym (e x)) k.followers))

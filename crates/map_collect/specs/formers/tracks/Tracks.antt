@@ -35,7 +35,8 @@ use Rattle.map_collect.specs.contracts.tracks.Tracks.TheInside as I
 
 -- the followers by key are values of `g`
 abbrev keys_former : Former {0} → Former {0}
-keys_former g = via (pair g (keyed.the_former g)) (λ X. Keys (g.Of X)) (λ X k. (k.fallback, k.keyed))
+keys_former g =
+    via (pair g (keyed.the_former g)) (λ X. Keys (g.Of X)) (λ X k. (k.fallback, k.keyed))
     (λ X v. record { fallback = v.0; keyed = v.1 }) (λ X k. refl) (λ X v. refl)
 
 abbrev keys_weighed : {g : Former {0}} → Weighed g → Weighed (keys_former g)
@@ -56,7 +57,8 @@ track_weighed {g} w = w_via (w_pair (w_const ℕ) (w_pair (w_const State) (keys_
 
 abbrev pub the_former : Former {0} → Former {0}
 the_former g = via (pair (const Automaton) (list (track_former g))) (λ X. Contents (g.Of X))
-    (λ X c. (c.nfa, c.tracks)) (λ X v. record { nfa = v.0; tracks = v.1 }) (λ X c. refl) (λ X v. refl)
+    (λ X c. (c.nfa, c.tracks)) (λ X v. record { nfa = v.0; tracks = v.1 })
+    (λ X c. refl) (λ X v. refl)
 
 abbrev pub the_weighed : {g : Former {0}} → Weighed g → Weighed (the_former g)
 the_weighed {g} w = w_via (w_pair (w_const Automaton) (w_list (track_weighed w)))
@@ -75,7 +77,8 @@ the_empty = record { nfa = record { sets = no_sets; cells = no_cells }; tracks =
 
 abbrev fields : Former {0}
 fields = via (pair (const Automaton) (vec.the_former (track_former this) Global)) Inside
-    (λ X a. (a.nfa, a.tracks)) (λ X v. record { nfa = v.0; tracks = v.1 }) (λ X a. refl) (λ X v. refl)
+    (λ X a. (a.nfa, a.tracks)) (λ X v. record { nfa = v.0; tracks = v.1 })
+    (λ X a. refl) (λ X v. refl)
 
 IsStateOf-prop : (sets : Sets) (state : State) → (p q : IsStateOf sets state) → p ≡ q
 IsStateOf-prop sets Initial p q = refl
@@ -85,7 +88,8 @@ AreTracks-prop : {X : Type 0} (sets : Sets) (tracks : List (Track X))
     → (p q : AreTracks sets tracks) → p ≡ q
 AreTracks-prop sets tracks p q = λ i. record {
   distinct = IsDistinct-prop ◌==◌ (starts_of tracks) p.distinct q.distinct i;
-  states = AllByRecursion-prop (IsStateOf sets) (IsStateOf-prop sets) (states_of tracks) p.states q.states i;
+  states = AllByRecursion-prop (IsStateOf sets) (IsStateOf-prop sets) (states_of tracks)
+      p.states q.states i;
 }
 
 module _ {X Y : Type 0} (h : X → Y) where
@@ -104,13 +108,15 @@ module _ {X Y : Type 0} (h : X → Y) where
   same_states [] = refl
   same_states (t ∷ ts) = λ i. t.state ∷ same_states ts i
 
-  AreTracks-over : (sets : Sets) (ts : List (Track X)) → AreTracks sets ts → AreTracks sets (map on_track ts)
+  AreTracks-over : (sets : Sets) (ts : List (Track X)) → AreTracks sets ts
+      → AreTracks sets (map on_track ts)
   AreTracks-over sets ts are = record {
     distinct = subst (IsDistinct ◌==◌) (sym (same_starts ts)) are.distinct;
     states = subst (AllByRecursion (IsStateOf sets)) (sym (same_states ts)) are.states;
   }
 
-  AreTracks-under : (sets : Sets) (ts : List (Track X)) → AreTracks sets (map on_track ts) → AreTracks sets ts
+  AreTracks-under : (sets : Sets) (ts : List (Track X)) → AreTracks sets (map on_track ts)
+      → AreTracks sets ts
   AreTracks-under sets ts are = record {
     distinct = subst (IsDistinct ◌==◌) (same_starts ts) are.distinct;
     states = subst (AllByRecursion (IsStateOf sets)) (same_states ts) are.states;
@@ -124,10 +130,13 @@ module _ (R S : RattleType) (h : R.Denot → S.Denot) where
 
   track_places : Alike R S h → Alike (track.the_row R) (track.the_row S) (on_track h)
   track_places a = struct_places (track.the_type R) (track.the_type S)
-      ((λ n. n), ((λ s. s), (on_keys h, tt))) (on_track h) (λ t. refl) refl
-      ((refl, (λ n. refl, λ n. refl)), ((refl, (λ s. refl, λ s. refl)), (laid _ _ _ (keys_places a), tt)))
+      ((λ n. n), ((λ s. s), (on_keys h, tt))) (on_track h) (λ t. refl) refl (
+        (refl, (λ n. refl, λ n. refl)),
+        ((refl, (λ s. refl, λ s. refl)), (laid _ _ _ (keys_places a), tt)),
+      )
 
-  pub the_places : Alike R S h → Alike (C.the_row R) (C.the_row S) ((the_former this).map R.Denot S.Denot h)
+  pub the_places : Alike R S h
+      → Alike (C.the_row R) (C.the_row S) ((the_former this).map R.Denot S.Denot h)
   the_places a = view_places fields (the_former this) view (λ X Y k u. refl) (λ X u. refl)
       R.Denot S.Denot h (C.the_row R).coded (C.the_row S).coded
       (invariant R.Denot) (invariant S.Denot) (λ u. AreTracks-prop _ _) (λ u. AreTracks-prop _ _)
@@ -148,7 +157,8 @@ module _ (R S : RattleType) (h : R.Denot → S.Denot) where
   recoded e t = λ i. gcons (coded_ℕ.code t.start) (gcons (code_of_state.code t.state)
       (gcons (e t.keys.fallback i) (keyed.the_codes_placed R S h e t.keys.keyed i)))
 
-  pub the_codes_placed : Recodes R S h → Recodes (C.the_row R) (C.the_row S) ((the_former this).map R.Denot S.Denot h)
+  pub the_codes_placed : Recodes R S h
+      → Recodes (C.the_row R) (C.the_row S) ((the_former this).map R.Denot S.Denot h)
   the_codes_placed e c = λ i. gcons (code_of_nfa.code c.nfa)
       (sym (code_map (code_of_track R.coded).code (code_of_track S.coded).code (on_track h)
       (λ t. sym (recoded e t)) c.tracks) i)
