@@ -31,7 +31,8 @@ module _ (mask met row place : ℕ) (met_fits : met < 2 ^ 128) (row_fits : row <
       (omega arith, in_met, λ in_row. omega arith)
 
   -- a place that is in both is in the third or such a place
-  pub new_or_old : Has mask place → Has met place → Has (new_places mask met row) place ⊎ Has row place
+  pub new_or_old : Has mask place → Has met place
+      → Has (new_places mask met row) place ⊎ Has row place
   new_or_old in_mask in_met =
       let bits = two_masks in
       let third = bit_at_not w128 row place row_fits (has-below met 128 place met_fits in_met) in

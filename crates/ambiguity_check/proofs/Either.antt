@@ -1,5 +1,6 @@
 -- Facts of two parts, each of which is said in another way.
-use Rattle.std.proofs.Common.{ℕ, ◌≡◌, ◌⊎◌, ◌↔◌, Bool, true, false, Option, IsTrue, refl, inl, inr, ⊎_elim}
+use Rattle.std.proofs.Common.{ℕ, ◌≡◌, ◌⊎◌, ◌↔◌, Bool, true, false, Option, IsTrue, refl, inl, inr}
+use Rattle.std.proofs.Common.{⊎_elim}
 use Rattle.std.specs.Bool.{then_some}
 use Rattle.std.specs.Prelude.{IsSomeAnd}
 use Rattle.rate_expr.specs.Sets.{Has}
@@ -30,7 +31,8 @@ from_some mask R one two = (
 
 -- from several places on the right in one of two ways
 pub some_each : {A B : Type 0} (mask : ℕ) (R S : ℕ → Type 0)
-    → (A ↔ ((right : ℕ) × Has mask right × R right)) → (B ↔ ((right : ℕ) × Has mask right × S right))
+    → (A ↔ ((right : ℕ) × Has mask right × R right))
+    → (B ↔ ((right : ℕ) × Has mask right × S right))
     → (A ⊎ B) ↔ ((right : ℕ) × Has mask right × (R right ⊎ S right))
 some_each mask R S one two = (
   (λ e. ⊎_elim (λ a. let some = one.0 a in (some.0, some.1, inl some.2))
@@ -50,6 +52,7 @@ pub turn_from_some : {T C P A B : Type 0} (mask : ℕ) (R : ℕ → Type 0) → 
     → (B ↔ ((right : ℕ) × Has mask right × R right))
     → T ↔ ((right : ℕ) × Has mask right × (C × P × A × R right))
 turn_from_some mask R one two = (
-  (λ t. let e = one.0 t in let right = two.0 e.1.2 in (right.0, right.1, (e.0, e.1.0, e.1.1, right.2))),
+  (λ t. let e = one.0 t in let right = two.0 e.1.2 in
+      (right.0, right.1, (e.0, e.1.0, e.1.1, right.2))),
   (λ e. one.1 (e.2.0, (e.2.1, e.2.2, two.1 (e.0, e.1, e.2.3)))),
 )

@@ -1,5 +1,6 @@
 -- What is read on a walk of two factorings.
-use Rattle.std.proofs.Common.{◌≡◌, ℕ, ◌+◌, List, [], ◌∷◌, ◌++◌, ◌∙◌, refl, sym, ap, subst, inl, inr, arith, length, length-append}
+use Rattle.std.proofs.Common.{◌≡◌, ℕ, ◌+◌, List, [], ◌∷◌, ◌++◌, ◌∙◌, refl, sym, ap, subst, inl, inr}
+use Rattle.std.proofs.Common.{arith, length, length-append}
 use Rattle.std.specs.List.{AllByRecursion}
 use Rattle.item_schema.specs.declared.column.Column.{Column}
 use Rattle.rate_expr.specs.Language.{In}
@@ -18,7 +19,8 @@ use Rattle.ambiguity_check.specs.Lengths.{TwoFactoringsOf}
 use Rattle.ambiguity_check.specs.Meetings.{MeetOne, AreMeetings}
 use Rattle.ambiguity_check.specs.Overlaps.{IsInRows}
 use Rattle.ambiguity_check.specs.Walks.{IsWalk, at_once, later}
-use Rattle.ambiguity_check.proofs.FactorRuns.{ReadsFactors, ReadsLonger, factors_on, longer_on, begin_apart, join_more, all_more, all_as}
+use Rattle.ambiguity_check.proofs.FactorRuns.{ReadsFactors, ReadsLonger, factors_on, longer_on}
+use Rattle.ambiguity_check.proofs.FactorRuns.{begin_apart, join_more, all_more, all_as}
 use Rattle.ambiguity_check.proofs.Walking.{one_longer}
 
 module _ (columns : List Column) (sets : Sets) (rows : List ℕ)
@@ -27,8 +29,8 @@ module _ (columns : List Column) (sets : Sets) (rows : List ℕ)
   abbrev pub Walk : ℕ → Node → Type 0
   Walk items node = IsWalk (BeginsFactors sets) (Factors sets) (IsInRows rows) items node
 
-  -- the left one has read a first factor and more, and the right one the same word of this many items with
-  -- a longer first factor
+  -- the left one has read a first factor and more, and the right one the same word of this many
+  -- items with a longer first factor
   pub record AreParted (items left right : ℕ) : Type 0 where
     pub read : Word
     pub long : length read ≡ items
@@ -56,7 +58,8 @@ module _ (columns : List Column) (sets : Sets) (rows : List ℕ)
     is = word_more columns reads.read one.0 reads.is one.1;
     spells = reads.spells;
     by_left = factors_on sets reads.first reads.read left one.0 node.left reads.by_left goes one.2;
-    by_right = longer_on sets reads.first reads.read right one.0 node.right reads.by_right goes' one.3;
+    by_right =
+        longer_on sets reads.first reads.read right one.0 node.right reads.by_right goes' one.3;
   }
 
   -- one more item is read after the left one's first factor
@@ -88,8 +91,9 @@ module _ (columns : List Column) (sets : Sets) (rows : List ℕ)
   }
 
   -- one more item is read
-  reads_on : (items : ℕ) (phase : Phase) (left right : ℕ) (node : Node) → AreRead items phase left right
-      → FactorsOn sets phase left right node → MeetOne columns sets sets node.left node.right
+  reads_on : (items : ℕ) (phase : Phase) (left right : ℕ) (node : Node)
+      → AreRead items phase left right → FactorsOn sets phase left right node
+      → MeetOne columns sets sets node.left node.right
       → AreRead (items + 1) node.phase node.left node.right
   reads_on items Together left right node (w, long, is, leads, leads')
       (inl (phase, follows, follows')) one =
@@ -154,7 +158,8 @@ module _ (columns : List Column) (sets : Sets) (rows : List ℕ)
                 (all_more (Spells sets) other.words other.last other.spelled
                 (spells_at sets other.last right other.leads ends'));
             same = whole ∙ sym whole';
-            differ = begin_apart sets reads.first (one.words ++ one.last ∷ []) other.words other.last
+            differ =
+                begin_apart sets reads.first (one.words ++ one.last ∷ []) other.words other.last
                 other.longer;
           },
           ap length whole ∙ reads.long,

@@ -1,5 +1,6 @@
 -- How words that follow one another are read.
-use Rattle.std.proofs.Common.{◌≡◌, ◌≢◌, ℕ, ◌<◌, true, List, [], ◌∷◌, ◌++◌, length, refl, sym, ap, ◌∙◌, subst, inl, inr, arith, append_assoc, length-append}
+use Rattle.std.proofs.Common.{◌≡◌, ◌≢◌, ℕ, ◌<◌, true, List, [], ◌∷◌, ◌++◌, length, refl, sym, ap}
+use Rattle.std.proofs.Common.{◌∙◌, subst, inl, inr, arith, append_assoc, length-append}
 use Rattle.std.specs.List.{AllByRecursion}
 use Rattle.std.proofs.lemmas.List.{append-nil}
 use Rattle.value_ops.specs.declared.field.Field.{Field}
@@ -44,9 +45,9 @@ module _ (sets : Sets) where
       (on.0, inl on.1, on.2, runs_along on.0 word mid rest end on.3 run)
 
   -- words of some items follow an end
-  pub runs_from_end : (sets.nullable ≡ true → ⊥) → (from : ℕ) (words : List Word) → Has sets.last from
-      → AllByRecursion (Spells sets) words → (end : ℕ) × RunsOn sets from (join words) end
-      × Has sets.last end
+  pub runs_from_end : (sets.nullable ≡ true → ⊥) → (from : ℕ) (words : List Word)
+      → Has sets.last from → AllByRecursion (Spells sets) words
+      → (end : ℕ) × RunsOn sets from (join words) end × Has sets.last end
   runs_from_end not_empty from [] ends all = (from, refl, ends)
   runs_from_end not_empty from ([] ∷ words) ends all = absurd (not_empty all.0)
   runs_from_end not_empty from ((item ∷ word) ∷ words) ends all =
@@ -117,8 +118,8 @@ module _ (sets : Sets) where
   longer_grown first (word ∷ words) last item longer = longer
 
   -- and where it is ended
-  longer_ended : (first : Word) (words : List Word) (last new : Word) → BeginsLonger first words last
-      → BeginsLonger first (words ++ last ∷ []) new
+  longer_ended : (first : Word) (words : List Word) (last new : Word)
+      → BeginsLonger first words last → BeginsLonger first (words ++ last ∷ []) new
   longer_ended first [] last new longer = longer
   longer_ended first (word ∷ words) last new longer = longer
 

@@ -1,5 +1,7 @@
 -- Words that factor in two ways are those of walks.
-use Rattle.std.proofs.Common.{◌≡◌, ℕ, ◌+◌, ◌<◌, ◌≤◌, ◌⊎◌, ⊎_elim, List, [], ◌∷◌, ◌++◌, ◌∙◌, Bool, true, false, not, length, refl, sym, ap, subst, inl, inr, arith, length-append}
+use Rattle.std.proofs.Common.{◌≡◌, ℕ, ◌+◌, ◌<◌, ◌≤◌, ◌⊎◌, ⊎_elim, List, [], ◌∷◌, ◌++◌, ◌∙◌, Bool}
+use Rattle.std.proofs.Common.{true, false, not, length, refl, sym, ap, subst, inl, inr, arith}
+use Rattle.std.proofs.Common.{length-append}
 use Rattle.std.specs.Prelude.{MatchBool}
 use Rattle.std.specs.List.{AllByRecursion}
 use Rattle.std.proofs.lemmas.List.{append-nil}
@@ -69,8 +71,8 @@ module _ (columns : List Column) (sets : Sets) (rows : List ℕ)
       (subst (λ (l : ℕ). Walk items (node_at Together l right')) on
       (subst (λ (r : ℕ). Walk items (node_at Together left r)) on' walk))
   goes_together (item ∷ word) items left right left' right' walk is on on' =
-      as_many (items + 1 + length word) (items + length (item ∷ word)) (node_at Together left' right')
-      (omega arith)
+      as_many (items + 1 + length word) (items + length (item ∷ word))
+      (node_at Together left' right') (omega arith)
       (goes_together word (items + 1) on.0 on'.0 left' right'
       (later items (node_at Together left right) (node_at Together on.0 on'.0) walk
       (inl (refl, on.1, on'.1)) ((are on.0 on'.0).1 (item, is.0, on.2, on'.2)))
@@ -124,7 +126,8 @@ module _ (columns : List Column) (sets : Sets) (rows : List ℕ)
       let left = runs_from_end sets not_empty second.0 us second.2 all.1 in
       let right = runs_from_end sets not_empty spells'.0 vs spells'.2 all' in
       let left_run = runs_along sets second.1.0 w second.0 (join us) left.0 second.1.3 left.1 in
-      let right_run = runs_along sets through.2.0 t spells'.0 (join vs) right.0 through.2.3 right.1 in
+      let right_run = runs_along sets through.2.0 t spells'.0 (join vs) right.0
+      through.2.3 right.1 in
       let node = node_at Parted left.0 right.0 in (
         node,
         as_many (length (x ∷ u) + 1 + length (w ++ join us))
@@ -142,7 +145,8 @@ module _ (columns : List Column) (sets : Sets) (rows : List ℕ)
 
   module _ (r : Regex) (of_r : AreOf sets r) where
     -- words of the rate are spelled
-    all_spelled : (words : List Word) → AllByRecursion (In r) words → AllByRecursion (Spells sets) words
+    all_spelled : (words : List Word) → AllByRecursion (In r) words
+        → AllByRecursion (Spells sets) words
     all_spelled words all = all_as (In r) (Spells sets) (λ word. (of_r word).0) words all
 
     -- a walk to an end is a word with two factorings
@@ -160,8 +164,8 @@ module _ (columns : List Column) (sets : Sets) (rows : List ℕ)
       some_items (x ∷ word) spells = omega arith
 
       -- where one first factor is longer than the other, a walk leads to an end
-      longer_walk : (u t : Word) (us vs : List Word) → IsWordOf columns (u ++ join us) → Spells sets u
-          → AllByRecursion (Spells sets) us
+      longer_walk : (u t : Word) (us vs : List Word)
+          → IsWordOf columns (u ++ join us) → Spells sets u → AllByRecursion (Spells sets) us
           → Spells sets (u ++ t) → AllByRecursion (Spells sets) vs → join us ≡ t ++ join vs
           → (t ≡ []) ⊎ EndWalk (length (u ++ join us))
       longer_walk u [] us vs is spells all spells' all' same = inl refl
@@ -173,37 +177,42 @@ module _ (columns : List Column) (sets : Sets) (rows : List ℕ)
       part_walk u rest (some, few, end) = (some, omega (arith, length-append u rest), end)
 
       -- two factorings of a word are one, or a walk of at most as many items leads to an end
-      pub same_factors : (us vs : List Word) → IsWordOf columns (join us) → AllByRecursion (Spells sets) us
-          → AllByRecursion (Spells sets) vs
+      pub same_factors : (us vs : List Word) → IsWordOf columns (join us)
+          → AllByRecursion (Spells sets) us → AllByRecursion (Spells sets) vs
           → join us ≡ join vs → (us ≡ vs) ⊎ ShortWalk (length (join us))
       same_factors [] [] is all all' same = inl refl
       same_factors [] (v ∷ vs) is all all' same =
           absurd (omega (arith, some_items v all'.0, ap length same, length-append v (join vs)))
       same_factors (u ∷ us) [] is all all' same =
           absurd (omega (arith, some_items u all.0, ap length same, length-append u (join us)))
-      same_factors (u ∷ us) (v ∷ vs) is all all' same = elim (comparable u (join us) v (join vs) same) [
-        | inl more ↦ elim (longer_walk u more.0 us vs is all.0 all.1 (rw more.1 at all'.0) all'.1 more.2) [
-          | inr walk ↦ inr (length (u ++ join us), omega arith, walk)
-          | inl t ↦
-              let firsts : u ≡ v = sym (more.1 ∙ ap (λ w. u ++ w) t ∙ append-nil u) in
-              let rests : join us ≡ join vs = more.2 ∙ ap (λ w. w ++ join vs) t in
-              elim (same_factors us vs (word_parts columns u (join us) is).1 all.1 all'.1 rests) [
-                | inl others ↦ inl (cc)
-                | inr walk ↦ inr (part_walk u (join us) walk)
-              ]
-        ]
-        | inr more ↦ elim (longer_walk v more.0 vs us (rw same at is) all'.0 all'.1
-            (rw more.1 at all.0) all.1 more.2) [
-              | inr walk ↦ inr (length (v ++ join vs), omega (arith, ap length same), walk)
-              | inl t ↦
-                  let firsts : u ≡ v = more.1 ∙ ap (λ w. v ++ w) t ∙ append-nil v in
-                  let rests : join us ≡ join vs = sym (more.2 ∙ ap (λ w. w ++ join us) t) in
-                  elim (same_factors us vs (word_parts columns u (join us) is).1 all.1 all'.1 rests) [
-                    | inl others ↦ inl (cc)
-                    | inr walk ↦ inr (part_walk u (join us) walk)
-                  ]
-            ]
-      ]
+      same_factors (u ∷ us) (v ∷ vs) is all all' same =
+          elim (comparable u (join us) v (join vs) same) [
+            | inl more ↦
+                elim (longer_walk u more.0 us vs is all.0 all.1 (rw more.1 at all'.0)
+                all'.1 more.2) [
+                  | inr walk ↦ inr (length (u ++ join us), omega arith, walk)
+                  | inl t ↦
+                      let firsts : u ≡ v = sym (more.1 ∙ ap (λ w. u ++ w) t ∙ append-nil u) in
+                      let rests : join us ≡ join vs = more.2 ∙ ap (λ w. w ++ join vs) t in
+                      elim (same_factors us vs (word_parts columns u (join us) is).1
+                      all.1 all'.1 rests) [
+                        | inl others ↦ inl (cc)
+                        | inr walk ↦ inr (part_walk u (join us) walk)
+                      ]
+                ]
+            | inr more ↦ elim (longer_walk v more.0 vs us (rw same at is) all'.0 all'.1
+                (rw more.1 at all.0) all.1 more.2) [
+                  | inr walk ↦ inr (length (v ++ join vs), omega (arith, ap length same), walk)
+                  | inl t ↦
+                      let firsts : u ≡ v = more.1 ∙ ap (λ w. v ++ w) t ∙ append-nil v in
+                      let rests : join us ≡ join vs = sym (more.2 ∙ ap (λ w. w ++ join us) t) in
+                      elim (same_factors us vs (word_parts columns u (join us) is).1
+                      all.1 all'.1 rests) [
+                        | inl others ↦ inl (cc)
+                        | inr walk ↦ inr (part_walk u (join us) walk)
+                      ]
+                ]
+          ]
 
       -- a word with two factorings has a walk of at most as many items to an end
       pub factors_walks : (items : ℕ) → TwoFactoringsOf columns r items → ShortWalk items

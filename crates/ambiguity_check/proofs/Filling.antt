@@ -1,5 +1,6 @@
 -- How the meetings are found, a cell after another.
-use Rattle.std.proofs.Common.{◌≡◌, ℕ, ◌+◌, ◌<◌, ◌≤◌, ◌∙◌, List, length, replicate, refl, Bool, true, false, not, eqb, ◌&&◌, inl, inr, ⊎_elim, arith}
+use Rattle.std.proofs.Common.{◌≡◌, ℕ, ◌+◌, ◌<◌, ◌≤◌, ◌∙◌, List, length, replicate, refl, Bool, true}
+use Rattle.std.proofs.Common.{false, not, eqb, ◌&&◌, inl, inr, ⊎_elim, arith}
 use Rattle.std.specs.Prelude.{slice_index}
 use Rattle.std.proofs.Math.ListN.{length-replicate}
 use Rattle.std.proofs.lemmas.Bool.{cases_lt, eqb-true}
@@ -18,7 +19,8 @@ use Rattle.ambiguity_check.proofs.Marking.{empty_row}
 pub same_masks : (a b c d : ℕ) → false ≡ not (eqb a b && eqb c d) → (a ≡ b) × (c ≡ d)
 same_masks a b c d is = go (eqb a b) (eqb c d) refl refl is
   where
-    go : (one two : Bool) → eqb a b ≡ one → eqb c d ≡ two → false ≡ not (one && two) → (a ≡ b) × (c ≡ d)
+    go : (one two : Bool) → eqb a b ≡ one → eqb c d ≡ two → false ≡ not (one && two)
+        → (a ≡ b) × (c ≡ d)
     go true true one two e = (eqb-true a b one, eqb-true c d two)
     go true false one two e = absurd (cc)
     go false true one two e = absurd (cc)

@@ -25,7 +25,8 @@ pub found_row : (phase : Phase) (left mask : ℕ) (seen next seen' next' : List 
 found_row phase left mask seen next seen' next' fresh too too' = record {
   marked = too.marked;
   kept = too.kept;
-  only = λ node is. ⊎_elim (λ was. inl was) (λ in'. inr (in', too'.marked node in')) (too.only node is);
+  only = λ node is. ⊎_elim (λ was. inl was) (λ in'. inr (in', too'.marked node in'))
+      (too.only node is);
   stays = too'.kept;
   new = λ node is. ⊎_elim (λ was. inl was) (λ in'. inr (in', fresh node in')) (too'.only node is);
   fewer = let less = too.room fresh in let more = too'.larger in omega arith;
@@ -56,8 +57,10 @@ pub found_as : (P Q : Node → Type 0) (seen next seen' next' : List ℕ)
 found_as P Q seen next seen' next' wider back found = record {
   marked = λ node q. ⊎_elim (λ p. found.marked node p) (λ was. found.kept node was) (back node q);
   kept = found.kept;
-  only = λ node is. ⊎_elim (λ was. inl was) (λ new. inr (wider node new.0, new.1)) (found.only node is);
+  only = λ node is. ⊎_elim (λ was. inl was) (λ new. inr (wider node new.0, new.1))
+      (found.only node is);
   stays = found.stays;
-  new = λ node is. ⊎_elim (λ was. inl was) (λ new. inr (wider node new.0, new.1)) (found.new node is);
+  new =
+      λ node is. ⊎_elim (λ was. inl was) (λ new. inr (wider node new.0, new.1)) (found.new node is);
   fewer = found.fewer;
 }

@@ -31,7 +31,8 @@ module _ (leads : ℕ → ℕ → Type 0) (mask : ℕ) where
   gathered_next rest found low after more so_far lowest exact leads_on = record {
     kept = λ from has. so_far.kept from ((exact from).0 has).0;
     sound = λ next has. ⊎_elim (λ was. so_far.sound next was)
-        (λ new. (low, so_far.kept low lowest.has, (leads_on next).0 new)) (has_or found more next has);
+        (λ new. (low, so_far.kept low lowest.has, (leads_on next).0 new))
+        (has_or found more next has);
     whole = λ from next has leads'. ⊎_elim
         (λ waits. elim (cases_eq from low) [
           | inl here ↦ inr (has_second found more next

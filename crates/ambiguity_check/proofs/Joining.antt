@@ -1,5 +1,6 @@
 -- How the rows of meetings are filled.
-use Rattle.std.proofs.Common.{◌≡◌, ◌≢◌, ℕ, ◌<◌, ◌⊎◌, ◌↔◌, ◌∙◌, List, length, refl, inl, inr, ⊎_elim, subst, sym}
+use Rattle.std.proofs.Common.{◌≡◌, ◌≢◌, ℕ, ◌<◌, ◌⊎◌, ◌↔◌, ◌∙◌, List, length, refl, inl, inr, ⊎_elim}
+use Rattle.std.proofs.Common.{subst, sym}
 use Rattle.std.specs.Prelude.{slice_index, bit_or}
 use Rattle.std.proofs.Math.ListN.{set, length-set}
 use Rattle.std.proofs.lemmas.Bool.{cases_eq}
@@ -46,7 +47,8 @@ module _ (rows : List ℕ) (second place : ℕ) (within : place < length rows) w
   filled = set rows place (bit_or (slice_index rows place) second)
 
   -- the row that was filled
-  this_row : (left : ℕ) → left ≡ place → slice_index filled left ≡ bit_or (slice_index rows left) second
+  this_row : (left : ℕ) → left ≡ place
+      → slice_index filled left ≡ bit_or (slice_index rows left) second
   this_row left same = rw same (get_or-set_same rows place _ 0 within)
 
   -- the others

@@ -1,5 +1,7 @@
 -- A set of nodes when those of a row are marked.
-use Rattle.std.proofs.Common.{◌≡◌, ℕ, zero, suc, ◌+◌, ◌*◌, ◌-◌, ◌^◌, ◌<◌, ◌≤◌, ◌≢◌, ◌⊎◌, ◌∙◌, ◌/◌, sym, List, length, get_or, replicate, refl, ap, inl, inr, ⊎_elim, arith}
+use Rattle.std.proofs.Common.{◌≡◌, ℕ, zero, suc, ◌+◌, ◌*◌, ◌-◌, ◌^◌, ◌<◌, ◌≤◌, ◌≢◌, ◌⊎◌, ◌∙◌, ◌/◌}
+use Rattle.std.proofs.Common.{sym, List, length, get_or, replicate, refl, ap, inl, inr, ⊎_elim}
+use Rattle.std.proofs.Common.{arith}
 use Rattle.std.specs.Int.{bit_at, bit_not, trailing_zeros, w128}
 use Rattle.std.specs.Prelude.{slice_index, bit_and, bit_or, sum}
 use Rattle.std.proofs.Math.ListN.{set, length-replicate, get_or-eq_default}
@@ -38,8 +40,8 @@ abbrev pub node_at : Phase → ℕ → ℕ → Node
 node_at phase left right = record { phase = phase; left = left; right = right }
 
 -- a node is known by its parts
-pub same_parts : (node : Node) (phase : Phase) (left right : ℕ) → node.phase ≡ phase → node.left ≡ left
-    → node.right ≡ right → node ≡ node_at phase left right
+pub same_parts : (node : Node) (phase : Phase) (left right : ℕ) → node.phase ≡ phase
+    → node.left ≡ left → node.right ≡ right → node ≡ node_at phase left right
 same_parts node phase left right same_phase lefts rights =
     ap (λ p. node_at p node.left node.right) same_phase ∙ ap (λ l. node_at phase l node.right) lefts
     ∙ ap (λ r. node_at phase left r) rights
@@ -56,7 +58,8 @@ or_at_most : (a b : ℕ) → a < 2 ^ 128 → b < 2 ^ 128 → bit_or a b ≤ a + 
 or_at_most a b fits fits' =
     let more = new_places b b a in
     let less : more ≤ b = omega (arith, and_le_l (bit_and b b) (bit_not w128 a), and_le_l b b) in
-    let none = apart a more fits (λ place has also. (in_new_places b b a place fits' fits also).2 has) in
+    let none = apart a more fits
+    (λ place has also. (in_new_places b b a place fits' fits also).2 has) in
     let whole = or_disjoint a more none in
     let same : bit_or a b ≡ bit_or a more = same-has (bit_or a b) (bit_or a more) (λ place. (
       λ has. ⊎_elim (λ one. has_first a more place one)
@@ -72,7 +75,8 @@ or_at_most a b fits fits' =
 abbrev pub row_at : Phase → ℕ → ℕ
 row_at phase left = phases * left + rank phase
 
-module _ (rows : List ℕ) (phase : Phase) (left mask : ℕ) (inside : row_at phase left < length rows) where
+module _ (rows : List ℕ) (phase : Phase) (left mask : ℕ)
+    (inside : row_at phase left < length rows) where
   -- the rows with the nodes
   abbrev marked : List ℕ
   marked = set rows (row_at phase left) (bit_or (slice_index rows (row_at phase left)) mask)
@@ -107,12 +111,14 @@ module _ (rows : List ℕ) (phase : Phase) (left mask : ℕ) (inside : row_at ph
         | inl same ↦
             let parts = same_row other.phase phase other.left left same in
             ⊎_elim (λ was. inl (rw same was)) (λ new. inr (parts.0, parts.1, new))
-            (has_or (slice_index rows (row_at phase left)) mask other.right (rw (same, row_same) at is))
+            (has_or (slice_index rows (row_at phase left)) mask other.right
+            (rw (same, row_same) at is))
         | inr differ ↦ inl (rw (← other_row other differ) is)
       ]
 
   -- the masks of the rows together
-  sums : slice_index rows (row_at phase left) < 2 ^ 128 → mask < 2 ^ 128 → sum marked ≤ sum rows + mask
+  sums : slice_index rows (row_at phase left) < 2 ^ 128 → mask < 2 ^ 128
+      → sum marked ≤ sum rows + mask
   sums fits mask_fits =
       let row = slice_index rows (row_at phase left) in
       let whole = sum_by-set (λ (r : ℕ). r) rows (row_at phase left) (bit_or row mask) 0 inside in
@@ -126,7 +132,8 @@ module _ (rows : List ℕ) (phase : Phase) (left mask : ℕ) (inside : row_at ph
       let row = slice_index rows (row_at phase left) in
       let none = apart row mask fits
       (λ place has also. new (node_at phase left place) (refl, refl, also) has) in
-      let whole = sum_by-set (λ r. 2 ^ 128 - r) rows (row_at phase left) (bit_or row mask) 0 inside in
+      let whole = sum_by-set (λ r. 2 ^ 128 - r) rows (row_at phase left)
+      (bit_or row mask) 0 inside in
       let parts = or_disjoint row mask none in
       let within = or_lt 128 row mask fits mask_fits in
       omega arith
@@ -164,7 +171,8 @@ pub marks_read : (items rows : List ℕ) (phase : Phase) (left rights at mask : 
 marks_read items rows phase left rights at mask is at_row inside read fits rights_fit =
     let mask_is : mask ≡ slice_index items at = read ∙ get_or_default_zero items at mask inside in
     let within_row : row_at phase left < length items = rw (← at_row) inside in
-    let more = marks_more items phase left rights within_row (rw (← at_row, ← mask_is) fits) rights_fit in
+    let more = marks_more items phase left rights within_row
+    (rw (← at_row, ← mask_is) fits) rights_fit in
     rw (← is, mask_is, at_row) more
 
 -- each row is of a phase and a place
@@ -190,13 +198,15 @@ some_marked rows row mask is some fits =
 
 -- the same for the row's mask as it was read
 pub read_marked : (items rows : List ℕ) (row mask : ℕ) → items ≡ rows → row < length items
-    → mask ≡ get_or items row mask → (mask ≡ 0 → ⊥) → mask < 2 ^ 128 → (node : Node) × IsMarked rows node
+    → mask ≡ get_or items row mask → (mask ≡ 0 → ⊥) → mask < 2 ^ 128
+    → (node : Node) × IsMarked rows node
 read_marked items rows row mask is inside read some fits =
     let more : 0 < mask = elim (below_or_not 0 mask) [
       | inl more ↦ more
       | inr none ↦ absurd (some (omega arith))
     ] in
-    some_marked rows row mask (rw (← is) (sym (read ∙ get_or_default_zero items row mask inside))) more fits
+    some_marked rows row mask
+    (rw (← is) (sym (read ∙ get_or_default_zero items row mask inside))) more fits
 
 -- no node is marked where all rows are empty
 pub no_rows : (masks : List ℕ) (end : ℕ) → length masks ≤ end
@@ -209,15 +219,16 @@ no_rows masks end past empty node is = elim (cases_lt (row_of node) end) [
 ]
 
 -- a node that is marked has a row
-pub marked_inside : (masks : List ℕ) (node : Node) → IsMarked masks node → row_of node < length masks
+pub marked_inside : (masks : List ℕ) (node : Node) → IsMarked masks node
+    → row_of node < length masks
 marked_inside masks node is = elim (cases_lt (row_of node) (length masks)) [
   | inl below ↦ below
   | inr above ↦ absurd (has_zero node.right (rw (get_or-eq_default masks 0 above) at is))
 ]
 
 -- its place on the left is below a third of the number of rows
-pub marked_left : (items rows : List ℕ) (node : Node) (count : ℕ) → items ≡ rows → length items ≡ count
-    → count ≡ 384 → IsMarked rows node → node.left < count / 3
+pub marked_left : (items rows : List ℕ) (node : Node) (count : ℕ) → items ≡ rows
+    → length items ≡ count → count ≡ 384 → IsMarked rows node → node.left < count / 3
 marked_left items rows node count is long full marked =
     let inside = marked_inside items node (rw is marked) in
     omega arith

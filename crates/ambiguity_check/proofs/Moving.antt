@@ -1,5 +1,6 @@
 -- How a search follows one move, from the lowest place on the left on.
-use Rattle.std.proofs.Common.{◌≡◌, ℕ, ◌<◌, ◌^◌, ◌⊎◌, ◌↔◌, List, None, Some, refl, inl, inr, ⊎_elim, subst, sym}
+use Rattle.std.proofs.Common.{◌≡◌, ℕ, ◌<◌, ◌^◌, ◌⊎◌, ◌↔◌, List, None, Some, refl, inl, inr, ⊎_elim}
+use Rattle.std.proofs.Common.{subst, sym}
 use Rattle.std.specs.Prelude.{slice_index}
 use Rattle.std.proofs.lemmas.Bool.{cases_eq}
 use Rattle.rate_expr.specs.Sets.{Has, IsLowest}
@@ -94,7 +95,8 @@ module _ (step : Move) (meet : Node → Type 0) (seen next : List ℕ) where
             let same = same_parts node step.phase left node.right of.0.0 lefts refl in
             ⊎_elim (λ new. inl (inr (of.0.0, lefts, new)))
             (λ old. ⊎_elim (λ was. inr was) (λ earlier. inl (inl earlier.0))
-            (moved.found.only node ((row_says seen' step.phase left row row_is node of.0.0 lefts).1 old)))
+            (moved.found.only node
+            ((row_says seen' step.phase left row row_is node of.0.0 lefts).1 old)))
             (new_or_old step.right met row node.right met_fits row_fits of.0.2
             ((meets node.right).1 (subst meet same of.1)))
 
@@ -115,13 +117,13 @@ pub moves_one : (moves : Moves) (meet : Node → Type 0) (seen next seen' next' 
     → AreFound (λ node. IsOf moves.stay node × meet node) seen next seen' next'
     → AreFound (λ node. IsIn moves node × meet node) seen next seen' next'
 moves_one moves meet seen next seen' next' none =
-    found_as (λ node. IsOf moves.stay node × meet node) (λ node. IsIn moves node × meet node) _ _ _ _
-    (λ node of. (inl of.0, of.1))
+    found_as (λ node. IsOf moves.stay node × meet node)
+    (λ node. IsIn moves node × meet node) _ _ _ _ (λ node of. (inl of.0, of.1))
     (λ node in'. inl (⊎_elim (λ of. of) (λ turned. absurd (rw none at turned)) in'.0, in'.1))
 
 -- two moves were followed
-pub moves_two : (moves : Moves) (turn : Move) (meet : Node → Type 0) (seen next seen' next' seen'' next'' : List ℕ)
-    → moves.turn ≡ Some turn
+pub moves_two : (moves : Moves) (turn : Move) (meet : Node → Type 0)
+    (seen next seen' next' seen'' next'' : List ℕ) → moves.turn ≡ Some turn
     → AreFound (λ node. IsOf moves.stay node × meet node) seen next seen' next'
     → AreFound (λ node. IsOf turn node × meet node) seen' next' seen'' next''
     → AreFound (λ node. IsIn moves node × meet node) seen next seen'' next''
@@ -129,6 +131,7 @@ moves_two moves turn meet seen next seen' next' seen'' next'' some first second 
     found_as (λ node. (IsOf moves.stay node × meet node) ⊎ (IsOf turn node × meet node))
     (λ node. IsIn moves node × meet node) _ _ _ _
     (λ node. ⊎_elim (λ of. (inl of.0, of.1)) (λ of. (inr (rw some of.0), of.1)))
-    (λ node in'. inl (⊎_elim (λ of. inl (of, in'.1)) (λ turned. inr (rw some at turned, in'.1)) in'.0))
+    (λ node in'.
+    inl (⊎_elim (λ of. inl (of, in'.1)) (λ turned. inr (rw some at turned, in'.1)) in'.0))
     (found_both (λ node. IsOf moves.stay node × meet node)
     (λ node. IsOf turn node × meet node) _ _ _ _ _ _ first second)

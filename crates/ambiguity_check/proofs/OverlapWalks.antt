@@ -1,5 +1,6 @@
 -- Walks of two readings by two rates are the words that both spell.
-use Rattle.std.proofs.Common.{◌≡◌, ℕ, ◌+◌, ◌<◌, List, [], ◌∷◌, ◌++◌, length, refl, subst, true, false, not, Bool, arith}
+use Rattle.std.proofs.Common.{◌≡◌, ℕ, ◌+◌, ◌<◌, List, [], ◌∷◌, ◌++◌, length, refl, subst, true}
+use Rattle.std.proofs.Common.{false, not, Bool, arith}
 use Rattle.std.specs.Prelude.{MatchBool}
 use Rattle.item_schema.specs.declared.column.Column.{Column}
 use Rattle.rate_expr.specs.Paths.{Leads, LeadsOn, AreOf}
@@ -23,7 +24,8 @@ module _ (columns : List Column) (first second : Sets) (rows : List ℕ)
     (are : AreMeetings columns first second rows) where
   -- a walk of this many items leads to the node
   abbrev Walk : ℕ → Node → Type 0
-  Walk items node = IsWalk (BeginsBoth first second) (FollowsBoth first second) (IsInRows rows) items node
+  Walk items node =
+      IsWalk (BeginsBoth first second) (FollowsBoth first second) (IsInRows rows) items node
 
   -- some word of this many items leads to both places
   abbrev BothLead : ℕ → Node → Type 0
@@ -64,11 +66,11 @@ module _ (columns : List Column) (first second : Sets) (rows : List ℕ)
       (subst (λ (l : ℕ). Walk items (node_at Together l right')) on
       (subst (λ (r : ℕ). Walk items (node_at Together left r)) on' walk))
   goes_along (item ∷ word) items left right left' right' walk is on on' =
-      as_many (items + 1 + length word) (items + length (item ∷ word)) (node_at Together left' right')
-      (omega arith)
+      as_many (items + 1 + length word) (items + length (item ∷ word))
+      (node_at Together left' right') (omega arith)
       (goes_along word (items + 1) on.0 on'.0 left' right'
-      (later items (node_at Together left right) (node_at Together on.0 on'.0) walk (refl, on.1, on'.1)
-      ((are on.0 on'.0).1 (item, is.0, on.2, on'.2)))
+      (later items (node_at Together left right) (node_at Together on.0 on'.0) walk
+      (refl, on.1, on'.1) ((are on.0 on'.0).1 (item, is.0, on.2, on'.2)))
       is.1 on.3 on'.3)
 
   -- a word that leads to two places is one of a walk to both
@@ -120,7 +122,8 @@ module _ (columns : List Column) (first second : Sets) (rows : List ℕ)
     -- where no walk leads to an end of both, and the empty word is not in both, no word is
     no_walk_disjoint : (first.nullable ≡ true → second.nullable ≡ true → ⊥)
         → ((items : ℕ) → EndWalk items → ⊥) → AreDisjoint columns r s
-    no_walk_disjoint not_empty none [] is in_r in_s = not_empty ((of_r []).0 in_r) ((of_s []).0 in_s)
+    no_walk_disjoint not_empty none [] is in_r in_s =
+        not_empty ((of_r []).0 in_r) ((of_s []).0 in_s)
     no_walk_disjoint not_empty none (item ∷ word) is in_r in_s =
         none (length (item ∷ word)) (overlap_walks (length (item ∷ word)) (omega arith)
         ((item ∷ word, is, in_r, in_s), refl))

@@ -1,5 +1,6 @@
 -- How a search goes through the rows of a level.
-use Rattle.std.proofs.Common.{◌≡◌, ℕ, ◌+◌, ◌<◌, ◌⊎◌, ◌↔◌, List, refl, inl, inr, ⊎_elim, subst, arith}
+use Rattle.std.proofs.Common.{◌≡◌, ℕ, ◌+◌, ◌<◌, ◌⊎◌, ◌↔◌, List, refl, inl, inr, ⊎_elim, subst}
+use Rattle.std.proofs.Common.{arith}
 use Rattle.std.specs.Prelude.{slice_index}
 use Rattle.std.proofs.lemmas.Bool.{cases_lt}
 use Rattle.rate_expr.specs.Sets.{Has}
@@ -63,7 +64,8 @@ module _ (continues : Node → Node → Type 0) (meet : Node → Type 0) (level 
 
         -- a node below one place more is below the place or in the row
         in_row : (node : Node) → IsAfterBelow (left + 1) node → IsAfterBelow left node
-            ⊎ (((right : ℕ) × Has rights right × continues (node_at in_phase left right) node) × meet node)
+            ⊎ (((right : ℕ) × Has rights right × continues (node_at in_phase left right) node)
+            × meet node)
         in_row node after = elim (cases_lt (after.before).left left) [
           | inl below ↦ inl (record {
             before = after.before;
@@ -76,8 +78,8 @@ module _ (continues : Node → Node → Type 0) (meet : Node → Type 0) (level 
           | inr above ↦
               let below = after.below in
               let lefts : (after.before).left ≡ left = omega arith in
-              let same = same_parts after.before in_phase left (after.before).right after.phase lefts
-              refl in
+              let same = same_parts after.before in_phase left (after.before).right
+              after.phase lefts refl in
               inr (
                 (
                   (after.before).right,
@@ -108,7 +110,8 @@ module _ (continues : Node → Node → Type 0) (meet : Node → Type 0) (level 
         rows_next moves seen1 next1 seen2 next2 are before new =
             found_as (λ node. IsAfterBelow left node ⊎ (IsIn moves node × meet node))
             (IsAfterBelow (left + 1)) _ _ _ _ wider back
-            (found_both (IsAfterBelow left) (λ node. IsIn moves node × meet node) _ _ _ _ _ _ before new)
+            (found_both (IsAfterBelow left) (λ node. IsIn moves node × meet node) _ _ _
+            _ _ _ before new)
           where
             wider : (node : Node) → IsAfterBelow left node ⊎ (IsIn moves node × meet node)
                 → IsAfterBelow (left + 1) node
@@ -119,8 +122,8 @@ module _ (continues : Node → Node → Type 0) (meet : Node → Type 0) (level 
                   before = node_at in_phase left some.0;
                   below = omega arith;
                   phase = refl;
-                  marked = (row_says level in_phase left rights row_is (node_at in_phase left some.0) refl
-                      refl).1 some.1;
+                  marked = (row_says level in_phase left rights row_is
+                      (node_at in_phase left some.0) refl refl).1 some.1;
                   goes = some.2;
                   met = in'.1;
                 }

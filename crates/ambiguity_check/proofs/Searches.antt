@@ -42,7 +42,8 @@ module _ (begins : Node → Type 0) (continues : Node → Node → Type 0) (meet
     begun = omega arith;
     seen = λ node. (
       λ is. ⊎_elim (λ was. absurd (empty node was))
-          (λ new. (1, omega arith, at_once node ((firsts node).0 new.0.0) new.0.1)) (found.only node is),
+          (λ new. (1, omega arith, at_once node ((firsts node).0 new.0.0) new.0.1))
+          (found.only node is),
       λ some. let first = one_item some.0 node some.1 some.2 in
           found.marked node ((firsts node).1 first.0, first.1),
     );
@@ -94,7 +95,8 @@ module _ (begins : Node → Type 0) (continues : Node → Node → Type 0) (meet
     level_advances clear seen latest none found = record {
       begun = omega arith;
       seen = λ node. (
-        λ is. ⊎_elim (λ was. let some = (level.seen node).0 was in (some.0, more some.0 some.1, some.2))
+        λ is. ⊎_elim (λ was. let some = (level.seen node).0 was in
+            (some.0, more some.0 some.1, some.2))
             (λ new. (items + 1, omega arith, (new_level node new.0))) (found.only node is),
         λ some. elim (cases_lt some.0 (items + 1)) [
           | inl less ↦ found.kept node ((level.seen node).1 (some.0, at_most some.0 less, some.2))

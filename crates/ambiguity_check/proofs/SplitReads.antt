@@ -1,5 +1,6 @@
 -- What is read on a walk of two splits.
-use Rattle.std.proofs.Common.{◌≡◌, ℕ, ◌+◌, ◌<◌, List, [], ◌∷◌, ◌++◌, length, refl, sym, subst, inl, inr, ⊎_elim, append_assoc}
+use Rattle.std.proofs.Common.{◌≡◌, ℕ, ◌+◌, ◌<◌, List, [], ◌∷◌, ◌++◌, length, refl, sym, subst, inl}
+use Rattle.std.proofs.Common.{inr, ⊎_elim, append_assoc}
 use Rattle.std.proofs.lemmas.List.{append-nil}
 use Rattle.item_schema.specs.declared.column.Column.{Column}
 use Rattle.rate_expr.specs.Paths.{Follows, Leads, Spells, AreOf}
@@ -14,7 +15,8 @@ use Rattle.ambiguity_check.specs.declared.graph.Phase.{Phase}
 use Rattle.ambiguity_check.specs.declared.graph.Phase.TheVariants.{Together, Parted, Rejoined}
 use Rattle.ambiguity_check.specs.Lengths.{TwoSplitsOf}
 use Rattle.ambiguity_check.specs.Meetings.{MeetOne, AreMeetings}
-use Rattle.ambiguity_check.specs.Splits.{left_of, right_of, BeginsSplits, TurnsTo, Continues, EndsSplits, MeetIn, rows_in}
+use Rattle.ambiguity_check.specs.Splits.{left_of, right_of, BeginsSplits, TurnsTo, Continues}
+use Rattle.ambiguity_check.specs.Splits.{EndsSplits, MeetIn, rows_in}
 use Rattle.ambiguity_check.specs.Walks.{IsWalk, at_once, later}
 use Rattle.ambiguity_check.proofs.Marking.{node_at}
 use Rattle.ambiguity_check.proofs.Walking.{one_longer}
@@ -23,7 +25,8 @@ use Rattle.ambiguity_check.proofs.Walking.{one_longer}
 pub meetings_in : (columns : List Column) (first second : Sets) (together parted rejoined : List ℕ)
     → AreMeetings columns first first together → AreMeetings columns second first parted
     → AreMeetings columns second second rejoined
-    → (phase : Phase) → AreMeetings columns (left_of first second phase) (right_of first second phase)
+    → (phase : Phase)
+    → AreMeetings columns (left_of first second phase) (right_of first second phase)
     (rows_in together parted rejoined phase)
 meetings_in columns first second together parted rejoined one two three Together = one
 meetings_in columns first second together parted rejoined one two three Parted = two
@@ -38,9 +41,9 @@ module _ (columns : List Column) (first second : Sets) (together parted rejoined
   Walk items node = IsWalk (BeginsSplits first second) (Continues first second)
       (MeetIn together parted rejoined) items node
 
-  -- what was read in this many items: one word in the first part by both; a word and then a part of a second
-  -- word by the left one, all of it in the first part by the right one; and parts of second words by both,
-  -- the left one's longer
+  -- what was read in this many items: one word in the first part by both; a word and then a part of
+  -- a second word by the left one, all of it in the first part by the right one; and parts of
+  -- second words by both, the left one's longer
   abbrev pub AreRead : ℕ → Phase → ℕ → ℕ → Type 0
   AreRead items Together left right = (w : Word) × (length w ≡ items) × IsWordOf columns w
       × Leads first w left × Leads first w right
@@ -59,17 +62,18 @@ module _ (columns : List Column) (first second : Sets) (together parted rejoined
       (right_of first second phase) left right
 
   -- one more item is read in the same parts
-  reads_on : (items : ℕ) (phase : Phase) (left right left' right' : ℕ) → AreRead items phase left right
-      → Follows (left_of first second phase) left left'
+  reads_on : (items : ℕ) (phase : Phase) (left right left' right' : ℕ)
+      → AreRead items phase left right → Follows (left_of first second phase) left left'
       → Follows (right_of first second phase) right right'
       → MeetHere phase left' right' → AreRead (items + 1) phase left' right'
-  reads_on items Together left right left' right' (w, long, is, leads, leads') follows follows' one = (
-    w ++ one.0 ∷ [],
-    one_longer w one.0 items long,
-    word_more columns w one.0 is one.1,
-    leads_more first w left one.0 left' leads follows one.2,
-    leads_more first w right one.0 right' leads' follows' one.3,
-  )
+  reads_on items Together left right left' right' (w, long, is, leads, leads') follows
+      follows' one = (
+        w ++ one.0 ∷ [],
+        one_longer w one.0 items long,
+        word_more columns w one.0 is one.1,
+        leads_more first w left one.0 left' leads follows one.2,
+        leads_more first w right one.0 right' leads' follows' one.3,
+      )
   reads_on items Parted left right left' right'
       (u, t, long, is, spells, leads, leads') follows follows' one = (
         u,
@@ -100,10 +104,12 @@ module _ (columns : List Column) (first second : Sets) (together parted rejoined
   -- one more item is read after the end of a first part
   reads_turned : (items : ℕ) (phase : Phase) (left right : ℕ) (node : Node)
       → AreRead items phase left right → TurnsTo first second phase left right node
-      → MeetHere node.phase node.left node.right → AreRead (items + 1) node.phase node.left node.right
+      → MeetHere node.phase node.left node.right
+      → AreRead (items + 1) node.phase node.left node.right
   reads_turned items Together left right node (w, long, is, leads, leads')
       (ends, phase, begins, follows) met =
-      subst (λ p. AreRead (items + 1) p node.left node.right) (sym phase) (let one = rw phase at met in (
+      subst (λ p. AreRead (items + 1) p node.left node.right) (sym phase)
+      (let one = rw phase at met in (
         w,
         one.0 ∷ [],
         one_longer w one.0 items long,
@@ -114,7 +120,8 @@ module _ (columns : List Column) (first second : Sets) (together parted rejoined
       ))
   reads_turned items Parted left right node (u, t, long, is, spells, leads, leads')
       (ends, phase, follows, begins) met =
-      subst (λ p. AreRead (items + 1) p node.left node.right) (sym phase) (let one = rw phase at met in (
+      subst (λ p. AreRead (items + 1) p node.left node.right) (sym phase)
+      (let one = rw phase at met in (
         u,
         t,
         one.0 ∷ [],
@@ -203,8 +210,10 @@ module _ (columns : List Column) (first second : Sets) (together parted rejoined
             u' = u ++ t;
             v' = z;
             word = is;
-            first = ((of_r u).1 spells, (of_s (t ++ z)).1 (spells_at second (t ++ z) left leads ends));
-            second = ((of_r (u ++ t)).1 spells', (of_s z).1 (spells_at second z right leads' ends'));
+            first =
+                ((of_r u).1 spells, (of_s (t ++ z)).1 (spells_at second (t ++ z) left leads ends));
+            second =
+                ((of_r (u ++ t)).1 spells', (of_s z).1 (spells_at second z right leads' ends'));
             same = sym (append_assoc u t z);
             differ = longer u t some;
           },

@@ -1,5 +1,7 @@
 -- Words that split in two ways are those of walks.
-use Rattle.std.proofs.Common.{◌≡◌, ℕ, ◌+◌, ◌<◌, ◌⊎◌, ⊎_elim, List, [], ◌∷◌, ◌++◌, Bool, true, false, not, length, refl, sym, subst, ap, ◌∙◌, inl, inr, arith, append_assoc, length-append}
+use Rattle.std.proofs.Common.{◌≡◌, ℕ, ◌+◌, ◌<◌, ◌⊎◌, ⊎_elim, List, [], ◌∷◌, ◌++◌, Bool, true, false}
+use Rattle.std.proofs.Common.{not, length, refl, sym, subst, ap, ◌∙◌, inl, inr, arith, append_assoc}
+use Rattle.std.proofs.Common.{length-append}
 use Rattle.std.specs.Prelude.{MatchBool}
 use Rattle.std.proofs.lemmas.List.{append-nil}
 use Rattle.item_schema.specs.declared.column.Column.{Column}
@@ -17,7 +19,8 @@ use Rattle.ambiguity_check.specs.declared.graph.Phase.TheVariants.{Together, Par
 use Rattle.ambiguity_check.specs.Lengths.{TwoSplitsOf, EndsAfter}
 use Rattle.ambiguity_check.specs.Marked.{IsMarked, AreReached}
 use Rattle.ambiguity_check.specs.Meetings.{AreMeetings}
-use Rattle.ambiguity_check.specs.Splits.{left_of, right_of, BeginsSplits, Continues, EndsSplits, MeetIn, rows_in}
+use Rattle.ambiguity_check.specs.Splits.{left_of, right_of, BeginsSplits, Continues, EndsSplits}
+use Rattle.ambiguity_check.specs.Splits.{MeetIn, rows_in}
 use Rattle.ambiguity_check.specs.Walks.{IsWalk, at_once, later}
 use Rattle.ambiguity_check.proofs.Marking.{node_at}
 use Rattle.ambiguity_check.proofs.SplitReads.{walk_reads, two_splits}
@@ -34,7 +37,8 @@ module _ (columns : List Column) (first second : Sets) (together parted rejoined
 
   -- the number of items may be said in another way
   as_many : (items items' : ℕ) (node : Node) → items ≡ items' → Walk items node → Walk items' node
-  as_many = walk_as (BeginsSplits first second) (Continues first second) (MeetIn together parted rejoined)
+  as_many =
+      walk_as (BeginsSplits first second) (Continues first second) (MeetIn together parted rejoined)
 
   -- a walk of this many items leads to an end
   abbrev EndWalk : ℕ → Type 0
@@ -55,8 +59,8 @@ module _ (columns : List Column) (first second : Sets) (together parted rejoined
       as_many (items + 1 + length word) (items + length (item ∷ word)) (node_at phase left' right')
       (omega arith)
       (goes_along phase word (items + 1) on.0 on'.0 left' right'
-      (later items (node_at phase left right) (node_at phase on.0 on'.0) walk (inl (refl, on.1, on'.1))
-      ((are phase on.0 on'.0).1 (item, is.0, on.2, on'.2)))
+      (later items (node_at phase left right) (node_at phase on.0 on'.0) walk
+      (inl (refl, on.1, on'.1)) ((are phase on.0 on'.0).1 (item, is.0, on.2, on'.2)))
       is.1 on.3 on'.3)
 
   -- a walk in the first part of both
@@ -84,8 +88,8 @@ module _ (columns : List Column) (first second : Sets) (together parted rejoined
   parted_walk (x ∷ u) (item ∷ t) left right some is spells leads leads' =
       let words = word_parts columns (x ∷ u) (item ∷ t) is in
       let on = leads_parts first (x ∷ u) (item ∷ t) right (omega arith) leads' in
-      as_many (length (x ∷ u) + 1 + length t) (length ((x ∷ u) ++ item ∷ t)) (node_at Parted left right)
-      (omega (arith, length-append (x ∷ u) (item ∷ t)))
+      as_many (length (x ∷ u) + 1 + length t) (length ((x ∷ u) ++ item ∷ t))
+      (node_at Parted left right) (omega (arith, length-append (x ∷ u) (item ∷ t)))
       (goes_along Parted t (length (x ∷ u) + 1) leads.0 on.2.0 left right
       (later (length (x ∷ u)) (node_at Together spells.0 on.0) (node_at Parted leads.0 on.2.0)
       (together_walk (x ∷ u) spells.0 on.0 words.0 spells.1 on.1)
@@ -93,8 +97,8 @@ module _ (columns : List Column) (first second : Sets) (together parted rejoined
       (item, words.1.0, leads.2, on.2.2)))
       words.1.1 leads.3 on.2.3)
 
-  -- two splits of one word, the first of which ends its first part before the second, are those of a
-  -- walk to an end
+  -- two splits of one word, the first of which ends its first part before the second, are those of
+  -- a walk to an end
   splits_walk : (u t v' : Word) → 0 < length t → IsWordOf columns (u ++ (t ++ v')) → Spells first u
       → Spells second (t ++ v')
       → Spells first (u ++ t) → Spells second v' → EndWalk (length (u ++ (t ++ v')))
@@ -125,12 +129,13 @@ module _ (columns : List Column) (first second : Sets) (together parted rejoined
               length-append u (t ++ item ∷ z),
               length-append t (item ∷ z),
             ))
-            (goes_along Rejoined z (length (u ++ t) + 1) through.2.0 by_second'.1.0 on.0 by_second'.0
-            (later (length (u ++ t)) (node_at Parted through.0 on'.0)
+            (goes_along Rejoined z (length (u ++ t) + 1) through.2.0 by_second'.1.0
+            on.0 by_second'.0 (later (length (u ++ t)) (node_at Parted through.0 on'.0)
             (node_at Rejoined through.2.0 by_second'.1.0)
             (parted_walk u t through.0 on'.0 some words.0 spells through.1 on'.1)
             (inr (on'.2, refl, through.2.1, by_second'.1.1))
-            ((are Rejoined through.2.0 by_second'.1.0).1 (item, words.1.0, through.2.2, by_second'.1.2)))
+            ((are Rejoined through.2.0 by_second'.1.0).1
+            (item, words.1.0, through.2.2, by_second'.1.2)))
             words.1.1 through.2.3 by_second'.1.3),
         inr (refl, on.2, by_second'.2),
       )
@@ -146,10 +151,11 @@ module _ (columns : List Column) (first second : Sets) (together parted rejoined
         (rw rest at ((of_s v).0 in_s)) ((of_r (u ++ item ∷ t)).0 in_r') ((of_s v').0 in_s')))
 
     -- two splits of a word are one, or a walk of as many items leads to an end
-    pub same_split : (u v u' v' : Word) → IsWordOf columns (u ++ v) → In r u → In s v → In r u' → In s v'
-        → u ++ v ≡ u' ++ v' → (u ≡ u') ⊎ EndWalk (length (u ++ v))
+    pub same_split : (u v u' v' : Word) → IsWordOf columns (u ++ v) → In r u → In s v
+        → In r u' → In s v' → u ++ v ≡ u' ++ v' → (u ≡ u') ⊎ EndWalk (length (u ++ v))
     same_split u v u' v' is in_r in_s in_r' in_s' same = elim (comparable u v u' v' same) [
-      | inl more ↦ ⊎_elim (λ t. inl (sym (more.1 ∙ ap (λ w. u ++ w) t ∙ append-nil u))) (λ walk. inr walk)
+      | inl more ↦ ⊎_elim (λ t. inl (sym (more.1 ∙ ap (λ w. u ++ w) t ∙ append-nil u)))
+          (λ walk. inr walk)
           (later_walk u more.0 v v' is more.2 in_r in_s (rw more.1 at in_r') in_s')
       | inr more ↦ ⊎_elim (λ t. inl (more.1 ∙ ap (λ w. u' ++ w) t ∙ append-nil u'))
           (λ walk. inr (subst (λ (w : Word). EndWalk (length w)) (sym same) walk))
@@ -167,8 +173,8 @@ module _ (columns : List Column) (first second : Sets) (together parted rejoined
     pub splits_walks : (items : ℕ) → TwoSplitsOf columns r s items → EndWalk items
     splits_walks items (two, long) = subst EndWalk long
         (⊎_elim (λ same. absurd (two.differ same)) (λ walk. walk)
-        (same_split two.u two.v two.u' two.v' two.word two.first.0 two.first.1 two.second.0 two.second.1
-        two.same))
+        (same_split two.u two.v two.u' two.v' two.word two.first.0 two.first.1
+        two.second.0 two.second.1 two.same))
 
     -- the answer of a search
     pub one_split_says : (marks : List ℕ) (two : Bool)

@@ -1,5 +1,6 @@
 -- Walks, by their last item.
-use Rattle.std.proofs.Common.{◌≡◌, ℕ, ◌+◌, ◌<◌, ◌⊎◌, ◌∷◌, [], ◌++◌, List, length, length-append, refl, inl, inr, subst, arith}
+use Rattle.std.proofs.Common.{◌≡◌, ℕ, ◌+◌, ◌<◌, ◌⊎◌, ◌∷◌, [], ◌++◌, List, length, length-append}
+use Rattle.std.proofs.Common.{refl, inl, inr, subst, arith}
 use Rattle.ambiguity_check.specs.declared.graph.Node.{Node}
 use Rattle.ambiguity_check.specs.Walks.{IsWalk, at_once, later}
 
@@ -17,10 +18,11 @@ module _ (begins : Node → Type 0) (continues : Node → Node → Type 0) (meet
   -- it is one of the first nodes, or a walk of one item less and an edge
   pub walk_cases : (items : ℕ) (node : Node) → IsWalk begins continues meet items node
       → ((items ≡ 1) × begins node × meet node)
-      ⊎ ((some : ℕ) × (before : Node) × (items ≡ some + 1) × IsWalk begins continues meet some before
-      × continues before node × meet node)
+      ⊎ ((some : ℕ) × (before : Node) × (items ≡ some + 1)
+      × IsWalk begins continues meet some before × continues before node × meet node)
   walk_cases _ _ (at_once node first met) = inl (refl, first, met)
-  walk_cases _ _ (later items before node walk goes met) = inr (items, before, refl, walk, goes, met)
+  walk_cases _ _ (later items before node walk goes met) =
+      inr (items, before, refl, walk, goes, met)
 
   -- the number of items may be said in another way
   pub walk_as : (items items' : ℕ) (node : Node) → items ≡ items'

@@ -1,8 +1,10 @@
 -- Nodes added after others, set by set.
-use Rattle.std.proofs.Common.{◌≡◌, ℕ, zero, suc, ◌+◌, ◌<◌, ◌⊎◌, inl, inr, List, [], ◌∷◌, ◌++◌, refl, sym, ap, ◌∙◌, subst, arith, append_assoc}
+use Rattle.std.proofs.Common.{◌≡◌, ℕ, zero, suc, ◌+◌, ◌<◌, ◌⊎◌, inl, inr, List, [], ◌∷◌, ◌++◌, refl}
+use Rattle.std.proofs.Common.{sym, ap, ◌∙◌, subst, arith, append_assoc}
 use Rattle.std.proofs.lemmas.Bool.{cases_lt}
 use Rattle.std.proofs.lemmas.List.{append-nil}
-use Rattle.std.proofs.lemmas.List.Elements.{Contains-append_left, Contains-append_right, Contains-append_cases}
+use Rattle.std.proofs.lemmas.List.Elements.{Contains-append_left, Contains-append_right}
+use Rattle.std.proofs.lemmas.List.Elements.{Contains-append_cases}
 use Rattle.std.specs.List.{Contains}
 use Rattle.rate_expr.specs.Sets.{Has}
 use Rattle.ambiguity_check.proofs.Marking.{node_at, same_parts}
@@ -69,7 +71,8 @@ adds_both P Q items xs ys zs first second = record {
   ];
   each = λ node of_one. elim of_one [
     | inl p ↦ Contains-append_left first.more second.more (at_level node items) (first.each node p)
-    | inr q ↦ Contains-append_right first.more second.more (at_level node items) (second.each node q)
+    | inr q ↦ Contains-append_right first.more second.more (at_level node items)
+        (second.each node q)
   ];
 }
 
@@ -91,11 +94,11 @@ module _ (phase : Phase) (left rights items : ℕ) (old : List Reached) where
 
   -- the node with this place was added
   pub row_added : (right : ℕ) (mid new : List Reached) → Has rights right → right < 128
-      → new ≡ mid ++ at_level (node_at phase left right) items ∷ [] → Adds (Below right) items old mid
-      → Adds (Below (right + 1)) items old new
+      → new ≡ mid ++ at_level (node_at phase left right) items ∷ []
+      → Adds (Below right) items old mid → Adds (Below (right + 1)) items old new
   row_added right mid new has few whole adds =
-      adds_as (λ node. Below right node ⊎ (node ≡ node_at phase left right)) (Below (right + 1)) items
-      old new on back
+      adds_as (λ node. Below right node ⊎ (node ≡ node_at phase left right))
+      (Below (right + 1)) items old new on back
       (adds_both (Below right) (λ node. node ≡ node_at phase left right) items old mid new adds
       (adds_one (node_at phase left right) items mid new whole few))
     where
@@ -123,8 +126,8 @@ module _ (phase : Phase) (left rights items : ℕ) (old : List Reached) where
   pub row_kept : (right : ℕ) (new : List Reached) → (Has rights right → ⊥)
       → Adds (Below right) items old new → Adds (Below (right + 1)) items old new
   row_kept right new none adds =
-      adds_as (Below right) (Below (right + 1)) items old new (λ node below. (below.0, lower below.1))
-      back adds
+      adds_as (Below right) (Below (right + 1)) items old new
+      (λ node below. (below.0, lower below.1)) back adds
     where
       lower : {n : ℕ} → n < right → n < right + 1
       lower less = omega arith

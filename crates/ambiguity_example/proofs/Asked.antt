@@ -7,7 +7,8 @@ use Rattle.rate_expr.specs.Rates.{Regex}
 use Rattle.rate_expr.specs.Readings.{AreDisjoint, HaveOneSplit, HasOneFactoring}
 use Rattle.symbolic_nfa.specs.Automata.{Automaton}
 use Rattle.ambiguity_example.specs.Asks.{Asks, columns_of}
-use Rattle.ambiguity_example.specs.Shows.{Shown, Question, choice, split, iter, IsKept, IsShortestShown}
+use Rattle.ambiguity_example.specs.Shows.{Shown, Question, choice, split, iter, IsKept}
+use Rattle.ambiguity_example.specs.Shows.{IsShortestShown}
 use Rattle.ambiguity_example.specs.declared.question.Ask.{Ask}
 use Rattle.ambiguity_example.specs.declared.question.Ask.TheVariants.{Choice, Split, Iter}
 
@@ -87,4 +88,5 @@ pub answers_iter : {E : Type 0} (ask : Ask) (nfa : Bor Automaton) (result : Resu
     → MatchOption found (HasOneFactoring nfa.now.cells.layout.columns r)
     (IsShortestShown nfa.now.cells.layout.columns (iter r)))
     → IfOk result (Answers ask)
-answers_iter ask nfa result is says = answers_as ask (Iter nfa) result is (iter_asked nfa result says)
+answers_iter ask nfa result is says =
+    answers_as ask (Iter nfa) result is (iter_asked nfa result says)

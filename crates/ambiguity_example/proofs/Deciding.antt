@@ -26,11 +26,13 @@ pub not_both : (test : Bool) → test ≡ true → test ≡ false → ⊥
 not_both test is none = let never : true ≡ false = sym is ∙ none in cc
 
 -- lists of numbers that a test finds different differ, and others are the same
-pub found_different : (xs ys : List ℕ) (test : Bool) → test ≡ not (bytes_eq xs ys) → test ≡ true → xs ≢ ys
+pub found_different : (xs ys : List ℕ) (test : Bool) → test ≡ not (bytes_eq xs ys)
+    → test ≡ true → xs ≢ ys
 found_different xs ys test is differ same =
     not_both test differ (is ∙ ap not ((bytes_eq-Decides xs ys).1 same))
 
-pub found_same : (xs ys : List ℕ) (test : Bool) → test ≡ not (bytes_eq xs ys) → test ≡ false → xs ≡ ys
+pub found_same : (xs ys : List ℕ) (test : Bool) → test ≡ not (bytes_eq xs ys)
+    → test ≡ false → xs ≡ ys
 found_same xs ys test is none = (bytes_eq-Decides xs ys).0 (turned (bytes_eq xs ys) (sym is ∙ none))
   where
     turned : (equal : Bool) → not equal ≡ false → equal ≡ true

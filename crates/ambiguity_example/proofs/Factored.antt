@@ -1,5 +1,6 @@
 -- A walk of factorings to an end, read as a word with two factorings.
-use Rattle.std.proofs.Common.{◌≡◌, ◌≢◌, ℕ, ◌+◌, ◌≤◌, ◌↔◌, inl, inr, ⊎_elim, List, [], ◌∷◌, ◌++◌, length, refl, sym, ap, ◌∙◌, subst, arith, true}
+use Rattle.std.proofs.Common.{◌≡◌, ◌≢◌, ℕ, ◌+◌, ◌≤◌, ◌↔◌, inl, inr, ⊎_elim, List, [], ◌∷◌, ◌++◌}
+use Rattle.std.proofs.Common.{length, refl, sym, ap, ◌∙◌, subst, arith, true}
 use Rattle.std.specs.List.{AllByRecursion}
 use Rattle.value_ops.specs.declared.field.Field.{Field}
 use Rattle.item_schema.specs.declared.column.Column.{Column}
@@ -39,7 +40,8 @@ stay_or_turn : (sets : Sets) (side : Side) (phase : Phase) (left right : ℕ) (n
     → Turns sets (place_of side (node_at phase left right)) (place_of side next)
 stay_or_turn sets Left Together left right next (inl (is, follows, follows')) ended =
     absurd (ended (follows, λ together. is))
-stay_or_turn sets Left Together left right next (inr (ends, is, begins, follows)) ended = (ends, begins)
+stay_or_turn sets Left Together left right next (inr (ends, is, begins, follows)) ended =
+    (ends, begins)
 stay_or_turn sets Left Parted left right next (is, inl follows, goes) ended =
     absurd (ended (follows, λ together. let never : Parted ≡ Together = together in cc))
 stay_or_turn sets Left Parted left right next (is, inr turns, goes) ended = turns
@@ -50,9 +52,11 @@ stay_or_turn sets Right Together left right next (inl (is, follows, follows')) e
     absurd (ended follows')
 stay_or_turn sets Right Together left right next (inr (ends, is, begins, follows)) ended =
     absurd (ended follows)
-stay_or_turn sets Right Parted left right next (is, goes, inl follows) ended = absurd (ended follows)
+stay_or_turn sets Right Parted left right next (is, goes, inl follows) ended =
+    absurd (ended follows)
 stay_or_turn sets Right Parted left right next (is, goes, inr turns) ended = turns
-stay_or_turn sets Right Rejoined left right next (is, goes, inl follows) ended = absurd (ended follows)
+stay_or_turn sets Right Rejoined left right next (is, goes, inl follows) ended =
+    absurd (ended follows)
 stay_or_turn sets Right Rejoined left right next (is, goes, inr turns) ended = turns
 
 -- a reading that stays follows
@@ -77,7 +81,8 @@ module _ (columns : List Column) (sets : Sets) (rows : List ℕ) (ends : Node �
   side_ends Right node ended = ((exact node).0 ended).2
 
   -- it begins where the walk does
-  side_begins : (side : Side) (node : Node) → BeginsFactors sets node → Has sets.first (place_of side node)
+  side_begins : (side : Side) (node : Node) → BeginsFactors sets node
+      → Has sets.first (place_of side node)
   side_begins Left node begins = begins.1
   side_begins Right node begins = begins.2
 
@@ -125,13 +130,18 @@ module _ (columns : List Column) (sets : Sets) (rows : List ℕ) (ends : Node �
         on = refl;
         last = turns.0;
         spelled = (
-          (more.end, (place_of side next, turns.1, side_meets side next item one, more.on), more.last),
+          (
+            more.end,
+            (place_of side next, turns.1, side_meets side next item one, more.on),
+            more.last,
+          ),
           more.spelled,
         );
         there = is
             ∙ (let same : at ≡ at + 0 = omega arith in ap (λ (n : ℕ). n ∷ rest) same)
             ∙ ap (λ c. (at + 0) ∷ c) more.there
-            ∙ (let same : (at + 1) + length more.head ≡ (at + 0) + length (item ∷ more.head) = omega arith in
+            ∙ (let same : (at + 1) + length more.head ≡ (at + 0) + length (item ∷ more.head) =
+            omega arith in
             ap (λ (n : ℕ). (at + 0) ∷ cuts_from n more.pieces) same);
       }
   reads_on side at node (next ∷ nodes) (item ∷ word) cuts (goes, met, along) (one, meet)
@@ -150,7 +160,8 @@ module _ (columns : List Column) (sets : Sets) (rows : List ℕ) (ends : Node �
         last = more.last;
         spelled = more.spelled;
         there = more.there
-            ∙ (let same : (at + 1) + length more.head ≡ at + length (item ∷ more.head) = omega arith in
+            ∙ (let same : (at + 1) + length more.head ≡ at + length (item ∷ more.head) =
+            omega arith in
             ap (λ (n : ℕ). cuts_from n more.pieces) same);
       }
 
@@ -231,8 +242,8 @@ module _ (columns : List Column) (sets : Sets) (rows : List ℕ) (ends : Node �
         → IsWalkOf (BeginsFactors sets) (Factors sets) (IsInRows rows) ends nodes
         → AreTurns sets Left nodes cuts → AreTurns sets Right nodes cuts' → cuts ≢ cuts'
     sides_differ [] cuts cuts' walk turns turns' same = absurd walk
-    sides_differ (node ∷ nodes) cuts cuts' (begins, met, along) (rest, first, ends') (rest', first', ends'')
-        same =
+    sides_differ (node ∷ nodes) cuts cuts' (begins, met, along) (rest, first, ends')
+        (rest', first', ends'') same =
         let known = same_parts node Together node.left node.right begins.0 refl refl in
         let tails : 0 ∷ rest ≡ 0 ∷ rest' = sym first ∙ same ∙ first' in
         let equal : rest ≡ rest' = cc in
@@ -243,7 +254,8 @@ module _ (columns : List Column) (sets : Sets) (rows : List ℕ) (ends : Node �
 
     -- where the empty word is in the rate, it is shown
     pub empty_factored : sets.nullable ≡ true
-        → IsShortestShown columns (iter r) (record { items = []; first = 0 ∷ []; second = 0 ∷ 0 ∷ [] })
+        → IsShortestShown columns (iter r)
+        (record { items = []; first = 0 ∷ []; second = 0 ∷ 0 ∷ [] })
     empty_factored empty = record {
       shows = (
         tt,
@@ -310,5 +322,6 @@ module _ (columns : List Column) (sets : Sets) (rows : List ℕ) (ends : Node �
             let walk = shown_walk other shows.0 shows.1 in
             let few = walk.1 in
             shortest.none walk.0
-            (omega (arith, all_meet_long columns (λ _. sets) (λ _. sets) nodes shown.items meet)) walk.2;
+            (omega (arith, all_meet_long columns (λ _. sets) (λ _. sets) nodes shown.items meet))
+            walk.2;
       }

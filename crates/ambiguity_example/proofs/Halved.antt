@@ -1,5 +1,7 @@
 -- A walk of splits to an end, read as a word with two splits.
-use Rattle.std.proofs.Common.{◌≡◌, ℕ, ◌+◌, ◌<◌, ◌↔◌, inl, inr, ⊎_elim, List, [], ◌∷◌, ◌++◌, length, take, drop, refl, sym, ap, ◌∙◌, subst, arith, append_assoc, length-append}
+use Rattle.std.proofs.Common.{◌≡◌, ℕ, ◌+◌, ◌<◌, ◌↔◌, inl, inr, ⊎_elim, List, [], ◌∷◌, ◌++◌, length}
+use Rattle.std.proofs.Common.{take, drop, refl, sym, ap, ◌∙◌, subst, arith, append_assoc}
+use Rattle.std.proofs.Common.{length-append}
 use Rattle.std.proofs.lemmas.List.{append-nil}
 use Rattle.std.proofs.Math.Seq.{take-append_seam, drop-append_seam}
 use Rattle.value_ops.specs.declared.field.Field.{Field}
@@ -16,7 +18,8 @@ use Rattle.ambiguity_check.specs.declared.graph.Node.{Node}
 use Rattle.ambiguity_check.specs.declared.graph.Phase.{Phase}
 use Rattle.ambiguity_check.specs.declared.graph.Phase.TheVariants.{Together, Parted, Rejoined}
 use Rattle.ambiguity_check.specs.Lengths.{EndsAfter}
-use Rattle.ambiguity_check.specs.Splits.{left_of, right_of, BeginsSplits, Continues, EndsSplits, MeetIn, AreRows}
+use Rattle.ambiguity_check.specs.Splits.{left_of, right_of, BeginsSplits, Continues, EndsSplits}
+use Rattle.ambiguity_check.specs.Splits.{MeetIn, AreRows}
 use Rattle.ambiguity_example.proofs.Halves.{InBoth, splits_shown}
 use Rattle.ambiguity_example.proofs.MetItems.{all_meet_long, all_meet_word}
 use Rattle.ambiguity_example.specs.Counts.{is_same, count_in}
@@ -28,7 +31,8 @@ module _ (columns : List Column) (first second : Sets) (together parted rejoined
     (ends : Node → Type 0) (exact : (node : Node) → ends node ↔ EndsSplits first second node) where
   -- the walk leads from a node along others
   abbrev Along : Node → List Node → Type 0
-  Along node nodes = GoesAlong (Continues first second) (MeetIn together parted rejoined) ends node nodes
+  Along node nodes =
+      GoesAlong (Continues first second) (MeetIn together parted rejoined) ends node nodes
 
   -- the items meet the places of the nodes
   abbrev Meet : List Node → Word → Type 0
@@ -84,12 +88,15 @@ module _ (columns : List Column) (first second : Sets) (together parted rejoined
   rejoins left right [] (item ∷ word) along meet = absurd meet
   rejoins left right (next ∷ nodes) [] along meet = absurd meet
   rejoins left right (next ∷ nodes) (item ∷ word) (inr never, met, along) (one, meet) = absurd never
-  rejoins left right (next ∷ nodes) (item ∷ word) (inl (is, follows, follows'), met, along) (one, meet) =
+  rejoins left right (next ∷ nodes) (item ∷ word)
+      (inl (is, follows, follows'), met, along) (one, meet) =
       let rest = rejoins next.left next.right nodes word (known_phase next Rejoined nodes is along)
       meet in
       let meets = known_meets next Rejoined item is one in record {
-        no_together = counts Together Rejoined next nodes is ∙ (let none = rest.no_together in omega arith);
-        no_parted = counts Parted Rejoined next nodes is ∙ (let none = rest.no_parted in omega arith);
+        no_together =
+            counts Together Rejoined next nodes is ∙ (let none = rest.no_together in omega arith);
+        no_parted =
+            counts Parted Rejoined next nodes is ∙ (let none = rest.no_parted in omega arith);
         end = rest.end;
         on = (next.left, follows, meets.1, rest.on);
         last = rest.last;
@@ -134,14 +141,17 @@ module _ (columns : List Column) (first second : Sets) (together parted rejoined
   ]
   parts left right [] (item ∷ word) along meet = absurd meet
   parts left right (next ∷ nodes) [] along meet = absurd meet
-  parts left right (next ∷ nodes) (item ∷ word) (inl (is, follows, follows'), met, along) (one, meet) =
-      let rest = parts next.left next.right nodes word (known_phase next Parted nodes is along) meet in
+  parts left right (next ∷ nodes) (item ∷ word)
+      (inl (is, follows, follows'), met, along) (one, meet) =
+      let rest = parts next.left next.right nodes word
+      (known_phase next Parted nodes is along) meet in
       let meets = known_meets next Parted item is one in record {
         t = item ∷ rest.t;
         v = rest.v;
         whole = ap (λ w. item ∷ w) rest.whole;
         long = (let long = rest.long in omega (arith, counts Parted Parted next nodes is));
-        no_together = counts Together Parted next nodes is ∙ (let none = rest.no_together in omega arith);
+        no_together =
+            counts Together Parted next nodes is ∙ (let none = rest.no_together in omega arith);
         end = rest.end;
         on = (next.left, follows, meets.1, rest.on);
         last = rest.last;
@@ -150,7 +160,8 @@ module _ (columns : List Column) (first second : Sets) (together parted rejoined
         last' = rest.last';
         spells = rest.spells;
       }
-  parts left right (next ∷ nodes) (item ∷ word) (inr (ends', is, follows, begins), met, along) (one, meet) =
+  parts left right (next ∷ nodes) (item ∷ word)
+      (inr (ends', is, follows, begins), met, along) (one, meet) =
       let rest = rejoins next.left next.right nodes word (known_phase next Rejoined nodes is along)
       meet in
       let meets = known_meets next Rejoined item is one in record {
@@ -158,7 +169,8 @@ module _ (columns : List Column) (first second : Sets) (together parted rejoined
         v = item ∷ word;
         whole = refl;
         long = (let none = rest.no_parted in omega (arith, counts Parted Rejoined next nodes is));
-        no_together = counts Together Rejoined next nodes is ∙ (let none = rest.no_together in omega arith);
+        no_together =
+            counts Together Rejoined next nodes is ∙ (let none = rest.no_together in omega arith);
         end = rest.end;
         on = (next.left, follows, meets.1, rest.on);
         last = rest.last;
@@ -217,7 +229,8 @@ module _ (columns : List Column) (first second : Sets) (together parted rejoined
       }
   together_on left right (next ∷ nodes) (item ∷ word) (inr (ends', is, begins, follows), met, along)
       (one, meet) =
-      let rest = parts next.left next.right nodes word (known_phase next Parted nodes is along) meet in
+      let rest = parts next.left next.right nodes word
+      (known_phase next Parted nodes is along) meet in
       let meets = known_meets next Parted item is one in record {
         x = [];
         t = item ∷ rest.t;
@@ -237,8 +250,8 @@ module _ (columns : List Column) (first second : Sets) (together parted rejoined
         spells' = rest.spells;
       }
 
-  -- two splits of a word, the first after as many items as nodes are together, the second after as many
-  -- more as are parted
+  -- two splits of a word, the first after as many items as nodes are together, the second after as
+  -- many more as are parted
   pub record AreSplit (nodes : List Node) (word : Word) : Type 0 where
     pub u : Word
     pub t : Word
@@ -251,8 +264,8 @@ module _ (columns : List Column) (first second : Sets) (together parted rejoined
     pub spells' : Spells first (u ++ t) × Spells second v
 
   walk_split : (nodes : List Node) (word : Word)
-      → IsWalkOf (BeginsSplits first second) (Continues first second) (MeetIn together parted rejoined) ends nodes
-      → Meet nodes word → AreSplit nodes word
+      → IsWalkOf (BeginsSplits first second) (Continues first second)
+      (MeetIn together parted rejoined) ends nodes → Meet nodes word → AreSplit nodes word
   walk_split [] word walk meet = absurd walk
   walk_split (node ∷ nodes) [] walk meet = absurd meet
   walk_split (node ∷ nodes) (item ∷ word) (inl (is, begins, begins'), met, along) (one, meet) =
@@ -269,8 +282,10 @@ module _ (columns : List Column) (first second : Sets) (together parted rejoined
         spells = ((rest.end, (node.left, begins, meets.1, rest.on), rest.last), rest.spells);
         spells' = ((rest.end', (node.right, begins', meets.2, rest.on'), rest.last'), rest.spells');
       }
-  walk_split (node ∷ nodes) (item ∷ word) (inr (nullable, is, begins, begins'), met, along) (one, meet) =
-      let rest = parts node.left node.right nodes word (known_phase node Parted nodes is along) meet in
+  walk_split (node ∷ nodes) (item ∷ word)
+      (inr (nullable, is, begins, begins'), met, along) (one, meet) =
+      let rest = parts node.left node.right nodes word
+      (known_phase node Parted nodes is along) meet in
       let meets = known_meets node Parted item is one in record {
         u = [];
         t = item ∷ rest.t;
@@ -303,7 +318,8 @@ module _ (columns : List Column) (first second : Sets) (together parted rejoined
     -- the splits of a walk are shown by the numbers of its nodes
     split_shown : (nodes : List Node) (shown : Shown)
         → shown.first ≡ 0 ∷ count_in Together nodes ∷ length shown.items ∷ []
-        → shown.second ≡ 0 ∷ (count_in Together nodes + count_in Parted nodes) ∷ length shown.items ∷ []
+        → shown.second
+        ≡ 0 ∷ (count_in Together nodes + count_in Parted nodes) ∷ length shown.items ∷ []
         → AreSplit nodes shown.items → ShowsSplits r s shown
     split_shown nodes shown first' second' are =
         let some = are.some in
@@ -329,8 +345,8 @@ module _ (columns : List Column) (first second : Sets) (together parted rejoined
 
     module _ (are : AreRows columns first second together parted rejoined) where
       -- a word with two splits has a walk to an end
-      splits_walk : (u v u' v' : Word) → IsWordOf columns (u ++ v) → In r u → In s v → In r u' → In s v'
-          → u ++ v ≡ u' ++ v' → (u ≡ u' → ⊥) → EndWalk (length (u ++ v))
+      splits_walk : (u v u' v' : Word) → IsWordOf columns (u ++ v) → In r u → In s v
+          → In r u' → In s v' → u ++ v ≡ u' ++ v' → (u ≡ u' → ⊥) → EndWalk (length (u ++ v))
       splits_walk u v u' v' word in_r in_s in_r' in_s' same differ =
           let walk = splits_walks columns first second together parted rejoined are r s of_r of_s
           (length (u ++ v)) (
@@ -375,11 +391,13 @@ module _ (columns : List Column) (first second : Sets) (together parted rejoined
           → IsShortestWalk (BeginsSplits first second) (Continues first second)
           (MeetIn together parted rejoined) ends nodes → Meet nodes shown.items
           → shown.first ≡ 0 ∷ count_in Together nodes ∷ length shown.items ∷ []
-          → shown.second ≡ 0 ∷ (count_in Together nodes + count_in Parted nodes) ∷ length shown.items ∷ []
+          → shown.second
+          ≡ 0 ∷ (count_in Together nodes + count_in Parted nodes) ∷ length shown.items ∷ []
           → IsShortestShown columns (split r s) shown
       walk_halved nodes shown shortest meet first' second' = record {
         shows = (
-          all_meet_word columns (left_of first second) (right_of first second) nodes shown.items meet,
+          all_meet_word columns (left_of first second) (right_of first second) nodes
+              shown.items meet,
           split_shown nodes shown first' second' (walk_split nodes shown.items shortest.walk meet),
         );
         none = λ other fewer shows. shortest.none (length other.items)

@@ -1,5 +1,6 @@
 -- Cuts of a word into two pieces.
-use Rattle.std.proofs.Common.{◌≡◌, ℕ, ◌+◌, ◌<◌, ◌≤◌, List, [], ◌∷◌, ◌++◌, length, take, drop, sym, ap, ◌∙◌, subst, arith}
+use Rattle.std.proofs.Common.{◌≡◌, ℕ, ◌+◌, ◌<◌, ◌≤◌, List, [], ◌∷◌, ◌++◌, length, take, drop, sym}
+use Rattle.std.proofs.Common.{ap, ◌∙◌, subst, arith}
 use Rattle.std.proofs.lemmas.List.{append-nil, take-append-drop, length-take-le, length-append}
 use Rattle.std.proofs.Math.Seq.{take-append_seam, drop-append_seam}
 use Rattle.rate_expr.specs.Language.{In}
@@ -17,7 +18,8 @@ module _ (word : Word) (cuts : List ℕ) (middle : ℕ)
       let there : 0 + length (take middle word) ≡ middle = omega arith in
       let whole : take middle word ++ drop middle word ≡ word = take-append-drop middle word in
       let end : middle + length (drop middle word) ≡ length word =
-      omega (arith, ap length whole, length-append (take middle word) (drop middle word)) in record {
+      omega (arith, ap length whole, length-append (take middle word) (drop middle word)) in
+      record {
         whole = ap (λ w. take middle word ++ w) (append-nil (drop middle word)) ∙ whole;
         at = ap (λ (n : ℕ). 0 ∷ n ∷ (n + length (drop middle word)) ∷ []) there
             ∙ ap (λ (n : ℕ). 0 ∷ middle ∷ n ∷ []) end ∙ sym are;
@@ -69,7 +71,8 @@ module _ (r s : Regex) (shown : Shown) (shorter longer : ℕ)
       × InBoth r s shown.items shorter × InBoth r s shown.items longer
   shown_splits shows =
       let one = only_halves shown.items shown.first shorter first shows.u shows.v shows.first in
-      let other = only_halves shown.items shown.second longer second shows.u' shows.v' shows.second in
+      let other = only_halves shown.items shown.second longer second shows.u'
+      shows.v' shows.second in
       let at : 0 ∷ (0 + length shows.u) ∷ ((0 + length shows.u) + length shows.v) ∷ []
       ≡ 0 ∷ shorter ∷ length shown.items ∷ [] = shows.first.at ∙ first in
       let at' : 0 ∷ (0 + length shows.u') ∷ ((0 + length shows.u') + length shows.v') ∷ []

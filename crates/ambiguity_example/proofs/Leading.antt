@@ -20,11 +20,15 @@ module _ (continues : Node → Node → Type 0) (before node : Node) (moves : Mo
       let from = are.0 in' in
       let same : before.right ≡ from.0 = has_only_one before.right from.0
       (subst (λ (mask : ℕ). Has mask from.0) one from.1) in
-      subst (λ (right : ℕ). continues (node_at before.phase before.left right) node) (sym same) from.2
+      subst (λ (right : ℕ). continues (node_at before.phase before.left right) node)
+      (sym same) from.2
 
   pub there_leads : continues before node → IsIn moves node
-  there_leads goes = are.1
-      (before.right, subst (λ (mask : ℕ). Has mask before.right) (sym one) (has_one before.right), goes)
+  there_leads goes = are.1 (
+    before.right,
+    subst (λ (mask : ℕ). Has mask before.right) (sym one) (has_one before.right),
+    goes,
+  )
 
   -- the node is one that the moves without an end lead to
   pub stays_there : (test : Bool) → IsTrue test ↔ IsOf moves.stay node → test ≡ true
@@ -36,7 +40,8 @@ module _ (continues : Node → Node → Type 0) (before node : Node) (moves : Mo
       → test ≡ false → moves.turn ≡ Some turn → IsTrue other ↔ IsOf turn node
       → IsTrue other ↔ continues before node
   turns_there test other turn decided not_stay is decided' = (
-    λ t. lead_there (inr (subst (λ o. IsSomeAnd o (λ move. IsOf move node)) (sym is) (decided'.0 t))),
+    λ t. lead_there
+        (inr (subst (λ o. IsSomeAnd o (λ move. IsOf move node)) (sym is) (decided'.0 t))),
     λ goes. elim (there_leads goes) [
       | inl stays ↦ absurd (not_both test (decided.1 stays) not_stay)
       | inr turns ↦ decided'.1 (subst (λ o. IsSomeAnd o (λ move. IsOf move node)) is turns)

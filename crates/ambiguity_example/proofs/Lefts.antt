@@ -1,5 +1,6 @@
 -- The nodes of a level with one place on the left are those of its row.
-use Rattle.std.proofs.Common.{◌≡◌, ℕ, ◌+◌, ◌*◌, ◌<◌, ◌⊎◌, inl, inr, List, ap, sym, ◌∙◌, subst, arith}
+use Rattle.std.proofs.Common.{◌≡◌, ℕ, ◌+◌, ◌*◌, ◌<◌, ◌⊎◌, inl, inr, List, ap, sym, ◌∙◌, subst}
+use Rattle.std.proofs.Common.{arith}
 use Rattle.std.proofs.lemmas.Bool.{cases_lt}
 use Rattle.std.specs.Prelude.{slice_index}
 use Rattle.rate_expr.specs.Sets.{Has}
@@ -39,7 +40,8 @@ module _ (level : List ℕ) (phase : Phase) (items : ℕ) (old : List Reached) w
         omega arith,
       )
 
-      back : (node : Node) → Below (left + 1) node → Below left node ⊎ IsInRow phase left rights node
+      back : (node : Node) → Below (left + 1) node
+          → Below left node ⊎ IsInRow phase left rights node
       back node (same_phase, marked, less) = elim (cases_lt node.left left) [
         | inl lower ↦ inl (same_phase, marked, lower)
         | inr most ↦

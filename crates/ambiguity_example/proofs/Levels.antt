@@ -1,7 +1,9 @@
 -- The levels of a search whose nodes are known.
-use Rattle.std.proofs.Common.{◌≡◌, ℕ, ◌+◌, ◌<◌, inl, inr, List, [], ◌∷◌, ◌++◌, refl, sym, subst, arith}
+use Rattle.std.proofs.Common.{◌≡◌, ℕ, ◌+◌, ◌<◌, inl, inr, List, [], ◌∷◌, ◌++◌, refl, sym, subst}
+use Rattle.std.proofs.Common.{arith}
 use Rattle.std.proofs.lemmas.Bool.{cases_lt}
-use Rattle.std.proofs.lemmas.List.Elements.{Contains-append_left, Contains-append_right, Contains-append_cases}
+use Rattle.std.proofs.lemmas.List.Elements.{Contains-append_left, Contains-append_right}
+use Rattle.std.proofs.lemmas.List.Elements.{Contains-append_cases}
 use Rattle.std.specs.List.{Contains}
 use Rattle.ambiguity_check.proofs.Searches.{level_over}
 use Rattle.ambiguity_check.proofs.Walking.{walk_some}
@@ -23,11 +25,12 @@ rest_in : (x : Reached) (xs : List Reached) (y : Reached) → Contains xs y → 
 rest_in x xs y in' = Contains-append_right (x ∷ []) xs y in'
 
 -- those of one level rise
-one_level : (xs : List Reached) (items : ℕ) → ((one : Reached) → Contains xs one → one.items ≡ items)
-    → Rises xs
+one_level : (xs : List Reached) (items : ℕ)
+    → ((one : Reached) → Contains xs one → one.items ≡ items) → Rises xs
 one_level [] items all = tt
 one_level (x ∷ xs) items all = (
-  λ other in'. let a = all x (first_in x xs) in let b = all other (rest_in x xs other in') in omega arith,
+  λ other in'. let a = all x (first_in x xs) in
+      let b = all other (rest_in x xs other in') in omega arith,
   one_level xs items (λ one in'. all one (rest_in x xs one in')),
 )
 

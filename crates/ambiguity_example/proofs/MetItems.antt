@@ -1,5 +1,6 @@
 -- Items that meet both places of nodes.
-use Rattle.std.proofs.Common.{◌≡◌, ℕ, zero, suc, ◌+◌, ◌<◌, ◌≤◌, inl, inr, List, [], ◌∷◌, ◌++◌, length, take, get_or, refl, sym, ap, ◌∙◌, subst, arith}
+use Rattle.std.proofs.Common.{◌≡◌, ℕ, zero, suc, ◌+◌, ◌<◌, ◌≤◌, inl, inr, List, [], ◌∷◌, ◌++◌}
+use Rattle.std.proofs.Common.{length, take, get_or, refl, sym, ap, ◌∙◌, subst, arith}
 use Rattle.std.proofs.lemmas.Bool.{cases_eq}
 use Rattle.std.proofs.lemmas.List.{take_more}
 use Rattle.std.proofs.Math.Seq.{take-length}
@@ -55,8 +56,9 @@ module _ (first second : Automaton) (same : first.cells ≡ second.cells) (left 
       let least = none one.0 (one.1, one.2, one.3) in omega (arith, cell_below first.cells one.0)
 
 -- one more node and its item
-pub all_meet_more : (columns : List Column) (left right : Phase → Sets) (nodes : List Node) (word : Word)
-    (node : Node) (item : List Field) → AllMeet columns left right nodes word
+pub all_meet_more : (columns : List Column) (left right : Phase → Sets)
+    (nodes : List Node) (word : Word) (node : Node) (item : List Field)
+    → AllMeet columns left right nodes word
     → MeetsBoth columns (left node.phase) (right node.phase) node.left node.right item
     → AllMeet columns left right (nodes ++ node ∷ []) (word ++ item ∷ [])
 all_meet_more columns left right [] [] node item meet one = (one, tt)
@@ -66,8 +68,9 @@ all_meet_more columns left right (n ∷ nodes) (x ∷ word) node item meet one =
     (meet.0, all_meet_more columns left right nodes word node item meet.1 one)
 
 -- as many items as nodes
-pub all_meet_long : (columns : List Column) (left right : Phase → Sets) (nodes : List Node) (word : Word)
-    → AllMeet columns left right nodes word → length word ≡ length nodes
+pub all_meet_long : (columns : List Column) (left right : Phase → Sets)
+    (nodes : List Node) (word : Word) → AllMeet columns left right nodes word
+    → length word ≡ length nodes
 all_meet_long columns left right [] [] meet = refl
 all_meet_long columns left right [] (x ∷ word) meet = absurd meet
 all_meet_long columns left right (n ∷ nodes) [] meet = absurd meet
@@ -75,8 +78,9 @@ all_meet_long columns left right (n ∷ nodes) (x ∷ word) meet =
     let long = all_meet_long columns left right nodes word meet.1 in omega arith
 
 -- they are items of the columns
-pub all_meet_word : (columns : List Column) (left right : Phase → Sets) (nodes : List Node) (word : Word)
-    → AllMeet columns left right nodes word → IsWordOf columns word
+pub all_meet_word : (columns : List Column) (left right : Phase → Sets)
+    (nodes : List Node) (word : Word) → AllMeet columns left right nodes word
+    → IsWordOf columns word
 all_meet_word columns left right [] [] meet = tt
 all_meet_word columns left right [] (x ∷ word) meet = absurd meet
 all_meet_word columns left right (n ∷ nodes) [] meet = absurd meet
@@ -91,8 +95,8 @@ along_meets continues meet ends P is node [] along = tt
 along_meets continues meet ends P is node (next ∷ nodes) along =
     (is next along.1, along_meets continues meet ends P is next nodes along.2)
 
-pub walk_meet : (begins : Node → Type 0) (continues : Node → Node → Type 0) (meet ends P : Node → Type 0)
-    → ((node : Node) → meet node → P node) → (nodes : List Node)
+pub walk_meet : (begins : Node → Type 0) (continues : Node → Node → Type 0)
+    (meet ends P : Node → Type 0) → ((node : Node) → meet node → P node) → (nodes : List Node)
     → IsWalkOf begins continues meet ends nodes → AllByRecursion P nodes
 walk_meet begins continues meet ends P is [] walk = absurd walk
 walk_meet begins continues meet ends P is (node ∷ nodes) walk =

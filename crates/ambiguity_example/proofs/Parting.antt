@@ -1,5 +1,6 @@
 -- Cuts that part a word into words of a rate, piece by piece.
-use Rattle.std.proofs.Common.{◌≡◌, ℕ, ◌+◌, ◌-◌, ◌<◌, ◌≤◌, get_or, List, [], ◌∷◌, ◌++◌, length, take, drop, refl, sym, ap, ◌∙◌, subst, arith, length-append}
+use Rattle.std.proofs.Common.{◌≡◌, ℕ, ◌+◌, ◌-◌, ◌<◌, ◌≤◌, get_or, List, [], ◌∷◌, ◌++◌, length, take}
+use Rattle.std.proofs.Common.{drop, refl, sym, ap, ◌∙◌, subst, arith, length-append}
 use Rattle.std.proofs.lemmas.List.{take-append-drop, length-take, length-drop}
 use Rattle.std.proofs.Math.Seq.{take-append_seam, drop-append_seam, take-length}
 use Rattle.std.specs.List.{AllByRecursion}
@@ -36,7 +37,8 @@ module _ (rate : Regex) where
   pieces_of at word [] none = ([], sym none, refl, tt)
   pieces_of at word (cut ∷ cuts) (below, within, in_rate, rest) =
       let more = pieces_of cut (drop (cut - at) word) cuts rest in
-      let long : length (take (cut - at) word) ≡ cut - at = omega (arith, length-take (cut - at) word) in
+      let long : length (take (cut - at) word) ≡ cut - at =
+      omega (arith, length-take (cut - at) word) in
       let there : at + length (take (cut - at) word) ≡ cut = omega (arith, long) in (
         take (cut - at) word ∷ more.0,
         ap (λ w. take (cut - at) word ++ w) more.1 ∙ take-append-drop (cut - at) word,
@@ -58,7 +60,8 @@ module _ (rate : Regex) where
             (subst (In rate) (sym (take-append_seam piece (join pieces))) all.0),
         subst (λ (n : ℕ). PartsFrom rate (at + length piece) (drop n (piece ++ join pieces))
             (ends_from (at + length piece) pieces)) (sym long)
-            (subst (λ w. PartsFrom rate (at + length piece) w (ends_from (at + length piece) pieces))
+            (subst
+            (λ w. PartsFrom rate (at + length piece) w (ends_from (at + length piece) pieces))
             (sym (drop-append_seam piece (join pieces)))
             (from_pieces (at + length piece) pieces all.1)),
       )

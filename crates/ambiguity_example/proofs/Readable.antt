@@ -1,5 +1,6 @@
 -- Items that are read one by one.
-use Rattle.std.proofs.Common.{◌≡◌, ℕ, zero, suc, ◌+◌, ◌<◌, ◌≤◌, List, [], ◌∷◌, ◌++◌, length, take, drop, get_or, sym, ap, ◌∙◌, subst, arith}
+use Rattle.std.proofs.Common.{◌≡◌, ℕ, zero, suc, ◌+◌, ◌<◌, ◌≤◌, List, [], ◌∷◌, ◌++◌, length, take}
+use Rattle.std.proofs.Common.{drop, get_or, sym, ap, ◌∙◌, subst, arith}
 use Rattle.std.proofs.lemmas.List.{take_more, take-append-drop}
 use Rattle.std.proofs.Math.Seq.{take-length}
 use Rattle.std.specs.Prelude.{Bool, IsTrue, MatchBool, ◌↔◌}
@@ -39,9 +40,10 @@ word_rest columns word count is = (word_parts columns (take count word) (drop co
     (subst (IsWordOf columns) (sym (take-append-drop count word)) is)).1
 
 -- the state after one more item
-pub read_on : (nfa : Automaton) (items : Word) (at : ℕ) (item : List Field) (cell : ℕ) (state next : State)
-    → IsWordOf nfa.cells.layout.columns items → at < length items → item ≡ get_or items at item
-    → cell ≡ cell_of nfa.cells item → IsAfter nfa.sets (take at items) state
+pub read_on : (nfa : Automaton) (items : Word) (at : ℕ) (item : List Field) (cell : ℕ)
+    (state next : State) → IsWordOf nfa.cells.layout.columns items → at < length items
+    → item ≡ get_or items at item → cell ≡ cell_of nfa.cells item
+    → IsAfter nfa.sets (take at items) state
     → ((x : List Field) → IsIn nfa.cells cell x → Steps nfa.sets state x next)
     → IsAfter nfa.sets (take (at + 1) items) next
 read_on nfa items at item cell state next is below here in_cell after steps =
@@ -54,9 +56,10 @@ read_on nfa items at item cell state next is below here in_cell after steps =
     (is_after-step nfa.sets (take at items) state next item after (steps item (one, sym in_cell)))
 
 -- the state after all items decides whether they are a word of the rate
-pub read_all : (nfa : Automaton) (items : Word) (at : ℕ) (state : State) (accepted : Bool) (rate : Regex)
-    → at ≤ length items → length items ≤ at → IsAfter nfa.sets (take at items) state
-    → AreOf nfa.sets rate → IsTrue accepted ↔ IsAccepted nfa.sets state
+pub read_all : (nfa : Automaton) (items : Word) (at : ℕ) (state : State)
+    (accepted : Bool) (rate : Regex) → at ≤ length items → length items ≤ at
+    → IsAfter nfa.sets (take at items) state → AreOf nfa.sets rate
+    → IsTrue accepted ↔ IsAccepted nfa.sets state
     → MatchBool accepted (In rate items) (In rate items → ⊥)
 read_all nfa items at state accepted rate le ge after are decided =
     let end : at ≡ length items = omega arith in

@@ -55,7 +55,8 @@ module _ (columns : List Column) (first second : Sets) (r s : Regex) (of_r : Are
         ends items
 
     -- a word of both rates has a walk to an end
-    overlap_walk : (word : Word) → IsWordOf columns word → In r word → In s word → EndWalk (length word)
+    overlap_walk : (word : Word) → IsWordOf columns word → In r word → In s word
+        → EndWalk (length word)
     overlap_walk [] is in_r in_s = absurd (not_empty ((of_r []).0 in_r) ((of_s []).0 in_s))
     overlap_walk (item ∷ word) is in_r in_s =
         let walk = overlap_walks columns first second rows are r s of_r of_s (length (item ∷ word))
@@ -99,8 +100,8 @@ module _ (columns : List Column) (first second : Sets) (r s : Regex) (of_r : Are
 
     -- a shortest walk is a shortest word
     pub walk_shared : (nodes : List Node) (word : Word)
-        → IsShortestWalk (BeginsBoth first second) (FollowsBoth first second) (IsInRows rows) ends nodes
-        → AllMeet columns (λ _. first) (λ _. second) nodes word
+        → IsShortestWalk (BeginsBoth first second) (FollowsBoth first second)
+        (IsInRows rows) ends nodes → AllMeet columns (λ _. first) (λ _. second) nodes word
         → IsShortestShown columns (choice r s) (twice_whole word)
     walk_shared nodes word shortest meet =
         let both = in_both nodes word shortest.walk meet in record {

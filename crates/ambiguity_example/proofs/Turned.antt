@@ -1,5 +1,7 @@
 -- The cuts of a reading, found node by node.
-use Rattle.std.proofs.Common.{◌≡◌, ◌↔◌, Bool, false, ℕ, zero, suc, ◌+◌, ◌-◌, ◌<◌, ◌≤◌, inl, inr, List, [], ◌∷◌, ◌++◌, length, drop, get_or, refl, sym, ap, ◌∙◌, subst, arith, add-one, append_assoc}
+use Rattle.std.proofs.Common.{◌≡◌, ◌↔◌, Bool, false, ℕ, zero, suc, ◌+◌, ◌-◌, ◌<◌, ◌≤◌, inl, inr}
+use Rattle.std.proofs.Common.{List, [], ◌∷◌, ◌++◌, length, drop, get_or, refl, sym, ap, ◌∙◌, subst}
+use Rattle.std.proofs.Common.{arith, add-one, append_assoc}
 use Rattle.std.proofs.Math.Seq.{drop-cons, drop-length}
 use Rattle.std.specs.Prelude.{IsTrue}
 use Rattle.rate_expr.specs.Paths.{Follows}
@@ -21,7 +23,8 @@ same_at (x ∷ xs) (suc at) a b below = same_at xs at a b (omega arith)
 module _ (sets : Sets) (side : Side) (walk : List Node) where
   -- the cuts so far and those from the node in front of a place on are those of the walk
   abbrev pub ContinuesFrom : ℕ → List ℕ → Type 0
-  ContinuesFrom at cuts = (before other : Node) (rest : List ℕ) → before ≡ get_or walk (at - 1) other
+  ContinuesFrom at cuts =
+      (before other : Node) (rest : List ℕ) → before ≡ get_or walk (at - 1) other
       → EndsFrom sets side at before (drop at walk) rest → AreTurns sets side walk (cuts ++ rest)
 
   -- from a node on to the next
@@ -59,7 +62,8 @@ module _ (sets : Sets) (side : Side) (walk : List Node) where
       → ContinuesFrom at cuts → ContinuesFrom (at + 1) cuts'
   turns_end at cuts cuts' before node a b below is is' ended more so_far =
       λ before' other rest same ends.
-      subst (AreTurns sets side walk) (sym (ap (λ c. c ++ rest) more ∙ append_assoc cuts (at ∷ []) rest))
+      subst (AreTurns sets side walk)
+      (sym (ap (λ c. c ++ rest) more ∙ append_assoc cuts (at ∷ []) rest))
       (so_far before a (at ∷ rest) is (here at before node b (at ∷ rest) below is' (inl (
         ended,
         rest,
@@ -98,4 +102,5 @@ left_ends sets before node together apart =
 pub left_goes : (sets : Sets) (before node : Node) (test : Bool)
     → (before.phase ≡ Together → node.phase ≡ Together)
     → IsTrue test ↔ Follows sets before.left node.left → IsTrue test ↔ Stays sets Left before node
-left_goes sets before node test kept decided = (λ t. (decided.0 t, kept), λ stays. decided.1 stays.0)
+left_goes sets before node test kept decided =
+    (λ t. (decided.0 t, kept), λ stays. decided.1 stays.0)

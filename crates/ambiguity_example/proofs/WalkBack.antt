@@ -1,5 +1,7 @@
 -- A walk that is found from its end.
-use Rattle.std.proofs.Common.{◌≡◌, ℕ, ◌+◌, ◌<◌, ◌⊎◌, inl, inr, ⊎_elim, List, [], ◌∷◌, ◌++◌, length, take, drop, get_or, reverse, sym, ap, ◌∙◌, subst, arith, add-one, Fits, w32, ◌^◌}
+use Rattle.std.proofs.Common.{◌≡◌, ℕ, ◌+◌, ◌<◌, ◌⊎◌, inl, inr, ⊎_elim, List, [], ◌∷◌, ◌++◌, length}
+use Rattle.std.proofs.Common.{take, drop, get_or, reverse, sym, ap, ◌∙◌, subst, arith, add-one}
+use Rattle.std.proofs.Common.{Fits, w32, ◌^◌}
 use Rattle.std.proofs.lemmas.List.{take_more, take-append-drop, reverse-append}
 use Rattle.std.proofs.lemmas.List.Elements.{Contains-append_cases, Contains-get_or}
 use Rattle.std.proofs.Math.Seq.{drop-cons}
@@ -38,8 +40,8 @@ around xs at one other below is = sym (take-append-drop at xs)
 
 module _ (begins : Node → Type 0) (continues : Node → Node → Type 0) (meet : Node → Type 0)
     (ends : Node → Type 0) where
-  -- the walk leads from a node to the end, and each node of a shortest walk that leads to it is among
-  -- those in front
+  -- the walk leads from a node to the end, and each node of a shortest walk that leads to it is
+  -- among those in front
   pub record IsBack (items : ℕ) (front : List Reached) (first : Reached) (walk : List Node)
       : Type 0 where
     pub rest : List Node
@@ -86,31 +88,33 @@ module _ (begins : Node → Type 0) (continues : Node → Node → Type 0) (meet
     goes = ended;
     long = omega arith;
     shortest = shortest;
-    before = λ node fewer same before goes. subst (λ xs. Contains xs (at_level node fewer)) (sym all)
+    before =
+        λ node fewer same before goes. subst (λ xs. Contains xs (at_level node fewer)) (sym all)
         (known.each node fewer (omega arith) before);
   }
 
   -- a node that leads to the first one is the first
-  pub back_found : (items : ℕ) (reached : List Reached) (count at : ℕ) (before other first : Reached)
-      (walk walk' : List Node)
+  pub back_found : (items : ℕ) (reached : List Reached) (count at : ℕ)
+      (before other first : Reached) (walk walk' : List Node)
       → AreKnown begins continues meet items reached → count ≡ at + 1 → at < length reached
       → before ≡ get_or reached at other
       → IsBack items (take count reached) first (reverse walk) → before.items + 1 ≡ first.items
       → continues before.node first.node → walk' ≡ walk ++ before.node ∷ []
       → IsBack items (take at reached) before (reverse walk')
-  back_found items reached count at before other first walk walk' known next below is back same goes more = record {
-    rest = reverse walk;
-    begun = ap reverse more ∙ reverse-append walk (before.node ∷ []);
-    goes = subst (λ nodes. GoesAlong continues meet ends before.node nodes) (sym back.begun)
-        (goes, walk_meets first.items first.node back.shortest.walk, back.goes);
-    long = let long = back.long in omega (arith, ap length back.begun);
-    shortest = here.0;
-    before = λ node fewer less shortest leads.
-        in_front (take at reached) (drop (at + 1) reached) before (at_level node fewer)
-        (subst Rises whole known.rises)
-        (subst (λ xs. Contains xs (at_level node fewer)) whole
-        (known.each node fewer (let few = here.1 in omega arith) shortest)) (omega arith);
-  }
+  back_found items reached count at before other first walk walk' known next below is back same
+      goes more = record {
+        rest = reverse walk;
+        begun = ap reverse more ∙ reverse-append walk (before.node ∷ []);
+        goes = subst (λ nodes. GoesAlong continues meet ends before.node nodes) (sym back.begun)
+            (goes, walk_meets first.items first.node back.shortest.walk, back.goes);
+        long = let long = back.long in omega (arith, ap length back.begun);
+        shortest = here.0;
+        before = λ node fewer less shortest leads.
+            in_front (take at reached) (drop (at + 1) reached) before (at_level node fewer)
+            (subst Rises whole known.rises)
+            (subst (λ xs. Contains xs (at_level node fewer)) whole
+            (known.each node fewer (let few = here.1 in omega arith) shortest)) (omega arith);
+      }
     where
       whole : reached ≡ take at reached ++ before ∷ drop (at + 1) reached
       whole = around reached at before other below is
@@ -121,8 +125,8 @@ module _ (begins : Node → Type 0) (continues : Node → Node → Type 0) (meet
           (Contains-get_or reached at other below))
 
   -- one that does not lead to it is passed over
-  pub back_passed : (items : ℕ) (reached : List Reached) (count at : ℕ) (before other first : Reached)
-      (walk : List Node)
+  pub back_passed : (items : ℕ) (reached : List Reached) (count at : ℕ)
+      (before other first : Reached) (walk : List Node)
       → count ≡ at + 1 → at < length reached → before ≡ get_or reached at other
       → IsBack items (take count reached) first walk
       → (before.items + 1 ≡ first.items → continues before.node first.node → ⊥)
@@ -146,7 +150,8 @@ module _ (begins : Node → Type 0) (continues : Node → Node → Type 0) (meet
   }
     where
       more : take count reached ≡ take at reached ++ before ∷ []
-      more = ap (λ (n : ℕ). take n reached) next ∙ take_more reached at other below ∙ ap (λ r. take at reached ++ r ∷ []) (sym is)
+      more = ap (λ (n : ℕ). take n reached) next ∙ take_more reached at other below
+          ∙ ap (λ r. take at reached ++ r ∷ []) (sym is)
 
   -- what is known of one of them
   pub known_at : (items : ℕ) (reached : List Reached) (at : ℕ) (other : Reached)
@@ -165,14 +170,16 @@ module _ (begins : Node → Type 0) (continues : Node → Node → Type 0) (meet
 
   -- where none is left, the walk is whole
   pub back_ends : (items : ℕ) (front : List Reached) (first : Reached) (walk : List Node)
-      → front ≡ [] → IsBack items front first walk → IsWalkOf begins continues meet ends walk × (length walk ≡ items)
-  back_ends items front first walk empty back = elim (shortest_cases first.items first.node back.shortest) [
-    | inl begun ↦ (
-      subst (λ nodes. IsWalkOf begins continues meet ends nodes) (sym back.begun)
-          (begun.1, walk_meets first.items first.node back.shortest.walk, back.goes),
-      (let long = back.long in let one = begun.0 in omega (arith, ap length back.begun)),
-    )
-    | inr more ↦ absurd (none_in (at_level more.1 more.0)
-        (subst (λ xs. Contains xs (at_level more.1 more.0)) empty
-        (back.before more.1 more.0 more.2 more.3 more.4)))
-  ]
+      → front ≡ [] → IsBack items front first walk
+      → IsWalkOf begins continues meet ends walk × (length walk ≡ items)
+  back_ends items front first walk empty back =
+      elim (shortest_cases first.items first.node back.shortest) [
+        | inl begun ↦ (
+          subst (λ nodes. IsWalkOf begins continues meet ends nodes) (sym back.begun)
+              (begun.1, walk_meets first.items first.node back.shortest.walk, back.goes),
+          (let long = back.long in let one = begun.0 in omega (arith, ap length back.begun)),
+        )
+        | inr more ↦ absurd (none_in (at_level more.1 more.0)
+            (subst (λ xs. Contains xs (at_level more.1 more.0)) empty
+            (back.before more.1 more.0 more.2 more.3 more.4)))
+      ]

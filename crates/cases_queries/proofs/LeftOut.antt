@@ -5,8 +5,8 @@ use Rattle.ambiguity_example.proofs.Readable.{word_front, word_rest}
 use Rattle.rate_expr.specs.Words.{Word, IsWordOf}
 
 -- words of the columns one after the other
-joined : (columns : List Column) (word other : Word) → IsWordOf columns word → IsWordOf columns other
-    → IsWordOf columns (word ++ other)
+joined : (columns : List Column) (word other : Word) → IsWordOf columns word
+    → IsWordOf columns other → IsWordOf columns (word ++ other)
 joined columns [] other are also = also
 joined columns (item ∷ word) other are also = (are.0, joined columns word other are.1 also)
 

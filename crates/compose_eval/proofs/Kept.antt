@@ -1,10 +1,12 @@
 -- What is kept in its room, where a follower comes, begins or comes to rest.
-use Rattle.std.proofs.Common.{◌==◌, get_or, set, ◌≡◌, ◌∙◌, ◌+◌, ◌<◌, ◌++◌, ℕ, List, [], ◌∷◌, None, length, sym, subst, arith}
+use Rattle.std.proofs.Common.{◌==◌, get_or, set, ◌≡◌, ◌∙◌, ◌+◌, ◌<◌, ◌++◌, ℕ, List, [], ◌∷◌, None}
+use Rattle.std.proofs.Common.{length, sym, subst, arith}
 use Rattle.std.proofs.lemmas.List.{length-append, length-set}
 use Rattle.compose_eval.specs.Followers.{instance_at, IsKept}
 use Rattle.compose_eval.specs.declared.instance.Instance.{Instance}
 use Rattle.std.specs.List.{IsDistinct}
-use Rattle.compose_eval.proofs.Starts.{as_many, distinct_more, distinct_none, distinct_without, same_outers, written}
+use Rattle.compose_eval.proofs.Starts.{as_many, distinct_more, distinct_none, distinct_without}
+use Rattle.compose_eval.proofs.Starts.{same_outers, written}
 
 module _ {R : Type 0} where
   -- none yet
@@ -20,13 +22,14 @@ module _ {R : Type 0} where
       }))
 
   -- a follower is another one
-  pub IsKept-written : (live : List (Instance R)) (idle : List R) (room c d i : ℕ) (x : Instance R) (w : R)
-      → x ≡ get_or live i x → IsKept live idle room c d
+  pub IsKept-written : (live : List (Instance R)) (idle : List R) (room c d i : ℕ)
+      (x : Instance R) (w : R) → x ≡ get_or live i x → IsKept live idle room c d
       → IsKept (set live i (record { outer = x.outer; follower = w })) idle room c d
   IsKept-written live idle room c d i x w read was =
       let few = was.few in
       let many = as_many live i w in
-      subst (λ (xs : List (Instance R)). IsKept xs idle room c d) (sym (written live i x w read)) (record {
+      subst (λ (xs : List (Instance R)). IsKept xs idle room c d)
+      (sym (written live i x w read)) (record {
         live_reserved = was.live_reserved;
         idle_reserved = was.idle_reserved;
         few = omega (arith, few, many);
@@ -34,9 +37,10 @@ module _ {R : Type 0} where
       })
 
   -- one more is fed, at whose start none was
-  pub IsKept-put : (live now : List (Instance R)) (idle : List R) (x : Instance R) (room c d grown : ℕ)
-      → now ≡ live ++ x ∷ [] → IsKept live idle room c d → length live + length idle < room
-      → instance_at live x.outer ≡ None → grown ≡ c → IsKept now idle room grown d
+  pub IsKept-put : (live now : List (Instance R)) (idle : List R) (x : Instance R)
+      (room c d grown : ℕ) → now ≡ live ++ x ∷ [] → IsKept live idle room c d
+      → length live + length idle < room → instance_at live x.outer ≡ None → grown ≡ c
+      → IsKept now idle room grown d
   IsKept-put live now idle x room c d grown is was spare none more =
       let count = length-append live (x ∷ []) in
       subst (λ (xs : List (Instance R)). IsKept xs idle room grown d) (sym is) (record {

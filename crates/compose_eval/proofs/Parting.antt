@@ -1,7 +1,9 @@
 -- The live ones continue, and the others come to rest, one after another.
-use Rattle.std.proofs.Common.{◌≡◌, ◌+◌, ◌<◌, ◌∙◌, ◌++◌, ℕ, Bool, true, false, cond, not, List, [], ◌∷◌, length, refl, sym, ap, subst, arith}
+use Rattle.std.proofs.Common.{◌≡◌, ◌+◌, ◌<◌, ◌∙◌, ◌++◌, ℕ, Bool, true, false, cond, not, List, []}
+use Rattle.std.proofs.Common.{◌∷◌, length, refl, sym, ap, subst, arith}
 use Rattle.std.specs.Prelude.{filter, get_or, remove}
-use Rattle.std.proofs.lemmas.List.{get_or_default, append-nil, append_assoc, length-append, map-append}
+use Rattle.std.proofs.lemmas.List.{get_or_default, append-nil, append_assoc, length-append}
+use Rattle.std.proofs.lemmas.List.{map-append}
 use Rattle.std.proofs.lemmas.List.Elements.{filter-append}
 use Rattle.compose_eval.specs.Followers.{followers_of, live_instances, retired, AnswersAs, IsKept}
 use Rattle.compose_eval.specs.declared.instance.Instance.{Instance}
@@ -10,7 +12,8 @@ use Rattle.compose_eval.proofs.Kept.{IsKept-retired}
 module _ {R : Type 0} where
   -- after this many turns, of all instances those seen are live and kept, or at rest after the ones
   -- that rested before
-  pub record HasParted {F : Type 0} (post : F → ℕ → Bool → Type 0) (test : F) (all : List (Instance R))
+  pub record HasParted {F : Type 0} (post : F → ℕ → Bool → Type 0) (test : F)
+      (all : List (Instance R))
       (rested : List R) (turns place : ℕ) (live : List (Instance R)) (idle : List R) : Type 0 where
     pub seen : List (Instance R)
     pub kept : List (Instance R)
@@ -24,8 +27,8 @@ module _ {R : Type 0} where
 
   module _ {F : Type 0} (post : F → ℕ → Bool → Type 0) (test : F) where
     -- before the first turn
-    pub none_parted : (all live : List (Instance R)) (rested idle : List R) → live ≡ all → idle ≡ rested
-        → HasParted post test all rested 0 0 live idle
+    pub none_parted : (all live : List (Instance R)) (rested idle : List R)
+        → live ≡ all → idle ≡ rested → HasParted post test all rested 0 0 live idle
     none_parted all live rested idle same_live same_idle = record {
       seen = [];
       kept = [];
@@ -52,11 +55,13 @@ module _ {R : Type 0} where
         ∙ append-nil (live_instances is_live seen)
 
     retired_first : (seen : List (Instance R)) (x : Instance R) (b : Bool) → is_live x.outer ≡ b
-        → retired is_live (seen ++ x ∷ []) ≡ retired is_live seen ++ followers_of (cond (not b) (x ∷ []) [])
+        → retired is_live (seen ++ x ∷ [])
+        ≡ retired is_live seen ++ followers_of (cond (not b) (x ∷ []) [])
     retired_first seen x b live =
         ap (λ (xs : List (Instance R)). followers_of xs)
         (filter-append (λ (y : Instance R). not (is_live y.outer)) seen (x ∷ []))
-        ∙ map-append (λ (y : Instance R). y.follower) (filter (λ (y : Instance R). not (is_live y.outer)) seen)
+        ∙ map-append (λ (y : Instance R). y.follower)
+        (filter (λ (y : Instance R). not (is_live y.outer)) seen)
         (cond (not (is_live x.outer)) (x ∷ []) [])
         ∙ ap (λ (c : Bool). retired is_live seen ++ followers_of (cond (not c) (x ∷ []) [])) live
 
@@ -77,8 +82,8 @@ module _ {R : Type 0} where
       read ∙ get_or_default live place x y inside ∙ sym read_too
 
   -- what is read at the place is the first of the rest
-  read_next : (live kept rest : List (Instance R)) (place : ℕ) (y x : Instance R) → live ≡ kept ++ y ∷ rest
-      → place ≡ length kept → x ≡ get_or live place x → x ≡ y
+  read_next : (live kept rest : List (Instance R)) (place : ℕ) (y x : Instance R)
+      → live ≡ kept ++ y ∷ rest → place ≡ length kept → x ≡ get_or live place x → x ≡ y
   read_next live kept rest place y x living placed read =
       read
       ∙ ap (λ (xs : List (Instance R)). get_or xs place x) living
@@ -88,20 +93,22 @@ module _ {R : Type 0} where
   not_over : (all seen : List (Instance R)) (turns : ℕ) → all ≡ seen ++ [] → turns ≡ length seen
       → turns < length all → ⊥
   not_over all seen turns whole turned below =
-      let long : length all ≡ length (seen ++ []) = ap (λ (xs : List (Instance R)). length xs) whole in
+      let long : length all ≡ length (seen ++ []) =
+      ap (λ (xs : List (Instance R)). length xs) whole in
       let count = length-append seen [] in
       omega (arith, turned, below, long, count)
 
   -- the next one, which is first of the rest
   pub record IsNext {F : Type 0} (post : F → ℕ → Bool → Type 0) (test : F) (all : List (Instance R))
-      (rested : List R) (turns place : ℕ) (live : List (Instance R)) (idle : List R) (x : Instance R) : Type 0 where
+      (rested : List R) (turns place : ℕ) (live : List (Instance R)) (idle : List R)
+      (x : Instance R) : Type 0 where
     pub parted : HasParted post test all rested turns place live idle
     pub after : List (Instance R)
     pub first : parted.rest ≡ x ∷ after
 
   module _ {F : Type 0} (post : F → ℕ → Bool → Type 0) (test : F) where
-    next_of : (all live : List (Instance R)) (rested idle : List R) (turns place : ℕ) (x : Instance R)
-        → (parted : HasParted post test all rested turns place live idle)
+    next_of : (all live : List (Instance R)) (rested idle : List R) (turns place : ℕ)
+        (x : Instance R) → (parted : HasParted post test all rested turns place live idle)
         → (rest : List (Instance R)) → parted.rest ≡ rest
         → turns < length all → x ≡ get_or live place x
         → IsNext post test all rested turns place live idle x
@@ -111,11 +118,15 @@ module _ {R : Type 0} where
     next_of all live rested idle turns place x parted (y ∷ rest) are below read =
         let living = parted.living ∙ ap (λ (xs : List (Instance R)). parted.kept ++ xs) are in
         let same = read_next live parted.kept rest place y x living parted.placed read in
-        record { parted = parted; after = rest; first = are ∙ ap (λ (z : Instance R). z ∷ rest) (sym same) }
+        record {
+          parted = parted;
+          after = rest;
+          first = are ∙ ap (λ (z : Instance R). z ∷ rest) (sym same);
+        }
 
     -- where not all have been seen, what is read at the place is the next one
-    pub next : (all live : List (Instance R)) (rested idle : List R) (turns place : ℕ) (x : Instance R)
-        → HasParted post test all rested turns place live idle
+    pub next : (all live : List (Instance R)) (rested idle : List R) (turns place : ℕ)
+        (x : Instance R) → HasParted post test all rested turns place live idle
         → turns < length all → x ≡ get_or live place x
         → IsNext post test all rested turns place live idle x
     next all live rested idle turns place x parted below read =
@@ -123,7 +134,8 @@ module _ {R : Type 0} where
 
     -- it stands among the instances
     pub next_inside : (all live : List (Instance R)) (rested idle : List R) (turns place : ℕ)
-        → HasParted post test all rested turns place live idle → turns < length all → place < length live
+        → HasParted post test all rested turns place live idle → turns < length all
+        → place < length live
     next_inside all live rested idle turns place parted below =
         let whole = ap (λ (xs : List (Instance R)). length xs) parted.whole in
         let living = ap (λ (xs : List (Instance R)). length xs) parted.living in
@@ -134,9 +146,9 @@ module _ {R : Type 0} where
         omega (arith, whole, living, seen, kept, turned, placed, below)
 
     -- a live one stays where it is
-    pub live_turn : (all live : List (Instance R)) (rested idle : List R) (turns place : ℕ) (x : Instance R)
-        → IsNext post test all rested turns place live idle x → post test x.outer true
-        → HasParted post test all rested (turns + 1) (place + 1) live idle
+    pub live_turn : (all live : List (Instance R)) (rested idle : List R) (turns place : ℕ)
+        (x : Instance R) → IsNext post test all rested turns place live idle x
+        → post test x.outer true → HasParted post test all rested (turns + 1) (place + 1) live idle
     live_turn all live rested idle turns place x at said =
         let parted = at.parted in
         let seen = parted.seen in
@@ -160,16 +172,17 @@ module _ {R : Type 0} where
               let before = parted.decided is_live answers in
               let live : is_live x.outer ≡ true = sym (answers x.outer true said) in
               let one = live_one is_live seen x live in
-              let none = retired_first is_live seen x true live ∙ append-nil (retired is_live seen) in (
+              let none = retired_first is_live seen x true live
+              ∙ append-nil (retired is_live seen) in (
                 ap (λ (xs : List (Instance R)). xs ++ x ∷ []) before.0 ∙ sym one,
                 before.1 ∙ ap (λ (ys : List R). rested ++ ys) (sym none),
               );
         }
 
     -- any other one comes to rest
-    pub retire_turn : (all live left : List (Instance R)) (rested idle now : List R) (turns place : ℕ)
-        → (x : Instance R) → IsNext post test all rested turns place live idle x → post test x.outer false
-        → left ≡ remove live place → now ≡ idle ++ x.follower ∷ []
+    pub retire_turn : (all live left : List (Instance R)) (rested idle now : List R)
+        (turns place : ℕ) → (x : Instance R) → IsNext post test all rested turns place live idle x
+        → post test x.outer false → left ≡ remove live place → now ≡ idle ++ x.follower ∷ []
         → HasParted post test all rested (turns + 1) place left now
     retire_turn all live left rested idle now turns place x at said removed came =
         let parted = at.parted in
@@ -201,15 +214,18 @@ module _ {R : Type 0} where
         }
 
     -- and stays in its room
-    pub retired_kept : (all live left : List (Instance R)) (rested idle now : List R) (turns place : ℕ)
-        → (x : Instance R) (room c d same grown : ℕ) → IsNext post test all rested turns place live idle x
+    pub retired_kept : (all live left : List (Instance R)) (rested idle now : List R)
+        (turns place : ℕ) → (x : Instance R) (room c d same grown : ℕ)
+        → IsNext post test all rested turns place live idle x
         → IsKept live idle room c d → left ≡ remove live place → now ≡ idle ++ x.follower ∷ []
         → same ≡ c → grown ≡ d → IsKept left now room same grown
-    retired_kept all live left rested idle now turns place x room c d same grown at was removed came a b =
+    retired_kept all live left rested idle now turns place x room c d same grown at was
+        removed came a b =
         let parted = at.parted in
         let kept = parted.kept in
         let rest = at.after in
-        let living : live ≡ kept ++ x ∷ rest = parted.living ∙ ap (λ (xs : List (Instance R)). kept ++ xs) at.first in
+        let living : live ≡ kept ++ x ∷ rest =
+        parted.living ∙ ap (λ (xs : List (Instance R)). kept ++ xs) at.first in
         let gone = removed ∙ ap (λ (xs : List (Instance R)). remove xs place) living
         ∙ ap (λ (i : ℕ). remove (kept ++ x ∷ rest) i) parted.placed ∙ left_at kept x rest in
         IsKept-retired kept rest left idle now x room c d same grown gone came

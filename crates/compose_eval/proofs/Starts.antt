@@ -1,14 +1,18 @@
 -- Instances by the starts that feed them.
-use Rattle.std.proofs.Common.{set, ◌≡◌, ◌==◌, ◌||◌, ◌+◌, ◌∙◌, ◌++◌, ℕ, zero, suc, Bool, true, false, cond, List, [], ◌∷◌, Option, None, Some, slice_get, get_or, length, ◌<◌, refl, sym, ap, subst, arith}
+use Rattle.std.proofs.Common.{set, ◌≡◌, ◌==◌, ◌||◌, ◌+◌, ◌∙◌, ◌++◌, ℕ, zero, suc, Bool, true, false}
+use Rattle.std.proofs.Common.{cond, List, [], ◌∷◌, Option, None, Some, slice_get, get_or, length}
+use Rattle.std.proofs.Common.{◌<◌, refl, sym, ap, subst, arith}
 use Rattle.std.specs.Prelude.{IfNone, IfSome}
 use Rattle.std.specs.List.{AllByRecursion, IsDistinct, list_any, position_from}
 use Rattle.std.proofs.lemmas.Cmp.{nat_eq_equiv}
 use Rattle.std.proofs.lemmas.Bool.{eqb-true, eqb-false, ne_eqb}
 use Rattle.std.proofs.lemmas.List.{map-append}
-use Rattle.std.proofs.lemmas.Map.Keys.{IsDistinct-cons, IsDistinct-head, IsDistinct-push, IsDistinct-tail}
+use Rattle.std.proofs.lemmas.Map.Keys.{IsDistinct-cons, IsDistinct-head, IsDistinct-push}
+use Rattle.std.proofs.lemmas.Map.Keys.{IsDistinct-tail}
 use Rattle.std.proofs.lemmas.Option.{none-some, same_Some, slice_get-map, slice_get_read}
 use Rattle.std.specs.Option.{option_map}
-use Rattle.compose_eval.specs.Followers.{instance_at, is_at, followers_of, outers_of, with_follower, AreDistinct, Contents, IsAt}
+use Rattle.compose_eval.specs.Followers.{instance_at, is_at, followers_of, outers_of, with_follower}
+use Rattle.compose_eval.specs.Followers.{AreDistinct, Contents, IsAt}
 use Rattle.compose_eval.specs.declared.instance.Instance.{Instance}
 
 all_without : (P : ℕ → Type 0) (front back : List ℕ) (x : ℕ)
@@ -30,8 +34,9 @@ unfolding IsDistinct
 distinct_none = tt
 
 module _ {R : Type 0} where
-  none_first : (same : Bool) (x : Instance R) (outer : ℕ) (found : Option (Instance R)) (among : Bool)
-      → (x.outer == outer) ≡ same → (found ≡ None → among ≡ false) → cond same (Some x) found ≡ None
+  none_first : (same : Bool) (x : Instance R) (outer : ℕ)
+      (found : Option (Instance R)) (among : Bool) → (x.outer == outer) ≡ same
+      → (found ≡ None → among ≡ false) → cond same (Some x) found ≡ None
       → ((outer == x.outer) || among) ≡ false
   none_first true x outer found among same after none = absurd (none-some x (sym none))
   none_first false x outer found among same after none =
@@ -51,7 +56,8 @@ module _ {R : Type 0} where
       → instance_at live x.outer ≡ None → AreDistinct (live ++ x ∷ [])
   distinct_more live x distinct none =
       subst (IsDistinct ◌==◌) (sym (map-append (λ (y : Instance R). y.outer) live (x ∷ [])))
-      (IsDistinct-push nat_eq_equiv (outers_of live) x.outer distinct (none_among live x.outer none))
+      (IsDistinct-push nat_eq_equiv (outers_of live) x.outer distinct
+      (none_among live x.outer none))
 
   there_first : (same : Bool) (x : Instance R) (live : List (Instance R)) (outer from i : ℕ)
       → (x.outer == outer) ≡ same
@@ -76,7 +82,8 @@ module _ {R : Type 0} where
       → (k : ℕ) × (i ≡ from + k) × IsAt live k outer
   there_from [] outer from i some = absurd (none-some i some)
   there_from (x ∷ live) outer from i some =
-      there_first (x.outer == outer) x live outer from i refl (there_from live outer (from + 1) i) some
+      there_first (x.outer == outer) x live outer from i refl
+      (there_from live outer (from + 1) i) some
 
   -- what stands at the place that is found
   pub there : (live : List (Instance R)) (outer i : ℕ)
@@ -86,9 +93,9 @@ module _ {R : Type 0} where
       let is = found.1 in
       subst (λ (k : ℕ). IsAt live k outer) (omega (arith, is)) found.2
 
-  nowhere_first : (same : Bool) (x : Instance R) (from : ℕ) (place : Option ℕ) (found : Option (Instance R))
-      → (place ≡ None → found ≡ None) → cond same (Some from) place ≡ None
-      → cond same (Some x) found ≡ None
+  nowhere_first : (same : Bool) (x : Instance R) (from : ℕ) (place : Option ℕ)
+      (found : Option (Instance R)) → (place ≡ None → found ≡ None)
+      → cond same (Some from) place ≡ None → cond same (Some x) found ≡ None
   nowhere_first true x from place found after none = absurd (none-some from (sym none))
   nowhere_first false x from place found after none = after none
 
@@ -106,7 +113,8 @@ module _ {R : Type 0} where
   distinct_without front back x distinct =
       subst (IsDistinct ◌==◌) (sym (map-append (λ (y : Instance R). y.outer) front back))
       (starts_without (outers_of front) (outers_of back) x.outer
-      (subst (IsDistinct ◌==◌) (map-append (λ (y : Instance R). y.outer) front (x ∷ back)) distinct))
+      (subst (IsDistinct ◌==◌)
+      (map-append (λ (y : Instance R). y.outer) front (x ∷ back)) distinct))
 
   -- the follower of an instance that is read at an index
   pub follower_read : (live : List (Instance R)) (i : ℕ) (x : Instance R) → i < length live
@@ -128,7 +136,8 @@ module _ {R : Type 0} where
       → place ≡ position_from (is_at outer) 0 seen → seen ≡ live
       → IfNone place (instance_at live outer ≡ None)
   none_there None live seen outer is same =
-      ap (λ (xs : List (Instance R)). instance_at xs outer) (sym same) ∙ nowhere seen outer 0 (sym is)
+      ap (λ (xs : List (Instance R)). instance_at xs outer) (sym same)
+      ∙ nowhere seen outer 0 (sym is)
   none_there (Some i) live seen outer is same = tt
 
   -- what is written at an index goes to the follower there
@@ -137,14 +146,16 @@ module _ {R : Type 0} where
   written [] i x w read = refl
   written (y ∷ live) zero x w read =
       ap (λ (z : Instance R). record { outer = z.outer; follower = w } ∷ live) read
-  written (y ∷ live) (suc i) x w read = ap (λ (xs : List (Instance R)). y ∷ xs) (written live i x w read)
+  written (y ∷ live) (suc i) x w read =
+      ap (λ (xs : List (Instance R)). y ∷ xs) (written live i x w read)
 
   -- and the starts stay
   pub same_outers : (live : List (Instance R)) (i : ℕ) (w : R)
       → outers_of (with_follower live i w) ≡ outers_of live
   same_outers [] i w = refl
   same_outers (y ∷ live) zero w = refl
-  same_outers (y ∷ live) (suc i) w = ap (λ (starts : List ℕ). y.outer ∷ starts) (same_outers live i w)
+  same_outers (y ∷ live) (suc i) w =
+      ap (λ (starts : List ℕ). y.outer ∷ starts) (same_outers live i w)
 
   pub as_many : (live : List (Instance R)) (i : ℕ) (w : R)
       → length (with_follower live i w) ≡ length live
@@ -153,11 +164,17 @@ module _ {R : Type 0} where
   as_many (y ∷ live) (suc i) w = ap suc (as_many live i w)
 
   -- the lender, once the follower at the index is another one
-  pub lent : (seen now : Contents R) (i : ℕ) (x : Instance R) (w : R) → seen ≡ now → x ≡ get_or seen.live i x
-      → ◌≡◌ {A = Contents R}
-      (record { live = set seen.live i (record { outer = x.outer; follower = w }); idle = seen.idle; room = seen.room })
+  pub lent : (seen now : Contents R) (i : ℕ) (x : Instance R) (w : R) → seen ≡ now
+      → x ≡ get_or seen.live i x → ◌≡◌ {A = Contents R}
+      (record {
+        live = set seen.live i (record { outer = x.outer; follower = w });
+        idle = seen.idle;
+        room = seen.room;
+      })
       (record { live = with_follower now.live i w; idle = now.idle; room = now.room })
   lent seen now i x w same read =
       ap (λ (live : List (Instance R)). record { live = live; idle = seen.idle; room = seen.room })
       (written seen.live i x w read)
-      ∙ ap (λ (s : Contents R). record { live = with_follower s.live i w; idle = s.idle; room = s.room }) same
+      ∙ ap
+      (λ (s : Contents R). record { live = with_follower s.live i w; idle = s.idle; room = s.room })
+      same

@@ -1,5 +1,6 @@
 -- Starts of operands are apart where those of the query are.
-use Rattle.std.proofs.Common.{◌≡◌, ℕ, ◌∙◌, List, ◌++◌, drop, length, sym, ap, subst, arith, append_assoc, inl, inr}
+use Rattle.std.proofs.Common.{◌≡◌, ℕ, ◌∙◌, List, ◌++◌, drop, length, sym, ap, subst, arith}
+use Rattle.std.proofs.Common.{append_assoc, inl, inr}
 use Rattle.std.specs.List.{Contains}
 use Rattle.value_ops.specs.Expressions.{Expression}
 use Rattle.item_schema.specs.declared.column.Column.{Column}
@@ -28,17 +29,20 @@ apart_second columns f g word starts apart = λ i j more is first second a b.
     apart i j more is first second (inr a) (inr b)
 
 -- the operands of a combine have the same words
-pub apart_same : (columns : List Column) (f g : Qre) (e : Expression) (word : Word) (starts : List ℕ)
-    → IsClear bound columns (combine f g e) → IsWordOf columns word
+pub apart_same : (columns : List Column) (f g : Qre) (e : Expression) (word : Word)
+    (starts : List ℕ) → IsClear bound columns (combine f g e) → IsWordOf columns word
     → AreApart columns (combine f g e) word starts → AreApart columns g word starts
 apart_same columns f g e word starts clear is apart = λ i j more more_is first second a b.
     apart i j more more_is first second
-    ((clear.3 (drop i word ++ more) (word_join columns (drop i word) more (word_after columns word i is) more_is)).1 a)
-    ((clear.3 (drop j word ++ more) (word_join columns (drop j word) more (word_after columns word j is) more_is)).1 b)
+    ((clear.3 (drop i word ++ more)
+    (word_join columns (drop i word) more (word_after columns word i is) more_is)).1 a)
+    ((clear.3 (drop j word ++ more)
+    (word_join columns (drop j word) more (word_after columns word j is) more_is)).1 b)
 
 -- a word of the right rate carries a clash of left pieces on
-pub apart_left : (columns : List Column) (f g : Qre) (e : Expression) (word : Word) (starts : List ℕ)
-    → IsClear bound columns g → AreApart columns (split f g e) word starts → AreApart columns f word starts
+pub apart_left : (columns : List Column) (f g : Qre) (e : Expression) (word : Word)
+    (starts : List ℕ) → IsClear bound columns g → AreApart columns (split f g e) word starts
+    → AreApart columns f word starts
 apart_left columns f g e word starts clear apart = λ i j more is first second a b.
     let last = some_word bound columns g clear in
     apart i j (more ++ last.0) (word_join columns more last.0 is last.1) first second
@@ -46,11 +50,12 @@ apart_left columns f g e word starts clear apart = λ i j more is first second a
     (drop j word ++ more, last.0, sym (append_assoc (drop j word) more last.0), b, last.2)
 
 -- right pieces come from one start, and there is one split
-pub apart_right : (columns : List Column) (f g : Qre) (e : Expression) (word : Word) (starts ends : List ℕ)
-    → IsClear bound columns (split f g e) → IsWordOf columns word
+pub apart_right : (columns : List Column) (f g : Qre) (e : Expression) (word : Word)
+    (starts ends : List ℕ) → IsClear bound columns (split f g e) → IsWordOf columns word
     → AreApart columns (split f g e) word starts
     → ((end : ℕ) → Contains ends end → IsReached f word starts end) → AreApart columns g word ends
-apart_right columns f g e word starts ends clear is apart reached = λ j k more more_is first second a b.
+apart_right columns f g e word starts ends clear is apart reached =
+    λ j k more more_is first second a b.
     let (i, u, from, piece, in_f) = reached j first in
     let (i', u', from', piece', in_f') = reached k second in
     let whole = piece_continues word i j u more piece in

@@ -1,5 +1,6 @@
 -- Nodes in memory that are cleared, and the runners that come to rest.
-use Rattle.std.proofs.Common.{◌≡◌, ℕ, ◌+◌, suc, false, List, [], ◌∷◌, Some, set, slice_get, refl, sym, subst, arith}
+use Rattle.std.proofs.Common.{◌≡◌, ℕ, ◌+◌, suc, false, List, [], ◌∷◌, Some, set, slice_get, refl}
+use Rattle.std.proofs.Common.{sym, subst, arith}
 use Rattle.query_model.specs.Queries.{Qre}
 use Rattle.split_eval.specs.Entries.{live_entries}
 use Rattle.split_eval.specs.declared.entry.Entry.{Entry}
@@ -22,8 +23,10 @@ none_kept [] = refl
 none_kept (entry ∷ entries) = none_kept entries
 
 -- one more runner
-pub next_cleared : (q : Qre) (i : ℕ) (old new : List Progress) (x w : Progress) → AreCleared seen_of q i old new
-    → slice_get new i ≡ Some x → IsClearedIn seen_of q x w → AreCleared seen_of q (i + 1) old (set new i w)
+pub next_cleared : (q : Qre) (i : ℕ) (old new : List Progress) (x w : Progress)
+    → AreCleared seen_of q i old new → slice_get new i ≡ Some x → IsClearedIn seen_of q x w
+    → AreCleared seen_of q (i + 1) old (set new i w)
 next_cleared q i old new x w are at is =
     let more : suc i ≡ i + 1 = omega arith in
-    subst (λ (n : ℕ). AreCleared seen_of q n old (set new i w)) more (one_cleared seen_of q i old new x w are at is)
+    subst (λ (n : ℕ). AreCleared seen_of q n old (set new i w)) more
+    (one_cleared seen_of q i old new x w are at is)

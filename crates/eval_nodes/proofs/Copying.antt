@@ -1,5 +1,6 @@
 -- Left values are copied one after the other.
-use Rattle.std.proofs.Common.{◌≡◌, ◌+◌, ◌∙◌, ◌++◌, ℕ, zero, suc, List, [], ◌∷◌, Some, None, slice_get, take, refl, sym, ap}
+use Rattle.std.proofs.Common.{◌≡◌, ◌+◌, ◌∙◌, ◌++◌, ℕ, zero, suc, List, [], ◌∷◌, Some, None}
+use Rattle.std.proofs.Common.{slice_get, take, refl, sym, ap}
 use Rattle.std.proofs.lemmas.List.{take_more}
 use Rattle.std.proofs.lemmas.Option.{none-some, get_or_from_slice_get, slice_get_within}
 use Rattle.split_eval.specs.Entries.{entry_at, AreDistinct}
@@ -9,8 +10,8 @@ use Rattle.split_eval.proofs.Places.{entry_at-place}
 
 module _ {V : Type 0} where
   -- before an entry none has its inner start
-  pub none_before : (es : List (Entry V)) (i : ℕ) (e : Entry V) → AreDistinct es → slice_get es i ≡ Some e
-      → entry_at (take i es) e.inner ≡ None
+  pub none_before : (es : List (Entry V)) (i : ℕ) (e : Entry V) → AreDistinct es
+      → slice_get es i ≡ Some e → entry_at (take i es) e.inner ≡ None
   none_before [] i e distinct at = absurd (none-some e at)
   none_before (x ∷ es) zero e distinct at = refl
   none_before (x ∷ es) (suc i) e distinct at =
@@ -30,9 +31,12 @@ module _ {V : Type 0} where
   pub put_entry : (es : List (Entry V)) (i : ℕ) (e : Entry V) (old new : List (Entry V)) (v : V)
       → slice_get es i ≡ Some e
       → old ≡ take i es → v ≡ e.value
-      → new ≡ old ++ record { inner = e.inner; outer = e.outer; value = v } ∷ [] → new ≡ take (i + 1) es
+      → new ≡ old ++ record { inner = e.inner; outer = e.outer; value = v } ∷ []
+      → new ≡ take (i + 1) es
   put_entry es i e old new v at before same after =
       after
-      ∙ ap (λ (xs : List (Entry V)). xs ++ record { inner = e.inner; outer = e.outer; value = v } ∷ []) before
-      ∙ ap (λ (y : V). take i es ++ record { inner = e.inner; outer = e.outer; value = y } ∷ []) same
-      ∙ sym (take_entry es i e at)
+      ∙ ap
+      (λ (xs : List (Entry V)). xs ++ record { inner = e.inner; outer = e.outer; value = v } ∷ [])
+      before
+      ∙ ap (λ (y : V). take i es ++ record { inner = e.inner; outer = e.outer; value = y } ∷ [])
+      same ∙ sym (take_entry es i e at)

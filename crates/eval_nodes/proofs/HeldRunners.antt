@@ -21,7 +21,8 @@ fed_is a held =
     (out-roll-State (State-F.Compose a held))
 
 -- and its runners
-pub runners_are : (a : Box Node Global) (held : Contents Progress) → runners_of (out-State (Compose a held)) ≡ held
+pub runners_are : (a : Box Node Global) (held : Contents Progress)
+    → runners_of (out-State (Compose a held)) ≡ held
 unfolding roll-State denote.Hole.Carrier.roll
 runners_are a held =
     ap (λ (x : State-F State Node Progress). runners_of x) (out-roll-State (State-F.Compose a held))

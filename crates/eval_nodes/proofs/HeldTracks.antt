@@ -14,9 +14,11 @@ use Rattle.eval_nodes.specs.Plain.{holding_of, tracks_of}
 pub tracked_is : (all : Contents Progress) → holding_of (Collect all) ≡ collect_held all
 unfolding roll-State denote.Hole.Carrier.roll
 tracked_is all =
-    ap (λ (x : State-F State Node Progress). collect_held (tracks_of x)) (out-roll-State (State-F.Collect all))
+    ap (λ (x : State-F State Node Progress). collect_held (tracks_of x))
+    (out-roll-State (State-F.Collect all))
 
 -- and its starts
 pub tracks_are : (all : Contents Progress) → tracks_of (out-State (Collect all)) ≡ all
 unfolding roll-State denote.Hole.Carrier.roll
-tracks_are all = ap (λ (x : State-F State Node Progress). tracks_of x) (out-roll-State (State-F.Collect all))
+tracks_are all =
+    ap (λ (x : State-F State Node Progress). tracks_of x) (out-roll-State (State-F.Collect all))

@@ -1,18 +1,24 @@
--- Instances and the starts that they are fed from: one is looked up, one takes another follower, and some come to rest.
-use Rattle.std.proofs.Common.{◌≡◌, ◌==◌, ◌∙◌, ℕ, ◌+◌, zero, suc, Bool, true, false, IsTrue, cond, not, List, [], ◌∷◌, ◌++◌, Some, None, filter, length, slice_get, refl, sym, ap, subst, arith, ◌⊎◌, inl, inr}
+-- Instances and the starts that they are fed from: one is looked up, one takes another follower,
+-- and some come to rest.
+use Rattle.std.proofs.Common.{◌≡◌, ◌==◌, ◌∙◌, ℕ, ◌+◌, zero, suc, Bool, true, false, IsTrue, cond}
+use Rattle.std.proofs.Common.{not, List, [], ◌∷◌, ◌++◌, Some, None, filter, length, slice_get, refl}
+use Rattle.std.proofs.Common.{sym, ap, subst, arith, ◌⊎◌, inl, inr}
 use Rattle.std.specs.List.{AllByRecursion, Contains}
 use Rattle.std.proofs.lemmas.Bool.{eq-eqb, ne_eqb}
 use Rattle.std.proofs.lemmas.Option.{none-some, same_Some}
-use Rattle.compose_eval.specs.Followers.{followers_of, instance_at, live_instances, outers_of, retired, with_follower}
+use Rattle.compose_eval.specs.Followers.{followers_of, instance_at, live_instances, outers_of}
+use Rattle.compose_eval.specs.Followers.{retired, with_follower}
 use Rattle.compose_eval.specs.declared.instance.Instance.{Instance}
 use Rattle.eval_nodes.specs.Starts.{AreDifferent}
 use Rattle.eval_nodes.proofs.Members.{first_member, later_member, member_cases, no_member}
 
 -- a number at the end that is not there yet
-pub different_more : (xs : List ℕ) (x : ℕ) → AreDifferent xs → (Contains xs x → ⊥) → AreDifferent (xs ++ x ∷ [])
+pub different_more : (xs : List ℕ) (x : ℕ) → AreDifferent xs → (Contains xs x → ⊥)
+    → AreDifferent (xs ++ x ∷ [])
 different_more [] x different fresh = ((λ there. no_member x there), tt)
 different_more (y ∷ xs) x different fresh = (
-  λ there. different.0 (earlier xs x y there (λ same. fresh (subst (Contains (y ∷ xs)) same (first_member y xs)))),
+  λ there. different.0 (earlier xs x y there
+      (λ same. fresh (subst (Contains (y ∷ xs)) same (first_member y xs)))),
   different_more xs x different.1 (λ there. fresh (later_member y x xs there)),
 )
   where
@@ -27,25 +33,26 @@ different_more (y ∷ xs) x different fresh = (
     ]
 
 -- of all
-pub all_member : {A : Type 0} (P : A → Type 0) (xs : List A) (x : A) → AllByRecursion P xs → Contains xs x → P x
+pub all_member : {A : Type 0} (P : A → Type 0) (xs : List A) (x : A) → AllByRecursion P xs
+    → Contains xs x → P x
 all_member P [] x all there = absurd (no_member x there)
 all_member P (y ∷ xs) x all there = elim (member_cases y x xs there) [
   | inl same ↦ subst P same all.0
   | inr later ↦ all_member P xs x all.1 later
 ]
 
-pub all_mapped : {A : Type 0} (P Q : A → Type 0) (xs : List A) → ((x : A) → P x → Q x) → AllByRecursion P xs
-    → AllByRecursion Q xs
+pub all_mapped : {A : Type 0} (P Q : A → Type 0) (xs : List A) → ((x : A) → P x → Q x)
+    → AllByRecursion P xs → AllByRecursion Q xs
 all_mapped P Q [] each all = tt
 all_mapped P Q (x ∷ xs) each all = (each x all.0, all_mapped P Q xs each all.1)
 
-pub all_joined : {A : Type 0} (P : A → Type 0) (xs ys : List A) → AllByRecursion P xs → AllByRecursion P ys
-    → AllByRecursion P (xs ++ ys)
+pub all_joined : {A : Type 0} (P : A → Type 0) (xs ys : List A) → AllByRecursion P xs
+    → AllByRecursion P ys → AllByRecursion P (xs ++ ys)
 all_joined P [] ys first second = second
 all_joined P (x ∷ xs) ys first second = (first.0, all_joined P xs ys first.1 second)
 
-pub all_but_last : {A : Type 0} (P : A → Type 0) (xs : List A) (x : A) → AllByRecursion P (xs ++ x ∷ [])
-    → AllByRecursion P xs × P x
+pub all_but_last : {A : Type 0} (P : A → Type 0) (xs : List A) (x : A)
+    → AllByRecursion P (xs ++ x ∷ []) → AllByRecursion P xs × P x
 all_but_last P [] x all = (tt, all.0)
 all_but_last P (y ∷ xs) x all = let rest = all_but_last P xs x all.1 in ((all.0, rest.0), rest.1)
 
@@ -65,7 +72,8 @@ module _ {R : Type 0} where
   member_outer (y ∷ live) outer there = elim (member_cases y.outer outer (outers_of live) there) [
     | inl same ↦ (
       y.follower,
-      subst (λ (at : ℕ). Contains (y ∷ live) (record { outer = at; follower = y.follower })) same (first_member y live),
+      subst (λ (at : ℕ). Contains (y ∷ live) (record { outer = at; follower = y.follower })) same
+          (first_member y live),
     )
     | inr later ↦
         let (follower, among) = member_outer live outer later in
@@ -73,9 +81,11 @@ module _ {R : Type 0} where
   ]
 
   -- what is read at an index is there
-  pub read_member : (live : List (Instance R)) (i : ℕ) (x : Instance R) → slice_get live i ≡ Some x → Contains live x
+  pub read_member : (live : List (Instance R)) (i : ℕ) (x : Instance R) → slice_get live i ≡ Some x
+      → Contains live x
   read_member [] i x at = absurd (none-some x at)
-  read_member (y ∷ live) zero x at = subst (Contains (y ∷ live)) (same_Some y x at) (first_member y live)
+  read_member (y ∷ live) zero x at =
+      subst (Contains (y ∷ live)) (same_Some y x at) (first_member y live)
   read_member (y ∷ live) (suc i) x at = later_member y x live (read_member live i x at)
 
   -- where the start feeds none, none is found, and the other way round
@@ -104,25 +114,28 @@ module _ {R : Type 0} where
 
   -- with another follower at an index: the starts stay, and all others
   pub written_member : (live : List (Instance R)) (i outer : ℕ) (old new : R) (x : Instance R)
-      → slice_get live i ≡ Some (record { outer = outer; follower = old }) → AreDifferent (outers_of live)
-      → Contains (with_follower live i new) x
+      → slice_get live i ≡ Some (record { outer = outer; follower = old })
+      → AreDifferent (outers_of live) → Contains (with_follower live i new) x
       → (x ≡ record { outer = outer; follower = new }) ⊎ (Contains live x × (x.outer ≡ outer → ⊥))
   written_member [] i outer old new x at different there = absurd (no_member x there)
   written_member (y ∷ live) zero outer old new x at different there =
-      let is : y ≡ record { outer = outer; follower = old } = same_Some y (record { outer = outer; follower = old }) at in
+      let is : y ≡ record { outer = outer; follower = old } =
+      same_Some y (record { outer = outer; follower = old }) at in
       let start : y.outer ≡ outer = ap (λ (z : Instance R). z.outer) is in
       elim (member_cases (record { outer = y.outer; follower = new }) x live there) [
         | inl same ↦ inl (sym same ∙ ap (λ (at : ℕ). record { outer = at; follower = new }) start)
         | inr later ↦ inr (
           later_member y x live later,
-          λ same. different.0 (subst (Contains (outers_of live)) (same ∙ sym start) (outer_member live x later)),
+          λ same. different.0 (subst (Contains (outers_of live)) (same ∙ sym start)
+              (outer_member live x later)),
         )
       ]
   written_member (y ∷ live) (suc i) outer old new x at different there =
       elim (member_cases y x (with_follower live i new) there) [
         | inl same ↦ inr (
           subst (Contains (y ∷ live)) same (first_member y live),
-          λ is. different.0 (subst (Contains (outers_of live)) (sym is ∙ sym (ap (λ (z : Instance R). z.outer) same))
+          λ is. different.0 (subst (Contains (outers_of live))
+              (sym is ∙ sym (ap (λ (z : Instance R). z.outer) same))
               (outer_member live (record { outer = outer; follower = old })
               (read_member live i (record { outer = outer; follower = old }) at))),
         )
@@ -133,8 +146,8 @@ module _ {R : Type 0} where
       ]
 
   -- those that stay where some come to rest
-  pub kept_member : (p : ℕ → Bool) (live : List (Instance R)) (x : Instance R) → Contains (live_instances p live) x
-      → Contains live x × IsTrue (p x.outer)
+  pub kept_member : (p : ℕ → Bool) (live : List (Instance R)) (x : Instance R)
+      → Contains (live_instances p live) x → Contains live x × IsTrue (p x.outer)
   kept_member p [] x there = absurd (no_member x there)
   kept_member p (y ∷ live) x there = chosen (p y.outer) refl (kept_member p live x) there
     where
@@ -149,13 +162,15 @@ module _ {R : Type 0} where
         )
         | inr later ↦ let (old, continues) = after later in (later_member y x live old, continues)
       ]
-      chosen false is after among = let (old, continues) = after among in (later_member y x live old, continues)
+      chosen false is after among = let (old, continues) = after among in
+          (later_member y x live old, continues)
 
-  pub member_kept : (p : ℕ → Bool) (live : List (Instance R)) (x : Instance R) → Contains live x → IsTrue (p x.outer)
-      → Contains (live_instances p live) x
+  pub member_kept : (p : ℕ → Bool) (live : List (Instance R)) (x : Instance R) → Contains live x
+      → IsTrue (p x.outer) → Contains (live_instances p live) x
   member_kept p [] x there continues = absurd (no_member x there)
   member_kept p (y ∷ live) x there continues = elim (member_cases y x live there) [
-    | inl same ↦ subst (λ (b : Bool). Contains (cond b (y ∷ live_instances p live) (live_instances p live)) x)
+    | inl same ↦ subst
+        (λ (b : Bool). Contains (cond b (y ∷ live_instances p live) (live_instances p live)) x)
         (sym (subst (λ (z : Instance R). IsTrue (p z.outer)) (sym same) continues))
         (subst (Contains (y ∷ live_instances p live)) same (first_member y (live_instances p live)))
     | inr later ↦ after (p y.outer) (member_kept p live x later continues)
@@ -190,7 +205,8 @@ module _ {R : Type 0} where
     where
       chosen : (b : Bool) → length (live_instances p live) + length (retired p live) ≡ length live
           → length (cond b (y ∷ live_instances p live) (live_instances p live))
-          + length (followers_of (cond (not b) (y ∷ filter (λ (x : Instance R). not (p x.outer)) live)
+          + length
+          (followers_of (cond (not b) (y ∷ filter (λ (x : Instance R). not (p x.outer)) live)
           (filter (λ (x : Instance R). not (p x.outer)) live)))
           ≡ suc (length live)
       chosen true count = omega (arith, count)
@@ -219,7 +235,8 @@ module _ {R : Type 0} where
   pub delivered_member : (live : List (Instance R)) (i outer : ℕ) (old new : R)
       → slice_get live i ≡ Some (record { outer = outer; follower = old })
       → Contains (with_follower live i new) (record { outer = outer; follower = new })
-  delivered_member [] i outer old new at = absurd (none-some (record { outer = outer; follower = old }) at)
+  delivered_member [] i outer old new at =
+      absurd (none-some (record { outer = outer; follower = old }) at)
   delivered_member (y ∷ live) zero outer old new at =
       subst (λ (start : ℕ). Contains (record { outer = y.outer; follower = new } ∷ live)
       (record { outer = start; follower = new }))
@@ -230,8 +247,8 @@ module _ {R : Type 0} where
       (delivered_member live i outer old new at)
 
   -- what is said of all is said of those that stay
-  pub all_kept : (P : Instance R → Type 0) (p : ℕ → Bool) (live : List (Instance R)) → AllByRecursion P live
-      → AllByRecursion P (live_instances p live)
+  pub all_kept : (P : Instance R → Type 0) (p : ℕ → Bool) (live : List (Instance R))
+      → AllByRecursion P live → AllByRecursion P (live_instances p live)
   all_kept P p [] all = tt
   all_kept P p (y ∷ live) all = chosen (p y.outer) (all_kept P p live all.1)
     where

@@ -10,8 +10,8 @@ use Rattle.eval_nodes.specs.Starts.{IsLive}
 use Rattle.eval_nodes.specs.Lives.{Lives}
 use Rattle.eval_nodes.proofs.Living.{living}
 
-pub lives_read : (q : Qre) (state : State) (start : ℕ) (live : Bool) → live ≡ live_of q (holding_of state) start
-    → Lives seen_of q (holding_of state) start live
+pub lives_read : (q : Qre) (state : State) (start : ℕ) (live : Bool)
+    → live ≡ live_of q (holding_of state) start → Lives seen_of q (holding_of state) start live
 lives_read q state start live read = λ standing columns word starts clear is positions rep.
     subst (λ (b : Bool). IsTrue b ↔ IsLive columns q word starts start) (sym read)
     (living seen_of standing columns q (holding_of state) word starts start
@@ -20,7 +20,8 @@ lives_read q state start live read = λ standing columns word starts clear is po
 -- what is read for the query of the operands
 pub read_as : (q q' : Qre) (state : State) (start : ℕ) (live : Bool) → q' ≡ q
     → live ≡ live_of q (holding_of state) start → live ≡ live_of q' (holding_of state) start
-read_as q q' state start live same read = read ∙ ap (λ (x : Qre). live_of x (holding_of state) start) (sym same)
+read_as q q' state start live same read =
+    read ∙ ap (λ (x : Qre). live_of x (holding_of state) start) (sym same)
 
 -- nothing continues for the empty word
 pub none_empty : {R : Type 0} (number : ℤ) (holding : Holding R) (start : ℕ)

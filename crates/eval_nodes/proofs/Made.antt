@@ -14,7 +14,8 @@ use Rattle.query_model.specs.Denotation.{Den}
 use Rattle.query_model.specs.Following.{composes_of}
 use Rattle.query_model.specs.Rates.{rate_of}
 use Rattle.query_model.specs.Sizes.{max_slots}
-use Rattle.query_model.specs.Queries.{Qre, atom, eps, choice, split, iter, combine, apply, compose, collect}
+use Rattle.query_model.specs.Queries.{Qre, atom, eps, choice, split, iter, combine, apply, compose}
+use Rattle.query_model.specs.Queries.{collect}
 use Rattle.eval_nodes.specs.Holdings.{Holding, Seen, iter_held, split_held}
 use Rattle.eval_nodes.specs.Represents.{AreReached, AreWaiting, Represents}
 use Rattle.eval_nodes.specs.Sound.{IsSound}
@@ -39,14 +40,16 @@ composes_few (eps number) = omega arith
 composes_few (choice f g) = let a = composes_few f in let b = composes_few g in omega (arith, a, b)
 composes_few (split f g e) = let a = composes_few f in let b = composes_few g in omega (arith, a, b)
 composes_few (iter f number e) = let a = composes_few f in omega (arith, a)
-composes_few (combine f g e) = let a = composes_few f in let b = composes_few g in omega (arith, a, b)
+composes_few (combine f g e) = let a = composes_few f in let b = composes_few g in
+    omega (arith, a, b)
 composes_few (apply f e) = let a = composes_few f in omega (arith, a)
 composes_few (compose f g) = let a = composes_few f in let b = composes_few g in omega (arith, a, b)
 composes_few (collect column sync rate f) = let a = composes_few f in omega (arith, a)
 
--- a query that keeps little has few places, so that the room for what waits is as large as it is to be
-pub all_places : (q : Qre) (room : ℕ) → slots_of q ≤ max_slots → room ≡ min (places_of q) (2 ^ 32 - 1)
-    → room ≡ places_of q
+-- a query that keeps little has few places, so that the room for what waits is as large
+-- as it is to be
+pub all_places : (q : Qre) (room : ℕ) → slots_of q ≤ max_slots
+    → room ≡ min (places_of q) (2 ^ 32 - 1) → room ≡ places_of q
 all_places q room small is =
     let few = places_few q in
     let slots : inner_of q + 2 ≤ 2 ^ 20 = small in
@@ -59,7 +62,8 @@ none_reached A = λ end. (
   λ (start, piece, from, is, in_a). absurd (no_member start from),
 )
 
-pub none_waits : (D : Word → Value → Type 0) (continues : Word → Type 0) → AreWaiting D continues [] [] []
+pub none_waits : (D : Word → Value → Type 0) (continues : Word → Type 0)
+    → AreWaiting D continues [] [] []
 none_waits D continues = record {
   distinct = tt;
   each = λ inner outer v. (
@@ -73,7 +77,8 @@ module _ {R : Type 0} (seen : R → Seen R) where
   abbrev pub IsNewSplit : List Column → Qre → Qre → Holding R → Holding R → ℕ → Type 0
   IsNewSplit columns f g a b room =
       Represents seen columns f a [] []
-      × ((ends : List ℕ) × AreReached (In (rate_of f)) [] [] ends × Represents seen columns g b [] ends)
+      × ((ends : List ℕ) × AreReached (In (rate_of f)) [] [] ends
+      × Represents seen columns g b [] ends)
       × AreWaiting (Den f) (HasExtension columns (rate_of g)) [] [] [] × (room ≡ places_of g)
 
   pub new_split : (columns : List Column) (f g : Qre) (a b : Holding R) (room : ℕ)
@@ -89,11 +94,14 @@ module _ {R : Type 0} (seen : R → Seen R) where
   -- an iteration whose operand is new, and which has its room
   abbrev pub IsNewChain : List Column → Qre → ℤ → Expression → Holding R → ℕ → Type 0
   IsNewChain columns f number e a room =
-      ((ends : List ℕ) × AreReached (In (rate.star (rate_of f))) [] [] ends × Represents seen columns f a [] ends)
-      × AreWaiting (Den (iter f number e)) (HasExtension columns (rate_of f)) [] [] [] × (room ≡ places_of f)
+      ((ends : List ℕ) × AreReached (In (rate.star (rate_of f))) [] [] ends
+      × Represents seen columns f a [] ends)
+      × AreWaiting (Den (iter f number e)) (HasExtension columns (rate_of f)) [] [] []
+      × (room ≡ places_of f)
 
-  pub new_chain : (columns : List Column) (f : Qre) (number : ℤ) (e : Expression) (a : Holding R) (room : ℕ)
-      → Represents seen columns f a [] [] → room ≡ places_of f → IsNewChain columns f number e a room
+  pub new_chain : (columns : List Column) (f : Qre) (number : ℤ) (e : Expression)
+      (a : Holding R) (room : ℕ) → Represents seen columns f a [] [] → room ≡ places_of f
+      → IsNewChain columns f number e a room
   new_chain columns f number e a room first places = (
     ([], none_reached (In (rate.star (rate_of f))), first),
     none_waits (Den (iter f number e)) (HasExtension columns (rate_of f)),
@@ -101,8 +109,9 @@ module _ {R : Type 0} (seen : R → Seen R) where
   )
 
   -- with no entries they are sound
-  pub new_split_sound : (columns : List Column) (f g : Qre) (e : Expression) (a b : Holding R) (room : ℕ)
-      → IsSound seen columns f 0 a → IsSound seen columns g 0 b → room ≡ places_of g
+  pub new_split_sound : (columns : List Column) (f g : Qre) (e : Expression)
+      (a b : Holding R) (room : ℕ) → IsSound seen columns f 0 a → IsSound seen columns g 0 b
+      → room ≡ places_of g
       → IsSound seen columns (split f g e) 0 (split_held a b (record { entries = []; room = room }))
   new_split_sound columns f g e a b room first second places = (
     first,
@@ -110,9 +119,10 @@ module _ {R : Type 0} (seen : R → Seen R) where
     record { room = places; few = omega arith; distinct = tt; typed = tt },
   )
 
-  pub new_chain_sound : (columns : List Column) (f : Qre) (number : ℤ) (e : Expression) (a : Holding R) (room : ℕ)
-      → IsSound seen columns f 0 a → room ≡ places_of f
-      → IsSound seen columns (iter f number e) 0 (iter_held a (record { entries = []; room = room }))
+  pub new_chain_sound : (columns : List Column) (f : Qre) (number : ℤ) (e : Expression)
+      (a : Holding R) (room : ℕ) → IsSound seen columns f 0 a → room ≡ places_of f
+      → IsSound seen columns (iter f number e) 0
+      (iter_held a (record { entries = []; room = room }))
   new_chain_sound columns f number e a room first places = (
     first,
     record { room = places; few = omega arith; distinct = tt; typed = tt },

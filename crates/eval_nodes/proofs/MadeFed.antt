@@ -1,5 +1,6 @@
 -- A new node of a compose: all its runners are idle.
-use Rattle.std.proofs.Common.{◌≡◌, ◌≤◌, ℕ, ◌+◌, ◌-◌, ◌*◌, ◌^◌, min, List, [], None, length, sym, ap, subst, arith}
+use Rattle.std.proofs.Common.{◌≡◌, ◌≤◌, ℕ, ◌+◌, ◌-◌, ◌*◌, ◌^◌, min, List, [], None, length, sym, ap}
+use Rattle.std.proofs.Common.{subst, arith}
 use Rattle.std.specs.List.{AllByRecursion, Contains}
 use Rattle.item_schema.specs.declared.column.Column.{Column}
 use Rattle.query_model.specs.Bounds.{inner_of, places_of, slots_of}
@@ -23,8 +24,9 @@ use Rattle.eval_nodes.proofs.Members.{no_member}
 use Rattle.eval_nodes.proofs.StoredNone.{silent_few}
 
 -- there are as many runners as there are to be
-pub runners_fit : (f : Qre) (places count : ℕ) → slots_of f ≤ max_slots → places ≡ min (places_of f) (2 ^ 32 - 1)
-    → count ≡ min (places + 1) (2 ^ 32 - 1) → count ≡ places_of f + 1
+pub runners_fit : (f : Qre) (places count : ℕ) → slots_of f ≤ max_slots
+    → places ≡ min (places_of f) (2 ^ 32 - 1) → count ≡ min (places + 1) (2 ^ 32 - 1)
+    → count ≡ places_of f + 1
 runners_fit f places count small is all =
     let few = places_few f in
     let slots : inner_of f + 2 ≤ 2 ^ 20 = small in
@@ -45,13 +47,15 @@ module _ {R : Type 0} (seen : R → Seen R) where
                 (subst (λ (xs : List (Instance R)). Contains (outers_of xs) start) none there)),
             λ continues. absurd (no_member start continues.0),
           );
-          each = λ start runner there. absurd (no_member (record { outer = start; follower = runner })
-              (subst (λ (xs : List (Instance R)). Contains xs (record { outer = start; follower = runner })) none there));
+          each =
+              λ start runner there. absurd (no_member (record { outer = start; follower = runner })
+              (subst (λ (xs : List (Instance R)). Contains xs
+              (record { outer = start; follower = runner })) none there));
           full = omega (arith, nobody, count);
         },
         all_mapped (KeepsFew seen (stored_in seen g) (slots_of g))
-            (KeepsFew seen (stored_in seen g) (slots_of g * (1 + keys_met (compose f g) []))) held.idle
-            (λ runner little. omega (arith, little)) few,
+            (KeepsFew seen (stored_in seen g) (slots_of g * (1 + keys_met (compose f g) [])))
+            held.idle (λ runner little. omega (arith, little)) few,
       )
 
   pub new_compose_sound : (columns : List Column) (f g : Qre) (a : Holding R) (held : Contents R)
@@ -64,7 +68,8 @@ module _ {R : Type 0} (seen : R → Seen R) where
         subst (λ (xs : List (Instance R)). AreDifferent (outers_of xs)) (sym none) tt,
         omega (arith, nobody, count),
         subst (AllByRecursion (λ (one : Instance R).
-            IsSoundWithin seen (IsSoundOf seen (derived_columns (type_of columns f)) g) (0 + 1) one.follower)) (sym none) tt,
+            IsSoundWithin seen (IsSoundOf seen (derived_columns (type_of columns f)) g) (0 + 1)
+            one.follower)) (sym none) tt,
         idle (derived_columns (type_of columns f)),
       )
 
@@ -76,7 +81,8 @@ module _ {R : Type 0} (seen : R → Seen R) where
       (subst (λ (x : Holding R). IsSound seen columns q 0 x) (sym node) is)
 
 -- a runner before its start keeps little
-pub fresh_few : (q : Qre) (runner : Progress) → Represents seen_of [] q (holding_of runner.node.state) [] []
+pub fresh_few : (q : Qre) (runner : Progress)
+    → Represents seen_of [] q (holding_of runner.node.state) [] []
     → runner.answer ≡ None → KeepsFew seen_of (stored_in seen_of q) (slots_of q) runner
 fresh_few q runner rep none =
     let node = silent_few seen_of [] q (holding_of runner.node.state) rep in

@@ -19,13 +19,17 @@ pub of_both : (op : Qre → Qre → Qre) (f f' g g' : Qre) → f ≡ f' → g �
 of_both op f f' g g' first second = ap (λ x. op x g) first ∙ ap (λ y. op f' y) second
 
 module _ (cells : Option Partition) (q q' : Qre) (P : Node → Type 0)
-    (each : (node : Node) → P node → IsNewNode seen_of cells q (holding_of node.state)) (same : q' ≡ q) where
-  pub new_word : (result : Result Node AllocError) → IfOk result P → IfOk result (λ node. (columns : List Column)
+    (each : (node : Node) → P node → IsNewNode seen_of cells q (holding_of node.state))
+    (same : q' ≡ q) where
+  pub new_word : (result : Result Node AllocError) → IfOk result P
+      → IfOk result (λ node. (columns : List Column)
       → AreColumnsOf cells columns → Represents seen_of columns q' (holding_of node.state) [] [])
-  new_word (Ok node) is = λ columns on. made_as seen_of columns q q' _ _ same refl ((each node is).word columns on)
+  new_word (Ok node) is =
+      λ columns on. made_as seen_of columns q q' _ _ same refl ((each node is).word columns on)
   new_word (Err e) is = tt
 
-  pub new_sound : (result : Result Node AllocError) → IfOk result P → IfOk result (λ node. (columns : List Column)
+  pub new_sound : (result : Result Node AllocError) → IfOk result P
+      → IfOk result (λ node. (columns : List Column)
       → AreColumnsOf cells columns → IsSound seen_of columns q' 0 (holding_of node.state))
   new_sound (Ok node) is = λ columns on.
       made_soundly_as seen_of columns q q' _ _ same refl ((each node is).sound columns on)

@@ -1,5 +1,7 @@
 -- Pieces of words, and how they stay where one more item goes by.
-use Rattle.std.proofs.Common.{◌≡◌, ◌≤◌, ℕ, ◌+◌, ◌-◌, ◌∙◌, List, [], ◌∷◌, ◌++◌, drop, take, length, refl, sym, ap, subst, arith, append_assoc, append-nil, length-append, length-drop, drop-drop, take-append-drop}
+use Rattle.std.proofs.Common.{◌≡◌, ◌≤◌, ℕ, ◌+◌, ◌-◌, ◌∙◌, List, [], ◌∷◌, ◌++◌, drop, take, length}
+use Rattle.std.proofs.Common.{refl, sym, ap, subst, arith, append_assoc, append-nil, length-append}
+use Rattle.std.proofs.Common.{length-drop, drop-drop, take-append-drop}
 use Rattle.std.proofs.lemmas.List.{append_cancel_right, drop-append-le, drop_all, drop_at}
 use Rattle.value_ops.specs.declared.field.Field.{Field}
 use Rattle.item_schema.specs.declared.column.Column.{Column}
@@ -32,11 +34,13 @@ pub piece_continues : (word : Word) (from to : ℕ) (piece more : Word) → IsPi
 piece_continues word from to piece more is =
     ap (λ u. u ++ more) is.cut ∙ append_assoc piece (drop to word) more
 
-pub begins_inside : (word : Word) (from to : ℕ) (piece : Word) → IsPiece word from piece to → from ≤ length word
-begins_inside word from to piece is = let end = is.end in let inside = is.inside in omega (arith, end, inside)
+pub begins_inside : (word : Word) (from to : ℕ) (piece : Word) → IsPiece word from piece to
+    → from ≤ length word
+begins_inside word from to piece is = let end = is.end in let inside = is.inside in
+    omega (arith, end, inside)
 
-pub piece_more : (word : Word) (item : List Field) (from to : ℕ) (piece : Word) → IsPiece word from piece to
-    → IsPiece (word ++ item ∷ []) from piece to
+pub piece_more : (word : Word) (item : List Field) (from to : ℕ) (piece : Word)
+    → IsPiece word from piece to → IsPiece (word ++ item ∷ []) from piece to
 piece_more word item from to piece is =
     let inside = is.inside in
     let more = length_more word item in
@@ -54,7 +58,8 @@ piece_less word item from to piece is inside =
     let end = is.end in
     let first : from ≤ length word = omega (arith, end, inside) in
     let same : drop from word ++ item ∷ [] ≡ (piece ++ drop to word) ++ item ∷ [] =
-    sym (drop_more word item from first) ∙ is.cut ∙ ap (λ u. piece ++ u) (drop_more word item to inside)
+    sym (drop_more word item from first) ∙ is.cut
+    ∙ ap (λ u. piece ++ u) (drop_more word item to inside)
     ∙ sym (append_assoc piece (drop to word) (item ∷ [])) in
     record {
       end = end;
@@ -63,7 +68,8 @@ piece_less word item from to piece is inside =
     }
 
 -- the piece to the end
-pub end_piece : (word : Word) (from : ℕ) → from ≤ length word → IsPiece word from (drop from word) (length word)
+pub end_piece : (word : Word) (from : ℕ) → from ≤ length word
+    → IsPiece word from (drop from word) (length word)
 end_piece word from inside =
     let count : length (drop from word) ≡ length word - from = length-drop from word in
     record {
@@ -73,14 +79,14 @@ end_piece word from inside =
           ∙ ap (λ u. drop from word ++ u) (sym (after_end word (length word) refl));
     }
 
-pub end_is : (word : Word) (from to : ℕ) (piece : Word) → IsPiece word from piece to → to ≡ length word
-    → piece ≡ drop from word
+pub end_is : (word : Word) (from to : ℕ) (piece : Word) → IsPiece word from piece to
+    → to ≡ length word → piece ≡ drop from word
 end_is word from to piece is end =
     sym (append-nil piece) ∙ ap (λ u. piece ++ u) (sym (after_end word to end)) ∙ sym is.cut
 
 -- the piece from the end is empty
-pub empty_is : (word : Word) (from to : ℕ) (piece : Word) → IsPiece word from piece to → from ≡ length word
-    → (piece ≡ []) × (to ≡ from)
+pub empty_is : (word : Word) (from to : ℕ) (piece : Word) → IsPiece word from piece to
+    → from ≡ length word → (piece ≡ []) × (to ≡ from)
 empty_is word from to piece is end =
     let ends = is.end in
     let inside = is.inside in
@@ -124,8 +130,8 @@ pub some_item : (word : Word) (item : List Field) (more : Word) → word ++ item
 some_item [] item more same = cc
 some_item (x ∷ word) item more same = cc
 
-pub none_before : (word : Word) (item other : List Field) (more : Word) → word ++ item ∷ more ≡ other ∷ []
-    → word ≡ []
+pub none_before : (word : Word) (item other : List Field) (more : Word)
+    → word ++ item ∷ more ≡ other ∷ [] → word ≡ []
 none_before [] item other more same = refl
 none_before (x ∷ word) item other more same =
     let tails : word ++ item ∷ more ≡ [] = cc in absurd (some_item word item more tails)
@@ -143,8 +149,8 @@ word_join columns [] v first second = second
 word_join columns (x ∷ u) v first second = (first.0, word_join columns u v first.1 second)
 
 -- a piece of a word of the stream
-pub word_piece : (columns : List Column) (word : Word) (from to : ℕ) (piece : Word) → IsWordOf columns word
-    → IsPiece word from piece to → IsWordOf columns piece
+pub word_piece : (columns : List Column) (word : Word) (from to : ℕ) (piece : Word)
+    → IsWordOf columns word → IsPiece word from piece to → IsWordOf columns piece
 word_piece columns word from to piece is cut =
     (word_parts columns piece (drop to word)
     (subst (IsWordOf columns) cut.cut (word_after columns word from is))).0

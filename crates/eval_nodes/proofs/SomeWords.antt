@@ -5,7 +5,8 @@ use Rattle.item_schema.specs.declared.column.Column.{Column}
 use Rattle.rate_expr.specs.Language.{In}
 use Rattle.rate_expr.specs.Rates as rate
 use Rattle.rate_expr.specs.Words.{Word, IsWordOf}
-use Rattle.query_model.specs.Queries.{Qre, atom, eps, choice, split, iter, combine, apply, compose, collect}
+use Rattle.query_model.specs.Queries.{Qre, atom, eps, choice, split, iter, combine, apply, compose}
+use Rattle.query_model.specs.Queries.{collect}
 use Rattle.query_model.specs.Rates.{rate_of}
 use Rattle.query_model.specs.Rules.{Standing, bound, CanBeMet, IsClear}
 use Rattle.eval_nodes.proofs.Pieces.{word_join}
@@ -22,7 +23,8 @@ all_parts P (x ∷ xs) ys all = let rest = all_parts P xs ys all.1 in ((all.0, r
 rate_word : (columns : List Column) (r : rate.Regex)
     → AllByRecursion (CanBeMet columns) (rate.preds_of r) → HasWord columns r
 rate_word columns rate.empty all = ([], tt, refl)
-rate_word columns (rate.one pred) all = (all.0.item ∷ [], (all.0.is_item, tt), (all.0.item, refl, all.0.meets))
+rate_word columns (rate.one pred) all =
+    (all.0.item ∷ [], (all.0.is_item, tt), (all.0.item, refl, all.0.meets))
 rate_word columns (rate.sequence left right) all =
     let parts = all_parts (CanBeMet columns) (rate.preds_of left) (rate.preds_of right) all in
     let u = rate_word columns left parts.0 in

@@ -1,5 +1,7 @@
--- Left values that wait: they are at most as many as the right operand has places, and each takes little.
-use Rattle.std.proofs.Common.{◌≡◌, ◌≤◌, ◌+◌, ◌*◌, ◌∙◌, ℕ, List, [], ◌∷◌, Some, None, drop, take, length, map, sym, ap, subst, arith, inl, inr, take-append-drop}
+-- Left values that wait: they are at most as many as the right operand has places, and
+-- each takes little.
+use Rattle.std.proofs.Common.{◌≡◌, ◌≤◌, ◌+◌, ◌*◌, ◌∙◌, ℕ, List, [], ◌∷◌, Some, None, drop, take}
+use Rattle.std.proofs.Common.{length, map, sym, ap, subst, arith, inl, inr, take-append-drop}
 use Rattle.std.specs.List.{Contains}
 use Rattle.std.proofs.lemmas.List.{length-map}
 use Rattle.value_ops.specs.declared.value.Value.{Value}
@@ -39,7 +41,8 @@ value_size (value.Table entries) = omega arith
 pub after_among : (word : Word) (at : ℕ) → AreAmong (drop at word) word
 after_among word at = among_rest word (take at word) (drop at word) (sym (take-append-drop at word))
 
-pub piece_among : (word : Word) (from to : ℕ) (piece : Word) → IsPiece word from piece to → AreAmong piece word
+pub piece_among : (word : Word) (from to : ℕ) (piece : Word) → IsPiece word from piece to
+    → AreAmong piece word
 piece_among word from to piece is = record {
   each = λ item there. (after_among word from).each item
       ((among_whole (drop from word) piece (drop to word) is.cut).each item there);
@@ -52,12 +55,14 @@ inners_of entries = map (λ (entry : Entry Value). entry.inner) entries
 none_at : (entries : List (Entry Value)) (inner : ℕ) → entry_at entries inner ≡ None
     → Contains (inners_of entries) inner → ⊥
 none_at [] inner none there = no_member inner there
-none_at (x ∷ entries) inner none there = elim (member_cases x.inner inner (inners_of entries) there) [
-  | inl same ↦ first_differs x entries inner none same
-  | inr later ↦ none_at entries inner (none_after x entries inner none) later
-]
+none_at (x ∷ entries) inner none there =
+    elim (member_cases x.inner inner (inners_of entries) there) [
+      | inl same ↦ first_differs x entries inner none same
+      | inr later ↦ none_at entries inner (none_after x entries inner none) later
+    ]
 
-inners_differ : (entries : List (Entry Value)) → AreDistinct entries → AreDifferent (inners_of entries)
+inners_differ : (entries : List (Entry Value)) → AreDistinct entries
+    → AreDifferent (inners_of entries)
 inners_differ [] distinct = tt
 inners_differ (x ∷ entries) distinct =
     (none_at entries x.inner distinct.0, inners_differ entries distinct.1)
@@ -66,11 +71,12 @@ inner_there : (entries : List (Entry Value)) (entry : Entry Value) → Contains 
     → Contains (inners_of entries) entry.inner
 inner_there entries entry there = part_there (λ (x : Entry Value). x.inner) entries entry there
 
-pub only_at : (entries : List (Entry Value)) (entry : Entry Value) → AreDistinct entries → Contains entries entry
-    → entry_at entries entry.inner ≡ Some entry
+pub only_at : (entries : List (Entry Value)) (entry : Entry Value) → AreDistinct entries
+    → Contains entries entry → entry_at entries entry.inner ≡ Some entry
 only_at [] entry distinct there = absurd (no_member entry there)
 only_at (x ∷ entries) entry distinct there = elim (member_cases x entry entries there) [
-  | inl same ↦ found_first x entries entry.inner (ap (λ (e : Entry Value). e.inner) same) ∙ ap Some same
+  | inl same ↦
+      found_first x entries entry.inner (ap (λ (e : Entry Value). e.inner) same) ∙ ap Some same
   | inr later ↦ found_after x entries entry.inner
       (λ same. none_at entries x.inner distinct.0
       (subst (Contains (inners_of entries)) (sym same) (inner_there entries entry later)))
@@ -78,8 +84,9 @@ only_at (x ∷ entries) entry distinct there = elim (member_cases x entry entrie
 ]
 
 module _ (columns : List Column) (f g : Qre) (e : Expression) (word : Word) (starts ends : List ℕ)
-    (entries : List (Entry Value)) (clear : IsClear bound columns (split f g e)) (is : IsWordOf columns word)
-    (positions : ArePositions word starts) (apart : AreApart columns (split f g e) word starts)
+    (entries : List (Entry Value)) (clear : IsClear bound columns (split f g e))
+    (is : IsWordOf columns word) (positions : ArePositions word starts)
+    (apart : AreApart columns (split f g e) word starts)
     (reached : AreReached (In (rate_of f)) word starts ends)
     (waiting : AreWaiting (Den f) (HasExtension columns (rate_of g)) word starts entries) where
   -- what is known of an entry
@@ -93,7 +100,8 @@ module _ (columns : List Column) (f g : Qre) (e : Expression) (word : Word) (sta
   waits : (entry : Entry Value) → Contains entries entry → IsWaiting entry
   waits entry there =
       let (among, (piece, cut, gives), continues) =
-      (waiting.each entry.inner entry.outer entry.value).0 (only_at entries entry waiting.distinct there) in
+      (waiting.each entry.inner entry.outer entry.value).0
+      (only_at entries entry waiting.distinct there) in
       record { among = among; piece = piece; cut = cut; gives = gives; continues = continues }
 
   ends_at : (entry : Entry Value) → IsWaiting entry → Contains ends entry.inner
@@ -111,7 +119,8 @@ module _ (columns : List Column) (f g : Qre) (e : Expression) (word : Word) (sta
       let few = few_live bound columns g word ends (inners_of entries) clear.1 is
       (λ at there. let (start, piece, among, cut, in_f) = (reached at).0 there in cut.inside)
       (apart_right columns f g e word starts ends clear is apart
-      (λ at there. let (start, piece, among, cut, in_f) = (reached at).0 there in (start, piece, among, cut, in_f)))
+      (λ at there. let (start, piece, among, cut, in_f) = (reached at).0 there in
+      (start, piece, among, cut, in_f)))
       (inners_differ entries waiting.distinct)
       (λ at there.
       let (entry, among, same) = whole_there (λ (x : Entry Value). x.inner) entries at there in
@@ -122,7 +131,8 @@ module _ (columns : List Column) (f g : Qre) (e : Expression) (word : Word) (sta
       omega (arith, few, count)
 
   -- each value has no more entries than keys were met
-  entry_few : (entry : Entry Value) → Contains entries entry → 2 + size_of_value entry.value ≤ 3 * (1 + keys_met f word)
+  entry_few : (entry : Entry Value) → Contains entries entry
+      → 2 + size_of_value entry.value ≤ 3 * (1 + keys_met f word)
   entry_few entry there =
       let it = waits entry there in
       let few = entries_few bound columns f it.piece entry.value clear.0 it.gives in
@@ -133,7 +143,8 @@ module _ (columns : List Column) (f g : Qre) (e : Expression) (word : Word) (sta
 
   pub entries_size : sizes_of entries ≤ 3 * places_of g * (1 + keys_met f word)
   entries_size =
-      let few = sum_few (λ (entry : Entry Value). 2 + size_of_value entry.value) (3 * (1 + keys_met f word)) entries
-      entry_few in
+      let few = sum_few (λ (entry : Entry Value). 2 + size_of_value entry.value)
+      (3 * (1 + keys_met f word)) entries entry_few in
       in_turn (sizes_of entries) (places_of g) 3 (keys_met f word)
-      (many_parts (sizes_of entries) (length entries) (places_of g) 3 (keys_met f word) few entries_count)
+      (many_parts (sizes_of entries) (length entries) (places_of g) 3 (keys_met f word)
+      few entries_count)

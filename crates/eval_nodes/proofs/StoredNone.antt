@@ -1,19 +1,23 @@
 -- What stands for the empty word without a start keeps little, whatever went by before.
-use Rattle.std.proofs.Common.{◌≡◌, ◌≤◌, ◌+◌, ◌*◌, ℕ, List, [], ◌∷◌, Some, None, length, sum_by, refl, subst, ap, arith}
+use Rattle.std.proofs.Common.{◌≡◌, ◌≤◌, ◌+◌, ◌*◌, ℕ, List, [], ◌∷◌, Some, None, length, sum_by}
+use Rattle.std.proofs.Common.{refl, subst, ap, arith}
 use Rattle.std.specs.List.{Contains}
 use Rattle.std.proofs.Math.Nat.{mul-le-mul_right}
 use Rattle.value_ops.specs.declared.value.Value.{Value}
 use Rattle.item_schema.specs.declared.column.Column.{Column}
 use Rattle.rate_expr.specs.Words.{Word}
 use Rattle.query_model.specs.Bounds.{inner_of, places_of, slots_of}
-use Rattle.query_model.specs.Queries.{Qre, atom, eps, choice, split, iter, combine, apply, compose, collect}
+use Rattle.query_model.specs.Queries.{Qre, atom, eps, choice, split, iter, combine, apply, compose}
+use Rattle.query_model.specs.Queries.{collect}
 use Rattle.memory_bound.specs.KeysMet.{keys_met}
 use Rattle.split_eval.specs.declared.entry.Entry.{Entry}
 use Rattle.compose_eval.specs.Followers.{followers_of}
 use Rattle.compose_eval.specs.declared.instance.Instance.{Instance}
 use Rattle.map_collect.specs.declared.track.Track.{Track}
 use Rattle.eval_nodes.specs.Counts.{size_of_runner, size_of_track, sizes_of, stored_in}
-use Rattle.eval_nodes.specs.Holdings.{Holding, atom_held, eps_held, choice_held, combine_held, apply_held, split_held, iter_held, compose_held, collect_held, Seen}
+use Rattle.eval_nodes.specs.Holdings.{Holding, atom_held, eps_held, choice_held, combine_held}
+use Rattle.eval_nodes.specs.Holdings.{apply_held, split_held, iter_held, compose_held, collect_held}
+use Rattle.eval_nodes.specs.Holdings.{Seen}
 use Rattle.eval_nodes.specs.Represents.{AreReached, AreWaiting, KeepsFew, Represents}
 use Rattle.eval_nodes.proofs.Instances.{all_member, outer_member}
 use Rattle.eval_nodes.proofs.Members.{first_member, no_member}
@@ -29,15 +33,16 @@ no_ends : (A : Word → Type 0) (word : Word) (ends : List ℕ) → AreReached A
 no_ends A word ends reached = none_of ends (λ end there.
     let (start, piece, among, cut, is) = (reached end).0 there in no_member start among)
 
-no_lefts : (D : Word → Value → Type 0) (continues : Word → Type 0) (word : Word) (entries : List (Entry Value))
-    → AreWaiting D continues word [] entries → entries ≡ []
+no_lefts : (D : Word → Value → Type 0) (continues : Word → Type 0) (word : Word)
+    (entries : List (Entry Value)) → AreWaiting D continues word [] entries → entries ≡ []
 no_lefts D continues word entries lefts = none_of entries (λ entry there.
     no_member entry.outer
-    ((lefts.each entry.inner entry.outer entry.value).0 (only_at entries entry lefts.distinct there)).0)
+    ((lefts.each entry.inner entry.outer entry.value).0
+    (only_at entries entry lefts.distinct there)).0)
 
 module _ {R : Type 0} (seen : R → Seen R) where
-  pub silent_few : (columns : List Column) (q : Qre) (holding : Holding R) → Represents seen columns q holding [] []
-      → stored_in seen q holding ≤ inner_of q
+  pub silent_few : (columns : List Column) (q : Qre) (holding : Holding R)
+      → Represents seen columns q holding [] [] → stored_in seen q holding ≤ inner_of q
   silent_few columns (atom pred e) (atom_held None) rep = omega arith
   silent_few columns (atom pred e) (atom_held (Some start)) rep = omega arith
   silent_few columns (eps number) eps_held rep = omega arith
@@ -71,7 +76,8 @@ module _ {R : Type 0} (seen : R → Seen R) where
       let none = ap (λ (live : List (Instance R)). sum_by size (followers_of live)) nobody in
       let absent = ap length nobody in
       let idle = sum_few size (1 + slots_of g) held.idle (λ runner there.
-      let few = all_member (KeepsFew seen (stored_in seen g) (slots_of g * (1 + keys_met (compose f g) []))) held.idle
+      let few = all_member
+      (KeepsFew seen (stored_in seen g) (slots_of g * (1 + keys_met (compose f g) []))) held.idle
       runner rep.2 there in
       omega (arith, few)) in
       let full = rep.1.full in
@@ -79,9 +85,11 @@ module _ {R : Type 0} (seen : R → Seen R) where
       let up = mul-le-mul_right (1 + slots_of g) fewer in
       omega (arith, first, none, idle, up)
   silent_few columns (collect column sync rate f) (collect_held all) rep =
-      let none = ap (λ (tracks : List (Track R)). sum_by (size_of_track seen (stored_in seen f)) tracks)
+      let none =
+      ap (λ (tracks : List (Track R)). sum_by (size_of_track seen (stored_in seen f)) tracks)
       (none_of all.tracks (λ track there.
       no_member track.start
-      ((rep.2.there track.start).0 (part_there (λ (t : Track R). t.start) all.tracks track there)).0)) in
+      ((rep.2.there track.start).0
+      (part_there (λ (t : Track R). t.start) all.tracks track there)).0)) in
       omega (arith, none)
   silent_few columns q holding rep = absurd rep

@@ -1,7 +1,8 @@
 -- Sums of what is kept, where each part is at most so much.
 use Rattle.std.proofs.Common.{◌≡◌, ◌≤◌, ◌+◌, ◌*◌, ℕ, List, [], ◌∷◌, length, sum_by, ap, arith}
 use Rattle.std.specs.List.{Contains}
-use Rattle.std.proofs.Math.Nat.{add-mul, mul-add, mul-le-mul_left, mul-le-mul_right, mul_assoc, mul_comm, suc-mul}
+use Rattle.std.proofs.Math.Nat.{add-mul, mul-add, mul-le-mul_left, mul-le-mul_right, mul_assoc}
+use Rattle.std.proofs.Math.Nat.{mul_comm, suc-mul}
 use Rattle.std.proofs.lemmas.List.Sums.{sum_by-cons}
 use Rattle.eval_nodes.proofs.Members.{first_member, later_member}
 
@@ -43,13 +44,15 @@ many_parts x count places each n few fewer =
     omega (arith, few, up, same)
 
 -- two lists of such
-pub together : (x y i j places each n : ℕ) → x ≤ i * (each * (1 + n)) → y ≤ j * (each * (1 + n)) → i + j ≡ places
-    → x + y ≤ places * each * (1 + n)
+pub together : (x y i j places each n : ℕ) → x ≤ i * (each * (1 + n)) → y ≤ j * (each * (1 + n))
+    → i + j ≡ places → x + y ≤ places * each * (1 + n)
 together x y i j places each n first second full =
     let parts = add-mul i j (each * (1 + n)) in
-    many_parts (x + y) (i + j) places each n (omega (arith, first, second, parts)) (omega (arith, full))
+    many_parts (x + y) (i + j) places each n (omega (arith, first, second, parts))
+    (omega (arith, full))
 
--- a start of a collect: the start, a state of this many positions at the most, and what is kept for its keys
+-- a start of a collect: the start, a state of this many positions at the most, and what is
+-- kept for its keys
 pub track_fits : (state size keys slots n : ℕ) → state ≤ size → keys ≤ slots + n * (1 + slots)
     → 1 + state + keys ≤ (1 + size + slots) * (1 + n)
 track_fits state size keys slots n few kept =

@@ -1,5 +1,6 @@
 -- The runner of a checked query takes one more item, or begins anew.
-use Rattle.std.proofs.Common.{◌≡◌, ◌∙◌, true, false, List, [], ◌∷◌, ◌++◌, None, Result, Ok, Err, sym, arith, inl, inr}
+use Rattle.std.proofs.Common.{◌≡◌, ◌∙◌, true, false, List, [], ◌∷◌, ◌++◌, None, Result, Ok, Err}
+use Rattle.std.proofs.Common.{sym, arith, inl, inr}
 use Rattle.std.specs.Prelude.{IfOk, IsOk, is_err}
 use Rattle.std.proofs.lemmas.Bool.{false≢true}
 use Rattle.value_ops.specs.declared.field.Field.{Field}
@@ -20,9 +21,10 @@ use Rattle.eval_runner.specs.declared.runner.Runner.{Runner}
 use Rattle.eval_runner.specs.Following.{columns_of, IsSoundly, query_of}
 
 -- the runner of a query and its schema
-pub carried : (standing : Standing) (columns : List Column) (q : Qre) (word : Word) (item : List Field)
-    (old new : Progress) → IsClear standing columns q → IsItemOf columns item
-    → IsAt columns q word old → IsCarried seen_of q old item new → IsAt columns q (word ++ item ∷ []) new
+pub carried : (standing : Standing) (columns : List Column) (q : Qre) (word : Word)
+    (item : List Field) (old new : Progress) → IsClear standing columns q → IsItemOf columns item
+    → IsAt columns q word old → IsCarried seen_of q old item new
+    → IsAt columns q (word ++ item ∷ []) new
 carried standing columns q word item old new clear is_item at one_more =
     let longer = word_join columns word (item ∷ []) at.is_word (is_item, tt) in
     record {
@@ -48,8 +50,8 @@ bare_sound runner is bare = elim is.sound [
 ]
 
 -- and may take the next item
-unfoldable pub carry_next : (columns : List Column) (q : Qre) (progress : Progress) (item : List Field)
-    → IsClear free columns q
+unfoldable pub carry_next : (columns : List Column) (q : Qre) (progress : Progress)
+    (item : List Field) → IsClear free columns q
     → IsSoundOf seen_of columns q progress → FitsNext columns q progress.position item
     → CanCarry seen_of q progress item
 carry_next columns q progress item clear sound fits =
@@ -64,8 +66,9 @@ carry_next columns q progress item clear sound fits =
     }
 
 -- and may begin anew
-unfoldable pub renew_next : (columns : List Column) (q : Qre) (progress : Progress) → IsClear free columns q
-    → IsSmall columns q → HasNoCollect q → IsSoundOf seen_of columns q progress → CanBegin seen_of q progress None
+unfoldable pub renew_next : (columns : List Column) (q : Qre) (progress : Progress)
+    → IsClear free columns q → IsSmall columns q → HasNoCollect q
+    → IsSoundOf seen_of columns q progress → CanBegin seen_of q progress None
 renew_next columns q progress clear small bare sound =
     let few = composes_few q in
     let nodes = small.nodes in
@@ -80,7 +83,8 @@ renew_next columns q progress clear small bare sound =
     }
 
 -- what was done, where it was not refused
-pub when_ok : {T E : Type 0} → (result : Result T E) (P : Type 0) → is_err result ≡ false → IfOk result (λ x. P) → P
+pub when_ok : {T E : Type 0} → (result : Result T E) (P : Type 0) → is_err result ≡ false
+    → IfOk result (λ x. P) → P
 when_ok (Ok x) P found is = is
 when_ok (Err e) P found is = absurd (false≢true (sym found))
 

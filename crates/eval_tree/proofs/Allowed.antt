@@ -21,8 +21,8 @@ use Rattle.eval_tree.proofs.Typed.{all_typed_with, hit_of, typed_with}
 
 module _ {R : Type 0} (seen : R → Seen R) where
   -- starts
-  unfoldable pub start_first : (f g : Qre) (a b : Holding R) (at : ℕ) → CanStart seen (choice f g) (choice_held a b) at
-      → CanStart seen f a at
+  unfoldable pub start_first : (f g : Qre) (a b : Holding R) (at : ℕ)
+      → CanStart seen (choice f g) (choice_held a b) at → CanStart seen f a at
   start_first f g a b at can =
       let room : at + (composes_of f + composes_of g) < 2 ^ 64 = can.room in record {
         standing = bound;
@@ -32,8 +32,8 @@ module _ {R : Type 0} (seen : R → Seen R) where
         room = omega (arith, room);
       }
 
-  unfoldable pub start_second : (f g : Qre) (a b : Holding R) (at : ℕ) → CanStart seen (choice f g) (choice_held a b) at
-      → CanStart seen g b at
+  unfoldable pub start_second : (f g : Qre) (a b : Holding R) (at : ℕ)
+      → CanStart seen (choice f g) (choice_held a b) at → CanStart seen g b at
   start_second f g a b at can =
       let room : at + (composes_of f + composes_of g) < 2 ^ 64 = can.room in record {
         standing = bound;
@@ -54,8 +54,9 @@ module _ {R : Type 0} (seen : R → Seen R) where
     room = can.room;
   }
 
-  unfoldable pub start_left : (f g : Qre) (e : Expression) (a b : Holding R) (held : Contents Value) (at : ℕ)
-      → CanStart seen (split f g e) (split_held a b held) at → CanStart seen f a at
+  unfoldable pub start_left : (f g : Qre) (e : Expression) (a b : Holding R)
+      (held : Contents Value) (at : ℕ) → CanStart seen (split f g e) (split_held a b held) at
+      → CanStart seen f a at
   start_left f g e a b held at can =
       let room : at + (composes_of f + composes_of g) < 2 ^ 64 = can.room in record {
         standing = bound;
@@ -65,8 +66,9 @@ module _ {R : Type 0} (seen : R → Seen R) where
         room = omega (arith, room);
       }
 
-  unfoldable pub start_right : (f g : Qre) (e : Expression) (a b : Holding R) (held : Contents Value) (at : ℕ)
-      → CanStart seen (split f g e) (split_held a b held) at → CanStart seen g b at
+  unfoldable pub start_right : (f g : Qre) (e : Expression) (a b : Holding R)
+      (held : Contents Value) (at : ℕ) → CanStart seen (split f g e) (split_held a b held) at
+      → CanStart seen g b at
   start_right f g e a b held at can =
       let room : at + (composes_of f + composes_of g) < 2 ^ 64 = can.room in record {
         standing = bound;
@@ -76,8 +78,9 @@ module _ {R : Type 0} (seen : R → Seen R) where
         room = omega (arith, room);
       }
 
-  pub started_split : (f g : Qre) (e : Expression) (a b a' b' : Holding R) (held : Contents Value) (at : ℕ) (left : Hit)
-      (right : Option Hit) → CanStart seen (split f g e) (split_held a b held) at
+  pub started_split : (f g : Qre) (e : Expression) (a b a' b' : Holding R) (held : Contents Value)
+      (at : ℕ) (left : Hit) (right : Option Hit)
+      → CanStart seen (split f g e) (split_held a b held) at
       → StartsSoundly seen f a at a' (Some left) → StartsSoundly seen g b at b' right
       → IsTypedWith e left.value right
   started_split f g e a b a' b' held at left right can first second =
@@ -115,8 +118,9 @@ module _ {R : Type 0} (seen : R → Seen R) where
         room = omega (arith, room);
       }
 
-  unfoldable pub step_operand : (f : Qre) (e : Expression) (a : Holding R) (now : ℕ) (item : List Field)
-      → CanStep seen (apply f e) (apply_held a) now item → CanStep seen f a now item
+  unfoldable pub step_operand : (f : Qre) (e : Expression) (a : Holding R) (now : ℕ)
+      (item : List Field) → CanStep seen (apply f e) (apply_held a) now item
+      → CanStep seen f a now item
   step_operand f e a now item can = record {
     standing = bound;
     columns = can.columns;
@@ -128,8 +132,8 @@ module _ {R : Type 0} (seen : R → Seen R) where
     room = can.room;
   }
 
-  unfoldable pub step_left : (f g : Qre) (e : Expression) (a b : Holding R) (held : Contents Value) (now : ℕ)
-      (item : List Field)
+  unfoldable pub step_left : (f g : Qre) (e : Expression) (a b : Holding R)
+      (held : Contents Value) (now : ℕ) (item : List Field)
       → CanStep seen (split f g e) (split_held a b held) now item → CanStep seen f a now item
   step_left f g e a b held now item can =
       let room : now + (composes_of f + composes_of g) < 2 ^ 64 = can.room in record {
@@ -143,8 +147,8 @@ module _ {R : Type 0} (seen : R → Seen R) where
         room = omega (arith, room);
       }
 
-  unfoldable pub step_right : (f g : Qre) (e : Expression) (a b : Holding R) (held : Contents Value) (now : ℕ)
-      (item : List Field)
+  unfoldable pub step_right : (f g : Qre) (e : Expression) (a b : Holding R)
+      (held : Contents Value) (now : ℕ) (item : List Field)
       → CanStep seen (split f g e) (split_held a b held) now item → CanStep seen g b now item
   step_right f g e a b held now item can =
       let room : now + (composes_of f + composes_of g) < 2 ^ 64 = can.room in record {
@@ -159,12 +163,14 @@ module _ {R : Type 0} (seen : R → Seen R) where
       }
 
   -- the right operand is started after the item that it has just seen
-  unfoldable pub start_after : (f g : Qre) (e : Expression) (a b b' : Holding R) (held : Contents Value) (now : ℕ)
-      (item : List Field) (right : Option Hit) → CanStep seen (split f g e) (split_held a b held) now item
+  unfoldable pub start_after : (f g : Qre) (e : Expression) (a b b' : Holding R)
+      (held : Contents Value) (now : ℕ) (item : List Field) (right : Option Hit)
+      → CanStep seen (split f g e) (split_held a b held) now item
       → StepsSoundly seen g b now item b' right → CanStart seen g b' now
   start_after f g e a b b' held now item right can second =
       let room : now + (composes_of f + composes_of g) < 2 ^ 64 = can.room in
-      let y = second bound can.columns can.position can.is_next can.clear.1 can.is_item can.sound.1 in
+      let y = second bound can.columns can.position can.is_next can.clear.1
+      can.is_item can.sound.1 in
       record {
         standing = bound;
         columns = can.columns;
@@ -173,8 +179,8 @@ module _ {R : Type 0} (seen : R → Seen R) where
         room = omega (arith, room);
       }
 
-  pub stepped_atom : (pred : Predicate) (e : Expression) (found : Option ℕ) (now : ℕ) (item : List Field)
-      → CanStep seen (atom pred e) (atom_held found) now item
+  pub stepped_atom : (pred : Predicate) (e : Expression) (found : Option ℕ) (now : ℕ)
+      (item : List Field) → CanStep seen (atom pred e) (atom_held found) now item
       → (type : ValueType) × HasType (types_of (given item None None)) e type
   stepped_atom pred e found now item can = (
     type_of_expression (of_columns can.columns) e,
@@ -182,22 +188,26 @@ module _ {R : Type 0} (seen : R → Seen R) where
         (sym (atom_types can.columns item can.is_item)) can.clear.1,
   )
 
-  pub stepped_ended : (f g : Qre) (e : Expression) (a b b' : Holding R) (held : Contents Value) (now : ℕ)
-      (item : List Field) (right : Option Hit) → CanStep seen (split f g e) (split_held a b held) now item
+  pub stepped_ended : (f g : Qre) (e : Expression) (a b b' : Holding R)
+      (held : Contents Value) (now : ℕ) (item : List Field) (right : Option Hit)
+      → CanStep seen (split f g e) (split_held a b held) now item
       → StepsSoundly seen g b now item b' right → AreTypedWith e held.entries right
   stepped_ended f g e a b b' held now item right can second =
-      let y = second bound can.columns can.position can.is_next can.clear.1 can.is_item can.sound.1 in
-      all_typed_with (type_of can.columns f) (type_of can.columns g) _ e held.entries right can.sound.2.typed y.hit
-      can.clear.2
+      let y = second bound can.columns can.position can.is_next can.clear.1
+      can.is_item can.sound.1 in
+      all_typed_with (type_of can.columns f) (type_of can.columns g) _ e held.entries right
+      can.sound.2.typed y.hit can.clear.2
 
-  pub stepped_joined : (f g : Qre) (e : Expression) (a b a' b' b'' : Holding R) (held : Contents Value) (now : ℕ)
-      (item : List Field) (left : Hit) (right begun : Option Hit)
+  pub stepped_joined : (f g : Qre) (e : Expression) (a b a' b' b'' : Holding R)
+      (held : Contents Value) (now : ℕ) (item : List Field) (left : Hit) (right begun : Option Hit)
       → CanStep seen (split f g e) (split_held a b held) now item
       → StepsSoundly seen f a now item a' (Some left) → StepsSoundly seen g b now item b' right
       → StartsSoundly seen g b' now b'' begun → IsTypedWith e left.value begun
   stepped_joined f g e a b a' b' b'' held now item left right begun can first second third =
-      let x = first bound can.columns can.position can.is_next can.clear.0 can.is_item can.sound.0 in
-      let y = second bound can.columns can.position can.is_next can.clear.1 can.is_item can.sound.1 in
+      let x = first bound can.columns can.position can.is_next can.clear.0
+      can.is_item can.sound.0 in
+      let y = second bound can.columns can.position can.is_next can.clear.1
+      can.is_item can.sound.1 in
       let z = third bound can.columns can.clear.1 y.node in
       typed_with (type_of can.columns f) (type_of can.columns g) _ e left.value begun x.hit
       (hit_of (type_of can.columns g) now begun z.hit) can.clear.2

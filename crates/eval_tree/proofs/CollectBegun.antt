@@ -1,5 +1,6 @@
 -- A new start of a collect: whether it can be put, and the runner that is made for it.
-use Rattle.std.proofs.Common.{◌≡◌, ◌↔◌, ℕ, Bool, true, false, not, IsTrue, List, [], Option, None, Some, option_map, slice_get, refl, arith}
+use Rattle.std.proofs.Common.{◌≡◌, ◌↔◌, ℕ, Bool, true, false, not, IsTrue, List, [], Option, None}
+use Rattle.std.proofs.Common.{Some, option_map, slice_get, refl, arith}
 use Rattle.std.specs.Prelude.{IfNone, IfSome, is_some}
 use Rattle.std.specs.List.{Contains}
 use Rattle.item_schema.specs.declared.column.Column.{Column}
@@ -16,9 +17,9 @@ use Rattle.eval_tree.specs.Steps.{CanStart, Starts, StartsSoundly}
 use Rattle.eval_tree.proofs.Carried.{begun}
 
 -- where a word can begin, the start is not there
-pub place_test : (place : Option ℕ) (test : Bool) (P : Type 0) (starts : List ℕ) (at : ℕ) → is_some place ≡ not test
-    → P → IfSome place (λ i. slice_get starts i ≡ Some at) → IfNone place (Contains starts at → ⊥)
-    → IsTrue test ↔ (P × (Contains starts at → ⊥))
+pub place_test : (place : Option ℕ) (test : Bool) (P : Type 0) (starts : List ℕ) (at : ℕ)
+    → is_some place ≡ not test → P → IfSome place (λ i. slice_get starts i ≡ Some at)
+    → IfNone place (Contains starts at → ⊥) → IsTrue test ↔ (P × (Contains starts at → ⊥))
 place_test None true P starts at said can some none = (λ is. (can, none), λ both. refl)
 place_test None false P starts at said can some none = let wrong : false ≡ true = said in cc
 place_test (Some i) true P starts at said can some none = let wrong : true ≡ false = said in cc
@@ -49,9 +50,11 @@ pub made_new : (q : Qre) (node : Holding Progress) (new : Progress) (hit : Optio
     → new.answer ≡ option_map (λ (found : Hit). found.value) hit → IsNew seen_of q new
 made_new q node new hit rep sound starts soundly position answer = record {
   word = λ standing columns clear.
-      (begun standing columns q node new hit clear (rep columns) (sound columns) starts soundly position answer).follows;
+      (begun standing columns q node new hit clear (rep columns) (sound columns) starts soundly
+      position answer).follows;
   sound = λ standing columns clear. record {
     within = let at : (seen_of new).position ≡ 0 = position in omega (arith, at);
-    sound = (begun standing columns q node new hit clear (rep columns) (sound columns) starts soundly position answer).sound;
+    sound = (begun standing columns q node new hit clear (rep columns) (sound columns) starts
+        soundly position answer).sound;
   };
 }

@@ -26,22 +26,25 @@ more_times n m = omega arith
 pub body_small : (column : ℕ) (sync : Predicate) (rate : rates.Regex) (f : Qre)
     → slots_of (collect column sync rate f) ≤ max_slots → slots_of f ≤ max_slots
 body_small column sync rate f small =
-    let whole : (size_of rate + 1) * (1 + size_of rate + (inner_of f + 2)) + 2 ≤ max_slots = small in
+    let whole : (size_of rate + 1) * (1 + size_of rate + (inner_of f + 2)) + 2 ≤ max_slots =
+    small in
     let more = more_times (size_of rate) (1 + size_of rate + (inner_of f + 2)) in
     omega (arith, whole, more)
 
-module _ {R : Type 0} (seen : R → Seen R) (columns : List Column) (column : ℕ) (sync : Predicate) (rate : rates.Regex)
-    (f : Qre) (all : Contents R) (of_rate : AreSetsOf all.nfa.sets rate)
+module _ {R : Type 0} (seen : R → Seen R) (columns : List Column) (column : ℕ) (sync : Predicate)
+    (rate : rates.Regex) (f : Qre) (all : Contents R) (of_rate : AreSetsOf all.nfa.sets rate)
     (on : all.nfa.cells.layout.columns ≡ columns) (none : all.tracks ≡ []) where
   pub new_collect : Represents seen columns (collect column sync rate f) (collect_held all) [] []
   new_collect = (
     of_rate,
     on,
-    subst (RowOf seen columns column sync rate f all.nfa (IsLive columns (collect column sync rate f) [] []) []) (sym none) (record {
-      distinct = tt;
-      there = λ start. (λ there. absurd (no_member start there), λ live. absurd (no_member start live.0));
-      each = λ track there. absurd (no_member track there);
-    }),
+    subst (RowOf seen columns column sync rate f all.nfa
+        (IsLive columns (collect column sync rate f) [] []) []) (sym none) (record {
+          distinct = tt;
+          there = λ start.
+              (λ there. absurd (no_member start there), λ live. absurd (no_member start live.0));
+          each = λ track there. absurd (no_member track there);
+        }),
   )
 
   pub new_collect_sound : slots_of (collect column sync rate f) ≤ max_slots → (position : ℕ)
@@ -51,5 +54,6 @@ module _ {R : Type 0} (seen : R → Seen R) (columns : List Column) (column : �
     on,
     body_small column sync rate f small,
     subst (λ (ts : List (Track R)). AreDifferent (starts_of ts)) (sym none) tt,
-    subst (AllByRecursion (λ (t : Track R). AreSoundOf seen columns f position t.keys)) (sym none) tt,
+    subst (AllByRecursion (λ (t : Track R). AreSoundOf seen columns f position t.keys)) (sym none)
+        tt,
   )

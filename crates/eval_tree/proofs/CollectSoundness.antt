@@ -1,5 +1,6 @@
 -- A collect stays sound.
-use Rattle.std.proofs.Common.{◌≡◌, ◌∙◌, ℕ, ◌+◌, List, [], ◌∷◌, ◌++◌, Option, Some, None, sym, ap, subst, arith, inl, inr}
+use Rattle.std.proofs.Common.{◌≡◌, ◌∙◌, ℕ, ◌+◌, List, [], ◌∷◌, ◌++◌, Option, Some, None, sym, ap}
+use Rattle.std.proofs.Common.{subst, arith, inl, inr}
 use Rattle.std.specs.List.{AllByRecursion, Contains}
 use Rattle.std.proofs.lemmas.List.{map-append}
 use Rattle.value_ops.specs.declared.field.Field.{Field}
@@ -32,25 +33,31 @@ use Rattle.eval_tree.specs.Pushes.{AddsStart, AreNew, ArePushed, IsFirstTable, I
 use Rattle.eval_tree.specs.Steps.{IsHitAt, IsHitOf, StartsSoundly, StepsSoundly}
 use Rattle.eval_tree.proofs.Tracked.{kept_all, kept_apart}
 
-table_typed : (found : Hit) (table : _) → found.value ≡ value.Table table → IsTable table → IsValueOf Table found.value
+table_typed : (found : Hit) (table : _) → found.value ≡ value.Table table → IsTable table
+    → IsValueOf Table found.value
 table_typed found table is typed = subst (IsValueOf Table) (sym is) typed
 
 module _ {R : Type 0} (seen : R → Seen R) where
   -- the starts differ, and the runners of each are sound with at most this many items
-  pub record AreSoundTracks (columns : List Column) (query : Qre) (most : ℕ) (all : List (Track R)) : Type 0 where
+  pub record AreSoundTracks (columns : List Column) (query : Qre) (most : ℕ)
+      (all : List (Track R)) : Type 0 where
     pub distinct : AreDifferent (starts_of all)
-    pub keys : AllByRecursion (λ (track : Track R). AreSoundOf seen columns query most track.keys) all
+    pub keys : AllByRecursion (λ (track : Track R). AreSoundOf seen columns query most track.keys)
+        all
 
-  pushed_soundly : (columns : List Column) (column : ℕ) (sync : Predicate) (f : Qre) (nfa : Automaton) (most : ℕ)
-      (item : List Field) (old advanced pushed : List (Track R)) → IsClear bound columns f → IsItemOf columns item
-      → AllAdvance nfa.sets item old advanced → ArePushed seen f column sync item advanced pushed
+  pushed_soundly : (columns : List Column) (column : ℕ) (sync : Predicate) (f : Qre)
+      (nfa : Automaton) (most : ℕ) (item : List Field) (old advanced pushed : List (Track R))
+      → IsClear bound columns f → IsItemOf columns item → AllAdvance nfa.sets item old advanced
+      → ArePushed seen f column sync item advanced pushed
       → AreSoundTracks columns f most old → AreSoundTracks columns f (most + 1) pushed
-  pushed_soundly columns column sync f nfa most item old advanced pushed clear is_item advances pushes sound =
+  pushed_soundly columns column sync f nfa most item old advanced pushed clear is_item
+      advances pushes sound =
       let P : Track R → Track R → Type 0 = Advances nfa.sets item in
       let Q : Track R → Track R → Type 0 = IsPushedAt seen f column sync item in
       let same : starts_of pushed ≡ starts_of old =
-      zip_same Q (λ (t : Track R). t.start) (λ (t : Track R). t.start) advanced pushed (λ mid now one. one.start) pushes
-      ∙ zip_same P (λ (t : Track R). t.start) (λ (t : Track R). t.start) old advanced (λ was mid one. one.start) advances in
+      zip_same Q (λ (t : Track R). t.start) (λ (t : Track R). t.start) advanced pushed
+      (λ mid now one. one.start) pushes ∙ zip_same P (λ (t : Track R). t.start)
+      (λ (t : Track R). t.start) old advanced (λ was mid one. one.start) advances in
       record {
         distinct = subst AreDifferent (sym same) sound.distinct;
         keys = zip_all Q (λ (t : Track R). AreSoundOf seen columns f most t.keys)
@@ -58,14 +65,17 @@ module _ {R : Type 0} (seen : R → Seen R) where
             (λ mid now one is. one.keys.sound bound columns most clear is_item is) pushes
             (zip_all P (λ (t : Track R). AreSoundOf seen columns f most t.keys)
             (λ (t : Track R). AreSoundOf seen columns f most t.keys) old advanced
-            (λ was mid one is. subst (AreSoundOf seen columns f most) (sym one.keys) is) advances sound.keys);
+            (λ was mid one is. subst (AreSoundOf seen columns f most) (sym one.keys) is)
+            advances sound.keys);
       }
 
-  kept_soundly : (columns : List Column) (f : Qre) (nfa : Automaton) (most : ℕ) (pushed kept : List (Track R))
-      → KeepsExtending nfa pushed kept → AreSoundTracks columns f most pushed → AreSoundTracks columns f most kept
+  kept_soundly : (columns : List Column) (f : Qre) (nfa : Automaton) (most : ℕ)
+      (pushed kept : List (Track R)) → KeepsExtending nfa pushed kept
+      → AreSoundTracks columns f most pushed → AreSoundTracks columns f most kept
   kept_soundly columns f nfa most pushed kept keeps sound = record {
     distinct = kept_apart nfa pushed kept keeps sound.distinct;
-    keys = kept_all nfa (λ (t : Track R). AreSoundOf seen columns f most t.keys) pushed kept keeps sound.keys;
+    keys = kept_all nfa (λ (t : Track R). AreSoundOf seen columns f most t.keys) pushed kept
+        keeps sound.keys;
   }
 
   tabled_typed : (all : Contents R) (hit : Option Hit) → IsTabled seen all hit → IsHitOf Table hit
@@ -77,15 +87,18 @@ module _ {R : Type 0} (seen : R → Seen R) where
       → AllAdvance old.nfa.sets item old.tracks advanced.tracks → pushed.nfa ≡ old.nfa
       → ArePushed seen f column sync item advanced.tracks pushed.tracks → IsTabled seen pushed hit
       → KeepsExtending pushed.nfa pushed.tracks kept.tracks → kept.nfa ≡ pushed.nfa
-      → StepsSoundly seen (collect column sync rate f) (collect_held old) now item (collect_held kept) hit
-  sound_step_collect column sync rate f old advanced pushed kept now item hit advances same pushes tabled keeps same_kept =
+      → StepsSoundly seen (collect column sync rate f) (collect_held old) now item
+      (collect_held kept) hit
+  sound_step_collect column sync rate f old advanced pushed kept now item hit advances same pushes
+      tabled keeps same_kept =
       λ standing columns position is_next clear is_item sound.
-      let before : AreSoundTracks columns f position old.tracks = record { distinct = sound.3; keys = sound.4 } in
+      let before : AreSoundTracks columns f position old.tracks =
+      record { distinct = sound.3; keys = sound.4 } in
       let after : AreSoundTracks columns f now kept.tracks =
       subst (λ (n : ℕ). AreSoundTracks columns f n kept.tracks) (sym is_next)
       (kept_soundly columns f pushed.nfa (position + 1) pushed.tracks kept.tracks keeps
-      (pushed_soundly columns column sync f old.nfa position item old.tracks advanced.tracks pushed.tracks clear.0 is_item
-      advances pushes before)) in
+      (pushed_soundly columns column sync f old.nfa position item old.tracks advanced.tracks
+      pushed.tracks clear.0 is_item advances pushes before)) in
       record {
         node = (
           subst (λ (a : Automaton). AreSetsOf a.sets rate) (sym (same_kept ∙ same)) sound.0,
@@ -101,7 +114,8 @@ module _ {R : Type 0} (seen : R → Seen R) where
   put_soundly : (columns : List Column) (f : Qre) (at : ℕ) (tracks : List (Track R)) (keys : Keys R)
       → IsClear bound columns f → (Contains (starts_of tracks) at → ⊥) → AreNew seen f keys
       → AreSoundTracks columns f at tracks
-      → AreSoundTracks columns f at (tracks ++ record { start = at; state = Initial; keys = keys } ∷ [])
+      → AreSoundTracks columns f at
+      (tracks ++ record { start = at; state = Initial; keys = keys } ∷ [])
   put_soundly columns f at tracks keys clear fresh are sound =
       let x : Track R = record { start = at; state = Initial; keys = keys } in
       let is = are.fallback.sound bound columns clear in
@@ -109,25 +123,33 @@ module _ {R : Type 0} (seen : R → Seen R) where
       record {
         distinct = subst AreDifferent (sym (map-append (λ (t : Track R). t.start) tracks (x ∷ [])))
             (different_more (starts_of tracks) at sound.distinct fresh);
-        keys = all_joined (λ (t : Track R). AreSoundOf seen columns f at t.keys) tracks (x ∷ []) sound.keys (
-          record {
-            fallback = record { within = omega (arith, within); sound = is.sound };
-            keyed = subst (λ (keyed : Followers R).
-                AllByRecursion (IsSoundWithin seen (IsSoundOf seen columns f) at) keyed.followers) (sym are.keyed) tt;
-          },
-          tt,
-        );
+        keys = all_joined (λ (t : Track R). AreSoundOf seen columns f at t.keys) tracks
+            (x ∷ []) sound.keys (
+              record {
+                fallback = record { within = omega (arith, within); sound = is.sound };
+                keyed = subst (λ (keyed : Followers R).
+                    AllByRecursion (IsSoundWithin seen (IsSoundOf seen columns f) at)
+                    keyed.followers)
+                    (sym are.keyed) tt;
+              },
+              tt,
+            );
       }
 
-  first_typed : (sets : Sets) (at : ℕ) (hit : Option Hit) → IsFirstTable sets at hit → IsHitAt Table at hit
+  first_typed : (sets : Sets) (at : ℕ) (hit : Option Hit) → IsFirstTable sets at hit
+      → IsHitAt Table at hit
   first_typed sets at None none = tt
-  first_typed sets at (Some found) (same, is, typed, accepted) = (same, table_typed found [] is typed)
+  first_typed sets at (Some found) (same, is, typed, accepted) =
+      (same, table_typed found [] is typed)
 
-  pub sound_start_collect : (column : ℕ) (sync : Predicate) (rate : rates.Regex) (f : Qre) (old new : Contents R)
-      (at : ℕ) (hit : Option Hit) → AddsStart seen f old at new → IsFirstTable old.nfa.sets at hit
+  pub sound_start_collect : (column : ℕ) (sync : Predicate) (rate : rates.Regex) (f : Qre)
+      (old new : Contents R) (at : ℕ) (hit : Option Hit) → AddsStart seen f old at new
+      → IsFirstTable old.nfa.sets at hit
       → StartsSoundly seen (collect column sync rate f) (collect_held old) at (collect_held new) hit
-  sound_start_collect column sync rate f old new at hit (same, puts) first = λ standing columns clear sound.
-      let before : AreSoundTracks columns f at old.tracks = record { distinct = sound.3; keys = sound.4 } in
+  sound_start_collect column sync rate f old new at hit (same, puts) first =
+      λ standing columns clear sound.
+      let before : AreSoundTracks columns f at old.tracks =
+      record { distinct = sound.3; keys = sound.4 } in
       let after : AreSoundTracks columns f at new.tracks = elim puts [
         | inl (can, keys, are, is_put) ↦ subst (AreSoundTracks columns f at) (sym is_put)
             (put_soundly columns f at old.tracks keys clear.0 can.1 are before)

@@ -26,8 +26,9 @@ module _ {R : Type 0} (seen : R → Seen R) where
         room = omega (arith, room);
       }
 
-  unfoldable pub step_fed : (f g : Qre) (a : Holding R) (held : Contents R) (now : ℕ) (item : List Field)
-      → CanStep seen (compose f g) (compose_held a held) now item → CanStep seen f a now item
+  unfoldable pub step_fed : (f g : Qre) (a : Holding R) (held : Contents R) (now : ℕ)
+      (item : List Field) → CanStep seen (compose f g) (compose_held a held) now item
+      → CanStep seen f a now item
   step_fed f g a held now item can =
       let room : now + (composes_of f + composes_of g + 1) < 2 ^ 64 = can.room in record {
         standing = can.standing;
@@ -41,13 +42,15 @@ module _ {R : Type 0} (seen : R → Seen R) where
       }
 
   -- the runners may take the value of the left hit
-  unfoldable pub passes_allowed : (f g : Qre) (a a' : Holding R) (held : Contents R) (now : ℕ) (item : List Field)
-      (left : Option Hit) → CanStep seen (compose f g) (compose_held a held) now item → StepsSoundly seen f a now item a' left
-      → CanPassOn seen g held left
+  unfoldable pub passes_allowed : (f g : Qre) (a a' : Holding R) (held : Contents R) (now : ℕ)
+      (item : List Field)
+      (left : Option Hit) → CanStep seen (compose f g) (compose_held a held) now item
+      → StepsSoundly seen f a now item a' left → CanPassOn seen g held left
   passes_allowed f g a a' held now item left can first =
       let room : now + (composes_of f + composes_of g + 1) < 2 ^ 64 = can.room in
       let is_next = can.is_next in
-      let x = first can.standing can.columns can.position can.is_next can.clear.0 can.is_item can.sound.0 in
+      let x = first can.standing can.columns can.position can.is_next can.clear.0
+      can.is_item can.sound.0 in
       record {
         standing = can.standing;
         columns = derived_columns (type_of can.columns f);
@@ -58,8 +61,9 @@ module _ {R : Type 0} (seen : R → Seen R) where
         room = omega (arith, room, is_next);
       }
 
-  unfoldable pub feeds_allowed : (f g : Qre) (a a' : Holding R) (held : Contents R) (at : ℕ) (left : Option Hit)
-      → CanStart seen (compose f g) (compose_held a held) at → StartsSoundly seen f a at a' left → CanFeed seen g held left
+  unfoldable pub feeds_allowed : (f g : Qre) (a a' : Holding R) (held : Contents R) (at : ℕ)
+      (left : Option Hit) → CanStart seen (compose f g) (compose_held a held) at
+      → StartsSoundly seen f a at a' left → CanFeed seen g held left
   feeds_allowed f g a a' held at left can first =
       let room : at + (composes_of f + composes_of g + 1) < 2 ^ 64 = can.room in
       let x = first can.standing can.columns can.clear.0 can.sound.0 in
@@ -69,13 +73,15 @@ module _ {R : Type 0} (seen : R → Seen R) where
         clear = can.clear.1;
         no_collect = can.clear.2;
         idle = can.sound.4;
-        is_item = hit_item (type_of can.columns f) left (hit_of (type_of can.columns f) at left x.hit);
+        is_item =
+            hit_item (type_of can.columns f) left (hit_of (type_of can.columns f) at left x.hit);
         room = omega (arith, room);
       }
 
   -- a runner that has begun anew may take the value
-  unfoldable pub carry_begun : (g : Qre) (runner between : R) (found : Hit) → CanBegin seen g runner (Some found)
-      → IsRenewed seen g runner between → CanCarry seen g between (item_of found.value)
+  unfoldable pub carry_begun : (g : Qre) (runner between : R) (found : Hit)
+      → CanBegin seen g runner (Some found) → IsRenewed seen g runner between
+      → CanCarry seen g between (item_of found.value)
   carry_begun g runner between found can renewed =
       let position = renewed.position in
       let room = can.room in
@@ -89,7 +95,8 @@ module _ {R : Type 0} (seen : R → Seen R) where
       }
 
   -- its node may take the item
-  unfoldable pub step_carried : (q : Qre) (runner : R) (item : List Field) → CanCarry seen q runner item
+  unfoldable pub step_carried : (q : Qre) (runner : R) (item : List Field)
+      → CanCarry seen q runner item
       → CanStep seen q (seen runner).node ((seen runner).position + 1) item
   step_carried q runner item can = record {
     standing = can.standing;

@@ -25,14 +25,17 @@ module _ (f g : Qre) (a a' : Holding Progress) where
     no_memory = λ free. refl;
   }
 
-  pub compose_steps : (held passed kept : Contents Progress) (now : ℕ) (item : List Field) (left hit : Option Hit)
-      → HasStepped seen_of f a now item a' (Ok left) → PassesOn seen_of g held left passed hit
+  pub compose_steps : (held passed kept : Contents Progress) (now : ℕ) (item : List Field)
+      (left hit : Option Hit) → HasStepped seen_of f a now item a' (Ok left)
+      → PassesOn seen_of g held left passed hit
       → kept.live ≡ live_instances (live_of f a') passed.live
       → kept.idle ≡ passed.idle ++ retired (live_of f a') passed.live
-      → HasStepped seen_of (compose f g) (compose_held a held) now item (compose_held a' kept) (Ok hit)
+      → HasStepped seen_of (compose f g) (compose_held a held) now item
+      (compose_held a' kept) (Ok hit)
   compose_steps held passed kept now item left hit first passes live idle = record {
-    word = step_compose seen_of f g a a' held passed kept now item left hit first.word passes live idle;
-    sound = sound_step_compose seen_of f g a a' held passed kept now item left hit (live_of f a') first.sound passes live
-        idle;
+    word = step_compose seen_of f g a a' held passed kept now item left hit first.word
+        passes live idle;
+    sound = sound_step_compose seen_of f g a a' held passed kept now item left hit (live_of f a')
+        first.sound passes live idle;
     no_memory = λ free. refl;
   }

@@ -15,8 +15,8 @@ use Rattle.eval_tree.specs.Steps.{IsFirstHit, IsHit}
 use Rattle.eval_tree.proofs.Outputs.{out_one}
 use Rattle.eval_tree.proofs.Quiet.{hit_start}
 
-module _ (standing : Standing) (columns : List Column) (f g : Qre) (clear : IsClear standing columns f) (word : Word)
-    (is : IsWordOf columns word) where
+module _ (standing : Standing) (columns : List Column) (f g : Qre)
+    (clear : IsClear standing columns f) (word : Word) (is : IsWordOf columns word) where
   -- no value of the left operand, no value of the whole
   pub none_composed : (starts : List ℕ) → IsHit (Den f) word starts None
       → IsHit (Den (compose f g)) word starts None
@@ -26,13 +26,15 @@ module _ (standing : Standing) (columns : List Column) (f g : Qre) (clear : IsCl
   }
 
   -- the answer on what comes out from the start of the hit
-  pub composed : (starts : List ℕ) (found : Hit) (out : Word) (answer : Option Value) → AreApart columns f word starts
-      → IsHit (Den f) word starts (Some found) → Outputs (Den f) [] (drop found.start word) out → IsAnswer g out answer
+  pub composed : (starts : List ℕ) (found : Hit) (out : Word) (answer : Option Value)
+      → AreApart columns f word starts → IsHit (Den f) word starts (Some found)
+      → Outputs (Den f) [] (drop found.start word) out → IsAnswer g out answer
       → IsHit (Den (compose f g)) word starts (hit_at found.start answer)
   composed starts found out None apart left outputs answers = record {
     sound = tt;
     complete = λ start v there (x, other, den, others, right).
-        let same : start ≡ found.start = hit_start standing columns f clear word starts is apart found left start x there den
+        let same : start ≡ found.start =
+        hit_start standing columns f clear word starts is apart found left start x there den
         in
         let outs : other ≡ out = out_one standing columns f clear (drop found.start word) other out
         (word_after columns word found.start is)
@@ -44,14 +46,17 @@ module _ (standing : Standing) (columns : List Column) (f g : Qre) (clear : IsCl
     complete = tt;
   }
 
-module _ (standing : Standing) (columns : List Column) (f g : Qre) (clear : IsClear standing columns f) where
-  pub none_composed_first : (at : ℕ) → IsFirstHit (Den f) at None → IsFirstHit (Den (compose f g)) at None
+module _ (standing : Standing) (columns : List Column) (f g : Qre)
+    (clear : IsClear standing columns f) where
+  pub none_composed_first : (at : ℕ) → IsFirstHit (Den f) at None
+      → IsFirstHit (Den (compose f g)) at None
   none_composed_first at left = λ v (x, out, den, outputs, right). left x den
 
-  pub composed_first : (at : ℕ) (found : Hit) (out : Word) (answer : Option Value) → IsFirstHit (Den f) at (Some found)
-      → Outputs (Den f) [] [] out → IsAnswer g out answer
+  pub composed_first : (at : ℕ) (found : Hit) (out : Word) (answer : Option Value)
+      → IsFirstHit (Den f) at (Some found) → Outputs (Den f) [] [] out → IsAnswer g out answer
       → IsFirstHit (Den (compose f g)) at (hit_at found.start answer)
   composed_first at found out None left outputs answers = λ v (x, other, den, others, right).
-      answers v (subst (λ (u : Word). Den g u v) (out_one standing columns f clear [] other out tt others outputs) right)
+      answers v (subst (λ (u : Word). Den g u v)
+      (out_one standing columns f clear [] other out tt others outputs) right)
   composed_first at found out (Some v) left outputs answers =
       (left.0, (found.value, out, left.1, outputs, answers))

@@ -1,5 +1,6 @@
 -- Starts that can continue, but for one: what is kept at them, and that nothing is kept at the one.
-use Rattle.std.proofs.Common.{◌≡◌, ◌↔◌, ◌==◌, ◌&&◌, ◌∙◌, ℕ, Bool, true, false, cond, not, IsTrue, List, None, refl, ap, subst}
+use Rattle.std.proofs.Common.{◌≡◌, ◌↔◌, ◌==◌, ◌&&◌, ◌∙◌, ℕ, Bool, true, false, cond, not, IsTrue}
+use Rattle.std.proofs.Common.{List, None, refl, ap, subst}
 use Rattle.std.proofs.lemmas.Bool.{eq-eqb, ne_eqb}
 use Rattle.value_ops.specs.declared.value.Value.{Value}
 use Rattle.split_eval.specs.Entries.{Contents, entry_at, live_entries}
@@ -21,15 +22,16 @@ pub elsewhere_lives : (at : ℕ) (live : ℕ → Bool) (P : ℕ → Type 0) → 
 elsewhere_lives at live P none lives start = (
   λ is. (lives start).0 (can_continue (start == at) (live start) is),
   λ there.
-      ap (λ (same : Bool). not same && live start) (ne_eqb start at (λ same. none (subst P same there)))
-      ∙ (lives start).1 there,
+      ap (λ (same : Bool). not same && live start)
+      (ne_eqb start at (λ same. none (subst P same there))) ∙ (lives start).1 there,
 )
 
 none_at : (entries : List (Entry Value)) (at : ℕ) (live : ℕ → Bool)
     → entry_at (live_entries (elsewhere at live) entries) at ≡ None
 none_at entries at live =
     entry_at-live entries (elsewhere at live) at
-    ∙ ap (λ (same : Bool). cond (not same && live at) (entry_at entries at) None) (eq-eqb at at refl)
+    ∙ ap (λ (same : Bool). cond (not same && live at) (entry_at entries at) None)
+    (eq-eqb at at refl)
 
 -- nothing is kept at the one
 pub fresh_elsewhere : (at : ℕ) (live : ℕ → Bool) (held kept : Contents Value)

@@ -16,7 +16,8 @@ use Rattle.eval_tree.specs.declared.hit.Hit.{Hit}
 use Rattle.eval_tree.specs.Calls.{HasStarted, HasStepped}
 use Rattle.eval_tree.specs.Lefts.{IsEnded, IsPut}
 use Rattle.eval_tree.proofs.Elsewhere.{elsewhere}
-use Rattle.eval_tree.proofs.FoldSoundness.{sound_start_iter, sound_step_iter_none, sound_step_iter_some}
+use Rattle.eval_tree.proofs.FoldSoundness.{sound_start_iter, sound_step_iter_none}
+use Rattle.eval_tree.proofs.FoldSoundness.{sound_step_iter_some}
 use Rattle.eval_tree.proofs.IterStarts.{start_iter}
 use Rattle.eval_tree.proofs.IterSteps.{step_iter_none, step_iter_some}
 use Rattle.eval_tree.proofs.SplitArms.{put_room}
@@ -24,39 +25,50 @@ use Rattle.eval_tree.proofs.SplitArms.{put_room}
 module _ (f : Qre) (number : ℤ) (e : Expression) (a a' : Holding Progress) where
   pub iter_starts : (so_far new : Contents Value) (at : ℕ) (operand : Option Hit) (live : Bool)
       → HasStarted seen_of f a at a' (Ok operand) → live ≡ live_of f a' at
-      → IsPut live so_far (record { inner = at; outer = at; value = value.Scalar (Number number) }) new
+      → IsPut live so_far
+      (record { inner = at; outer = at; value = value.Scalar (Number number) }) new
       → HasStarted seen_of (iter f number e) (iter_held a so_far) at (iter_held a' new)
       (Ok (Some (record { start = at; value = value.Scalar (Number number) })))
   iter_starts so_far new at operand live first is_live put = record {
     word = start_iter seen_of f number e a a' so_far new at operand live first.word is_live put
-        (put_room live so_far new (record { inner = at; outer = at; value = value.Scalar (Number number) }) put);
+        (put_room live so_far new
+        (record { inner = at; outer = at; value = value.Scalar (Number number) }) put);
     sound = sound_start_iter seen_of f number e a a' so_far new at operand live first.sound put;
     no_memory = λ free. refl;
   }
 
-  pub iter_steps_none : (so_far kept : Contents Value) (now : ℕ) (item : List Field) (piece : Option Hit)
-      → HasStepped seen_of f a now item a' (Ok piece) → IsEnded e so_far.entries piece None
-      → kept.entries ≡ live_entries (elsewhere now (live_of f a')) so_far.entries → kept.room ≡ so_far.room
-      → HasStepped seen_of (iter f number e) (iter_held a so_far) now item (iter_held a' kept) (Ok None)
+  pub iter_steps_none : (so_far kept : Contents Value) (now : ℕ) (item : List Field)
+      (piece : Option Hit) → HasStepped seen_of f a now item a' (Ok piece)
+      → IsEnded e so_far.entries piece None
+      → kept.entries ≡ live_entries (elsewhere now (live_of f a')) so_far.entries
+      → kept.room ≡ so_far.room → HasStepped seen_of (iter f number e) (iter_held a so_far) now item
+      (iter_held a' kept) (Ok None)
   iter_steps_none so_far kept now item piece first ended keeps room = record {
-    word = step_iter_none seen_of f number e a a' so_far kept now item piece first.word ended keeps room;
-    sound = sound_step_iter_none seen_of f number e a a' so_far kept now item (elsewhere now (live_of f a')) piece
-        first.sound keeps room;
+    word = step_iter_none seen_of f number e a a' so_far kept now item piece first.word
+        ended keeps room;
+    sound = sound_step_iter_none seen_of f number e a a' so_far kept now item
+        (elsewhere now (live_of f a')) piece first.sound keeps room;
     no_memory = λ free. refl;
   }
 
-  pub iter_steps_some : (a'' : Holding Progress) (so_far kept new : Contents Value) (now : ℕ) (item : List Field)
-      (piece begun : Option Hit) (hit : Hit) (live : Bool) → HasStepped seen_of f a now item a' (Ok piece)
-      → IsEnded e so_far.entries piece (Some hit)
-      → kept.entries ≡ live_entries (elsewhere now (live_of f a')) so_far.entries → kept.room ≡ so_far.room
-      → HasStarted seen_of f a' now a'' (Ok begun) → live ≡ live_of f a'' now
+  pub iter_steps_some : (a'' : Holding Progress) (so_far kept new : Contents Value) (now : ℕ)
+      (item : List Field) (piece begun : Option Hit) (hit : Hit) (live : Bool)
+      → HasStepped seen_of f a now item a' (Ok piece) → IsEnded e so_far.entries piece (Some hit)
+      → kept.entries ≡ live_entries (elsewhere now (live_of f a')) so_far.entries
+      → kept.room ≡ so_far.room → HasStarted seen_of f a' now a'' (Ok begun)
+      → live ≡ live_of f a'' now
       → IsPut live kept (record { inner = now; outer = hit.start; value = hit.value }) new
-      → HasStepped seen_of (iter f number e) (iter_held a so_far) now item (iter_held a'' new) (Ok (Some hit))
-  iter_steps_some a'' so_far kept new now item piece begun hit live first ended keeps room second is_live put = record {
-    word = step_iter_some seen_of f number e a a' a'' so_far kept new now item piece begun hit live first.word ended keeps
-        room second.word is_live put
-        (put_room live kept new (record { inner = now; outer = hit.start; value = hit.value }) put);
-    sound = sound_step_iter_some seen_of f number e a a' a'' so_far kept new now item (elsewhere now (live_of f a')) piece
-        begun hit live first.sound ended keeps room second.sound put;
-    no_memory = λ free. refl;
-  }
+      → HasStepped seen_of (iter f number e) (iter_held a so_far) now item
+      (iter_held a'' new) (Ok (Some hit))
+  iter_steps_some a'' so_far kept new now item piece begun hit live first ended keeps room second
+      is_live put = record {
+        word =
+            step_iter_some seen_of f number e a a' a'' so_far kept new now item piece begun hit live
+            first.word ended keeps room second.word is_live put
+            (put_room live kept new
+            (record { inner = now; outer = hit.start; value = hit.value }) put);
+        sound = sound_step_iter_some seen_of f number e a a' a'' so_far kept new now item
+            (elsewhere now (live_of f a')) piece begun hit live first.sound ended keeps room
+            second.sound put;
+        no_memory = λ free. refl;
+      }

@@ -1,8 +1,10 @@
 -- An iteration: a start, whose value is that of no piece.
-use Rattle.std.proofs.Common.{◌≡◌, ◌≤◌, ℕ, ◌∙◌, Bool, [], ◌∷◌, ◌++◌, Option, Some, drop, length, refl, sym, ap, subst, arith, append-nil, inl, inr}
+use Rattle.std.proofs.Common.{◌≡◌, ◌≤◌, ℕ, ◌∙◌, Bool, [], ◌∷◌, ◌++◌, Option, Some, drop, length}
+use Rattle.std.proofs.Common.{refl, sym, ap, subst, arith, append-nil, inl, inr}
 use Rattle.std.specs.Prelude.{ℤ}
 use Rattle.std.specs.List.{Contains}
-use Rattle.std.proofs.lemmas.List.Elements.{Contains-append_left, Contains-push, Contains-push_cases}
+use Rattle.std.proofs.lemmas.List.Elements.{Contains-append_left, Contains-push}
+use Rattle.std.proofs.lemmas.List.Elements.{Contains-push_cases}
 use Rattle.value_ops.specs.declared.scalar.Scalar.TheVariants.{Number}
 use Rattle.value_ops.specs.declared.value.Value.{Value}
 use Rattle.value_ops.specs.declared.value.Value.TheVariants as value
@@ -33,9 +35,10 @@ abbrev first_value : ℤ → Value
 first_value number = value.Scalar (Number number)
 
 module _ {R : Type 0} (seen : R → Seen R) (f : Qre) (number : ℤ) (e : Expression) where
-  pub start_iter : (a a' : Holding R) (so_far new : Contents Value) (at : ℕ) (operand : Option Hit) (live : Bool)
-      → Starts seen f a at a' operand → live ≡ live_of f a' at
-      → IsPut live so_far (record { inner = at; outer = at; value = value.Scalar (Number number) }) new
+  pub start_iter : (a a' : Holding R) (so_far new : Contents Value) (at : ℕ)
+      (operand : Option Hit) (live : Bool) → Starts seen f a at a' operand → live ≡ live_of f a' at
+      → IsPut live so_far
+      (record { inner = at; outer = at; value = value.Scalar (Number number) }) new
       → new.room ≡ so_far.room
       → Starts seen (iter f number e) (iter_held a so_far) at (iter_held a' new)
       (Some (record { start = at; value = value.Scalar (Number number) }))
@@ -49,18 +52,21 @@ module _ {R : Type 0} (seen : R → Seen R) (f : Qre) (number : ℤ) (e : Expres
       let (ends, reached, operand_rep) = rep.0 in
       let nothing = after_end word at end in
       let den : Den q (drop at word) x = subst (λ w. Den q w x) (sym nothing) ([], refl, refl) in
-      let in_q : In (rate_of q) (drop at word) = subst (In (rate_of q)) (sym nothing) ([], refl, tt) in
+      let in_q : In (rate_of q) (drop at word) =
+      subst (In (rate_of q)) (sym nothing) ([], refl, tt) in
       let none : NoneAtEnd (In (rate_of q)) word starts =
       (λ start there in_old. fresh (subst (Contains starts)
-      (apart start at [] tt (Contains-append_left starts (at ∷ []) start there) (Contains-push starts at)
-      (subst (In (rate_of q)) (sym (append-nil (drop start word))) in_old)
+      (apart start at [] tt (Contains-append_left starts (at ∷ []) start there)
+      (Contains-push starts at) (subst (In (rate_of q)) (sym (append-nil (drop start word))) in_old)
       (subst (In (rate_of q)) (sym (append-nil (drop at word))) in_q)) there)) in
-      let no_value : (start : ℕ) (v : Value) → Contains starts start → Den q (drop start word) v → ⊥ =
+      let no_value : (start : ℕ) (v : Value) → Contains starts start
+      → Den q (drop start word) v → ⊥ =
       (λ start v there old. none start there
       (den_in bound columns q (drop start word) v clear (word_after columns word start is) old)) in
       let before = reached_new (In (rate_of q)) word starts ends at end none reached in
       let inside : at ≤ length word = omega (arith, end) in
-      let after = reached_end (In (rate_of q)) word all ends at before (Contains-push starts at) inside in_q in
+      let after = reached_end (In (rate_of q)) word all ends at before
+      (Contains-push starts at) inside in_q in
       let not_there : Contains ends at → ⊥ =
       (λ there. let (start, piece, from, cut, in_piece) = (reached at).0 there in
       none start from (subst (In (rate_of q)) (end_is word start at piece cut end) in_piece)) in
@@ -75,13 +81,15 @@ module _ {R : Type 0} (seen : R → Seen R) (f : Qre) (number : ℤ) (e : Expres
       (apart_right columns q f e word all (ends ++ at ∷ []) two is apart_two
       (λ k there. (after k).0 (subst (λ n. Contains (ends ++ n ∷ []) k) end there))) in
       record {
-        after = handed seen columns q f e two word all ends a' so_far new at x live is places apart_two before
-            rep.1.distinct
-            (waiting_new (Den q) (HasExtension columns (rate_of f)) word starts so_far.entries at end no_value rep.1)
+        after = handed seen columns q f e two word all ends a' so_far new at x live is places
+            apart_two before rep.1.distinct
+            (waiting_new (Den q) (HasExtension columns (rate_of f)) word starts so_far.entries at
+            end no_value rep.1)
             rep.2 (Contains-push starts at) den
             (subst (λ n. Represents seen columns f a' word (ends ++ n ∷ [])) end y.after)
             (is_live ∙ ap (live_of f a') end)
-            (subst (λ n. IsPut live so_far (record { inner = n; outer = at; value = x }) new) end put)
+            (subst (λ n. IsPut live so_far (record { inner = n; outer = at; value = x }) new) end
+            put)
             room;
         hit = (refl, ([], refl, refl));
       }

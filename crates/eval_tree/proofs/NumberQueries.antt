@@ -14,8 +14,10 @@ use Rattle.item_schema.specs.declared.column.Column.{Column}
 use Rattle.item_schema.specs.declared.column.Kind.{Kind}
 use Rattle.item_schema.specs.declared.column.Kind.TheVariants as kind
 use Rattle.item_schema.specs.Layout.{is_read}
-use Rattle.query_model.specs.Queries.{Qre, atom, eps, choice, split, iter, combine, apply, compose, collect}
-use Rattle.query_model.specs.QueryTypes.{derived_columns, of_columns, of_one, of_two, table_or_number, type_of, type_of_expression, type_of_kind}
+use Rattle.query_model.specs.Queries.{Qre, atom, eps, choice, split, iter, combine, apply, compose}
+use Rattle.query_model.specs.Queries.{collect}
+use Rattle.query_model.specs.QueryTypes.{derived_columns, of_columns, of_one, of_two}
+use Rattle.query_model.specs.QueryTypes.{table_or_number, type_of, type_of_expression, type_of_kind}
 use Rattle.query_model.specs.Rules.{HasNoCollect}
 use Rattle.eval_tree.specs.Numbers.{HasNoTables, IsNumberQuery}
 use Rattle.eval_tree.proofs.StoredTracks.{and_first, and_second}
@@ -72,7 +74,8 @@ both_number : (a b : ValueType) (e : Expression) → a ≡ Number → b ≡ Numb
     → type_of_expression (of_two a b) e ≡ Number
 both_number a b e first second =
     subst (λ (t : ValueType). type_of_expression (of_two t b) e ≡ Number) (sym first)
-    (subst (λ (t : ValueType). type_of_expression (of_two Number t) e ≡ Number) (sym second) (on_two e))
+    (subst (λ (t : ValueType). type_of_expression (of_two Number t) e ≡ Number)
+    (sym second) (on_two e))
 
 pub number_type : (columns : List Column) (q : Qre) → HasNoCollect q → HasNoTables columns
     → type_of columns q ≡ Number
@@ -87,10 +90,11 @@ number_type columns (combine f g e) bare none =
     both_number (type_of columns f) (type_of columns g) e (number_type columns f bare.0 none)
     (number_type columns g bare.1 none)
 number_type columns (apply f e) bare none =
-    subst (λ (t : ValueType). type_of_expression (of_one t) e ≡ Number) (sym (number_type columns f bare none))
-    (on_one e)
+    subst (λ (t : ValueType). type_of_expression (of_one t) e ≡ Number)
+    (sym (number_type columns f bare none)) (on_one e)
 number_type columns (compose f g) bare none =
-    subst (λ (t : ValueType). type_of (derived_columns t) g ≡ Number) (sym (number_type columns f bare.0 none))
+    subst (λ (t : ValueType). type_of (derived_columns t) g ≡ Number)
+    (sym (number_type columns f bare.0 none))
     (number_type (derived_columns Number) g bare.1 derived_none)
 number_type columns (collect column sync rate f) bare none = absurd bare
 
@@ -107,7 +111,8 @@ out_numbers columns f g is = record {
 read_kind : (k : Kind) → is_read k ≡ true → k ≡ kind.Table → ⊥
 read_kind k read is = cc
 
-pub read_numbers : (columns : List Column) → IsTrue (list_all (λ c. is_read c.kind) columns) → HasNoTables columns
+pub read_numbers : (columns : List Column) → IsTrue (list_all (λ c. is_read c.kind) columns)
+    → HasNoTables columns
 read_numbers [] read = tt
 read_numbers (column ∷ columns) read = (
   read_kind column.kind

@@ -20,18 +20,20 @@ use Rattle.query_model.specs.Rules as rules
 use Rattle.query_model.proofs.ItemFields.{atom_types, one_type, two_types}
 use Rattle.split_eval.specs.Entries.{Contents}
 use Rattle.split_eval.specs.declared.entry.Entry.{Entry}
-use Rattle.eval_nodes.specs.Holdings.{Holding, atom_held, combine_held, apply_held, split_held, iter_held, Seen}
+use Rattle.eval_nodes.specs.Holdings.{Holding, atom_held, combine_held, apply_held, split_held}
+use Rattle.eval_nodes.specs.Holdings.{iter_held, Seen}
 use Rattle.eval_nodes.specs.Sound.{IsTyped}
 use Rattle.eval_tree.specs.declared.hit.Hit.{Hit}
 use Rattle.eval_tree.specs.Feeds.{IsCarried}
-use Rattle.eval_tree.specs.Lefts.{AreNumbersOnHits, AreNumbersWith, IsEnded, IsNumberOnBoth, IsNumberOnHit, IsNumberOnOne, IsNumberWith}
+use Rattle.eval_tree.specs.Lefts.{AreNumbersOnHits, AreNumbersWith, IsEnded, IsNumberOnBoth}
+use Rattle.eval_tree.specs.Lefts.{IsNumberOnHit, IsNumberOnOne, IsNumberWith}
 use Rattle.eval_tree.specs.Numbers.{CarriesNumbers, StartsNumbers, StepsNumbers}
 use Rattle.eval_tree.specs.Steps.{IsHitOf, StartsSoundly, StepsSoundly}
 use Rattle.eval_tree.proofs.NumberQueries.{number_type}
 use Rattle.eval_tree.proofs.Typed.{ended_of, found_typed, hit_of}
 
-number_typed : (types : Types) (e : Expression) → rules.IsTyped types e → type_of_expression types e ≡ Number
-    → HasType types e Number
+number_typed : (types : Types) (e : Expression) → rules.IsTyped types e
+    → type_of_expression types e ≡ Number → HasType types e Number
 number_typed types e typed is = subst (HasType types e) is typed
 
 -- a number is no table
@@ -39,42 +41,49 @@ pub no_table : (v : Value) → IsValueOf Number v → IsNoTable v
 no_table (value.Scalar scalar) is = tt
 no_table (value.Table entries) is = absurd is
 
-on_one : (type : ValueType) (e : Expression) (x : Value) → IsValueOf type x → HasType (of_one type) e Number
-    → IsNumberOnOne e x
-on_one type e x is typed = subst (λ (t : Types). HasType t e Number) (sym (one_type type x is)) typed
+on_one : (type : ValueType) (e : Expression) (x : Value) → IsValueOf type x
+    → HasType (of_one type) e Number → IsNumberOnOne e x
+on_one type e x is typed =
+    subst (λ (t : Types). HasType t e Number) (sym (one_type type x is)) typed
 
-on_both : (type other : ValueType) (e : Expression) (x y : Value) → IsValueOf type x → IsValueOf other y
-    → HasType (of_two type other) e Number → IsNumberOnBoth e x y
+on_both : (type other : ValueType) (e : Expression) (x y : Value) → IsValueOf type x
+    → IsValueOf other y → HasType (of_two type other) e Number → IsNumberOnBoth e x y
 on_both type other e x y is is' typed =
     subst (λ (t : Types). HasType t e Number) (sym (two_types type other x y is is')) typed
 
-on_hit : (type : ValueType) (e : Expression) (hit : Option Hit) → IsHitOf type hit → HasType (of_one type) e Number
-    → IsNumberOnHit e hit
+on_hit : (type : ValueType) (e : Expression) (hit : Option Hit) → IsHitOf type hit
+    → HasType (of_one type) e Number → IsNumberOnHit e hit
 on_hit type e None is typed = tt
 on_hit type e (Some found) is typed = on_one type e found.value is typed
 
-with_right : (type other : ValueType) (e : Expression) (x : Value) (right : Option Hit) → IsValueOf type x
-    → IsHitOf other right → HasType (of_two type other) e Number → IsNumberWith e x right
+with_right : (type other : ValueType) (e : Expression) (x : Value) (right : Option Hit)
+    → IsValueOf type x → IsHitOf other right → HasType (of_two type other) e Number
+    → IsNumberWith e x right
 with_right type other e x None is is' typed = tt
-with_right type other e x (Some found) is is' typed = on_both type other e x found.value is is' typed
+with_right type other e x (Some found) is is' typed =
+    on_both type other e x found.value is is' typed
 
 on_hits : (type other : ValueType) (e : Expression) (left right : Option Hit) → IsHitOf type left
     → IsHitOf other right → HasType (of_two type other) e Number → AreNumbersOnHits e left right
 on_hits type other e None right is is' typed = tt
-on_hits type other e (Some found) right is is' typed = with_right type other e found.value right is is' typed
+on_hits type other e (Some found) right is is' typed =
+    with_right type other e found.value right is is' typed
 
-with_entries : (type other : ValueType) (e : Expression) (entries : List (Entry Value)) (right : Option Hit)
-    → AllByRecursion (λ (entry : Entry Value). IsValueOf type entry.value) entries → IsHitOf other right
-    → HasType (of_two type other) e Number → AreNumbersWith e entries right
+with_entries : (type other : ValueType) (e : Expression) (entries : List (Entry Value))
+    (right : Option Hit)
+    → AllByRecursion (λ (entry : Entry Value). IsValueOf type entry.value) entries
+    → IsHitOf other right → HasType (of_two type other) e Number → AreNumbersWith e entries right
 with_entries type other e entries None all is typed = tt
 with_entries type other e entries (Some found) all is typed = λ entry there.
     on_both type other e entry.value found.value
-    (found_typed (λ (one : Entry Value). IsValueOf type one.value) entries found.start entry all there) is typed
+    (found_typed (λ (one : Entry Value). IsValueOf type one.value) entries found.start entry
+    all there) is typed
 
 module _ {R : Type 0} (seen : R → Seen R) where
   -- starts
   pub applied_started : (f : Qre) (e : Expression) (a a' : Holding R) (at : ℕ) (hit : Option Hit)
-      → StartsNumbers seen (apply f e) (apply_held a) at → StartsSoundly seen f a at a' hit → IsNumberOnHit e hit
+      → StartsNumbers seen (apply f e) (apply_held a) at → StartsSoundly seen f a at a' hit
+      → IsNumberOnHit e hit
   applied_started f e a a' at hit free started =
       let can = free.0 in
       let type = type_of can.columns f in
@@ -82,9 +91,10 @@ module _ {R : Type 0} (seen : R → Seen R) where
       on_hit type e hit (hit_of type at hit x.hit) (number_typed (of_one type) e can.clear.1
       (number_type can.columns (apply f e) free.1.no_collect free.1.no_tables))
 
-  pub combined_started : (f g : Qre) (e : Expression) (a b a' b' : Holding R) (at : ℕ) (left right : Option Hit)
-      → StartsNumbers seen (combine f g e) (combine_held a b) at → StartsSoundly seen f a at a' left
-      → StartsSoundly seen g b at b' right → AreNumbersOnHits e left right
+  pub combined_started : (f g : Qre) (e : Expression) (a b a' b' : Holding R) (at : ℕ)
+      (left right : Option Hit) → StartsNumbers seen (combine f g e) (combine_held a b) at
+      → StartsSoundly seen f a at a' left → StartsSoundly seen g b at b' right
+      → AreNumbersOnHits e left right
   combined_started f g e a b a' b' at left right free first second =
       let can = free.0 in
       let type = type_of can.columns f in
@@ -95,8 +105,9 @@ module _ {R : Type 0} (seen : R → Seen R) where
       (number_typed (of_two type other) e can.clear.2
       (number_type can.columns (combine f g e) free.1.no_collect free.1.no_tables))
 
-  pub joined_started : (f g : Qre) (e : Expression) (a b a' b' : Holding R) (held : Contents Value) (at : ℕ)
-      (left : Hit) (right : Option Hit) → StartsNumbers seen (split f g e) (split_held a b held) at
+  pub joined_started : (f g : Qre) (e : Expression) (a b a' b' : Holding R)
+      (held : Contents Value) (at : ℕ) (left : Hit) (right : Option Hit)
+      → StartsNumbers seen (split f g e) (split_held a b held) at
       → StartsSoundly seen f a at a' (Some left) → StartsSoundly seen g b at b' right
       → IsNumberWith e left.value right
   joined_started f g e a b a' b' held at left right free first second =
@@ -110,51 +121,59 @@ module _ {R : Type 0} (seen : R → Seen R) where
       (number_type can.columns (split f g e) free.1.no_collect free.1.no_tables))
 
   -- steps
-  pub given_stepped : (pred : Predicate) (e : Expression) (found : Option ℕ) (now : ℕ) (item : List Field)
-      → StepsNumbers seen (atom pred e) (atom_held found) now item → IsNumber (types_of (given item None None)) e
+  pub given_stepped : (pred : Predicate) (e : Expression) (found : Option ℕ) (now : ℕ)
+      (item : List Field) → StepsNumbers seen (atom pred e) (atom_held found) now item
+      → IsNumber (types_of (given item None None)) e
   given_stepped pred e found now item free =
       let can = free.0 in
-      subst (λ (types : Types). HasType types e Number) (sym (atom_types can.columns item can.is_item))
+      subst (λ (types : Types). HasType types e Number)
+      (sym (atom_types can.columns item can.is_item))
       (number_typed (of_columns can.columns) e can.clear.1
       (number_type can.columns (atom pred e) free.1.no_collect free.1.no_tables))
 
-  pub applied_stepped : (f : Qre) (e : Expression) (a a' : Holding R) (now : ℕ) (item : List Field) (hit : Option Hit)
-      → StepsNumbers seen (apply f e) (apply_held a) now item → StepsSoundly seen f a now item a' hit
-      → IsNumberOnHit e hit
+  pub applied_stepped : (f : Qre) (e : Expression) (a a' : Holding R) (now : ℕ) (item : List Field)
+      (hit : Option Hit) → StepsNumbers seen (apply f e) (apply_held a) now item
+      → StepsSoundly seen f a now item a' hit → IsNumberOnHit e hit
   applied_stepped f e a a' now item hit free stepped =
       let can = free.0 in
       let type = type_of can.columns f in
-      let x = stepped bound can.columns can.position can.is_next can.clear.0 can.is_item can.sound in
+      let x = stepped bound can.columns can.position can.is_next can.clear.0
+      can.is_item can.sound in
       on_hit type e hit x.hit (number_typed (of_one type) e can.clear.1
       (number_type can.columns (apply f e) free.1.no_collect free.1.no_tables))
 
-  pub combined_stepped : (f g : Qre) (e : Expression) (a b a' b' : Holding R) (now : ℕ) (item : List Field)
-      (left right : Option Hit) → StepsNumbers seen (combine f g e) (combine_held a b) now item
+  pub combined_stepped : (f g : Qre) (e : Expression) (a b a' b' : Holding R) (now : ℕ)
+      (item : List Field) (left right : Option Hit)
+      → StepsNumbers seen (combine f g e) (combine_held a b) now item
       → StepsSoundly seen f a now item a' left → StepsSoundly seen g b now item b' right
       → AreNumbersOnHits e left right
   combined_stepped f g e a b a' b' now item left right free first second =
       let can = free.0 in
       let type = type_of can.columns f in
       let other = type_of can.columns g in
-      let x = first bound can.columns can.position can.is_next can.clear.0 can.is_item can.sound.0 in
-      let y = second bound can.columns can.position can.is_next can.clear.1 can.is_item can.sound.1 in
+      let x = first bound can.columns can.position can.is_next can.clear.0
+      can.is_item can.sound.0 in
+      let y = second bound can.columns can.position can.is_next can.clear.1
+      can.is_item can.sound.1 in
       on_hits type other e left right x.hit y.hit (number_typed (of_two type other) e can.clear.2
       (number_type can.columns (combine f g e) free.1.no_collect free.1.no_tables))
 
-  pub ended_stepped : (f g : Qre) (e : Expression) (a b b' : Holding R) (held : Contents Value) (now : ℕ)
-      (item : List Field) (right : Option Hit) → StepsNumbers seen (split f g e) (split_held a b held) now item
+  pub ended_stepped : (f g : Qre) (e : Expression) (a b b' : Holding R)
+      (held : Contents Value) (now : ℕ) (item : List Field) (right : Option Hit)
+      → StepsNumbers seen (split f g e) (split_held a b held) now item
       → StepsSoundly seen g b now item b' right → AreNumbersWith e held.entries right
   ended_stepped f g e a b b' held now item right free second =
       let can = free.0 in
       let type = type_of can.columns f in
       let other = type_of can.columns g in
-      let y = second bound can.columns can.position can.is_next can.clear.1 can.is_item can.sound.1 in
+      let y = second bound can.columns can.position can.is_next can.clear.1
+      can.is_item can.sound.1 in
       with_entries type other e held.entries right can.sound.2.typed y.hit
       (number_typed (of_two type other) e can.clear.2
       (number_type can.columns (split f g e) free.1.no_collect free.1.no_tables))
 
-  pub joined_stepped : (f g : Qre) (e : Expression) (a b a' b' b'' : Holding R) (held : Contents Value) (now : ℕ)
-      (item : List Field) (left : Hit) (right begun : Option Hit)
+  pub joined_stepped : (f g : Qre) (e : Expression) (a b a' b' b'' : Holding R)
+      (held : Contents Value) (now : ℕ) (item : List Field) (left : Hit) (right begun : Option Hit)
       → StepsNumbers seen (split f g e) (split_held a b held) now item
       → StepsSoundly seen f a now item a' (Some left) → StepsSoundly seen g b now item b' right
       → StartsSoundly seen g b' now b'' begun → IsNumberWith e left.value begun
@@ -162,35 +181,44 @@ module _ {R : Type 0} (seen : R → Seen R) where
       let can = free.0 in
       let type = type_of can.columns f in
       let other = type_of can.columns g in
-      let x = first bound can.columns can.position can.is_next can.clear.0 can.is_item can.sound.0 in
-      let y = second bound can.columns can.position can.is_next can.clear.1 can.is_item can.sound.1 in
+      let x = first bound can.columns can.position can.is_next can.clear.0
+      can.is_item can.sound.0 in
+      let y = second bound can.columns can.position can.is_next can.clear.1
+      can.is_item can.sound.1 in
       let z = third bound can.columns can.clear.1 y.node in
       with_right type other e left.value begun x.hit (hit_of other now begun z.hit)
       (number_typed (of_two type other) e can.clear.2
       (number_type can.columns (split f g e) free.1.no_collect free.1.no_tables))
 
-  pub ended_piece : (f : Qre) (number : ℤ) (e : Expression) (a a' : Holding R) (so_far : Contents Value) (now : ℕ)
-      (item : List Field) (piece : Option Hit) → StepsNumbers seen (iter f number e) (iter_held a so_far) now item
+  pub ended_piece : (f : Qre) (number : ℤ) (e : Expression) (a a' : Holding R)
+      (so_far : Contents Value) (now : ℕ) (item : List Field) (piece : Option Hit)
+      → StepsNumbers seen (iter f number e) (iter_held a so_far) now item
       → StepsSoundly seen f a now item a' piece → AreNumbersWith e so_far.entries piece
   ended_piece f number e a a' so_far now item piece free first =
       let can = free.0 in
-      let x = first bound can.columns can.position can.is_next can.clear.0 can.is_item can.sound.0 in
-      with_entries Number (type_of can.columns f) e so_far.entries piece can.sound.1.typed x.hit can.clear.2
+      let x = first bound can.columns can.position can.is_next can.clear.0
+      can.is_item can.sound.0 in
+      with_entries Number (type_of can.columns f) e so_far.entries piece can.sound.1.typed
+      x.hit can.clear.2
 
   -- a value so far is none either
-  pub ended_no_table : (f : Qre) (number : ℤ) (e : Expression) (a a' : Holding R) (so_far : Contents Value) (now : ℕ)
-      (item : List Field) (piece : Option Hit) (hit : Hit)
-      → StepsNumbers seen (iter f number e) (iter_held a so_far) now item → StepsSoundly seen f a now item a' piece
-      → IsEnded e so_far.entries piece (Some hit) → IsNoTable hit.value
+  pub ended_no_table : (f : Qre) (number : ℤ) (e : Expression) (a a' : Holding R)
+      (so_far : Contents Value) (now : ℕ) (item : List Field) (piece : Option Hit) (hit : Hit)
+      → StepsNumbers seen (iter f number e) (iter_held a so_far) now item
+      → StepsSoundly seen f a now item a' piece → IsEnded e so_far.entries piece (Some hit)
+      → IsNoTable hit.value
   ended_no_table f number e a a' so_far now item piece hit free first ended =
       let can = free.0 in
-      let x = first bound can.columns can.position can.is_next can.clear.0 can.is_item can.sound.0 in
-      no_table hit.value (ended_of Number (type_of can.columns f) Number e so_far.entries piece (Some hit)
+      let x = first bound can.columns can.position can.is_next can.clear.0
+      can.is_item can.sound.0 in
+      no_table hit.value
+      (ended_of Number (type_of can.columns f) Number e so_far.entries piece (Some hit)
       can.sound.1.typed x.hit can.clear.2 ended)
 
   -- nor is the answer of a runner
-  pub answer_no_table : (q : Qre) (old new : R) (item : List Field) (v : Value) → CarriesNumbers seen q old item
-      → IsCarried seen q old item new → (seen new).answer ≡ Some v → IsNoTable v
+  pub answer_no_table : (q : Qre) (old new : R) (item : List Field) (v : Value)
+      → CarriesNumbers seen q old item → IsCarried seen q old item new
+      → (seen new).answer ≡ Some v → IsNoTable v
   answer_no_table q old new item v free carried is =
       let can = free.0 in
       let sound = carried.sound can.standing can.columns can.clear can.is_item can.sound in

@@ -12,7 +12,8 @@ use Rattle.predicate_cells.specs.Predicates.{Predicate}
 use Rattle.predicate_cells.specs.Truth.{holds}
 use Rattle.query_model.specs.Queries.{Qre, atom, eps, choice, combine, apply}
 use Rattle.eval_nodes.specs.declared.progress.Progress.{Progress}
-use Rattle.eval_nodes.specs.Holdings.{Holding, atom_held, eps_held, choice_held, combine_held, apply_held}
+use Rattle.eval_nodes.specs.Holdings.{Holding, atom_held, eps_held, choice_held, combine_held}
+use Rattle.eval_nodes.specs.Holdings.{apply_held}
 use Rattle.eval_nodes.specs.Plain.{seen_of}
 use Rattle.eval_tree.specs.declared.hit.Hit.{Hit}
 use Rattle.eval_tree.specs.Calls.{HasStarted, HasStepped}
@@ -21,7 +22,9 @@ use Rattle.eval_tree.proofs.Choices.{start_apply, start_choice, step_apply, step
 use Rattle.eval_tree.proofs.Combines.{start_combine, step_combine}
 use Rattle.eval_tree.proofs.FoldSoundness.{sound_start_combine, sound_step_combine}
 use Rattle.eval_tree.proofs.Items.{start_atom, step_atom, step_atom_none, step_atom_other, step_eps}
-use Rattle.eval_tree.proofs.Soundness.{sound_start_apply, sound_start_atom, sound_start_choice, sound_step_apply, sound_step_atom, sound_step_atom_none, sound_step_choice, sound_step_eps}
+use Rattle.eval_tree.proofs.Soundness.{sound_start_apply, sound_start_atom, sound_start_choice}
+use Rattle.eval_tree.proofs.Soundness.{sound_step_apply, sound_step_atom, sound_step_atom_none}
+use Rattle.eval_tree.proofs.Soundness.{sound_step_choice, sound_step_eps}
 
 -- an atom
 pub atom_starts : (pred : Predicate) (e : Expression) (old : Option ℕ) (at : ℕ)
@@ -92,7 +95,8 @@ module _ (f g : Qre) (a b a' b' : Holding Progress) where
   -- either of two
   pub choice_starts : (at : ℕ) (left right : Option Hit) → HasStarted seen_of f a at a' (Ok left)
       → HasStarted seen_of g b at b' (Ok right)
-      → HasStarted seen_of (choice f g) (choice_held a b) at (choice_held a' b') (Ok (option_or left right))
+      → HasStarted seen_of (choice f g) (choice_held a b) at (choice_held a' b')
+      (Ok (option_or left right))
   choice_starts at left right first second = record {
     word = start_choice seen_of f g a b a' b' at left right first.word second.word;
     sound = sound_start_choice seen_of f g a b a' b' at left right first.sound second.sound;
@@ -101,7 +105,8 @@ module _ (f g : Qre) (a b a' b' : Holding Progress) where
 
   pub choice_steps : (now : ℕ) (item : List Field) (left right : Option Hit)
       → HasStepped seen_of f a now item a' (Ok left) → HasStepped seen_of g b now item b' (Ok right)
-      → HasStepped seen_of (choice f g) (choice_held a b) now item (choice_held a' b') (Ok (option_or left right))
+      → HasStepped seen_of (choice f g) (choice_held a b) now item (choice_held a' b')
+      (Ok (option_or left right))
   choice_steps now item left right first second = record {
     word = step_choice seen_of f g a b a' b' now item left right first.word second.word;
     sound = sound_step_choice seen_of f g a b a' b' now item left right first.sound second.sound;
@@ -111,10 +116,12 @@ module _ (f g : Qre) (a b a' b' : Holding Progress) where
   -- a combine
   pub combine_starts : (e : Expression) (at : ℕ) (left right hit : Option Hit)
       → HasStarted seen_of f a at a' (Ok left) → HasStarted seen_of g b at b' (Ok right)
-      → AreCombined e left right hit → HasStarted seen_of (combine f g e) (combine_held a b) at (combine_held a' b') (Ok hit)
+      → AreCombined e left right hit
+      → HasStarted seen_of (combine f g e) (combine_held a b) at (combine_held a' b') (Ok hit)
   combine_starts e at left right hit first second combined = record {
     word = start_combine seen_of f g e a b a' b' at left right hit first.word second.word combined;
-    sound = sound_start_combine seen_of f g e a b a' b' at left right hit first.sound second.sound combined;
+    sound = sound_start_combine seen_of f g e a b a' b' at left right hit first.sound
+        second.sound combined;
     no_memory = λ free. refl;
   }
 
@@ -123,15 +130,18 @@ module _ (f g : Qre) (a b a' b' : Holding Progress) where
       → AreCombined e left right hit
       → HasStepped seen_of (combine f g e) (combine_held a b) now item (combine_held a' b') (Ok hit)
   combine_steps e now item left right hit first second combined = record {
-    word = step_combine seen_of f g e a b a' b' now item left right hit first.word second.word combined;
-    sound = sound_step_combine seen_of f g e a b a' b' now item left right hit first.sound second.sound combined;
+    word = step_combine seen_of f g e a b a' b' now item left right hit first.word
+        second.word combined;
+    sound = sound_step_combine seen_of f g e a b a' b' now item left right hit first.sound
+        second.sound combined;
     no_memory = λ free. refl;
   }
 
 -- an expression on a value
 module _ (f : Qre) (e : Expression) (a a' : Holding Progress) where
   pub apply_starts : (at : ℕ) (inner hit : Option Hit) → HasStarted seen_of f a at a' (Ok inner)
-      → IsApplied e inner hit → HasStarted seen_of (apply f e) (apply_held a) at (apply_held a') (Ok hit)
+      → IsApplied e inner hit
+      → HasStarted seen_of (apply f e) (apply_held a) at (apply_held a') (Ok hit)
   apply_starts at inner hit first applied = record {
     word = start_apply seen_of f e a a' at inner hit first.word applied;
     sound = sound_start_apply seen_of f e a a' at inner hit first.sound applied;

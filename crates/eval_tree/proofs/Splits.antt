@@ -1,5 +1,7 @@
--- A split: what both operands and the left values stand for once left values of the end are handed over.
-use Rattle.std.proofs.Common.{◌≡◌, ◌<◌, ℕ, ◌∙◌, Bool, List, [], ◌∷◌, ◌++◌, Some, drop, length, refl, sym, ap, subst, arith, append-nil, append_assoc, inl, inr}
+-- A split: what both operands and the left values stand for once left values of the end
+-- are handed over.
+use Rattle.std.proofs.Common.{◌≡◌, ◌<◌, ℕ, ◌∙◌, Bool, List, [], ◌∷◌, ◌++◌, Some, drop, length, refl}
+use Rattle.std.proofs.Common.{sym, ap, subst, arith, append-nil, append_assoc, inl, inr}
 use Rattle.std.specs.List.{Contains}
 use Rattle.std.proofs.lemmas.Option.{none-some}
 use Rattle.std.proofs.lemmas.List.Elements.{Contains-append_left, Contains-push}
@@ -44,20 +46,24 @@ count_inners : (entries : List (Entry Value)) → length (inners entries) ≡ le
 count_inners [] = refl
 count_inners (x ∷ entries) = let rest = count_inners entries in omega (arith, rest)
 
-inner_found : (entries : List (Entry Value)) (inner : ℕ) → AreDistinct entries → Contains (inners entries) inner
+inner_found : (entries : List (Entry Value)) (inner : ℕ) → AreDistinct entries
+    → Contains (inners entries) inner
     → (entry : Entry Value) × (entry_at entries inner ≡ Some entry)
 inner_found [] inner distinct there = absurd (no_member inner there)
-inner_found (x ∷ entries) inner distinct there = elim (member_cases x.inner inner (inners entries) there) [
-  | inl same ↦ (x, found_first x entries inner same)
-  | inr later ↦
-      let (entry, found) = inner_found entries inner distinct.1 later in (
-        entry,
-        found_after x entries inner
-            (λ same. none-some entry (sym distinct.0 ∙ ap (entry_at entries) same ∙ found)) ∙ found,
-      )
-]
+inner_found (x ∷ entries) inner distinct there =
+    elim (member_cases x.inner inner (inners entries) there) [
+      | inl same ↦ (x, found_first x entries inner same)
+      | inr later ↦
+          let (entry, found) = inner_found entries inner distinct.1 later in (
+            entry,
+            found_after x entries inner
+                (λ same. none-some entry (sym distinct.0 ∙ ap (entry_at entries) same ∙ found))
+                ∙ found,
+          )
+    ]
 
-different_inners : (entries : List (Entry Value)) → AreDistinct entries → AreDifferent (inners entries)
+different_inners : (entries : List (Entry Value)) → AreDistinct entries
+    → AreDifferent (inners entries)
 different_inners [] distinct = tt
 different_inners (x ∷ entries) distinct = (
   λ there. let (entry, found) = inner_found entries x.inner distinct.1 there in
@@ -65,25 +71,32 @@ different_inners (x ∷ entries) distinct = (
   different_inners entries distinct.1,
 )
 
-module _ (columns : List Column) (f g : Qre) (e : Expression) (clear : IsClear bound columns (split f g e)) where
+module _ (columns : List Column) (f g : Qre) (e : Expression)
+    (clear : IsClear bound columns (split f g e)) where
   -- what comes after the item too
   pub extension_less : (item : List Field) → ((u : Word) → IsWordOf columns (item ∷ [])
       → HasExtension columns (rate_of g) (u ++ item ∷ []) → HasExtension columns (rate_of g) u)
-  extension_less item u is (next, more, more_is, in_g) =
-      (item, next ∷ more, (is.0, more_is), subst (In (rate_of g)) (append_assoc u (item ∷ []) (next ∷ more)) in_g)
+  extension_less item u is (next, more, more_is, in_g) = (
+    item,
+    next ∷ more,
+    (is.0, more_is),
+    subst (In (rate_of g)) (append_assoc u (item ∷ []) (next ∷ more)) in_g,
+  )
 
   -- no value is no word of the rate
   pub none_in : (word : Word) (starts : List ℕ) → IsWordOf columns word
       → ((start : ℕ) (v : Value) → Contains starts start → Den f (drop start word) v → ⊥)
       → NoneAtEnd (In (rate_of f)) word starts
   none_in word starts is none = λ start there in_f.
-      let den = in_den columns f (drop start word) clear.0 (word_after columns word start is) in_f in
+      let den = in_den columns f (drop start word) clear.0
+      (word_after columns word start is) in_f in
       none start den.0 there den.1
 
-  -- The room is enough: left values that wait, and one more, have different live starts on the right.
-  pub has_room : (word : Word) (starts ends : List ℕ) (held : Contents Value) → IsWordOf columns word
-      → AreApart columns (split f g e) word starts → AreDistinct held.entries
-      → AreReachedBefore (In (rate_of f)) word starts ends
+  -- The room is enough: left values that wait, and one more, have different live
+  -- starts on the right.
+  pub has_room : (word : Word) (starts ends : List ℕ) (held : Contents Value)
+      → IsWordOf columns word → AreApart columns (split f g e) word starts
+      → AreDistinct held.entries → AreReachedBefore (In (rate_of f)) word starts ends
       → AreReached (In (rate_of f)) word starts (ends ++ length word ∷ [])
       → AreWaitingBefore (Den f) (HasExtension columns (rate_of g)) word starts held.entries
       → HasExtension columns (rate_of g) (drop (length word) word)
@@ -93,10 +106,12 @@ module _ (columns : List Column) (f g : Qre) (e : Expression) (clear : IsClear b
       let count = count_inners held.entries in
       let few = few_live bound columns g word all (length word ∷ inners held.entries) clear.1 is
       (λ at there. let (start, piece, from, cut, in_f) = (reached at).0 there in cut.inside)
-      (apart_right columns f g e word starts all clear is apart (λ at there. (reached at).0 there)) (
+      (apart_right columns f g e word starts all clear is apart
+      (λ at there. (reached at).0 there)) (
         (λ there. let (entry, found) = inner_found held.entries (length word) distinct there in
             none-some entry
-            (sym (fresh_end (Den f) (HasExtension columns (rate_of g)) word starts held.entries waiting) ∙ found)),
+            (sym (fresh_end (Den f) (HasExtension columns (rate_of g)) word starts held.entries
+            waiting) ∙ found)),
         different_inners held.entries distinct,
       )
       (λ at there. elim (member_cases (length word) at (inners held.entries) there) [
@@ -122,30 +137,37 @@ module _ {R : Type 0} (seen : R → Seen R) (columns : List Column) (f g : Qre) 
   -- the right operand of a split and its left values stand for the word
   abbrev pub IsRight : Word → List ℕ → Holding R → Contents Value → Type 0
   IsRight word starts b left =
-      ((ends : List ℕ) × AreReached (In (rate_of f)) word starts ends × Represents seen columns g b word ends)
+      ((ends : List ℕ) × AreReached (In (rate_of f)) word starts ends
+      × Represents seen columns g b word ends)
       × AreWaiting (Den f) (HasExtension columns (rate_of g)) word starts left.entries
       × (left.room ≡ places_of g)
 
-  -- A left value of a piece to the end is handed over: the right operand is started there, and the value waits.
-  pub handed : (word : Word) (starts ends : List ℕ) (b : Holding R) (old new : Contents Value) (begun : ℕ) (x : Value)
-      (live : Bool) → IsWordOf columns word → ArePositions word starts
+  -- A left value of a piece to the end is handed over: the right operand is started there, and
+  -- the value waits.
+  pub handed : (word : Word) (starts ends : List ℕ) (b : Holding R) (old new : Contents Value)
+      (begun : ℕ) (x : Value) (live : Bool) → IsWordOf columns word → ArePositions word starts
       → AreApart columns (split f g e) word starts
       → AreReachedBefore (In (rate_of f)) word starts ends → AreDistinct old.entries
       → AreWaitingBefore (Den f) (HasExtension columns (rate_of g)) word starts old.entries
       → old.room ≡ places_of g → Contains starts begun → Den f (drop begun word) x
-      → Represents seen columns g b word (ends ++ length word ∷ []) → live ≡ live_of g b (length word)
-      → IsPut live old (record { inner = length word; outer = begun; value = x }) new → new.room ≡ old.room
-      → IsRight word starts b new
-  handed word starts ends b old new begun x live is positions apart before distinct waiting room there den
-      right live_is put same_room =
-      let in_f = den_in bound columns f (drop begun word) x clear.0 (word_after columns word begun is) den in
-      let reached = reached_end (In (rate_of f)) word starts ends begun before there (positions begun there) in_f in
-      let lives = living seen bound columns g b word (ends ++ length word ∷ []) (length word) clear.1 is
-      (λ at among. let (start, piece, from, cut, in_piece) = (reached at).0 among in cut.inside) right in
+      → Represents seen columns g b word (ends ++ length word ∷ [])
+      → live ≡ live_of g b (length word)
+      → IsPut live old (record { inner = length word; outer = begun; value = x }) new
+      → new.room ≡ old.room → IsRight word starts b new
+  handed word starts ends b old new begun x live is positions apart before distinct
+      waiting room there den right live_is put same_room =
+      let in_f = den_in bound columns f (drop begun word) x clear.0
+      (word_after columns word begun is) den in
+      let reached = reached_end (In (rate_of f)) word starts ends begun before there
+      (positions begun there) in_f in
+      let lives = living seen bound columns g b word (ends ++ length word ∷ [])
+      (length word) clear.1 is
+      (λ at among. let (start, piece, from, cut, in_piece) = (reached at).0 among in cut.inside)
+      right in
       let apart_f = apart_left columns f g e word starts clear.1 apart in (
         (ends ++ length word ∷ [], reached, right),
-        waiting_end (Den f) (HasExtension columns (rate_of g)) word starts old new begun x live distinct waiting there
-            (positions begun there) den
+        waiting_end (Den f) (HasExtension columns (rate_of g)) word starts old new begun x live
+            distinct waiting there (positions begun there) den
             (λ start v from other.
             let in_other = den_in bound columns f (drop start word) v clear.0
             (word_after columns word start is) other in
@@ -153,14 +175,15 @@ module _ {R : Type 0} (seen : R → Seen R) (columns : List Column) (f g : Qre) 
             (subst (In (rate_of f)) (sym (append-nil (drop start word))) in_other)
             (subst (In (rate_of f)) (sym (append-nil (drop begun word))) in_f) in (
               same,
-              one_value bound columns f (drop begun word) v x clear.0 (word_after columns word begun is)
+              one_value bound columns f (drop begun word) v x clear.0
+                  (word_after columns word begun is)
                   (subst (λ s. Den f (drop s word) v) same other) den,
             )) (
               (λ is_live. (lives.0 (sym live_is ∙ is_live)).1),
               (λ more. live_is ∙ lives.1 (Contains-push ends (length word), more)),
             )
-            (λ is_live. has_room columns f g e clear word starts ends old is apart distinct before reached waiting
-            ((lives.0 (sym live_is ∙ is_live)).1) room)
+            (λ is_live. has_room columns f g e clear word starts ends old is apart distinct
+            before reached waiting ((lives.0 (sym live_is ∙ is_live)).1) room)
             put,
         same_room ∙ room,
       )

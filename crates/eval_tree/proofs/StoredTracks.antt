@@ -1,5 +1,6 @@
 -- Runners for keys: each follows items of the stream, on which there is no table.
-use Rattle.std.proofs.Common.{◌≡◌, ◌≤◌, ℕ, zero, suc, Bool, true, false, IsTrue, List, [], ◌∷◌, ◌&&◌, length, refl, sym, ap, arith}
+use Rattle.std.proofs.Common.{◌≡◌, ◌≤◌, ℕ, zero, suc, Bool, true, false, IsTrue, List, [], ◌∷◌}
+use Rattle.std.proofs.Common.{◌&&◌, length, refl, sym, ap, arith}
 use Rattle.std.specs.List.{list_all}
 use Rattle.std.proofs.lemmas.Bool.{true≢false}
 use Rattle.std.proofs.lemmas.Nat.{ones-le}
@@ -64,16 +65,18 @@ read_field (Fixed digits) (field.Val inner) read is = absurd is
 read_field Text (field.Int number) read is = absurd is
 read_field Text (field.Val inner) read is = absurd is
 
-read_item : (columns : List Column) (item : List Field) → IsTrue (list_all (λ c. is_read c.kind) columns)
-    → IsItemOf columns item → of_item item ≡ 0
+read_item : (columns : List Column) (item : List Field)
+    → IsTrue (list_all (λ c. is_read c.kind) columns) → IsItemOf columns item → of_item item ≡ 0
 read_item [] [] read is = refl
 read_item [] (x ∷ item) read is = absurd is
 read_item (column ∷ columns) [] read is = absurd is
 read_item (column ∷ columns) (x ∷ item) read is =
     let first = read_field column.kind x
-    (and_first (is_read column.kind) (list_all (λ (c : Column). is_read c.kind) columns) read) is.0 in
+    (and_first (is_read column.kind) (list_all (λ (c : Column). is_read c.kind) columns) read)
+    is.0 in
     let rest = read_item columns item
-    (and_second (is_read column.kind) (list_all (λ (c : Column). is_read c.kind) columns) read) is.1 in
+    (and_second (is_read column.kind) (list_all (λ (c : Column). is_read c.kind) columns) read)
+    is.1 in
     omega (arith, first, rest)
 
 read_word : (columns : List Column) (word : Word) → IsTrue (list_all (λ c. is_read c.kind) columns)
@@ -85,16 +88,18 @@ read_word columns (item ∷ word) read is =
     let rest = read_word columns word read is.1 in
     omega (arith, whole, first, rest)
 
-pub read_texts : (columns : List Column) → IsTrue (list_all (λ c. is_read c.kind) columns) → HasTextsAlone columns
+pub read_texts : (columns : List Column) → IsTrue (list_all (λ c. is_read c.kind) columns)
+    → HasTextsAlone columns
 read_texts columns read = record { none = λ column texts word is. read_word columns word read is }
 
 -- a state has no more positions than its rate
-state_few : (sets : Sets) (state : State) → IsStateOf sets state → size_of_state state ≤ length sets.preds
+state_few : (sets : Sets) (state : State) → IsStateOf sets state
+    → size_of_state state ≤ length sets.preds
 state_few sets Initial is = omega arith
 state_few sets (At mask) is = ones-le (length sets.preds) mask is
 
-pub state_size : (sets : Sets) (rate : rates.Regex) (word : Word) (state : State) → AreSetsOf sets rate
-    → IsAfter sets word state → size_of_state state ≤ size_of rate
+pub state_size : (sets : Sets) (rate : rates.Regex) (word : Word) (state : State)
+    → AreSetsOf sets rate → IsAfter sets word state → size_of_state state ≤ size_of rate
 state_size sets rate word state are after =
     let few = state_few sets state (after_exists sets word state after) in
     let same = ap length are.preds in

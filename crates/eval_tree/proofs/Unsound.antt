@@ -6,10 +6,13 @@ use Rattle.value_ops.specs.declared.value.Value.{Value}
 use Rattle.split_eval.specs.Entries.{Contents}
 use Rattle.compose_eval.specs.Followers as instances
 use Rattle.map_collect.specs.Tracks as tracks
-use Rattle.eval_nodes.specs.Holdings.{Holding, atom_held, eps_held, choice_held, combine_held, apply_held, split_held, iter_held, compose_held, collect_held}
+use Rattle.eval_nodes.specs.Holdings.{Holding, atom_held, eps_held, choice_held, combine_held}
+use Rattle.eval_nodes.specs.Holdings.{apply_held, split_held, iter_held, compose_held, collect_held}
 use Rattle.eval_nodes.specs.declared.node.Node.{Node}
 use Rattle.eval_nodes.specs.declared.node.State.{State}
-use Rattle.eval_nodes.specs.declared.node.State.TheVariants.{Atom, Or', Apply', Split', Combine', Iter', Compose', Collect', Or, Apply, Split, Combine, Iter, Compose, Collect}
+use Rattle.eval_nodes.specs.declared.node.State.TheVariants.{Atom, Or', Apply', Split', Combine'}
+use Rattle.eval_nodes.specs.declared.node.State.TheVariants.{Iter', Compose', Collect', Or, Apply}
+use Rattle.eval_nodes.specs.declared.node.State.TheVariants.{Split, Combine, Iter, Compose, Collect}
 use Rattle.eval_nodes.specs.declared.node.State.TheViews.{out-State, roll-State, roll-out-State}
 use Rattle.eval_nodes.specs.declared.progress.Progress.{Progress}
 use Rattle.eval_nodes.specs.Plain.{holding_of, runners_of, tracks_of}
@@ -66,7 +69,8 @@ unlike_combine (Combine' p a q b) unlike =
     (record { ptr = q.ptr; alloc = q.alloc; value = record { state = b } }) refl)
 unlike_combine node unlike = refl
 
-pub unlike_split : (node : State) → ((a b : Box Node Global) (held : Contents Value) → node ≡ Split a b held → ⊥)
+pub unlike_split : (node : State)
+    → ((a b : Box Node Global) (held : Contents Value) → node ≡ Split a b held → ⊥)
     → holding_of node ≡ without_split (holding_of node)
 unlike_split (Split' p a q b held) unlike =
     absurd (unlike (record { ptr = p.ptr; alloc = p.alloc; value = record { state = a } })
@@ -79,10 +83,12 @@ unlike_apply (Apply' p a) unlike =
     absurd (unlike (record { ptr = p.ptr; alloc = p.alloc; value = record { state = a } }) refl)
 unlike_apply node unlike = refl
 
-pub unlike_iter : (node : State) → ((a : Box Node Global) (so_far : Contents Value) → node ≡ Iter a so_far → ⊥)
+pub unlike_iter : (node : State)
+    → ((a : Box Node Global) (so_far : Contents Value) → node ≡ Iter a so_far → ⊥)
     → holding_of node ≡ without_iter (holding_of node)
 unlike_iter (Iter' p a so_far) unlike =
-    absurd (unlike (record { ptr = p.ptr; alloc = p.alloc; value = record { state = a } }) so_far refl)
+    absurd (unlike (record { ptr = p.ptr; alloc = p.alloc; value = record { state = a } }) so_far
+    refl)
 unlike_iter node unlike = refl
 
 pub unlike_compose : (node : State)
@@ -91,12 +97,14 @@ pub unlike_compose : (node : State)
 unfolding roll-State out-State denote.Hole.Carrier.roll denote.Hole.Carrier.out
 unlike_compose (Compose' p a held runners) unlike =
     absurd (unlike (record { ptr = p.ptr; alloc = p.alloc; value = record { state = a } })
-    (runners_of (out-State (Compose' p a held runners))) (sym (roll-out-State (Compose' p a held runners))))
+    (runners_of (out-State (Compose' p a held runners)))
+    (sym (roll-out-State (Compose' p a held runners))))
 unlike_compose node unlike = refl
 
 pub unlike_collect : (node : State) → ((all : tracks.Contents Progress) → node ≡ Collect all → ⊥)
     → holding_of node ≡ without_collect (holding_of node)
 unfolding roll-State out-State denote.Hole.Carrier.roll denote.Hole.Carrier.out
 unlike_collect (Collect' all tracks) unlike =
-    absurd (unlike (tracks_of (out-State (Collect' all tracks))) (sym (roll-out-State (Collect' all tracks))))
+    absurd (unlike (tracks_of (out-State (Collect' all tracks)))
+    (sym (roll-out-State (Collect' all tracks))))
 unlike_collect node unlike = refl

@@ -27,19 +27,27 @@ draws_blame blame ask of_it word finds (Ok text) drawn = (
   found_shortest blame ask of_it word finds,
   λ node broken at.
       let asks = at.automata ask of_it in
-      subst (λ (c : List Column). text ≡ drawing c (readers_of at.question) word) asks.2 (drawn at.question asks.0),
+      subst (λ (c : List Column). text ≡ drawing c (readers_of at.question) word) asks.2
+      (drawn at.question asks.0),
 )
 draws_blame blame ask of_it word finds (Err error) drawn = tt
 
 -- where a text writes the blamed program
-pub draws_why : (text drawn : List ℕ) (program : Program) (blame : Blame) → IsFileOf text (program_terms program)
-    → IsBlameOf program blame → DrawsBlame blame drawn → DrawsWhy text (refusal_of blame) drawn
+pub draws_why : (text drawn : List ℕ) (program : Program) (blame : Blame)
+    → IsFileOf text (program_terms program) → IsBlameOf program blame → DrawsBlame blame drawn
+    → DrawsWhy text (refusal_of blame) drawn
 draws_why text drawn program blame file is (word, shortest, lines) = record {
   word = word;
   shows = record {
     node = is.node;
     broken = is.broken;
-    at = record { program = program; written = file; query = is.query; measured = is.measured; first = is.first };
+    at = record {
+      program = program;
+      written = file;
+      query = is.query;
+      measured = is.measured;
+      first = is.first;
+    };
     why_is = is.at.refusal;
     question = is.at.question;
     asked = is.at.asked;

@@ -28,19 +28,23 @@ explains_judged name text shown program refusal file is explains =
     (refusal, judged program (refused refusal) file is, inr (program, file, explains))
 
 -- what is shown of it
-pub explains_found : (name text shown : List ℕ) (program : Program) (refusal why : Refusal) (found : Found)
-    → IsFound text program refusal found → why ≡ refusal
+pub explains_found : (name text shown : List ℕ) (program : Program)
+    (refusal why : Refusal) (found : Found) → IsFound text program refusal found → why ≡ refusal
     → shown ≡ program_explanation name text program why ++ found_text found
     → ExplainsProgram name text program refusal shown
-explains_found name text shown program refusal why found is_found is same =
-    (found, is_found, same ∙ ap (λ (r : Refusal). program_explanation name text program r ++ found_text found) is)
+explains_found name text shown program refusal why found is_found is same = (
+  found,
+  is_found,
+  same ∙ ap (λ (r : Refusal). program_explanation name text program r ++ found_text found) is,
+)
 
 -- a text that writes a program with a blame
 pub explains_blamed : (name text shown : List ℕ) (program : Program) (blame : Blame)
     → IsFileOf text (program_terms program) → IsBlameOf program blame
     → ExplainsProgram name text program (refusal_of blame) shown → Explains name text shown
 explains_blamed name text shown program blame file is explains =
-    explains_judged name text shown program (refusal_of blame) file (blame_refused program blame is) explains
+    explains_judged name text shown program (refusal_of blame) file
+    (blame_refused program blame is) explains
 
 -- a text that writes a program which is accepted
 pub accepts_judged : (text : List ℕ) (program : Program) (monitor : Monitor)

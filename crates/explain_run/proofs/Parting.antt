@@ -20,16 +20,22 @@ use Rattle.explain_run.specs.Apart.{SeparatesFrom, SeparatesMain, SeparatesOpera
 pub main_of : (text : List ℕ) (program : Program) (f g : Query) (value : Expression) (span : Span)
     (found : Option Separation) → IsFileOf text (program_terms program)
     → program.main.query ≡ q.combine f g value span
-    → IfSome found (SeparatesParts text program (query_span f) (query_span g)) → IfSome found (SeparatesMain text)
+    → IfSome found (SeparatesParts text program (query_span f) (query_span g))
+    → IfSome found (SeparatesMain text)
 main_of text program f g value span None file is apart = tt
-main_of text program f g value span (Some found) file is apart =
-    (program, file, subst (λ (query : Query). SeparatesOperands text program query found) (sym is) apart)
+main_of text program f g value span (Some found) file is apart = (
+  program,
+  file,
+  subst (λ (query : Query). SeparatesOperands text program query found) (sym is) apart,
+)
 
 -- from the query of a text that a run takes
-pub from_taken : {E : Type 0} (first second : Monitor) (right : List ℕ) (result : Result (Option Separation) E)
-    → Compiles right (accepted second) → IfOk result (λ found. IfSome found (Separates first second))
+pub from_taken : {E : Type 0} (first second : Monitor) (right : List ℕ)
+    (result : Result (Option Separation) E) → Compiles right (accepted second)
+    → IfOk result (λ found. IfSome found (Separates first second))
     → IfOk result (λ found. IfSome found (IsShortest first second))
     → IfOk result (λ found. IfSome found (SeparatesFrom first right))
 from_taken first second right (Ok None) taken apart shortest = tt
-from_taken first second right (Ok (Some found)) taken apart shortest = (second, taken, apart, shortest)
+from_taken first second right (Ok (Some found)) taken apart shortest =
+    (second, taken, apart, shortest)
 from_taken first second right (Err e) taken apart shortest = tt

@@ -1,5 +1,6 @@
 -- A byte list has exactly one list of lines.
-use Rattle.std.proofs.Common.{◌≡◌, ◌≢◌, ◌⊎◌, inl, inr, ℕ, Bool, true, false, eqb, List, [], ◌∷◌, ◌++◌, refl, sym, ap, ◌∙◌, append_assoc, append-nil, map}
+use Rattle.std.proofs.Common.{◌≡◌, ◌≢◌, ◌⊎◌, inl, inr, ℕ, Bool, true, false, eqb, List, [], ◌∷◌}
+use Rattle.std.proofs.Common.{◌++◌, refl, sym, ap, ◌∙◌, append_assoc, append-nil, map}
 use Rattle.std.specs.List.{flat_map, AllByRecursion}
 use Rattle.std.proofs.lemmas.Bool.Decides.{eqb_tells}
 use Rattle.std.proofs.lemmas.List.Elements.{All-nil, All-push}
@@ -11,7 +12,8 @@ abbrev with_lf : List ℕ → List ℕ
 with_lf raw = raw ++ 10 ∷ []
 
 -- the lines of bytes that are taken apart at each LF
-lines_from-parts : (raws : List (List ℕ)) (rest : List ℕ) (ended : Bool) → AllByRecursion NoLf raws → NoLf rest
+lines_from-parts : (raws : List (List ℕ)) (rest : List ℕ) (ended : Bool)
+    → AllByRecursion NoLf raws → NoLf rest
     → lines (flat_map with_lf raws ++ rest) ended ≡ map ended_by_lf raws ++ last_line rest ended
 lines_from-parts [] rest ended each last =
     ap (λ l. lines l ended) (sym (append-nil rest)) ∙ lines_from-piece [] rest [] ended last
@@ -47,7 +49,8 @@ AreLines-cut start bytes ended shown no_lf are = record {
 AreLines-next : (start : List ℕ) (x : ℕ) (bytes : List ℕ) (ended : Bool) → NoLf start
     → ((eqb x 10 ≡ true) × (x ≡ 10)) ⊎ ((eqb x 10 ≡ false) × (x ≢ 10))
     → AreLines bytes ended (lines bytes ended)
-    → (x ≢ 10 → AreLines ((start ++ x ∷ []) ++ bytes) ended (lines_from (start ++ x ∷ []) bytes ended))
+    → (x ≢ 10
+    → AreLines ((start ++ x ∷ []) ++ bytes) ended (lines_from (start ++ x ∷ []) bytes ended))
     → AreLines (start ++ x ∷ bytes) ended (lines_from start (x ∷ bytes) ended)
 AreLines-next start x bytes ended no_lf (inl is) cut continues =
     rw is.1 (AreLines-cut start bytes ended (lines bytes ended) no_lf cut)
@@ -58,11 +61,19 @@ AreLines-next start x bytes ended no_lf (inr is) cut continues =
 lines_from-are : (start bytes : List ℕ) (ended : Bool) → NoLf start
     → AreLines (start ++ bytes) ended (lines_from start bytes ended)
 lines_from-are start [] ended no_lf =
-    record { raws = []; rest = start; whole = append-nil start; each = tt; last = no_lf; are = refl }
+    record {
+      raws = [];
+      rest = start;
+      whole = append-nil start;
+      each = tt;
+      last = no_lf;
+      are = refl;
+    }
 lines_from-are start (x ∷ bytes) ended no_lf =
     AreLines-next start x bytes ended no_lf (eqb_tells x 10)
     (lines_from-are [] bytes ended (All-nil (λ b. b ≢ 10)))
-    (λ not_lf. lines_from-are (start ++ x ∷ []) bytes ended (All-push (λ b. b ≢ 10) start x no_lf not_lf))
+    (λ not_lf. lines_from-are (start ++ x ∷ []) bytes ended
+    (All-push (λ b. b ≢ 10) start x no_lf not_lf))
 
 -- the function gives the lines
 pub lines-are : (bytes : List ℕ) (ended : Bool) → AreLines bytes ended (lines bytes ended)

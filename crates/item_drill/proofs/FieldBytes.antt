@@ -1,5 +1,7 @@
 -- The bytes of drilled fields.
-use Rattle.std.proofs.Common.{◌≡◌, ℕ, zero, suc, ◌-◌, ◌/◌, ◌%◌, ◌^◌, ◌<◌, ◌≤◌, ◌&&◌, ℤ, pos, negsuc, Bool, true, false, nat_lt, List, [], ◌∷◌, ◌++◌, length, codes, replicate, unsigned_abs, refl, ◌∙◌, arith}
+use Rattle.std.proofs.Common.{◌≡◌, ℕ, zero, suc, ◌-◌, ◌/◌, ◌%◌, ◌^◌, ◌<◌, ◌≤◌, ◌&&◌, ℤ, pos, negsuc}
+use Rattle.std.proofs.Common.{Bool, true, false, nat_lt, List, [], ◌∷◌, ◌++◌, length, codes}
+use Rattle.std.proofs.Common.{replicate, unsigned_abs, refl, ◌∙◌, arith}
 use Rattle.std.specs.Char.{is_ascii_digit}
 use Rattle.std.specs.Fmt.{decimal, sign_text, signed_decimal}
 use Rattle.std.specs.Int.{is_negative}
@@ -32,7 +34,8 @@ all_pass p q passes (x ∷ xs) are =
     and_from (q x) (list_all q xs) (passes x parts.0) (all_pass p q passes xs parts.1)
 
 -- such bytes one after the other
-joined : (front rest : List ℕ) → is_field front ≡ true → is_field rest ≡ true → is_field (front ++ rest) ≡ true
+joined : (front rest : List ℕ) → is_field front ≡ true → is_field rest ≡ true
+    → is_field (front ++ rest) ≡ true
 joined front rest are others =
     list_all-append is_field_byte front rest ∙ and_from (is_field front) (is_field rest) are others
 
@@ -43,7 +46,8 @@ digit_is byte is = grind (arith, nat_tests)
 numeral_is : (digits : List ℕ) → IsNumeral 10 digits → is_field digits ≡ true
 numeral_is digits numeral =
     all_pass is_ascii_digit is_field_byte digit_is digits
-    (and_parts (nat_lt 0 (length digits)) (list_all is_ascii_digit digits) (numeral_passes digits numeral)).1
+    (and_parts (nat_lt 0 (length digits)) (list_all is_ascii_digit digits)
+    (numeral_passes digits numeral)).1
 
 decimal_is : (number : ℕ) → number < 2 ^ 64 → is_field (decimal number) ≡ true
 decimal_is number small = numeral_is (decimal number) (decimal_is_IsNumeral number small).0
@@ -87,7 +91,8 @@ word_is draw = grind (arith, nat_tests)
 pub field_is : (kind : Kind) (draw : ℕ) → is_field (field_text kind draw) ≡ true
 field_is Int draw = whole_is (number_of draw) (number_is_small draw)
 field_is (Fixed places) draw =
-    fixed_is places (unsigned_abs (number_of draw)) (is_negative (number_of draw)) (number_is_small draw)
+    fixed_is places (unsigned_abs (number_of draw)) (is_negative (number_of draw))
+    (number_is_small draw)
 field_is Text draw = word_is draw
 field_is Number draw = refl
 field_is Table draw = refl

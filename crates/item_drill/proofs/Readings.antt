@@ -1,5 +1,6 @@
 -- The items of drilled lines.
-use Rattle.std.proofs.Common.{◌≡◌, ℕ, ◌+◌, ◌<◌, ◌&&◌, ◌==◌, Bool, true, false, nat_lt, IsTrue, List, [], ◌∷◌, ◌++◌, length, Ok, refl, sym, ap, ◌∙◌, arith}
+use Rattle.std.proofs.Common.{◌≡◌, ℕ, ◌+◌, ◌<◌, ◌&&◌, ◌==◌, Bool, true, false, nat_lt, IsTrue, List}
+use Rattle.std.proofs.Common.{[], ◌∷◌, ◌++◌, length, Ok, refl, sym, ap, ◌∙◌, arith}
 use Rattle.std.specs.List.{All, AllByRecursion, list_all, list_any, slice_split, starts_with}
 use Rattle.std.proofs.lemmas.Bool.{and_from, and_parts}
 use Rattle.std.proofs.lemmas.Bool.Decides.{nat_tests}
@@ -64,7 +65,8 @@ row_is (text ∷ second ∷ texts) are =
 has_no_comma : (text : List ℕ) → is_field text ≡ true → All (λ byte. is_comma byte ≡ false) text
 has_no_comma text is = All-none is_comma text (none_passes is_field_byte is_comma no_comma text is)
 
-row_is_cut : (texts : List (List ℕ)) → 0 < length texts → AreFields texts → slice_split is_comma (row_of texts) ≡ texts
+row_is_cut : (texts : List (List ℕ)) → 0 < length texts → AreFields texts
+    → slice_split is_comma (row_of texts) ≡ texts
 row_is_cut [] some are = absurd (omega arith)
 row_is_cut (text ∷ []) some are =
     slice_split_none is_comma text (has_no_comma text are.0)
@@ -82,7 +84,8 @@ no_mark (byte ∷ line) are =
 -- the first of columns that are read
 pub first_is_read : (column : Column) (columns : List Column) → IsTrue (are_read (column ∷ columns))
     → IsTrue (has_digits column.kind && is_read column.kind)
-first_is_read column columns may = (and_parts (has_digits column.kind && is_read column.kind) (are_read columns) may).0
+first_is_read column columns may =
+    (and_parts (has_digits column.kind && is_read column.kind) (are_read columns) may).0
 
 -- it is not empty
 pub not_empty : (columns : List Column) (state : ℕ) → 0 < length columns → IsTrue (are_read columns)
@@ -90,7 +93,8 @@ pub not_empty : (columns : List Column) (state : ℕ) → 0 < length columns →
 not_empty [] state some may = absurd (omega arith)
 not_empty (column ∷ []) state some may =
     field_is_some column.kind (drawn (next_state state)) (first_is_read column [] may)
-not_empty (column ∷ second ∷ columns) state some may = after (field_text column.kind (drawn (next_state state))) _
+not_empty (column ∷ second ∷ columns) state some may =
+    after (field_text column.kind (drawn (next_state state))) _
   where
     after : (front rest : List ℕ) → 0 < length (front ++ 44 ∷ rest)
     after [] rest = omega arith
@@ -104,11 +108,13 @@ texts_are_read at (column ∷ columns) state may =
     let draw = drawn (next_state state) in
     let parts = and_parts (has_digits column.kind && is_read column.kind) (are_read columns) may in
     let writes = field_writes column.kind draw parts.0 in
-    let first = writes_field column.kind (field_text column.kind draw) (field_of column.kind draw) writes in
+    let first = writes_field column.kind (field_text column.kind draw)
+    (field_of column.kind draw) writes in
     rw (first, texts_are_read (at + 1) columns (next_state state) parts.1) refl
 
 -- a line is read to the item of its draws
-pub line_has_item : (columns : List Column) (state : ℕ) → 0 < length columns → IsTrue (are_read columns)
+pub line_has_item : (columns : List Column) (state : ℕ) → 0 < length columns
+    → IsTrue (are_read columns)
     → item_of columns (line_from columns state) ≡ Ok (item_from columns state)
 line_has_item columns state some may =
     let texts = texts_from columns state in
@@ -120,6 +126,6 @@ line_has_item columns state some may =
     plain_texts_in line special ∙ row_is_cut texts (omega (arith, each)) (texts_are columns state)
     in
     let unmarked = strip_bom-none line (no_mark line bytes) in
-    cut_item_of columns line line (sym unmarked) (not_empty columns state some may) (no_break line special)
-    (ap length cut ∙ each)
+    cut_item_of columns line line (sym unmarked) (not_empty columns state some may)
+    (no_break line special) (ap length cut ∙ each)
     ∙ ap (fields_of 1 columns) cut ∙ texts_are_read 1 columns state may

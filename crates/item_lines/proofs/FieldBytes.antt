@@ -1,5 +1,7 @@
 -- The texts of numbers have digits, signs and points alone.
-use Rattle.std.proofs.Common.{◌≡◌, ℕ, zero, suc, ◌-◌, ◌/◌, ◌%◌, ◌^◌, ◌<◌, ◌&&◌, ℤ, pos, negsuc, Bool, true, false, nat_lt, List, [], ◌∷◌, ◌++◌, length, codes, replicate, unsigned_abs, refl, ◌∙◌, arith}
+use Rattle.std.proofs.Common.{◌≡◌, ℕ, zero, suc, ◌-◌, ◌/◌, ◌%◌, ◌^◌, ◌<◌, ◌&&◌, ℤ, pos, negsuc}
+use Rattle.std.proofs.Common.{Bool, true, false, nat_lt, List, [], ◌∷◌, ◌++◌, length, codes}
+use Rattle.std.proofs.Common.{replicate, unsigned_abs, refl, ◌∙◌, arith}
 use Rattle.std.specs.Char.{is_ascii_digit}
 use Rattle.std.specs.Fmt.{decimal, sign_text, signed_decimal}
 use Rattle.std.specs.Int.{is_negative}
@@ -46,7 +48,8 @@ pub no_delimiters : (text : List ℕ) → is_field text ≡ true → list_any is
 no_delimiters text are = none_passes is_field_byte is_delimiter no_delimiter text are
 
 -- such bytes one after the other
-joined : (front rest : List ℕ) → is_field front ≡ true → is_field rest ≡ true → is_field (front ++ rest) ≡ true
+joined : (front rest : List ℕ) → is_field front ≡ true → is_field rest ≡ true
+    → is_field (front ++ rest) ≡ true
 joined front rest are others =
     list_all-append is_field_byte front rest ∙ and_from (is_field front) (is_field rest) are others
 
@@ -57,7 +60,8 @@ digit_is byte is = grind (arith, nat_tests)
 numeral_is : (digits : List ℕ) → IsNumeral 10 digits → is_field digits ≡ true
 numeral_is digits numeral =
     all_pass is_ascii_digit is_field_byte digit_is digits
-    (and_parts (nat_lt 0 (length digits)) (list_all is_ascii_digit digits) (numeral_passes digits numeral)).1
+    (and_parts (nat_lt 0 (length digits)) (list_all is_ascii_digit digits)
+    (numeral_passes digits numeral)).1
 
 decimal_is : (number : ℕ) → number < 2 ^ 64 → is_field (decimal number) ≡ true
 decimal_is number small = numeral_is (decimal number) (decimal_is_IsNumeral number small).0
@@ -91,8 +95,10 @@ fixed_is places size negative small =
     (joined (replicate zeros 48) rest (zeros_are zeros) rest_is)
 
 -- the text of a number has such bytes alone
-pub number_is : (kind : Kind) (number : ℤ) → unsigned_abs number < 2 ^ 64 → is_field (number_text kind number) ≡ true
-number_is (Fixed places) number small = fixed_is places (unsigned_abs number) (is_negative number) small
+pub number_is : (kind : Kind) (number : ℤ) → unsigned_abs number < 2 ^ 64
+    → is_field (number_text kind number) ≡ true
+number_is (Fixed places) number small =
+    fixed_is places (unsigned_abs number) (is_negative number) small
 number_is Int number small = whole_is number small
 number_is Text number small = whole_is number small
 number_is Number number small = whole_is number small
@@ -104,7 +110,8 @@ whole_is_some (pos n) small = (decimal_is_IsNumeral n small).0.0
 whole_is_some (negsuc n) small = omega arith
 
 -- and neither is any
-pub number_is_some : (kind : Kind) (number : ℤ) → unsigned_abs number < 2 ^ 64 → 0 < length (number_text kind number)
+pub number_is_some : (kind : Kind) (number : ℤ) → unsigned_abs number < 2 ^ 64
+    → 0 < length (number_text kind number)
 number_is_some (Fixed places) number small =
     after (sign_text (is_negative number) ++ decimal (unsigned_abs number / 10 ^ places)) _
   where

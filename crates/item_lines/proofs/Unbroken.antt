@@ -1,5 +1,6 @@
 -- A line that is shown has no end of a line in it.
-use Rattle.std.proofs.Common.{◌≡◌, ℕ, suc, ◌<◌, ◌≤◌, inl, inr, Bool, true, false, not, nat_lt, List, [], ◌∷◌, length, get_or, refl, sym, subst, ◌∙◌, append-nil, arith}
+use Rattle.std.proofs.Common.{◌≡◌, ℕ, suc, ◌<◌, ◌≤◌, inl, inr, Bool, true, false, not, nat_lt, List}
+use Rattle.std.proofs.Common.{[], ◌∷◌, length, get_or, refl, sym, subst, ◌∙◌, append-nil, arith}
 use Rattle.std.specs.Char.{is_control}
 use Rattle.std.specs.List.{list_any}
 use Rattle.std.specs.Str.{chars, is_utf8}
@@ -32,18 +33,20 @@ char_unbroken c quiet = no_breaks (encode c) byte_of
     byte_of : (k : ℕ) → k < length (encode c) → is_break (get_or (encode c) k 0) ≡ false
     byte_of k below = elim (cases_lt (get_or (encode c) k 0) 128) [
       | inl low ↦
-          let same : c ≡ get_or (encode c) k 0 = inside_one c [] (encode c) k (sym (append-nil (encode c))) below low in
+          let same : c ≡ get_or (encode c) k 0 =
+          inside_one c [] (encode c) k (sym (append-nil (encode c))) below low in
           low_byte (get_or (encode c) k 0) (subst (λ (x : ℕ). is_control x ≡ false) same quiet)
       | inr high ↦ high_byte (get_or (encode c) k 0) high
     ]
 
-text_unbroken : (cs : List ℕ) → list_any is_control cs ≡ false → list_any is_break (encodes cs) ≡ false
+text_unbroken : (cs : List ℕ) → list_any is_control cs ≡ false
+    → list_any is_break (encodes cs) ≡ false
 text_unbroken [] quiet = refl
 text_unbroken (c ∷ cs) quiet =
     let parts = or_parts (is_control c) (list_any is_control cs) quiet in
     list_any-append is_break (encode c) (encodes cs)
-    ∙ or_from (list_any is_break (encode c)) (list_any is_break (encodes cs)) (char_unbroken c parts.0)
-    (text_unbroken cs parts.1)
+    ∙ or_from (list_any is_break (encode c)) (list_any is_break (encodes cs))
+    (char_unbroken c parts.0) (text_unbroken cs parts.1)
 
 -- nor a plain line
 plain_unbroken : (line : List ℕ) → is_plain line ≡ true → list_any is_break line ≡ false

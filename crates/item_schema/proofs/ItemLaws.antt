@@ -1,5 +1,6 @@
 -- Columns and the fields of an item go together.
-use Rattle.std.proofs.Common.{◌≡◌, ◌↔◌, ℕ, List, [], ◌∷◌, length, drop, nat_eq, IsTrue, arith, ap, refl, min, suc, eq-eqb}
+use Rattle.std.proofs.Common.{◌≡◌, ◌↔◌, ℕ, List, [], ◌∷◌, length, drop, nat_eq, IsTrue, arith, ap}
+use Rattle.std.proofs.Common.{refl, min, suc, eq-eqb}
 use Rattle.std.proofs.lemmas.Bool.{eqb-true}
 use Rattle.std.proofs.lemmas.List.{drop_all}
 use Rattle.value_ops.specs.declared.field.Field.{Field}

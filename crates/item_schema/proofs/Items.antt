@@ -1,5 +1,7 @@
 -- What an item of a line is.
-use Rattle.std.proofs.Common.{◌≡◌, ℕ, ◌+◌, ◌==◌, ℤ, pos, negsuc, Bool, true, false, if◌then◌else◌, List, [], ◌∷◌, length, nat_lt, Option, Some, None, Result, Ok, Err, refl, arith, FitsSigned, w64}
+use Rattle.std.proofs.Common.{◌≡◌, ℕ, ◌+◌, ◌==◌, ℤ, pos, negsuc, Bool, true, false, if◌then◌else◌}
+use Rattle.std.proofs.Common.{List, [], ◌∷◌, length, nat_lt, Option, Some, None, Result, Ok, Err}
+use Rattle.std.proofs.Common.{refl, arith, FitsSigned, w64}
 use Rattle.std.specs.List.{list_any}
 use Rattle.std.specs.Str.Parse.{signed_digits_value, without_leading_sign}
 use Rattle.std.proofs.lemmas.Grind.{common_steps}
@@ -14,10 +16,13 @@ use Rattle.item_schema.specs.declared.stop.Cause.{Cause}
 use Rattle.item_schema.specs.declared.stop.Skip.{Skip}
 use Rattle.item_schema.specs.Items.{IsFieldOf, IsItemOf}
 use Rattle.item_schema.proofs.LineBytes.{are_texts, texts_bytes}
-use Rattle.item_schema.specs.Reading.{field_of, fields_of, fraction_of, in_column, is_decimal, is_numeral, item_of, item_of_record, record_of, signed, stored, units, whole_of, with_field}
+use Rattle.item_schema.specs.Reading.{field_of, fields_of, fraction_of, in_column, is_decimal}
+use Rattle.item_schema.specs.Reading.{is_numeral, item_of, item_of_record, record_of, signed}
+use Rattle.item_schema.specs.Reading.{stored, units, whole_of, with_field}
 
 -- what is stored is the number itself, and fits
-pub stored_is : (number : ℤ) (kept : Field) → stored number ≡ Ok kept → (kept ≡ field.Int number) × FitsSigned w64 number
+pub stored_is : (number : ℤ) (kept : Field) → stored number ≡ Ok kept
+    → (kept ≡ field.Int number) × FitsSigned w64 number
 stored_is (pos n) kept is = grind (arith, common_steps)
 stored_is (negsuc n) kept is = grind (arith, common_steps)
 
@@ -39,14 +44,17 @@ fails_is true given error value is = absurd (cc)
 fails_is false given error value is = (refl, is)
 
 -- the first field and the others, where there is no cause
-pub with_field_is : (first : Result Field Skip) (others : Result (List Field) Skip) (fields : List Field) → with_field first others ≡ Ok fields
-    → (field : Field) × (rest : List Field) × (first ≡ Ok field) × (others ≡ Ok rest) × (fields ≡ field ∷ rest)
+pub with_field_is : (first : Result Field Skip) (others : Result (List Field) Skip)
+    (fields : List Field) → with_field first others ≡ Ok fields
+    → (field : Field) × (rest : List Field) × (first ≡ Ok field) × (others ≡ Ok rest)
+    × (fields ≡ field ∷ rest)
 with_field_is (Ok field) (Ok rest) fields is = (field, rest, refl, refl, cc)
 with_field_is (Ok field) (Err stop) fields is = absurd (cc)
 with_field_is (Err stop) others fields is = absurd (cc)
 
 -- a field in a column
-pub in_column_is : (column : ℕ) (given : Result Field Cause) (field : Field) → in_column column given ≡ Ok field → given ≡ Ok field
+pub in_column_is : (column : ℕ) (given : Result Field Cause) (field : Field)
+    → in_column column given ≡ Ok field → given ≡ Ok field
 in_column_is column (Ok field) kept is = cc
 in_column_is column (Err cause) kept is = absurd (cc)
 
@@ -57,15 +65,18 @@ int_is_of number kept is =
     rw parts.0 parts.1
 
 -- and of one of fixed point
-fixed_is_of : (places : ℕ) (number : ℤ) (kept : Field) → stored number ≡ Ok kept → IsFieldOf (Fixed places) kept
+fixed_is_of : (places : ℕ) (number : ℤ) (kept : Field) → stored number ≡ Ok kept
+    → IsFieldOf (Fixed places) kept
 fixed_is_of places number kept is =
     let parts = stored_is number kept is in
     rw parts.0 parts.1
 
 -- a field that a text writes is one of its column
-pub field_is_of : (kind : Kind) (bytes : List ℕ) (kept : Field) → IsText bytes → field_of kind bytes ≡ Ok kept → IsFieldOf kind kept
+pub field_is_of : (kind : Kind) (bytes : List ℕ) (kept : Field) → IsText bytes
+    → field_of kind bytes ≡ Ok kept → IsFieldOf kind kept
 field_is_of Int bytes kept text is =
-    int_is_of (signed_digits_value 10 bytes) kept (passes_is (is_numeral (without_leading_sign bytes)) _ _ kept is).1
+    int_is_of (signed_digits_value 10 bytes) kept
+    (passes_is (is_numeral (without_leading_sign bytes)) _ _ kept is).1
 field_is_of (Fixed places) bytes kept text is =
     let form = (passes_is (is_decimal bytes) _ _ kept is).1 in
     fixed_is_of places (signed bytes (units places (whole_of bytes) (fraction_of bytes))) kept
@@ -82,19 +93,27 @@ pub fields_are_of : (at : ℕ) (columns : List Column) (texts : List (List ℕ))
 fields_are_of at [] [] fields are is = let none : fields ≡ [] = cc in rw none tt
 fields_are_of at (column ∷ columns) (bytes ∷ texts) fields are is =
     let (text, others_are) = and_parts (are_bytes bytes) (are_texts texts) are in
-    let (first, rest, reads, others, both) = with_field_is (in_column at (field_of column.kind bytes)) (fields_of (at + 1) columns texts) fields is in
-    rw both (field_is_of column.kind bytes first text (in_column_is at _ first reads), fields_are_of (at + 1) columns texts rest others_are others)
+    let (first, rest, reads, others, both) = with_field_is
+    (in_column at (field_of column.kind bytes)) (fields_of (at + 1) columns texts) fields is in
+    rw both (
+      field_is_of column.kind bytes first text (in_column_is at _ first reads),
+      fields_are_of (at + 1) columns texts rest others_are others,
+    )
 fields_are_of at [] (bytes ∷ texts) fields are is = absurd (cc)
 fields_are_of at (column ∷ columns) [] fields are is = absurd (cc)
 
 -- a row with an item has texts that are read
-pub row_is : (columns : List Column) (row : Option (List (List ℕ))) (fields : List Field) → item_of_record columns row ≡ Ok fields
+pub row_is : (columns : List Column) (row : Option (List (List ℕ))) (fields : List Field)
+    → item_of_record columns row ≡ Ok fields
     → (texts : List (List ℕ)) × (row ≡ Some texts) × (fields_of 1 columns texts ≡ Ok fields)
 row_is columns None fields is = absurd (cc)
-row_is columns (Some texts) fields is = (texts, refl, (passes_is (length texts == length columns) _ _ fields is).1)
+row_is columns (Some texts) fields is =
+    (texts, refl, (passes_is (length texts == length columns) _ _ fields is).1)
 
 -- the item of a line of bytes is one of the columns
-pub item_is_of : (columns : List Column) (line : List ℕ) (fields : List Field) → IsText line → item_of columns line ≡ Ok fields → IsItemOf columns fields
+pub item_is_of : (columns : List Column) (line : List ℕ) (fields : List Field) → IsText line
+    → item_of columns line ≡ Ok fields → IsItemOf columns fields
 item_is_of columns line fields text is =
-    let (texts, row, reads) = row_is columns (record_of line) fields (fails_is (list_any (λ b. b == 13) line) _ _ fields is).1 in
+    let (texts, row, reads) = row_is columns (record_of line) fields
+    (fails_is (list_any (λ b. b == 13) line) _ _ fields is).1 in
     fields_are_of 1 columns texts fields (texts_bytes line texts text row) reads

@@ -1,5 +1,6 @@
 -- What the test of columns says.
-use Rattle.std.proofs.Common.{◌≡◌, ◌&&◌, nat_lt, nat_le, Bool, true, false, List, [], ◌∷◌, length, IsTrue, refl, arith}
+use Rattle.std.proofs.Common.{◌≡◌, ◌&&◌, nat_lt, nat_le, Bool, true, false, List, [], ◌∷◌, length}
+use Rattle.std.proofs.Common.{IsTrue, refl, arith}
 use Rattle.std.proofs.lemmas.Bool.Decides.{nat_tests}
 use Rattle.std.specs.List.{list_all}
 use Rattle.item_schema.specs.declared.column.Column.{Column}
@@ -13,7 +14,8 @@ both true false holds = absurd (cc)
 both false b holds = absurd (cc)
 
 -- one test of two, and then another of the rest
-both_again : (a b rest rest' : Bool) → IsTrue ((a && b) && rest) → (IsTrue rest → IsTrue rest') → IsTrue (a && rest')
+both_again : (a b rest rest' : Bool) → IsTrue ((a && b) && rest) → (IsTrue rest → IsTrue rest')
+    → IsTrue (a && rest')
 both_again true true rest rest' holds continues = continues holds
 both_again true false rest rest' holds continues = absurd (cc)
 both_again false b rest rest' holds continues = absurd (cc)

@@ -1,17 +1,22 @@
 -- The tests of numbers, and the parts that their texts have.
-use Rattle.std.proofs.Common.{◌≡◌, ℕ, ◌-◌, ◌*◌, ◌^◌, ◌<◌, ◌≤◌, ◌==◌, inl, inr, Bool, true, false, ◌||◌, not, nat_lt, if◌then◌else◌, Option, Some, None, List, [], ◌∷◌, ◌++◌, length, get_or, slice_index, refl, sym, ap, ◌∙◌, arith, rules}
+use Rattle.std.proofs.Common.{◌≡◌, ℕ, ◌-◌, ◌*◌, ◌^◌, ◌<◌, ◌≤◌, ◌==◌, inl, inr, Bool, true, false}
+use Rattle.std.proofs.Common.{◌||◌, not, nat_lt, if◌then◌else◌, Option, Some, None, List, [], ◌∷◌}
+use Rattle.std.proofs.Common.{◌++◌, length, get_or, slice_index, refl, sym, ap, ◌∙◌, arith, rules}
 use Rattle.std.specs.Char.{is_ascii_digit}
 use Rattle.std.specs.List.{list_all, list_any, before_first, after_first, position_or_len}
 use Rattle.std.specs.Str.Parse.{IsNumeral, digits_value, starts_with_minus, without_leading_sign}
 use Rattle.std.proofs.lemmas.Bool.{and_parts, and_from, or_right}
 use Rattle.std.proofs.lemmas.Bool.Decides.{nat_tests}
-use Rattle.std.proofs.lemmas.Str.Parse.{IsDigitsTest, IsNumeralModel, digit_from_value, numerals_by_value}
+use Rattle.std.proofs.lemmas.Str.Parse.{IsDigitsTest, IsNumeralModel, digit_from_value}
+use Rattle.std.proofs.lemmas.Str.Parse.{numerals_by_value}
 use Rattle.std.proofs.lemmas.List.{append-nil}
 use Rattle.std.proofs.lemmas.List.Folds.{list_all_at}
 use Rattle.std.proofs.lemmas.List.Sums.{passes_at_first, split_at_first}
-use Rattle.item_schema.proofs.Cuts.{after_first-front, before_first-front, before_first-none, is_found, nothing_after}
+use Rattle.item_schema.proofs.Cuts.{after_first-front, before_first-front, before_first-none}
+use Rattle.item_schema.proofs.Cuts.{is_found, nothing_after}
 use Rattle.item_schema.proofs.Sizes.{digits_value_after-append, digits_value_after-zeros}
-use Rattle.item_schema.specs.Reading.{fraction_of, is_decimal, is_numeral, is_point, signed, units, whole_of}
+use Rattle.item_schema.specs.Reading.{fraction_of, is_decimal, is_numeral, is_point, signed, units}
+use Rattle.item_schema.specs.Reading.{whole_of}
 use Rattle.item_schema.specs.Written.{IsFraction, Sign, sign_bytes, with_sign}
 use Rattle.item_schema.specs.Written.Sign.{Absent, Plus, Minus}
 
@@ -31,9 +36,11 @@ numeral_from_test digits passes =
 -- a numeral passes the test, and nothing with another byte does
 pub numeral_passes : (digits : List ℕ) → IsNumeral 10 digits → is_numeral digits ≡ true
 numeral_passes digits numeral =
-    and_from (nat_lt 0 (length digits)) (list_all is_ascii_digit digits) (grind (arith, nat_tests)) (digits_are.from digits numeral.1)
+    and_from (nat_lt 0 (length digits)) (list_all is_ascii_digit digits) (grind (arith, nat_tests))
+    (digits_are.from digits numeral.1)
 
-pub no_numeral : (digits : List ℕ) (i : ℕ) → i < length digits → is_ascii_digit (get_or digits i 0) ≡ false → is_numeral digits ≡ false
+pub no_numeral : (digits : List ℕ) (i : ℕ) → i < length digits
+    → is_ascii_digit (get_or digits i 0) ≡ false → is_numeral digits ≡ false
 no_numeral digits i within other =
     let all = list_all_at is_ascii_digit digits i 0 within other in
     grind (arith, nat_tests, all)
@@ -49,7 +56,8 @@ pub cut_sign : (text : List ℕ) → CutSign text
 cut_sign [] = record { sign = Absent; spelled = refl; value = λ size. refl }
 cut_sign (byte ∷ rest) = by_byte (byte == 45) (byte == 43) refl refl
   where
-    by_byte : (minus plus : Bool) → (byte == 45) ≡ minus → (byte == 43) ≡ plus → CutSign (byte ∷ rest)
+    by_byte : (minus plus : Bool) → (byte == 45) ≡ minus → (byte == 43) ≡ plus
+        → CutSign (byte ∷ rest)
     by_byte true plus m p = record {
       sign = Minus;
       spelled = let is : byte ≡ 45 = grind (arith, nat_tests) in rw is refl;
@@ -67,7 +75,9 @@ cut_sign (byte ∷ rest) = by_byte (byte == 45) (byte == 43) refl refl
     }
 
 -- digits begin with no sign
-no_sign : (digits after : List ℕ) → IsNumeral 10 digits → (starts_with_minus (digits ++ after) ≡ false) × ((slice_index (digits ++ after) 0 == 43) ≡ false)
+no_sign : (digits after : List ℕ) → IsNumeral 10 digits
+    → (starts_with_minus (digits ++ after) ≡ false)
+    × ((slice_index (digits ++ after) 0 == 43) ≡ false)
 no_sign [] after numeral = absurd (omega (arith, numeral.0))
 no_sign (digit ∷ digits) after numeral =
     let range = digit_from_value digit numeral.1.0 in
@@ -104,16 +114,20 @@ cut_point text false is form = record {
   point = inl (refl, nothing_after is_point text is);
 }
 cut_point text true is form =
-    let within : position_or_len is_point text < length text = grind (arith, nat_tests, is_found is_point text) in
-    let point : get_or text (position_or_len is_point text) 0 ≡ 46 = grind (arith, nat_tests, passes_at_first is_point text 0 within) in
+    let within : position_or_len is_point text < length text =
+    grind (arith, nat_tests, is_found is_point text) in
+    let point : get_or text (position_or_len is_point text) 0 ≡ 46 =
+    grind (arith, nat_tests, passes_at_first is_point text 0 within) in
     record {
       after = 46 ∷ after_first is_point text;
-      spelled = split_at_first is_point text 0 within ∙ ap (λ byte. before_first is_point text ++ byte ∷ after_first is_point text) point;
+      spelled = split_at_first is_point text 0 within
+          ∙ ap (λ byte. before_first is_point text ++ byte ∷ after_first is_point text) point;
       point = inr (refl, numeral_from_test (after_first is_point text) form);
     }
 
 -- digits have no point
-no_point : (digits : List ℕ) → list_all is_ascii_digit digits ≡ true → list_any is_point digits ≡ false
+no_point : (digits : List ℕ) → list_all is_ascii_digit digits ≡ true
+    → list_any is_point digits ≡ false
 no_point [] are = refl
 no_point (digit ∷ digits) are = grind (arith, nat_tests, no_point digits)
 
@@ -124,8 +138,8 @@ pub record HasParts (text whole fraction : List ℕ) : Type 0 where
   pub form : (not (list_any is_point text) || is_numeral fraction) ≡ true
 
 -- digits and a fraction are these
-pub parts_from_fraction : (whole after fraction : List ℕ) → list_all is_ascii_digit whole ≡ true → IsFraction after fraction
-    → HasParts (whole ++ after) whole fraction
+pub parts_from_fraction : (whole after fraction : List ℕ) → list_all is_ascii_digit whole ≡ true
+    → IsFraction after fraction → HasParts (whole ++ after) whole fraction
 parts_from_fraction whole after fraction digits (inl none) =
     let none_whole = no_point whole digits in
     rw (none.0, none.1, append-nil whole) (record {
@@ -138,22 +152,28 @@ parts_from_fraction whole after fraction digits (inr some) =
     rw some.0 (record {
       before = before_first-front is_point whole 46 fraction none_whole refl;
       after = after_first-front is_point whole 46 fraction none_whole refl;
-      form = or_right (not (list_any is_point (whole ++ 46 ∷ fraction))) (is_numeral fraction) (numeral_passes fraction some.1);
+      form = or_right (not (list_any is_point (whole ++ 46 ∷ fraction))) (is_numeral fraction)
+          (numeral_passes fraction some.1);
     })
 
 -- the size of a decimal number, in its smallest unit
 pub units-whole : (places : ℕ) (whole fraction : List ℕ) → length fraction ≤ places
-    → units places whole fraction ≡ digits_value 10 (whole ++ fraction) * 10 ^ (places - length fraction)
+    → units places whole fraction
+    ≡ digits_value 10 (whole ++ fraction) * 10 ^ (places - length fraction)
 units-whole places whole fraction few =
-    rw (digits_value_after-append 10 0 whole fraction) (sym (digits_value_after-zeros (digits_value 10 whole) places fraction few))
+    rw (digits_value_after-append 10 0 whole fraction)
+    (sym (digits_value_after-zeros (digits_value 10 whole) places fraction few))
 
 -- a text that is cut at its point is a decimal number where both parts are numerals
 pub decimal_parts : (text whole fraction : List ℕ) → whole ≡ whole_of text
-    → Some fraction ≡ (if list_any is_point (without_leading_sign text) then Some (fraction_of text) else None)
-    → is_numeral whole ≡ true → is_numeral fraction ≡ true → (is_decimal text ≡ true) × (fraction ≡ fraction_of text)
+    → Some fraction
+    ≡ (if list_any is_point (without_leading_sign text) then Some (fraction_of text) else None)
+    → is_numeral whole ≡ true → is_numeral fraction ≡ true
+    → (is_decimal text ≡ true) × (fraction ≡ fraction_of text)
 decimal_parts text whole fraction before after first second = (form, same)
   where
-    by_point : (found : Bool) → Some fraction ≡ (if found then Some (fraction_of text) else None) → fraction ≡ fraction_of text
+    by_point : (found : Bool) → Some fraction ≡ (if found then Some (fraction_of text) else None)
+        → fraction ≡ fraction_of text
     by_point true is = cc
     by_point false is = absurd (cc)
 
@@ -163,4 +183,5 @@ decimal_parts text whole fraction before after first second = (form, same)
     form : is_decimal text ≡ true
     form =
         and_from (is_numeral (whole_of text)) _ (ap is_numeral (sym before) ∙ first)
-        (or_right (not (list_any is_point (without_leading_sign text))) (is_numeral (fraction_of text)) (ap is_numeral (sym same) ∙ second))
+        (or_right (not (list_any is_point (without_leading_sign text)))
+        (is_numeral (fraction_of text)) (ap is_numeral (sym same) ∙ second))

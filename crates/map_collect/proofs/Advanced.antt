@@ -1,5 +1,6 @@
 -- Tracks whose states continue one after the other.
-use Rattle.std.proofs.Common.{set, ◌≡◌, ◌==◌, ◌+◌, ◌<◌, ◌∙◌, ◌++◌, ℕ, zero, suc, List, [], ◌∷◌, drop, get_or, length, refl, sym, ap, subst, take, arith}
+use Rattle.std.proofs.Common.{set, ◌≡◌, ◌==◌, ◌+◌, ◌<◌, ◌∙◌, ◌++◌, ℕ, zero, suc, List, [], ◌∷◌}
+use Rattle.std.proofs.Common.{drop, get_or, length, refl, sym, ap, subst, take, arith}
 use Rattle.std.specs.List.{IsDistinct}
 use Rattle.value_ops.specs.declared.field.Field.{Field}
 use Rattle.rate_expr.specs.After.{IsStateOf}
@@ -31,7 +32,8 @@ module _ {R : Type 0} (sets : Sets) where
     AdvancedBelow (suc i) _ _ = ⊥
 
     advanced_suc : (i : ℕ) (old now : List (Track R)) (d y : Track R) → AdvancedBelow i old now
-        → i < length now → Advances sets item (get_or now i d) y → AdvancedBelow (suc i) old (set now i y)
+        → i < length now → Advances sets item (get_or now i d) y
+        → AdvancedBelow (suc i) old (set now i y)
     advanced_suc i old [] d y below inside goes = absurd (omega (arith, inside))
     advanced_suc zero old (t ∷ now) d y below inside goes =
         subst (λ (ts : List (Track R)). AdvancedBelow 1 ts (y ∷ now)) below (goes, refl)
@@ -41,10 +43,12 @@ module _ {R : Type 0} (sets : Sets) where
 
     -- it leads on the next one
     pub advanced_next : (i : ℕ) (old now : List (Track R)) (d y : Track R) → AdvancedBelow i old now
-        → i < length now → Advances sets item (get_or now i d) y → AdvancedBelow (i + 1) old (set now i y)
+        → i < length now → Advances sets item (get_or now i d) y
+        → AdvancedBelow (i + 1) old (set now i y)
     advanced_next i old now d y below inside goes =
         let more : suc i ≡ i + 1 = omega arith in
-        subst (λ (n : ℕ). AdvancedBelow n old (set now i y)) more (advanced_suc i old now d y below inside goes)
+        subst (λ (n : ℕ). AdvancedBelow n old (set now i y)) more
+        (advanced_suc i old now d y below inside goes)
 
     -- until it has led on all
     pub advanced_all : (i : ℕ) (old now : List (Track R)) → AdvancedBelow i old now → i ≡ length now
@@ -58,7 +62,8 @@ module _ {R : Type 0} (sets : Sets) where
     advanced_all (suc i) (s ∷ old) (t ∷ now) below all =
         (below.0, advanced_all i old now below.1 (omega (arith, all)))
 
-    same_starts : (old now : List (Track R)) → AllAdvance sets item old now → starts_of now ≡ starts_of old
+    same_starts : (old now : List (Track R)) → AllAdvance sets item old now
+        → starts_of now ≡ starts_of old
     same_starts [] [] all = refl
     same_starts (s ∷ old) (t ∷ now) all = λ i. all.0.start i ∷ same_starts old now all.1 i
     same_starts [] (t ∷ now) all = absurd all
@@ -79,14 +84,15 @@ module _ {R : Type 0} (sets : Sets) where
     put_back (s ∷ old) [] many = absurd (omega (arith, many))
 
     -- a vector's tracks, once they are advanced in place
-    pub advanced_back : (old now : List (Track R)) (len : ℕ) → len ≡ length old → AllAdvance sets item old now
-        → take len (now ++ drop (length now) old) ≡ now
+    pub advanced_back : (old now : List (Track R)) (len : ℕ) → len ≡ length old
+        → AllAdvance sets item old now → take len (now ++ drop (length now) old) ≡ now
     advanced_back old now len is all =
-        ap (λ (n : ℕ). take n (now ++ drop (length now) old)) is ∙ put_back old now (as_many old now all)
+        ap (λ (n : ℕ). take n (now ++ drop (length now) old)) is
+        ∙ put_back old now (as_many old now all)
 
     -- the starts are those that were
-    pub AreTracks-advanced : (old now : List (Track R)) → AllAdvance sets item old now → AreStates sets now
-        → AreTracks sets old → AreTracks sets now
+    pub AreTracks-advanced : (old now : List (Track R)) → AllAdvance sets item old now
+        → AreStates sets now → AreTracks sets old → AreTracks sets now
     AreTracks-advanced old now all states were = record {
       distinct = subst (IsDistinct ◌==◌) (sym (same_starts old now all)) were.distinct;
       states = states;

@@ -1,9 +1,12 @@
 -- Tracks that are chosen by their states.
-use Rattle.std.proofs.Common.{◌≡◌, ◌==◌, ◌<◌, ◌↔◌, inl, inr, ℕ, zero, suc, Bool, true, false, List, [], ◌∷◌, Option, None, Some, get_or, length, map, refl, sym, subst, arith}
+use Rattle.std.proofs.Common.{◌≡◌, ◌==◌, ◌<◌, ◌↔◌, inl, inr, ℕ, zero, suc, Bool, true, false, List}
+use Rattle.std.proofs.Common.{[], ◌∷◌, Option, None, Some, get_or, length, map, refl, sym, subst}
+use Rattle.std.proofs.Common.{arith}
 use Rattle.std.specs.Prelude.{IfNone, IfSome, IsTrue}
 use Rattle.std.specs.Bool.{MatchBool}
 use Rattle.std.specs.Option.{MatchOption}
-use Rattle.std.specs.List.{slice_get, items_where_true, AllByRecursion, AllWithin, HoldsAt, IsDistinct}
+use Rattle.std.specs.List.{slice_get, items_where_true, AllByRecursion, AllWithin, HoldsAt}
+use Rattle.std.specs.List.{IsDistinct}
 use Rattle.std.specs.List.Retain.{IsFiltered, ReturnsInTurn}
 use Rattle.std.proofs.lemmas.Bool.{false≢true}
 use Rattle.std.proofs.lemmas.List.{get_or_default}
@@ -14,7 +17,8 @@ use Rattle.rate_expr.specs.Sets.{Sets}
 use Rattle.rate_expr.specs.declared.state.State.{State}
 use Rattle.symbolic_nfa.specs.Automata.{Automaton}
 use Rattle.symbolic_nfa.specs.States.{Extends, IsAccepted}
-use Rattle.map_collect.specs.Tracks.{starts_of, states_of, AreTracks, IsFirstAccepted, IsLiveAmong, IsLiveAt, KeepsExtending, NoneAccepted}
+use Rattle.map_collect.specs.Tracks.{starts_of, states_of, AreTracks, IsFirstAccepted, IsLiveAmong}
+use Rattle.map_collect.specs.Tracks.{IsLiveAt, KeepsExtending, NoneAccepted}
 use Rattle.map_collect.specs.declared.track.Track.{Track}
 
 module _ {R : Type 0} where
@@ -38,10 +42,13 @@ module _ {R : Type 0} where
     Refused track = Accepted track → ⊥
 
     none_accepted : (tracks : List (Track R))
-        → ((k : ℕ) (d : Track R) → k < length tracks → Refused (get_or tracks k d)) → NoneAccepted sets tracks
+        → ((k : ℕ) (d : Track R) → k < length tracks → Refused (get_or tracks k d))
+        → NoneAccepted sets tracks
     none_accepted [] none = tt
-    none_accepted (t ∷ tracks) none =
-        (none zero t (omega arith), none_accepted tracks (λ k d inside. none (suc k) d (omega (arith, inside))))
+    none_accepted (t ∷ tracks) none = (
+      none zero t (omega arith),
+      none_accepted tracks (λ k d inside. none (suc k) d (omega (arith, inside))),
+    )
 
     first_at : (tracks : List (Track R)) (i : ℕ) → i < length tracks → HoldsAt Accepted tracks i
         → AllWithin Refused tracks 0 i → IsFirstAccepted sets tracks i
@@ -67,12 +74,13 @@ module _ {R : Type 0} where
         → MatchOption place (AllWithin Refused tracks 0 (length tracks))
         (λ i. (i < length tracks) × HoldsAt Accepted tracks i × AllWithin Refused tracks 0 i)
         → IfNone place (NoneAccepted sets tracks)
-    no_accepted None tracks found = none_accepted tracks (λ k d inside. found k d (omega arith) inside)
+    no_accepted None tracks found =
+        none_accepted tracks (λ k d inside. found k d (omega arith) inside)
     no_accepted (Some i) tracks found = tt
 
   module _ (nfa : Automaton) where
-    live_at : (tracks : List (Track R)) (start k : ℕ) → k < length tracks → HoldsAt (IsLiveAt nfa start) tracks k
-        → IsLiveAmong nfa tracks start
+    live_at : (tracks : List (Track R)) (start k : ℕ) → k < length tracks
+        → HoldsAt (IsLiveAt nfa start) tracks k → IsLiveAmong nfa tracks start
     live_at [] start k inside live = absurd (omega (arith, inside))
     live_at (t ∷ tracks) start k inside live =
         let track = get_or (t ∷ tracks) k t in record {
@@ -86,7 +94,8 @@ module _ {R : Type 0} where
         → MatchBool decided ((k : ℕ) × (k < length tracks) × HoldsAt (IsLiveAt nfa start) tracks k)
         (AllWithin (λ track. IsLiveAt nfa start track → ⊥) tracks 0 (length tracks))
         → IsTrue decided ↔ IsLiveAmong nfa tracks start
-    decided_live true tracks start found = (λ yes. live_at tracks start found.0 found.1 found.2, λ live. refl)
+    decided_live true tracks start found =
+        (λ yes. live_at tracks start found.0 found.1 found.2, λ live. refl)
     decided_live false tracks start none = (
       λ yes. absurd (false≢true yes),
       λ live.
@@ -98,7 +107,8 @@ module _ {R : Type 0} where
     kept_first : (b : Bool) (x : Track R) (bs : List Bool) (tracks : List (Track R))
         → IsTrue b ↔ Extends nfa x.state → KeepsExtending nfa tracks (items_where_true bs tracks)
         → KeepsExtending nfa (x ∷ tracks) (items_where_true (b ∷ bs) (x ∷ tracks))
-    kept_first true x bs tracks says rest = inl (says.0 refl, items_where_true bs tracks, refl, rest)
+    kept_first true x bs tracks says rest =
+        inl (says.0 refl, items_where_true bs tracks, refl, rest)
     kept_first false x bs tracks says rest = inr (λ extends. false≢true (says.1 extends), rest)
 
     module _ {F : Type 0} (post : F → Track R → Bool → F → Type 0) (test : F)
@@ -134,7 +144,8 @@ module _ {R : Type 0} where
 
     none_distinct : (kept : List (Track R)) → kept ≡ [] → IsDistinct ◌==◌ (starts_of kept)
     unfolding IsDistinct
-    none_distinct kept is = subst (λ (ts : List (Track R)). IsDistinct ◌==◌ (starts_of ts)) (sym is) tt
+    none_distinct kept is =
+        subst (λ (ts : List (Track R)). IsDistinct ◌==◌ (starts_of ts)) (sym is) tt
 
     distinct_kept : (tracks kept : List (Track R)) → KeepsExtending nfa tracks kept
         → IsDistinct ◌==◌ (starts_of tracks) → IsDistinct ◌==◌ (starts_of kept)
@@ -144,7 +155,8 @@ module _ {R : Type 0} where
         (IsDistinct-cons ◌==◌ x.start (starts_of live.1)
         (all_kept (λ start. (x.start == start) ≡ false) (λ t. t.start) tracks live.1 live.3
         (IsDistinct-head ◌==◌ x.start (starts_of tracks) distinct))
-        (distinct_kept tracks live.1 live.3 (IsDistinct-tail ◌==◌ x.start (starts_of tracks) distinct)))
+        (distinct_kept tracks live.1 live.3
+        (IsDistinct-tail ◌==◌ x.start (starts_of tracks) distinct)))
     distinct_kept (x ∷ tracks) kept (inr dead) distinct =
         distinct_kept tracks kept dead.1 (IsDistinct-tail ◌==◌ x.start (starts_of tracks) distinct)
 

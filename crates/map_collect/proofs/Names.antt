@@ -1,5 +1,7 @@
 -- Keys as lists of bytes: where one stands, and one more.
-use Rattle.std.proofs.Common.{◌≡◌, ◌+◌, ◌<◌, ◌||◌, ◌∙◌, ◌++◌, ℕ, zero, suc, Bool, true, false, cond, List, [], ◌∷◌, Option, None, Some, get_or, length, refl, sym, ap, subst, arith}
+use Rattle.std.proofs.Common.{◌≡◌, ◌+◌, ◌<◌, ◌||◌, ◌∙◌, ◌++◌, ℕ, zero, suc, Bool, true, false, cond}
+use Rattle.std.proofs.Common.{List, [], ◌∷◌, Option, None, Some, get_or, length, refl, sym, ap}
+use Rattle.std.proofs.Common.{subst, arith}
 use Rattle.std.specs.Prelude.{IfNone, IfSome}
 use Rattle.std.specs.List.{list_any, position, position_from, slice_get, Contains, IsDistinct}
 use Rattle.std.specs.Str.{bytes_eq}
@@ -32,7 +34,8 @@ there_from : (key : List ℕ) (names : List (List ℕ)) (from i : ℕ)
     → (k : ℕ) × (i ≡ from + k) × (slice_get names k ≡ Some key)
 there_from key [] from i some = absurd (none-some i some)
 there_from key (name ∷ names) from i some =
-    there_first (bytes_eq key name) key name names from i refl (there_from key names (from + 1) i) some
+    there_first (bytes_eq key name) key name names from i refl
+    (there_from key names (from + 1) i) some
 
 -- the key stands at the place that is found
 pub there : (key : List ℕ) (names : List (List ℕ)) (i : ℕ)
@@ -55,7 +58,8 @@ nowhere key (name ∷ names) from none =
     nowhere_first (bytes_eq key name) from (position_from (bytes_eq key) (from + 1) names)
     (list_any (bytes_eq key) names) (nowhere key names (from + 1)) none
 
-first_absent : (same : Bool) (among : Bool) → (same || among) ≡ false → (same ≡ false) × (among ≡ false)
+first_absent : (same : Bool) (among : Bool) → (same || among) ≡ false
+    → (same ≡ false) × (among ≡ false)
 first_absent true among none = absurd (false≢true (sym none))
 first_absent false among none = (refl, none)
 
@@ -86,12 +90,14 @@ none_among key [] fresh = refl
 none_among key (text ∷ texts) fresh =
     fresh_first (bytes_eq key text) (list_any (bytes_eq key) texts)
     (λ same. fresh (zero, omega arith, sym ((bytes_eq-Decides key text).0 same)))
-    (none_among key texts (λ found. fresh (suc found.0, (let inside = found.1 in omega (arith, inside)), found.2)))
+    (none_among key texts
+    (λ found. fresh (suc found.0, (let inside = found.1 in omega (arith, inside)), found.2)))
 
 -- one more key, which was not there
 pub more_names : (key name : List ℕ) (names now : List (List ℕ))
     → name ≡ key → (Contains names key → ⊥)
-    → now ≡ cond (list_any (bytes_eq name) names) names (names ++ name ∷ []) → now ≡ names ++ key ∷ []
+    → now ≡ cond (list_any (bytes_eq name) names) names (names ++ name ∷ [])
+    → now ≡ names ++ key ∷ []
 more_names key name names now is fresh inserted =
     let none : list_any (bytes_eq name) names ≡ false
     = ap (λ (text : List ℕ). list_any (bytes_eq text) names) is ∙ none_among key names fresh in
@@ -100,11 +106,13 @@ more_names key name names now is fresh inserted =
 
 module _ {R : Type 0} where
   -- it and its follower
-  pub AreKept-more : (names now : List (List ℕ)) (followers reserved after : List R) (key : List ℕ) (x : R)
-      → AreKept names followers → (Contains names key → ⊥) → now ≡ names ++ key ∷ []
-      → after ≡ reserved ++ x ∷ [] → reserved ≡ followers → AreKept now after
+  pub AreKept-more : (names now : List (List ℕ)) (followers reserved after : List R)
+      (key : List ℕ) (x : R) → AreKept names followers → (Contains names key → ⊥)
+      → now ≡ names ++ key ∷ [] → after ≡ reserved ++ x ∷ [] → reserved ≡ followers
+      → AreKept now after
   AreKept-more names now followers reserved after key x was fresh is pushed as_before =
-      let are : after ≡ followers ++ x ∷ [] = pushed ∙ ap (λ (ys : List R). ys ++ x ∷ []) as_before in
+      let are : after ≡ followers ++ x ∷ [] =
+      pushed ∙ ap (λ (ys : List R). ys ++ x ∷ []) as_before in
       let before = was.each in
       let longer = ap (λ (xs : List (List ℕ)). length xs) is in
       let more = ap (λ (ys : List R). length ys) are in
@@ -130,7 +138,8 @@ pub none_there : (place : Option ℕ) (key : List ℕ) (names : List (List ℕ))
     → IfNone place (Contains texts key → ⊥)
 none_there None key names texts is same =
     subst (λ (xs : List (List ℕ)). Contains xs key → ⊥) same
-    (absent key names (nowhere key names 0 (sym (position_from-zero (bytes_eq key) names) ∙ sym is)))
+    (absent key names
+    (nowhere key names 0 (sym (position_from-zero (bytes_eq key) names) ∙ sym is)))
 none_there (Some i) key names texts is same = tt
 
 module _ {R : Type 0} where
@@ -140,11 +149,12 @@ module _ {R : Type 0} where
   unfolding IsDistinct
   AreKept-none names followers no_names no_followers =
       subst (λ (xs : List (List ℕ)). AreKept xs followers) (sym no_names)
-      (subst (λ (ys : List R). AreKept [] ys) (sym no_followers) (record { distinct = tt; each = refl }))
+      (subst (λ (ys : List R). AreKept [] ys) (sym no_followers)
+      (record { distinct = tt; each = refl }))
 
   -- the lists with one more key and its follower
-  pub grown : (seen now : Followers R) (names : List (List ℕ)) (followers reserved : List R) (key : List ℕ) (x : R)
-      → seen ≡ now → names ≡ seen.names ++ key ∷ []
+  pub grown : (seen now : Followers R) (names : List (List ℕ)) (followers reserved : List R)
+      (key : List ℕ) (x : R) → seen ≡ now → names ≡ seen.names ++ key ∷ []
       → followers ≡ reserved ++ x ∷ [] → reserved ≡ seen.followers
       → ◌≡◌ {A = Followers R} (record { names = names; followers = followers }) (with_key key x now)
   grown seen now names followers reserved key x same named pushed as_before =

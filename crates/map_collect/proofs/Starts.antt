@@ -1,5 +1,7 @@
 -- Tracks by their starts: where one stands, and one more.
-use Rattle.std.proofs.Common.{◌≡◌, ◌==◌, ◌+◌, ◌<◌, ◌||◌, ◌++◌, ℕ, zero, suc, Bool, true, false, cond, List, [], ◌∷◌, Option, None, Some, get_or, length, refl, sym, ap, subst, arith}
+use Rattle.std.proofs.Common.{◌≡◌, ◌==◌, ◌+◌, ◌<◌, ◌||◌, ◌++◌, ℕ, zero, suc, Bool, true, false}
+use Rattle.std.proofs.Common.{cond, List, [], ◌∷◌, Option, None, Some, get_or, length, refl, sym}
+use Rattle.std.proofs.Common.{ap, subst, arith}
 use Rattle.std.specs.Prelude.{IfNone, IfSome}
 use Rattle.std.specs.List.{list_any, position_from, slice_get, AllByRecursion, Contains, IsDistinct}
 use Rattle.std.proofs.lemmas.Bool.{eqb-true, eqb-false}
@@ -24,7 +26,8 @@ none_among start [] fresh = refl
 none_among start (other ∷ starts) fresh =
     fresh_first (start == other) (list_any (λ other. start == other) starts)
     (λ same. fresh (zero, omega arith, sym (eqb-true start other same)))
-    (none_among start starts (λ found. fresh (suc found.0, (let inside = found.1 in omega (arith, inside)), found.2)))
+    (none_among start starts
+    (λ found. fresh (suc found.0, (let inside = found.1 in omega (arith, inside)), found.2)))
 
 all_push : (P : State → Type 0) (states : List State) (state : State)
     → AllByRecursion P states → P state → AllByRecursion P (states ++ state ∷ [])
@@ -36,15 +39,17 @@ module _ {R : Type 0} where
   pub AreTracks-none : (sets : Sets) (tracks : List (Track R)) → tracks ≡ [] → AreTracks sets tracks
   unfolding IsDistinct
   AreTracks-none sets tracks is =
-      subst (λ (ts : List (Track R)). AreTracks sets ts) (sym is) (record { distinct = tt; states = tt })
+      subst (λ (ts : List (Track R)). AreTracks sets ts) (sym is)
+      (record { distinct = tt; states = tt })
 
   -- one more, whose start was not there
-  pub AreTracks-more : (sets : Sets) (tracks now : List (Track R)) (x : Track R) → now ≡ tracks ++ x ∷ []
-      → AreTracks sets tracks → (Contains (starts_of tracks) x.start → ⊥) → IsStateOf sets x.state
-      → AreTracks sets now
+  pub AreTracks-more : (sets : Sets) (tracks now : List (Track R)) (x : Track R)
+      → now ≡ tracks ++ x ∷ [] → AreTracks sets tracks → (Contains (starts_of tracks) x.start → ⊥)
+      → IsStateOf sets x.state → AreTracks sets now
   AreTracks-more sets tracks now x is were fresh state =
       subst (λ (ts : List (Track R)). AreTracks sets ts) (sym is) (record {
-        distinct = subst (IsDistinct ◌==◌) (sym (map-append (λ (t : Track R). t.start) tracks (x ∷ [])))
+        distinct =
+            subst (IsDistinct ◌==◌) (sym (map-append (λ (t : Track R). t.start) tracks (x ∷ [])))
             (IsDistinct-push nat_eq_equiv (starts_of tracks) x.start were.distinct
             (none_among x.start (starts_of tracks) fresh));
         states = subst (AllByRecursion (IsStateOf sets))
@@ -72,10 +77,12 @@ module _ {R : Type 0} where
       → (k : ℕ) × (i ≡ from + k) × (slice_get (starts_of tracks) k ≡ Some start)
   there_from [] start from i some = absurd (none-some i some)
   there_from (x ∷ tracks) start from i some =
-      there_first (x.start == start) x tracks start from i refl (there_from tracks start (from + 1) i) some
+      there_first (x.start == start) x tracks start from i refl
+      (there_from tracks start (from + 1) i) some
 
   there : (tracks : List (Track R)) (start i : ℕ)
-      → position_from (begins_at start) 0 tracks ≡ Some i → slice_get (starts_of tracks) i ≡ Some start
+      → position_from (begins_at start) 0 tracks ≡ Some i
+      → slice_get (starts_of tracks) i ≡ Some start
   there tracks start i some =
       let found = there_from tracks start 0 i some in
       let is = found.1 in

@@ -1,5 +1,6 @@
 -- More items, and more columns, have no fewer keys.
-use Rattle.std.proofs.Common.{◌≡◌, ◌≤◌, ◌∙◌, ℕ, zero, suc, max, true, List, [], ◌∷◌, ◌++◌, map, flat_map, refl, sym, ap, subst, arith, ◌⊎◌, inl, inr}
+use Rattle.std.proofs.Common.{◌≡◌, ◌≤◌, ◌∙◌, ℕ, zero, suc, max, true, List, [], ◌∷◌, ◌++◌, map}
+use Rattle.std.proofs.Common.{flat_map, refl, sym, ap, subst, arith, ◌⊎◌, inl, inr}
 use Rattle.std.specs.List.{Contains}
 use Rattle.std.specs.Set.{distinct_count, is_member}
 use Rattle.std.proofs.lemmas.Bool.{true≢false}
@@ -9,7 +10,8 @@ use Rattle.value_ops.specs.declared.field.Field.{Field}
 use Rattle.rate_expr.specs.Words.{Word}
 use Rattle.query_model.specs.Denotation.{key_of}
 use Rattle.query_model.specs.Queries.{Qre}
-use Rattle.memory_bound.specs.KeysMet.{Key, entries_in, greatest, is_same, key_columns, keys_among, keys_in, keys_met, most_entries}
+use Rattle.memory_bound.specs.KeysMet.{Key, entries_in, greatest, is_same, key_columns, keys_among}
+use Rattle.memory_bound.specs.KeysMet.{keys_in, keys_met, most_entries}
 use Rattle.memory_bound.proofs.KeysOnce.{count_mono, either, or_first, or_second}
 
 pub first_member : {A : Type 0} (x : A) (xs : List A) → Contains (x ∷ xs) x
@@ -18,7 +20,8 @@ first_member x xs = (0, omega arith, refl)
 pub later_member : {A : Type 0} (x y : A) (xs : List A) → Contains xs y → Contains (x ∷ xs) y
 later_member x y xs (k, below, is) = (suc k, omega (arith, below), is)
 
-pub member_cases : {A : Type 0} (x y : A) (xs : List A) → Contains (x ∷ xs) y → (x ≡ y) ⊎ Contains xs y
+pub member_cases : {A : Type 0} (x y : A) (xs : List A) → Contains (x ∷ xs) y
+    → (x ≡ y) ⊎ Contains xs y
 member_cases x y xs (zero, below, is) = inl is
 member_cases x y xs (suc k, below, is) = inr (k, omega (arith, below), is)
 
@@ -38,8 +41,8 @@ pub record IsMet (columns : List ℕ) (word : Word) (key : Key) : Type 0 where
   pub same : is_same key (record { column = column; text = key_of column item }) ≡ true
 
 -- in one of the columns of the item
-in_item : (columns : List ℕ) (item : List Field) (key : Key) → is_member is_same (keys_in columns item) key ≡ true
-    → (column : ℕ) × Contains columns column
+in_item : (columns : List ℕ) (item : List Field) (key : Key)
+    → is_member is_same (keys_in columns item) key ≡ true → (column : ℕ) × Contains columns column
     × (is_same key (record { column = column; text = key_of column item }) ≡ true)
 in_item [] item key there = absurd (true≢false (sym there))
 in_item (column ∷ columns) item key there =
@@ -58,17 +61,21 @@ item_in (x ∷ columns) item key column there same =
     elim (member_cases x column columns there) [
       | inl is ↦ or_first (is_same key (record { column = x; text = key_of x item }))
           (is_member is_same (keys_in columns item) key)
-          (subst (λ c. is_same key (record { column = c; text = key_of c item }) ≡ true) (sym is) same)
+          (subst (λ c. is_same key (record { column = c; text = key_of c item }) ≡ true) (sym is)
+          same)
       | inr later ↦ or_second (is_same key (record { column = x; text = key_of x item }))
-          (is_member is_same (keys_in columns item) key) (item_in columns item key column later same)
+          (is_member is_same (keys_in columns item) key)
+          (item_in columns item key column later same)
     ]
 
-pub met : (columns : List ℕ) (word : Word) (key : Key) → is_member is_same (keys_among columns word) key ≡ true
-    → IsMet columns word key
+pub met : (columns : List ℕ) (word : Word) (key : Key)
+    → is_member is_same (keys_among columns word) key ≡ true → IsMet columns word key
 met columns [] key there = absurd (true≢false (sym there))
 met columns (item ∷ word) key there =
-    elim (either (is_member is_same (keys_in columns item) key) (is_member is_same (keys_among columns word) key)
-    (sym (list_any-append (is_same key) (keys_in columns item) (keys_among columns word)) ∙ there)) [
+    elim (either (is_member is_same (keys_in columns item) key)
+    (is_member is_same (keys_among columns word) key)
+    (sym (list_any-append (is_same key) (keys_in columns item) (keys_among columns word))
+    ∙ there)) [
       | inl here ↦ let (column, among, same) = in_item columns item key here in record {
         column = column;
         item = item;
@@ -94,7 +101,8 @@ met_among columns (item ∷ word) key is =
       | inl same ↦ or_first (is_member is_same (keys_in columns item) key)
           (is_member is_same (keys_among columns word) key)
           (item_in columns item key is.column is.in_columns
-          (subst (λ (x : List Field). is_same key (record { column = is.column; text = key_of is.column x }) ≡ true)
+          (subst (λ (x : List Field).
+          is_same key (record { column = is.column; text = key_of is.column x }) ≡ true)
           (sym same) is.same))
       | inr later ↦ or_second (is_member is_same (keys_in columns item) key)
           (is_member is_same (keys_among columns word) key)
@@ -140,7 +148,8 @@ entries_join (item ∷ u) w =
     let rest = entries_join u w in
     omega (arith, first, before, rest)
 
-pub item_entries : (word : Word) (item : List Field) → Contains word item → of_item item ≤ most_entries word
+pub item_entries : (word : Word) (item : List Field) → Contains word item
+    → of_item item ≤ most_entries word
 item_entries [] item there = absurd (no_member item there)
 item_entries (x ∷ word) item there =
     let whole = entries_cons x word in
@@ -149,8 +158,8 @@ item_entries (x ∷ word) item there =
       | inr later ↦ let rest = item_entries word item later in omega (arith, whole, rest)
     ]
 
-pub entries_below : (word : Word) (n : ℕ) → ((item : List Field) → Contains word item → of_item item ≤ n)
-    → most_entries word ≤ n
+pub entries_below : (word : Word) (n : ℕ)
+    → ((item : List Field) → Contains word item → of_item item ≤ n) → most_entries word ≤ n
 entries_below [] n each = omega arith
 entries_below (item ∷ word) n each =
     let whole = entries_cons item word in

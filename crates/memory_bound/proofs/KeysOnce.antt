@@ -1,5 +1,6 @@
 -- The keys of a word, each counted once.
-use Rattle.std.proofs.Common.{◌≡◌, ◌≤◌, ◌∙◌, Bool, true, false, cond, ◌||◌, List, [], ◌∷◌, length, refl, sym, ap, ◌⊎◌, inl, inr}
+use Rattle.std.proofs.Common.{◌≡◌, ◌≤◌, ◌∙◌, Bool, true, false, cond, ◌||◌, List, [], ◌∷◌, length}
+use Rattle.std.proofs.Common.{refl, sym, ap, ◌⊎◌, inl, inr}
 use Rattle.std.specs.Cmp.{IsEquivalence}
 use Rattle.std.specs.List.{AllByRecursion, IsDistinct}
 use Rattle.std.specs.Set.{distinct_count, is_member, unique_keys}
@@ -27,19 +28,22 @@ or_second true b is = refl
 or_second false b is = is
 
 -- of each key that comes again the last is kept
-member_once : (keys : List Key) (key : Key) → is_member is_same (unique_keys is_same keys) key ≡ true
-    → is_member is_same keys key ≡ true
+member_once : (keys : List Key) (key : Key)
+    → is_member is_same (unique_keys is_same keys) key ≡ true → is_member is_same keys key ≡ true
 member_once [] key there = there
 member_once (x ∷ keys) key there = by (is_member is_same keys x) (member_once keys key) there
   where
-    by : (again : Bool) → (is_member is_same (unique_keys is_same keys) key ≡ true → is_member is_same keys key ≡ true)
-        → is_member is_same (cond again (unique_keys is_same keys) (x ∷ unique_keys is_same keys)) key ≡ true
+    by : (again : Bool) → (is_member is_same (unique_keys is_same keys) key ≡ true
+        → is_member is_same keys key ≡ true)
+        → is_member is_same
+        (cond again (unique_keys is_same keys) (x ∷ unique_keys is_same keys)) key ≡ true
         → is_member is_same (x ∷ keys) key ≡ true
     by true rest there = or_second (is_same key x) (is_member is_same keys key) (rest there)
-    by false rest there = elim (either (is_same key x) (is_member is_same (unique_keys is_same keys) key) there) [
-      | inl is ↦ or_first (is_same key x) (is_member is_same keys key) is
-      | inr later ↦ or_second (is_same key x) (is_member is_same keys key) (rest later)
-    ]
+    by false rest there =
+        elim (either (is_same key x) (is_member is_same (unique_keys is_same keys) key) there) [
+          | inl is ↦ or_first (is_same key x) (is_member is_same keys key) is
+          | inr later ↦ or_second (is_same key x) (is_member is_same keys key) (rest later)
+        ]
 
 once_member : (keys : List Key) (key : Key) → is_member is_same keys key ≡ true
     → is_member is_same (unique_keys is_same keys) key ≡ true
@@ -47,8 +51,10 @@ once_member [] key there = there
 once_member (x ∷ keys) key there = by (is_member is_same keys x) refl (once_member keys key)
   where
     by : (again : Bool) → is_member is_same keys x ≡ again
-        → (is_member is_same keys key ≡ true → is_member is_same (unique_keys is_same keys) key ≡ true)
-        → is_member is_same (cond again (unique_keys is_same keys) (x ∷ unique_keys is_same keys)) key ≡ true
+        → (is_member is_same keys key ≡ true
+        → is_member is_same (unique_keys is_same keys) key ≡ true)
+        → is_member is_same
+        (cond again (unique_keys is_same keys) (x ∷ unique_keys is_same keys)) key ≡ true
     by true is rest = elim (either (is_same key x) (is_member is_same keys key) there) [
       | inl same ↦ rest (list_any_congr same_keys key x keys same ∙ is)
       | inr later ↦ rest later
@@ -86,7 +92,8 @@ once_distinct : (keys : List Key) → IsDistinct is_same (unique_keys is_same ke
 once_distinct [] = none_differ
 once_distinct (x ∷ keys) = by (is_member is_same keys x) refl (once_distinct keys)
   where
-    by : (again : Bool) → is_member is_same keys x ≡ again → IsDistinct is_same (unique_keys is_same keys)
+    by : (again : Bool) → is_member is_same keys x ≡ again
+        → IsDistinct is_same (unique_keys is_same keys)
         → IsDistinct is_same (cond again (unique_keys is_same keys) (x ∷ unique_keys is_same keys))
     by true is rest = rest
     by false is rest = IsDistinct-cons is_same x (unique_keys is_same keys)

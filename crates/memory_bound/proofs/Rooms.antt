@@ -5,7 +5,8 @@ use Rattle.predicate_cells.specs.Predicates.{Predicate}
 use Rattle.rate_expr.specs.Rates as rate
 use Rattle.rate_expr.specs.Rates.{size_of}
 use Rattle.query_model.specs.Bounds.{inner_of, places_of}
-use Rattle.query_model.specs.Queries.{Qre, atom, eps, choice, split, iter, combine, apply, compose, collect}
+use Rattle.query_model.specs.Queries.{Qre, atom, eps, choice, split, iter, combine, apply, compose}
+use Rattle.query_model.specs.Queries.{collect}
 
 -- one of this many, and this many of at least one
 pub once_of : (count each : ℕ) → each ≤ (count + 1) * each
@@ -13,7 +14,8 @@ once_of count each = let parts = add-mul count 1 each in omega (arith, parts)
 
 pub count_of : (count each : ℕ) → 1 ≤ each → count + 1 ≤ (count + 1) * each
 count_of count each some =
-    let all : (count + 1) * 1 ≤ (count + 1) * each = mul-le-mul_left (count + 1) some in omega (arith, all)
+    let all : (count + 1) * 1 ≤ (count + 1) * each = mul-le-mul_left (count + 1) some in
+    omega (arith, all)
 
 -- each start that may live is kept
 pub places_inner : (q : Qre) → places_of q ≤ inner_of q

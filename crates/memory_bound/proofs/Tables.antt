@@ -1,5 +1,6 @@
 -- The keys of a word differ, and each is one that the collect has met.
-use Rattle.std.proofs.Common.{◌≡◌, ◌≤◌, ◌∙◌, ℕ, Bool, true, false, cond, ◌&&◌, List, [], ◌∷◌, ◌++◌, length, map, refl, sym, ap, arith, ◌⊎◌, inl, inr}
+use Rattle.std.proofs.Common.{◌≡◌, ◌≤◌, ◌∙◌, ℕ, Bool, true, false, cond, ◌&&◌, List, [], ◌∷◌, ◌++◌}
+use Rattle.std.proofs.Common.{length, map, refl, sym, ap, arith, ◌⊎◌, inl, inr}
 use Rattle.std.specs.List.{AllByRecursion, IsDistinct, list_any}
 use Rattle.std.specs.Set.{is_member}
 use Rattle.std.specs.Str.{bytes_eq}
@@ -8,7 +9,8 @@ use Rattle.std.proofs.lemmas.Cmp.{nat_eq_equiv, nat_list_eq_equiv}
 use Rattle.std.proofs.lemmas.List.{length-map}
 use Rattle.std.proofs.lemmas.List.Elements.{Contains-append_left}
 use Rattle.std.proofs.lemmas.List.Folds.{list_any-append}
-use Rattle.std.proofs.lemmas.Map.Keys.{IsDistinct-cons, IsDistinct-head, IsDistinct-push, IsDistinct-tail}
+use Rattle.std.proofs.lemmas.Map.Keys.{IsDistinct-cons, IsDistinct-head, IsDistinct-push}
+use Rattle.std.proofs.lemmas.Map.Keys.{IsDistinct-tail}
 use Rattle.value_ops.specs.declared.field.Field.{Field}
 use Rattle.value_ops.specs.declared.scalar.Scalar.{Scalar}
 use Rattle.value_ops.specs.declared.value.Value.{Value}
@@ -27,14 +29,16 @@ key_differs : (keys : List (List ℕ)) (key : List ℕ) → IsDistinct bytes_eq 
     → IsDistinct bytes_eq (with_key keys key)
 key_differs keys key differ = by (list_any (bytes_eq key) keys) refl
   where
-    by : (b : Bool) → list_any (bytes_eq key) keys ≡ b → IsDistinct bytes_eq (cond b keys (keys ++ key ∷ []))
+    by : (b : Bool) → list_any (bytes_eq key) keys ≡ b
+        → IsDistinct bytes_eq (cond b keys (keys ++ key ∷ []))
     by true seen = differ
     by false new = IsDistinct-push nat_list_eq_equiv keys key differ new
 
-keys_differ : (column : ℕ) (sync : Predicate) (word : Word) (keys : List (List ℕ)) → IsDistinct bytes_eq keys
-    → IsDistinct bytes_eq (keys_after column sync keys word)
+keys_differ : (column : ℕ) (sync : Predicate) (word : Word) (keys : List (List ℕ))
+    → IsDistinct bytes_eq keys → IsDistinct bytes_eq (keys_after column sync keys word)
 keys_differ column sync [] keys differ = differ
-keys_differ column sync (item ∷ word) keys differ = keys_differ column sync word _ (by (holds sync item))
+keys_differ column sync (item ∷ word) keys differ =
+    keys_differ column sync word _ (by (holds sync item))
   where
     by : (b : Bool) → IsDistinct bytes_eq (cond b keys (with_key keys (key_of column item)))
     by true = differ
@@ -49,14 +53,16 @@ record IsText (column : ℕ) (word : Word) (text : List ℕ) : Type 0 where
   is_met : IsMet (column ∷ []) word (record { column = column; text = text })
 
 -- a key is one of those before, or one of the word
-with_cases : (keys : List (List ℕ)) (key text : List ℕ) → list_any (bytes_eq text) (with_key keys key) ≡ true
+with_cases : (keys : List (List ℕ)) (key text : List ℕ)
+    → list_any (bytes_eq text) (with_key keys key) ≡ true
     → (list_any (bytes_eq text) keys ≡ true) ⊎ (bytes_eq text key ≡ true)
 with_cases keys key text there = by (list_any (bytes_eq key) keys) there
   where
     by : (b : Bool) → list_any (bytes_eq text) (cond b keys (keys ++ key ∷ [])) ≡ true
         → (list_any (bytes_eq text) keys ≡ true) ⊎ (bytes_eq text key ≡ true)
     by true there = inl there
-    by false there = elim (either (list_any (bytes_eq text) keys) (list_any (bytes_eq text) (key ∷ []))
+    by false there =
+        elim (either (list_any (bytes_eq text) keys) (list_any (bytes_eq text) (key ∷ []))
         (sym (list_any-append (bytes_eq text) keys (key ∷ [])) ∙ there)) [
           | inl old ↦ inl old
           | inr last ↦ elim (either (bytes_eq text key) false last) [
@@ -67,11 +73,13 @@ with_cases keys key text there = by (list_any (bytes_eq key) keys) there
 
 -- the same column and an equal text
 same_key : (column : ℕ) (text other : List ℕ) → bytes_eq text other ≡ true
-    → is_same (record { column = column; text = text }) (record { column = column; text = other }) ≡ true
-same_key column text other same = ap (λ b. b && bytes_eq text other) (nat_eq_equiv.refl column) ∙ same
+    → is_same (record { column = column; text = text }) (record { column = column; text = other })
+    ≡ true
+same_key column text other same =
+    ap (λ b. b && bytes_eq text other) (nat_eq_equiv.refl column) ∙ same
 
-text_later : (column : ℕ) (item : List Field) (word : Word) (text : List ℕ) → IsText column word text
-    → IsText column (item ∷ word) text
+text_later : (column : ℕ) (item : List Field) (word : Word) (text : List ℕ)
+    → IsText column word text → IsText column (item ∷ word) text
 text_later column item word text is = record {
   is_met = record {
     column = is.is_met.column;
@@ -92,7 +100,8 @@ text_cases column sync (item ∷ word) keys text there =
       | inr later ↦ inr (text_later column item word text later)
     ]
   where
-    by : (b : Bool) → list_any (bytes_eq text) (cond b keys (with_key keys (key_of column item))) ≡ true
+    by : (b : Bool)
+        → list_any (bytes_eq text) (cond b keys (with_key keys (key_of column item))) ≡ true
         → (list_any (bytes_eq text) keys ≡ true) ⊎ IsText column (item ∷ word) text
     by true before = inl before
     by false before = elim (with_cases keys (key_of column item) text before) [
@@ -117,7 +126,8 @@ keys_at column texts = map (key_at column) texts
 
 apart_at : (column : ℕ) (text : List ℕ) (texts : List (List ℕ))
     → AllByRecursion (λ other. bytes_eq text other ≡ false) texts
-    → AllByRecursion (λ other. is_same (record { column = column; text = text }) other ≡ false) (keys_at column texts)
+    → AllByRecursion (λ other. is_same (record { column = column; text = text }) other ≡ false)
+    (keys_at column texts)
 apart_at column text [] all = tt
 apart_at column text (other ∷ texts) all = (
   ap (λ b. b && bytes_eq text other) (nat_eq_equiv.refl column) ∙ all.0,
@@ -137,15 +147,20 @@ differ_at column (text ∷ texts) differ =
     (differ_at column texts (IsDistinct-tail bytes_eq text texts differ))
 
 -- what is one of these is in the column, with one of the texts
-text_at : (column : ℕ) (texts : List (List ℕ)) (key : Key) → is_member is_same (keys_at column texts) key ≡ true
+text_at : (column : ℕ) (texts : List (List ℕ)) (key : Key)
+    → is_member is_same (keys_at column texts) key ≡ true
     → (text : List ℕ) × (list_any (bytes_eq text) texts ≡ true)
     × (is_same key (record { column = column; text = text }) ≡ true)
 text_at column [] key there = absurd (true≢false (sym there))
 text_at column (text ∷ texts) key there =
-    elim (either (is_same key (record { column = column; text = text })) (is_member is_same (keys_at column texts) key)
-    there) [
-      | inl same ↦
-          (text, or_first (bytes_eq text text) (list_any (bytes_eq text) texts) (nat_list_eq_equiv.refl text), same)
+    elim (either (is_same key (record { column = column; text = text }))
+    (is_member is_same (keys_at column texts) key) there) [
+      | inl same ↦ (
+        text,
+        or_first (bytes_eq text text) (list_any (bytes_eq text) texts)
+            (nat_list_eq_equiv.refl text),
+        same,
+      )
       | inr later ↦ let (other, among, same) = text_at column texts key later in
           (other, or_second (bytes_eq other text) (list_any (bytes_eq other) texts) among, same)
     ]
@@ -175,8 +190,8 @@ keys_few column sync rate f word =
     omega (arith, few, count)
 
 -- an entry has one of the keys
-pub entries_of_keys : (D : List ℕ → Value → Type 0) (keys : List (List ℕ)) (entries : List (List ℕ × Scalar))
-    → AreEntries D keys entries → length entries ≤ length keys
+pub entries_of_keys : (D : List ℕ → Value → Type 0) (keys : List (List ℕ))
+    (entries : List (List ℕ × Scalar)) → AreEntries D keys entries → length entries ≤ length keys
 entries_of_keys D [] entries are = let none = ap length are in omega (arith, none)
 entries_of_keys D (key ∷ keys) entries are =
     elim are [

@@ -1,5 +1,7 @@
 -- What is shown of the two sides of a place.
-use Rattle.std.proofs.Common.{◌≡◌, ◌≢◌, ◌≤◌, ℕ, ◌+◌, ◌-◌, Bool, true, false, List, [], ◌++◌, length, take, drop, refl, sym, ap, ◌∙◌, append_assoc, append-nil, length-drop, arith}
+use Rattle.std.proofs.Common.{◌≡◌, ◌≢◌, ◌≤◌, ℕ, ◌+◌, ◌-◌, Bool, true, false, List, [], ◌++◌, length}
+use Rattle.std.proofs.Common.{take, drop, refl, sym, ap, ◌∙◌, append_assoc, append-nil, length-drop}
+use Rattle.std.proofs.Common.{arith}
 use Rattle.std.specs.Prelude.{if◌then◌else◌}
 use Rattle.std.specs.Io.BufRead.{ends_with_byte, strip_last}
 use Rattle.std.specs.List.{All, after_last, before_first, position_or_len, suffix_len}
@@ -31,10 +33,11 @@ cut-twice i j bytes =
     ∙ ap (λ (l : List ℕ). take (i + j) bytes ++ l) (sym (drop-drop j i bytes))
 
 -- and of one that is cut at its end three times
-front-of-front : (bytes line cut shown a b c : List ℕ) → bytes ≡ line ++ a → line ≡ cut ++ b → cut ≡ shown ++ c
-    → bytes ≡ shown ++ (c ++ (b ++ a))
+front-of-front : (bytes line cut shown a b c : List ℕ) → bytes ≡ line ++ a → line ≡ cut ++ b
+    → cut ≡ shown ++ c → bytes ≡ shown ++ (c ++ (b ++ a))
 front-of-front bytes line cut shown a b c first second third =
-    first ∙ ap (λ (l : List ℕ). l ++ a) (second ∙ ap (λ (l : List ℕ). l ++ b) third) ∙ apart shown c b a
+    first ∙ ap (λ (l : List ℕ). l ++ a) (second ∙ ap (λ (l : List ℕ). l ++ b) third)
+    ∙ apart shown c b a
   where
     apart : (s x y z : List ℕ) → ((s ++ x) ++ y) ++ z ≡ s ++ (x ++ (y ++ z))
     apart s x y z = simp append_assoc
@@ -43,23 +46,29 @@ front-of-front bytes line cut shown a b c first second third =
 cut-cr : (line : List ℕ) → (rest : List ℕ) × (line ≡ strip_last 13 line ++ rest)
 cut-cr line = by (ends_with_byte 13 line)
   where
-    by : (ends : Bool) → (rest : List ℕ) × (line ≡ (if ends then take (length line - 1) line else line) ++ rest)
+    by : (ends : Bool)
+        → (rest : List ℕ) × (line ≡ (if ends then take (length line - 1) line else line) ++ rest)
     by true = (drop (length line - 1) line, sym (take-append-drop (length line - 1) line))
     by false = ([], sym (append-nil line))
 
 -- of a line without LF no byte is one, with its CR or without
-cut-no_lf : (line : List ℕ) → All (λ byte. byte ≢ 10) line → All (λ byte. byte ≢ 10) (strip_last 13 line)
+cut-no_lf : (line : List ℕ) → All (λ byte. byte ≢ 10) line
+    → All (λ byte. byte ≢ 10) (strip_last 13 line)
 cut-no_lf line none = by (ends_with_byte 13 line)
   where
-    by : (ends : Bool) → All (λ byte. byte ≢ 10) (if ends then take (length line - 1) line else line)
+    by : (ends : Bool)
+        → All (λ byte. byte ≢ 10) (if ends then take (length line - 1) line else line)
     by true = All-take (λ byte. byte ≢ 10) (length line - 1) line none
     by false = none
 
 -- this many bytes at the end, where these are all
-all-last : (bytes : List ℕ) (count : ℕ) → count ≡ length bytes → drop (length bytes - count) bytes ≡ bytes
-all-last bytes count is = let none : length bytes - count ≡ 0 = omega arith in ap (λ (n : ℕ). drop n bytes) none
+all-last : (bytes : List ℕ) (count : ℕ) → count ≡ length bytes
+    → drop (length bytes - count) bytes ≡ bytes
+all-last bytes count is = let none : length bytes - count ≡ 0 = omega arith in
+    ap (λ (n : ℕ). drop n bytes) none
 
-last-length : (bytes : List ℕ) (count : ℕ) → count ≤ length bytes → length (drop (length bytes - count) bytes) ≡ count
+last-length : (bytes : List ℕ) (count : ℕ) → count ≤ length bytes
+    → length (drop (length bytes - count) bytes) ≡ count
 last-length bytes count fits = omega (arith, length-drop (length bytes - count) bytes)
 
 first-length : (bytes : List ℕ) (count : ℕ) → length (take count bytes) ≤ count
@@ -70,16 +79,19 @@ short : (before from : List ℕ)
     → length (drop (length before - count_before (length before) (length from)) before)
     + length (take (count_from (length before) (length from)) from) ≤ 100
 short before from =
-    let most : count_before (length before) (length from) + count_from (length before) (length from) ≤ 100 =
+    let most : count_before (length before) (length from) + count_from (length before) (length from)
+    ≤ 100 =
     both-short (length before) (length from) in
     omega (
       arith,
-      last-length before (count_before (length before) (length from)) (before-within (length before) (length from)),
+      last-length before (count_before (length before) (length from))
+          (before-within (length before) (length from)),
       first-length from (count_from (length before) (length from)),
     )
 
 -- what is shown is a part of the line with the place in it
-pub windows : (text : List ℕ) (place : ℕ) → IsWindow text place (shown_before text place) (shown_from text place)
+pub windows : (text : List ℕ) (place : ℕ)
+    → IsWindow text place (shown_before text place) (shown_from text place)
 windows text place =
     let head = take place text in
     let tail = drop place text in
@@ -94,7 +106,8 @@ windows text place =
       begins_there = (
         drop (count_from (length before) (length from)) from
             ++ (cut.0 ++ drop (position_or_len is_lf tail) tail),
-        front-of-front tail line from (shown_from text place) (drop (position_or_len is_lf tail) tail) cut.0
+        front-of-front tail line from (shown_from text place)
+            (drop (position_or_len is_lf tail) tail) cut.0
             (drop (count_from (length before) (length from)) from)
             (sym (take-append-drop (position_or_len is_lf tail) tail)) cut.1
             (sym (take-append-drop (count_from (length before) (length from)) from)),
@@ -106,7 +119,9 @@ windows text place =
       );
       short = short before from;
       whole = λ few. (
-        all-last before (count_before (length before) (length from)) (before-whole (length before) (length from) few),
-        take_all (count_from (length before) (length from)) from (from-whole (length before) (length from) few),
+        all-last before (count_before (length before) (length from))
+            (before-whole (length before) (length from) few),
+        take_all (count_from (length before) (length from)) from
+            (from-whole (length before) (length from) few),
       );
     }

@@ -1,5 +1,6 @@
 -- Items of one cell with a field of one in another, or with a number between two.
-use Rattle.std.proofs.Common.{◌≡◌, ℕ, zero, suc, ◌+◌, ◌≤◌, ℤ, true, List, [], ◌∷◌, Option, None, Some, refl, sym, subst, ◌∙◌, w64, arith}
+use Rattle.std.proofs.Common.{◌≡◌, ℕ, zero, suc, ◌+◌, ◌≤◌, ℤ, true, List, [], ◌∷◌, Option, None}
+use Rattle.std.proofs.Common.{Some, refl, sym, subst, ◌∙◌, w64, arith}
 use Rattle.std.specs.Prelude.{FitsSigned, int_le, slice_get, slice_set}
 use Rattle.std.proofs.lemmas.Option.{same_Some}
 use Rattle.std.proofs.lemmas.Int.{ints}
@@ -24,11 +25,13 @@ fits_between : (low mid high : ℤ) → FitsSigned w64 low → FitsSigned w64 hi
 fits_between low mid high f g le ge = grind (arith, ints)
 
 module _ (preds : List Predicate) where
-  class-le : (at : ℕ) (x y : ℤ) → int_le x y ≡ true → number_class at preds x ≤ number_class at preds y
+  class-le : (at : ℕ) (x y : ℤ) → int_le x y ≡ true
+      → number_class at preds x ≤ number_class at preds y
   class-le at x y le = count_by-le _ _ (λ start. at_most start x y le) (starts at preds)
 
-  class_between : (at : ℕ) (low mid high : ℤ) (class : ℕ) → int_le low mid ≡ true → int_le mid high ≡ true
-      → number_class at preds low ≡ class → number_class at preds high ≡ class → number_class at preds mid ≡ class
+  class_between : (at : ℕ) (low mid high : ℤ) (class : ℕ) → int_le low mid ≡ true
+      → int_le mid high ≡ true → number_class at preds low ≡ class
+      → number_class at preds high ≡ class → number_class at preds mid ≡ class
   class_between at low mid high class le ge a b =
       omega (arith, class-le at low mid le, class-le at mid high ge)
 
@@ -38,8 +41,10 @@ module _ (preds : List Predicate) where
 
   -- so is each number between two that are
   field_between : (form : Form) (kind : Kind) (at : ℕ) (low mid high : ℤ) (class : ℕ)
-      → int_le low mid ≡ true → int_le mid high ≡ true → IsOfClass kind at class (number_field form low)
-      → IsOfClass kind at class (number_field form high) → IsOfClass kind at class (number_field form mid)
+      → int_le low mid ≡ true → int_le mid high ≡ true
+      → IsOfClass kind at class (number_field form low)
+      → IsOfClass kind at class (number_field form high)
+      → IsOfClass kind at class (number_field form mid)
   field_between form.Whole Int at low mid high class le ge a b =
       (fits_between low mid high a.0 b.0 le ge, class_between at low mid high class le ge a.1 b.1)
   field_between form.Whole (Fixed digits) at low mid high class le ge a b =
@@ -58,7 +63,8 @@ module _ (preds : List Predicate) where
       → (class_of c.kind at preds f ≡ class_of c.kind at preds g)
       × (cell_from (at + 1) cs preds fs ≡ cell_from (at + 1) cs preds gs)
   same_digits at c cs f g fs gs is =
-      same_from_place _ _ _ _ _ (cell_from_below preds (at + 1) cs fs) (cell_from_below preds (at + 1) cs gs) is
+      same_from_place _ _ _ _ _ (cell_from_below preds (at + 1) cs fs)
+      (cell_from_below preds (at + 1) cs gs) is
 
   -- an item of the cell stays in it with a field of another one
   pub mixed : (at : ℕ) (columns : List Column) (x y : List Field) (k : ℕ) (f : Field) (cell : ℕ)
@@ -79,20 +85,23 @@ module _ (preds : List Predicate) where
   mixed at (c ∷ cs) (g ∷ x) [] k f cell a b is = absurd b.0
 
   -- and with each number between two with which it does
-  pub between : (form : Form) (at : ℕ) (columns : List Column) (x : List Field) (k : ℕ) (low mid high : ℤ) (cell : ℕ)
-      → int_le low mid ≡ true → int_le mid high ≡ true
+  pub between : (form : Form) (at : ℕ) (columns : List Column) (x : List Field) (k : ℕ)
+      (low mid high : ℤ) (cell : ℕ) → int_le low mid ≡ true → int_le mid high ≡ true
       → IsOfCell at columns cell (slice_set x k (number_field form low))
       → IsOfCell at columns cell (slice_set x k (number_field form high))
       → IsOfCell at columns cell (slice_set x k (number_field form mid))
   between form at [] [] k low mid high cell le ge a b = a
   between form at (c ∷ cs) (g ∷ x) zero low mid high cell le ge a b =
-      let same = same_digits at c cs (number_field form low) (number_field form high) x x (a.1 ∙ sym b.1) in
-      let own = field_between form c.kind at low mid high _ le ge (a.0.0, refl) (b.0.0, sym same.0) in
+      let same = same_digits at c cs (number_field form low) (number_field form high) x x
+      (a.1 ∙ sym b.1) in
+      let own = field_between form c.kind at low mid high _ le ge (a.0.0, refl)
+      (b.0.0, sym same.0) in
       ((own.0, a.0.1), rw own.1 a.1)
   between form at (c ∷ cs) (g ∷ x) (suc k) low mid high cell le ge a b =
       let same = same_digits at c cs g g (slice_set x k (number_field form low))
       (slice_set x k (number_field form high)) (a.1 ∙ sym b.1) in
-      let rest = between form (at + 1) cs x k low mid high _ le ge (a.0.1, refl) (b.0.1, sym same.1) in
+      let rest = between form (at + 1) cs x k low mid high _ le ge (a.0.1, refl)
+      (b.0.1, sym same.1) in
       ((a.0.0, rest.0), rw rest.1 a.1)
   between form at [] (g ∷ x) zero low mid high cell le ge a b = absurd a.0
   between form at [] (g ∷ x) (suc k) low mid high cell le ge a b = absurd a.0
@@ -105,8 +114,8 @@ AreOfKind (Some f) (Some g) = (kind : Kind) × IsFieldOf kind f × IsFieldOf kin
 AreOfKind _ _ = ⊥
 
 -- items of the same columns have fields of one kind in each
-pub same_kinds : (columns : List Column) (x y : List Field) → IsItemOf columns x → IsItemOf columns y
-    → (k : ℕ) → AreOfKind (slice_get x k) (slice_get y k)
+pub same_kinds : (columns : List Column) (x y : List Field) → IsItemOf columns x
+    → IsItemOf columns y → (k : ℕ) → AreOfKind (slice_get x k) (slice_get y k)
 same_kinds [] [] [] a b k = tt
 same_kinds (c ∷ cs) (f ∷ x) (g ∷ y) a b zero = (c.kind, a.0, b.0)
 same_kinds (c ∷ cs) (f ∷ x) (g ∷ y) a b (suc k) = same_kinds cs x y a.1 b.1 k

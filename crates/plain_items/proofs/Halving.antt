@@ -1,5 +1,6 @@
 -- What halving finds: the number of a side of zero that is nearest to it.
-use Rattle.std.proofs.Common.{◌≡◌, ℕ, zero, suc, ◌+◌, ◌≤◌, ◌<◌, ℤ, pos, negsuc, neg_ℤ, true, List, ⊎_elim, refl, arith}
+use Rattle.std.proofs.Common.{◌≡◌, ℕ, zero, suc, ◌+◌, ◌≤◌, ◌<◌, ℤ, pos, negsuc, neg_ℤ, true, List}
+use Rattle.std.proofs.Common.{⊎_elim, refl, arith}
 use Rattle.std.specs.Prelude.{int_le, unsigned_abs, slice_set}
 use Rattle.std.proofs.lemmas.Bool.{cases_lt}
 use Rattle.std.proofs.lemmas.Int.{ints}
@@ -35,7 +36,8 @@ module _ (cells : Partition) (cell : ℕ) (item : List Field) (column : ℕ) (fo
   abbrev Stays : ℤ → Type 0
   Stays n = IsIn cells cell (slice_set item column (number_field form n))
 
-  within : (low mid high : ℤ) → int_le low mid ≡ true → int_le mid high ≡ true → Stays low → Stays high → Stays mid
+  within : (low mid high : ℤ) → int_le low mid ≡ true → int_le mid high ≡ true → Stays low
+      → Stays high → Stays mid
   within low mid high le ge a b =
       between cells.preds form 0 cells.layout.columns item column low mid high cell le ge a b
 
@@ -49,8 +51,9 @@ module _ (cells : Partition) (cell : ℕ) (item : List Field) (column : ℕ) (fo
       absurd (not (within (negsuc m) (pos outside) (pos inside) (neg_le_pos (suc m) outside)
       (le_pos outside inside (omega arith)) stays has))
 
-  below : (outside inside : ℕ) → outside < inside → Stays (neg_ℤ (pos inside)) → (Stays (neg_ℤ (pos outside)) → ⊥)
-      → (n : ℤ) → Stays n → inside ≤ outside + 1 → inside ≤ unsigned_abs n
+  below : (outside inside : ℕ) → outside < inside → Stays (neg_ℤ (pos inside))
+      → (Stays (neg_ℤ (pos outside)) → ⊥) → (n : ℤ) → Stays n → inside ≤ outside + 1
+      → inside ≤ unsigned_abs n
   below outside inside lt has not (pos m) stays le =
       absurd (not (within (neg_ℤ (pos inside)) (neg_ℤ (pos outside)) (pos m)
       (le_neg outside inside (omega arith)) (neg_le_pos outside m) has stays))
@@ -59,9 +62,11 @@ module _ (cells : Partition) (cell : ℕ) (item : List Field) (column : ℕ) (fo
       (le_neg outside inside (omega arith)) (le_neg (suc m) outside less) has stays)))
       (cases_lt outside (suc m))
 
-  -- where the number of a magnitude stays and that of the one before does not, none that is nearer to zero stays
+  -- where the number of a magnitude stays and that of the one before does not, none that is
+  -- nearer to zero stays
   pub nearest : (number : ℤ) (outside inside : ℕ) → outside < inside → inside ≤ outside + 1
       → Stays (with_sign number inside) → (Stays (with_sign number outside) → ⊥)
       → (n : ℤ) → Stays n → inside ≤ unsigned_abs n
   nearest (pos _) outside inside lt le has not n stays = above outside inside lt has not n stays le
-  nearest (negsuc _) outside inside lt le has not n stays = below outside inside lt has not n stays le
+  nearest (negsuc _) outside inside lt le has not n stays =
+      below outside inside lt has not n stays le

@@ -11,11 +11,14 @@ use Rattle.predicate_cells.proofs.RanksOf.{cells_of_ranks, cell_of_ranks}
 module _ (preds : List Predicate) (at : ℕ) (columns : List Column) where
   -- some cell is there
   pub count_positive : 0 < count_from at columns preds
-  count_positive = rw (← cells_of_ranks preds at columns) (cells_positive (ranks_from at columns preds))
+  count_positive =
+      rw (← cells_of_ranks preds at columns) (cells_positive (ranks_from at columns preds))
 
-  pub cell_from_below : (fields : List Field) → cell_from at columns preds fields < count_from at columns preds
+  pub cell_from_below : (fields : List Field)
+      → cell_from at columns preds fields < count_from at columns preds
   cell_from_below fields =
-      rw (← cells_of_ranks preds at columns, ← cell_of_ranks preds at columns fields) (cell_in_below (ranks_from at columns preds) fields)
+      rw (← cells_of_ranks preds at columns, ← cell_of_ranks preds at columns fields)
+      (cell_in_below (ranks_from at columns preds) fields)
 
 -- the cell of an item is below the count
 pub cell_below : (cells : Partition) (item : List Field) → cell_of cells item < cell_count cells

@@ -1,5 +1,8 @@
 -- Each class has a field.
-use Rattle.std.proofs.Common.{◌≡◌, ℕ, zero, suc, zero-le, ◌+◌, ◌-◌, ◌<◌, ◌≤◌, ◌^◌, Bool, true, false, cond, ℤ, pos, negsuc, neg_ℤ, List, [], ◌∷◌, ◌++◌, length, get_or, int_cmp, nat_cmp, is_lt, is_eq, Less, Greater, refl, sym, ap, subst, ⊎_elim, ◌∙◌, w64, arith}
+use Rattle.std.proofs.Common.{◌≡◌, ℕ, zero, suc, zero-le, ◌+◌, ◌-◌, ◌<◌, ◌≤◌, ◌^◌, Bool, true}
+use Rattle.std.proofs.Common.{false, cond, ℤ, pos, negsuc, neg_ℤ, List, [], ◌∷◌, ◌++◌, length}
+use Rattle.std.proofs.Common.{get_or, int_cmp, nat_cmp, is_lt, is_eq, Less, Greater, refl, sym, ap}
+use Rattle.std.proofs.Common.{subst, ⊎_elim, ◌∙◌, w64, arith}
 use Rattle.std.specs.Prelude.{◌==◌, nat_le, nat_lt, int_le, FitsSigned}
 use Rattle.std.specs.List.{AllByRecursion}
 use Rattle.std.specs.List.Sorted.{IsStrictlySortedBy}
@@ -25,7 +28,8 @@ use Rattle.value_ops.specs.Types.{IsScalar}
 use Rattle.value_ops.proofs.EntryLaws.{empty_table}
 use Rattle.item_schema.specs.Items.{IsFieldOf}
 use Rattle.predicate_cells.specs.Classes.{begins_class}
-use Rattle.predicate_cells.specs.Ranks.{count_by_kind, class_by_kind, field_by_kind, number_rank, text_rank, number_of_class, other_text, scalar_of_class}
+use Rattle.predicate_cells.specs.Ranks.{count_by_kind, class_by_kind, field_by_kind, number_rank}
+use Rattle.predicate_cells.specs.Ranks.{text_rank, number_of_class, other_text, scalar_of_class}
 use Rattle.predicate_cells.proofs.Counts.{count_from_place}
 use Rattle.predicate_cells.proofs.TextOrder.{bytes_eq_by_cmp}
 
@@ -49,29 +53,39 @@ start_fits : (start : ℤ) → begins_class start ≡ true → FitsSigned w64 st
 start_fits (pos n) e = record { sfits = grind (arith, nat_tests) }
 start_fits (negsuc n) e = record { sfits = grind (arith, nat_tests) }
 
-module _ (starts : List ℤ) (rise : IsStrictlySortedBy int_cmp starts) (begin : AllByRecursion (λ start. begins_class start ≡ true) starts) where
-  start_at : (j k : ℕ) (d : ℤ) → j ≤ k → k < length starts → int_le (get_or starts j d) (get_or starts k d) ≡ true
+module _ (starts : List ℤ) (rise : IsStrictlySortedBy int_cmp starts)
+    (begin : AllByRecursion (λ start. begins_class start ≡ true) starts) where
+  start_at : (j k : ℕ) (d : ℤ) → j ≤ k → k < length starts
+      → int_le (get_or starts j d) (get_or starts k d) ≡ true
   start_at j k d le lt = ⊎_elim before same (cases_lt j k)
     where
       before : j < k → int_le (get_or starts j d) (get_or starts k d) ≡ true
-      before below = int_le_less (get_or starts j d) (get_or starts k d) (Less-from_sorted int_cmp starts j k d rise below lt)
+      before below = int_le_less (get_or starts j d) (get_or starts k d)
+          (Less-from_sorted int_cmp starts j k d rise below lt)
 
       same : k ≤ j → int_le (get_or starts j d) (get_or starts k d) ≡ true
       same above = let is : j ≡ k = omega arith in rw is (int_le_self (get_or starts k d))
 
   -- a class of numbers begins with one of the class
-  pub number_of_class_is : (class : ℕ) → class ≤ length starts → number_rank starts (number_of_class starts class) ≡ class
+  pub number_of_class_is : (class : ℕ) → class ≤ length starts
+      → number_rank starts (number_of_class starts class) ≡ class
   number_of_class_is zero le =
-      count_from_place (λ start. int_le start least) starts 0 zero-le (λ j d a b. absurd (omega arith))
+      count_from_place (λ start. int_le start least) starts 0 zero-le
+      (λ j d a b. absurd (omega arith))
       (λ j d a b. not_least (get_or starts j d) (All-from_recursion _ starts begin j d b))
   number_of_class_is (suc k) le =
       count_from_place (λ start. int_le start (get_or starts k least)) starts (suc k) le
-      (λ j d a b. subst (λ x. int_le (get_or starts j d) x ≡ true) (get_or_default starts k d least le) (start_at j k d (omega arith) le))
-      (λ j d a b. subst (λ x. int_le (get_or starts j d) x ≡ false) (get_or_default starts k d least le) (int_le_more (get_or starts k d) (get_or starts j d) (Less-from_sorted int_cmp starts k j d rise a b)))
+      (λ j d a b. subst (λ x. int_le (get_or starts j d) x ≡ true)
+      (get_or_default starts k d least le) (start_at j k d (omega arith) le))
+      (λ j d a b. subst (λ x. int_le (get_or starts j d) x ≡ false)
+      (get_or_default starts k d least le) (int_le_more (get_or starts k d) (get_or starts j d)
+      (Less-from_sorted int_cmp starts k j d rise a b)))
 
-  pub number_of_class_fits : (class : ℕ) → class ≤ length starts → FitsSigned w64 (number_of_class starts class)
+  pub number_of_class_fits : (class : ℕ) → class ≤ length starts
+      → FitsSigned w64 (number_of_class starts class)
   number_of_class_fits zero le = record { sfits = omega arith }
-  number_of_class_fits (suc k) le = start_fits (get_or starts k least) (All-from_recursion _ starts begin k least le)
+  number_of_class_fits (suc k) le =
+      start_fits (get_or starts k least) (All-from_recursion _ starts begin k least le)
 
 -- what a text is before is after it
 pub after_is : (s t : List ℕ) → slice_cmp nat_cmp s t ≡ Less → slice_cmp nat_cmp t s ≡ Greater
@@ -83,37 +97,49 @@ continues [] b = refl
 continues (x ∷ s) b = rw (tied_itself nat_cmp_total x) (continues s b)
 
 module _ (texts : List (List ℕ)) (rise : IsStrictlySortedBy (slice_cmp nat_cmp) texts) where
-  in_order : (j k : ℕ) (d : List ℕ) → j < k → k < length texts → slice_cmp nat_cmp (get_or texts j d) (get_or texts k d) ≡ Less
+  in_order : (j k : ℕ) (d : List ℕ) → j < k → k < length texts
+      → slice_cmp nat_cmp (get_or texts j d) (get_or texts k d) ≡ Less
   in_order j k d below lt = Less-from_sorted (slice_cmp nat_cmp) texts j k d rise below lt
 
-  not_earlier : (j k : ℕ) (d : List ℕ) → k ≤ j → j < length texts → is_lt (slice_cmp nat_cmp (get_or texts j d) (get_or texts k d)) ≡ false
+  not_earlier : (j k : ℕ) (d : List ℕ) → k ≤ j → j < length texts
+      → is_lt (slice_cmp nat_cmp (get_or texts j d) (get_or texts k d)) ≡ false
   not_earlier j k d le lt = ⊎_elim after same (cases_lt k j)
     where
       after : k < j → is_lt (slice_cmp nat_cmp (get_or texts j d) (get_or texts k d)) ≡ false
-      after below = ap is_lt (after_is (get_or texts k d) (get_or texts j d) (in_order k j d below lt))
+      after below =
+          ap is_lt (after_is (get_or texts k d) (get_or texts j d) (in_order k j d below lt))
 
       same : j ≤ k → is_lt (slice_cmp nat_cmp (get_or texts j d) (get_or texts k d)) ≡ false
-      same above = let is : j ≡ k = omega arith in rw is (ap is_lt (tied_itself nat_list_cmp_total (get_or texts k d)))
+      same above = let is : j ≡ k = omega arith in
+          rw is (ap is_lt (tied_itself nat_list_cmp_total (get_or texts k d)))
 
   -- a text is of the class of its place
-  pub text_at_is : (class : ℕ) (d : List ℕ) → class < length texts → text_rank texts (get_or texts class d) ≡ class
+  pub text_at_is : (class : ℕ) (d : List ℕ) → class < length texts
+      → text_rank texts (get_or texts class d) ≡ class
   text_at_is class d lt =
       let s = get_or texts class d in
       let member = list_any_at (bytes_eq s) texts class d lt ((bytes_eq-Decides s s).1 refl) in
       rw member
       (count_from_place (λ named. is_lt (slice_cmp nat_cmp named s)) texts class (omega arith)
-      (λ j e a b. subst (λ t. is_lt (slice_cmp nat_cmp (get_or texts j e) t) ≡ true) (get_or_default texts class e d lt) (ap is_lt (in_order j class e b lt)))
-      (λ j e a b. subst (λ t. is_lt (slice_cmp nat_cmp (get_or texts j e) t) ≡ false) (get_or_default texts class e d lt) (not_earlier j class e a b)))
+      (λ j e a b. subst (λ t. is_lt (slice_cmp nat_cmp (get_or texts j e) t) ≡ true)
+      (get_or_default texts class e d lt) (ap is_lt (in_order j class e b lt)))
+      (λ j e a b. subst (λ t. is_lt (slice_cmp nat_cmp (get_or texts j e) t) ≡ false)
+      (get_or_default texts class e d lt) (not_earlier j class e a b)))
 
   -- each text is before the one that extends the last
-  all_before : (j : ℕ) (d : List ℕ) → j < length texts → slice_cmp nat_cmp (get_or texts j d) (other_text texts) ≡ Less
-  all_before j d lt = rw (get_or_default texts j d [] lt) (⊎_elim earlier same (cases_lt j (length texts - 1)))
+  all_before : (j : ℕ) (d : List ℕ) → j < length texts
+      → slice_cmp nat_cmp (get_or texts j d) (other_text texts) ≡ Less
+  all_before j d lt =
+      rw (get_or_default texts j d [] lt) (⊎_elim earlier same (cases_lt j (length texts - 1)))
     where
       last : slice_cmp nat_cmp (get_or texts (length texts - 1) []) (other_text texts) ≡ Less
       last = continues (get_or texts (length texts - 1) []) 95
 
-      earlier : j < length texts - 1 → slice_cmp nat_cmp (get_or texts j []) (other_text texts) ≡ Less
-      earlier below = nat_list_cmp_total.trans (get_or texts j []) (get_or texts (length texts - 1) []) (other_text texts) (in_order j (length texts - 1) [] below (omega arith)) last
+      earlier : j < length texts - 1
+          → slice_cmp nat_cmp (get_or texts j []) (other_text texts) ≡ Less
+      earlier below =
+          nat_list_cmp_total.trans (get_or texts j []) (get_or texts (length texts - 1) [])
+          (other_text texts) (in_order j (length texts - 1) [] below (omega arith)) last
 
       same : length texts - 1 ≤ j → slice_cmp nat_cmp (get_or texts j []) (other_text texts) ≡ Less
       same above = let is : j ≡ length texts - 1 = omega arith in rw is last
@@ -121,13 +147,16 @@ module _ (texts : List (List ℕ)) (rise : IsStrictlySortedBy (slice_cmp nat_cmp
   -- and that one is none of them
   pub other_text_is : text_rank texts (other_text texts) ≡ length texts
   other_text_is =
-      rw (list_any_none (bytes_eq (other_text texts)) texts (λ j d lt. bytes_eq_by_cmp (other_text texts) (get_or texts j d) ∙ ap is_eq (after_is (get_or texts j d) (other_text texts) (all_before j d lt)))) refl
+      rw (list_any_none (bytes_eq (other_text texts))
+      texts (λ j d lt. bytes_eq_by_cmp (other_text texts) (get_or texts j d)
+      ∙ ap is_eq (after_is (get_or texts j d) (other_text texts) (all_before j d lt)))) refl
 
 -- the text after all others is one
 other_text_bytes : (texts : List (List ℕ)) → AllByRecursion IsText texts → IsText (other_text texts)
 other_text_bytes texts bytes =
     list_all-append (λ b. nat_lt b 256) (get_or texts (length texts - 1) []) (95 ∷ [])
-    ∙ and_from (are_bytes (get_or texts (length texts - 1) [])) true (⊎_elim last none (cases_lt (length texts - 1) (length texts))) refl
+    ∙ and_from (are_bytes (get_or texts (length texts - 1) [])) true
+    (⊎_elim last none (cases_lt (length texts - 1) (length texts))) refl
   where
     last : length texts - 1 < length texts → IsText (get_or texts (length texts - 1) [])
     last below = All-from_recursion _ texts bytes (length texts - 1) [] below
@@ -135,29 +164,43 @@ other_text_bytes texts bytes =
     none : length texts ≤ length texts - 1 → IsText (get_or texts (length texts - 1) [])
     none above = rw (get_or_past texts (length texts - 1) [] above) refl
 
-module _ (starts : List ℤ) (texts : List (List ℕ)) (rise : IsStrictlySortedBy int_cmp starts) (begin : AllByRecursion (λ start. begins_class start ≡ true) starts) (order : IsStrictlySortedBy (slice_cmp nat_cmp) texts) (bytes : AllByRecursion IsText texts) where
-  text_in_class : (class : ℕ) → class < length texts + 1 → text_rank texts (get_or texts class (other_text texts)) ≡ class
+module _ (starts : List ℤ) (texts : List (List ℕ)) (rise : IsStrictlySortedBy int_cmp starts)
+    (begin : AllByRecursion (λ start. begins_class start ≡ true) starts)
+    (order : IsStrictlySortedBy (slice_cmp nat_cmp) texts)
+    (bytes : AllByRecursion IsText texts) where
+  text_in_class : (class : ℕ) → class < length texts + 1
+      → text_rank texts (get_or texts class (other_text texts)) ≡ class
   text_in_class class lt = ⊎_elim named other (cases_lt class (length texts))
     where
       named : class < length texts → text_rank texts (get_or texts class (other_text texts)) ≡ class
       named below = text_at_is texts order class (other_text texts) below
 
       other : length texts ≤ class → text_rank texts (get_or texts class (other_text texts)) ≡ class
-      other above = rw (get_or_past texts class (other_text texts) above) (omega (arith, other_text_is texts order))
+      other above = rw (get_or_past texts class (other_text texts) above)
+          (omega (arith, other_text_is texts order))
 
   scalar_in_class : (class : ℕ) → class < length starts + 3
-      → (class_by_kind Number starts texts (field.Val (value.Scalar (scalar_of_class starts class))) ≡ class) × IsScalar (scalar_of_class starts class)
-  scalar_in_class class lt = by (nat_le class (length starts)) (class == length starts + 1) refl refl
+      → (class_by_kind Number starts texts (field.Val (value.Scalar (scalar_of_class starts class)))
+      ≡ class) × IsScalar (scalar_of_class starts class)
+  scalar_in_class class lt =
+      by (nat_le class (length starts)) (class == length starts + 1) refl refl
     where
       by : (a b : Bool) → nat_le class (length starts) ≡ a → (class == length starts + 1) ≡ b
-          → let scalar = cond a (scalar.Number (number_of_class starts class)) (cond b scalar.Overflow scalar.DivZero) in
-          (class_by_kind Number starts texts (field.Val (value.Scalar scalar)) ≡ class) × IsScalar scalar
-      by true b e f = (number_of_class_is starts rise begin class (leb-true _ _ e), number_of_class_fits starts rise begin class (leb-true _ _ e))
+          → let scalar = cond a (scalar.Number (number_of_class starts class))
+          (cond b scalar.Overflow scalar.DivZero) in
+          (class_by_kind Number starts texts (field.Val (value.Scalar scalar)) ≡ class)
+          × IsScalar scalar
+      by true b e f = (
+        number_of_class_is starts rise begin class (leb-true _ _ e),
+        number_of_class_fits starts rise begin class (leb-true _ _ e),
+      )
       by false true e f = (sym (eqb-true _ _ f), tt)
-      by false false e f = let more = leb-false _ _ e in let other = eqb-false _ _ f in (omega arith, tt)
+      by false false e f = let more = leb-false _ _ e in let other = eqb-false _ _ f in
+          (omega arith, tt)
 
   -- a field of a class is of the class
-  pub class_in_field : (kind : Kind) (class : ℕ) → class < count_by_kind kind starts texts → class_by_kind kind starts texts (field_by_kind kind starts texts class) ≡ class
+  pub class_in_field : (kind : Kind) (class : ℕ) → class < count_by_kind kind starts texts
+      → class_by_kind kind starts texts (field_by_kind kind starts texts class) ≡ class
   class_in_field Int class lt = number_of_class_is starts rise begin class (omega arith)
   class_in_field (Fixed digits) class lt = number_of_class_is starts rise begin class (omega arith)
   class_in_field Text class lt = text_in_class class lt
@@ -172,10 +215,12 @@ module _ (starts : List ℤ) (texts : List (List ℕ)) (rise : IsStrictlySortedB
       named below = All-from_recursion _ texts bytes class (other_text texts) below
 
       other : length texts ≤ class → IsText (get_or texts class (other_text texts))
-      other above = rw (get_or_past texts class (other_text texts) above) (other_text_bytes texts bytes)
+      other above =
+          rw (get_or_past texts class (other_text texts) above) (other_text_bytes texts bytes)
 
   -- and of the column's kind
-  pub field_in_is : (kind : Kind) (class : ℕ) → class < count_by_kind kind starts texts → IsFieldOf kind (field_by_kind kind starts texts class)
+  pub field_in_is : (kind : Kind) (class : ℕ) → class < count_by_kind kind starts texts
+      → IsFieldOf kind (field_by_kind kind starts texts class)
   field_in_is Int class lt = number_of_class_fits starts rise begin class (omega arith)
   field_in_is (Fixed digits) class lt = number_of_class_fits starts rise begin class (omega arith)
   field_in_is Text class lt = text_is class

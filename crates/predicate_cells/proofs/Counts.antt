@@ -1,5 +1,6 @@
 -- Counts of the elements that pass a test, and where elements stand.
-use Rattle.std.proofs.Common.{◌≡◌, ℕ, zero, suc, zero-le, ◌+◌, ◌≤◌, Bool, true, false, cond, ◌||◌, ltb, List, [], ◌∷◌, length, refl, sym, ap, ◌∙◌, true≢false, arith}
+use Rattle.std.proofs.Common.{◌≡◌, ℕ, zero, suc, zero-le, ◌+◌, ◌≤◌, Bool, true, false, cond, ◌||◌}
+use Rattle.std.proofs.Common.{ltb, List, [], ◌∷◌, length, refl, sym, ap, ◌∙◌, true≢false, arith}
 use Rattle.std.specs.Prelude.{count_by}
 use Rattle.std.specs.List.{list_any, AllByRecursion, AllWithin}
 use Rattle.std.proofs.lemmas.Bool.Decides.{nat_tests}
@@ -22,14 +23,22 @@ more true b n e = grind (arith, nat_tests)
 more false b n e = grind (arith, nat_tests)
 
 module _ {A : Type 0} where
-  pub count_by-cons : (p : A → Bool) (x : A) (xs : List A) → count_by p (x ∷ xs) ≡ cond (p x) 1 0 + count_by p xs
+  pub count_by-cons : (p : A → Bool) (x : A) (xs : List A)
+      → count_by p (x ∷ xs) ≡ cond (p x) 1 0 + count_by p xs
   count_by-cons p x xs = sum_by-cons (λ y. cond (p y) 1 0) x xs
 
   -- a test that implies another one counts no more
-  pub count_by-le : (p q : A → Bool) → ((x : A) → p x ≡ true → q x ≡ true) → (xs : List A) → count_by p xs ≤ count_by q xs
+  pub count_by-le : (p q : A → Bool) → ((x : A) → p x ≡ true → q x ≡ true) → (xs : List A)
+      → count_by p xs ≤ count_by q xs
   count_by-le p q less [] = zero-le
   count_by-le p q less (x ∷ xs) =
-      omega (arith, count_by-cons p x xs, count_by-cons q x xs, weigh-le (p x) (q x) (less x), count_by-le p q less xs)
+      omega (
+        arith,
+        count_by-cons p x xs,
+        count_by-cons q x xs,
+        weigh-le (p x) (q x) (less x),
+        count_by-le p q less xs,
+      )
 
   -- and where it counts as many, the two agree
   pub same_from_count : (p q : A → Bool) → ((x : A) → p x ≡ true → q x ≡ true) → (xs : List A)
@@ -44,13 +53,17 @@ module _ {A : Type 0} where
 
   -- how many pass is where the first one fails, if none passes after it
   pub count_from_place : (p : A → Bool) (xs : List A) (i : ℕ) → i ≤ length xs
-      → AllWithin (λ x. p x ≡ true) xs 0 i → AllWithin (λ x. p x ≡ false) xs i (length xs) → count_by p xs ≡ i
+      → AllWithin (λ x. p x ≡ true) xs 0 i → AllWithin (λ x. p x ≡ false) xs i (length xs)
+      → count_by p xs ≡ i
   count_from_place p [] i le below from = omega arith
   count_from_place p (x ∷ xs) zero le below from =
-      let rest = count_from_place p xs 0 zero-le (λ k d a b. absurd (omega arith)) (λ k d a b. from (suc k) d zero-le (omega arith)) in
+      let rest = count_from_place p xs 0 zero-le (λ k d a b. absurd (omega arith))
+      (λ k d a b. from (suc k) d zero-le (omega arith)) in
       rw (count_by-cons p x xs, from 0 x (omega arith) (omega arith)) (omega (arith, rest))
   count_from_place p (x ∷ xs) (suc i) le below from =
-      let rest = count_from_place p xs i (omega arith) (λ k d a b. below (suc k) d zero-le (omega arith)) (λ k d a b. from (suc k) d (omega arith) (omega arith)) in
+      let rest = count_from_place p
+      xs i (omega arith) (λ k d a b. below (suc k) d zero-le (omega arith))
+      (λ k d a b. from (suc k) d (omega arith) (omega arith)) in
       rw (count_by-cons p x xs, below 0 x zero-le (omega arith)) (omega (arith, rest))
 
   pub count_all : (xs : List A) → count_by (λ x. true) xs ≡ length xs
@@ -60,7 +73,9 @@ module _ {A : Type 0} where
   -- whether some pass by how many do
   any_by_count : (p : A → Bool) (xs : List A) → list_any p xs ≡ ltb 0 (count_by p xs)
   any_by_count p [] = refl
-  any_by_count p (x ∷ xs) = rw (count_by-cons p x xs) (more (p x) (list_any p xs) (count_by p xs) (any_by_count p xs))
+  any_by_count p (x ∷ xs) =
+      rw (count_by-cons p x xs) (more (p x) (list_any p xs) (count_by p xs) (any_by_count p xs))
 
-  pub same_any : (p : A → Bool) (xs ys : List A) → count_by p xs ≡ count_by p ys → list_any p xs ≡ list_any p ys
+  pub same_any : (p : A → Bool) (xs ys : List A) → count_by p xs ≡ count_by p ys
+      → list_any p xs ≡ list_any p ys
   same_any p xs ys e = any_by_count p xs ∙ ap (ltb 0) e ∙ sym (any_by_count p ys)

@@ -1,5 +1,6 @@
 -- A predicate is met by the sample of some cell, or by no item.
-use Rattle.std.proofs.Common.{◌≡◌, ℕ, zero, suc, ◌<◌, ◌≤◌, ◌⊎◌, inl, inr, Bool, true, false, List, [], ◌∷◌, refl, sym, ◌∙◌, arith}
+use Rattle.std.proofs.Common.{◌≡◌, ℕ, zero, suc, ◌<◌, ◌≤◌, ◌⊎◌, inl, inr, Bool, true, false, List}
+use Rattle.std.proofs.Common.{[], ◌∷◌, refl, sym, ◌∙◌, arith}
 use Rattle.std.proofs.lemmas.Bool.{cases_lt}
 use Rattle.std.proofs.lemmas.List.Elements.{Contains-get_or}
 use Rattle.value_ops.specs.declared.field.Field.{Field}
@@ -42,15 +43,19 @@ module _ (columns : List Column) (pred : Predicate) where
   sample cell = sample_of (ranks_from 0 columns (pred ∷ [])) cell
 
   -- an item says of the predicate what the sample of its cell does
-  as_sample : (item : List Field) → IsItemOf columns item → holds pred item ≡ holds pred (sample (cell_of cells item))
+  as_sample : (item : List Field) → IsItemOf columns item
+      → holds pred item ≡ holds pred (sample (cell_of cells item))
   as_sample item is =
       let inside = sample_in cells (cell_of cells item) (cell_below cells item) in
-      cells_decide cells pred item (sample (cell_of cells item)) (Contains-get_or (pred ∷ []) 0 pred (omega arith)) is inside.0 (sym inside.1)
+      cells_decide cells pred item (sample (cell_of cells item))
+      (Contains-get_or (pred ∷ []) 0 pred (omega arith)) is inside.0 (sym inside.1)
 
   pub met_or_not : IsMet columns pred ⊎ IsUnmet columns pred
   met_or_not = by (search_below (λ cell. holds pred (sample cell)) (cell_count cells))
     where
-      by : ((n : ℕ) × (n < cell_count cells) × (holds pred (sample n) ≡ true)) ⊎ ((n : ℕ) → n < cell_count cells → holds pred (sample n) ≡ false)
+      by : ((n : ℕ) × (n < cell_count cells) × (holds pred (sample n) ≡ true))
+          ⊎ ((n : ℕ) → n < cell_count cells → holds pred (sample n) ≡ false)
           → IsMet columns pred ⊎ IsUnmet columns pred
       by (inl (cell, below, passes)) = inl (sample cell, (sample_in cells cell below).0, passes)
-      by (inr none) = inr (λ item is. as_sample item is ∙ none (cell_of cells item) (cell_below cells item))
+      by (inr none) =
+          inr (λ item is. as_sample item is ∙ none (cell_of cells item) (cell_below cells item))

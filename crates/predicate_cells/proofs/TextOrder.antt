@@ -1,5 +1,6 @@
 -- The order of texts by their bytes.
-use Rattle.std.proofs.Common.{◌≡◌, ℕ, true, List, Ordering, Less, Equal, Greater, nat_cmp, is_eq, is_lt, refl, sym, ap, ◌∙◌, true≢false}
+use Rattle.std.proofs.Common.{◌≡◌, ℕ, true, List, Ordering, Less, Equal, Greater, nat_cmp, is_eq}
+use Rattle.std.proofs.Common.{is_lt, refl, sym, ap, ◌∙◌, true≢false}
 use Rattle.std.specs.Cmp.Lexicographic.{slice_cmp, lists_ties}
 use Rattle.std.specs.Ordering.{eq_by_cmp, ordering_reverse}
 use Rattle.std.specs.Str.{bytes_eq}
@@ -27,7 +28,8 @@ less_from_lt Equal e = absurd (true≢false (sym e))
 less_from_lt Greater e = absurd (true≢false (sym e))
 
 -- what comes before a text comes before those after it
-pub lt_before : (s t n : List ℕ) → slice_cmp nat_cmp s t ≡ Less → is_lt (slice_cmp nat_cmp n s) ≡ true → is_lt (slice_cmp nat_cmp n t) ≡ true
+pub lt_before : (s t n : List ℕ) → slice_cmp nat_cmp s t ≡ Less
+    → is_lt (slice_cmp nat_cmp n s) ≡ true → is_lt (slice_cmp nat_cmp n t) ≡ true
 lt_before s t n less e = ap is_lt (nat_list_cmp_total.trans n s t (less_from_lt _ e) less)
 
 pub turned : (s t : List ℕ) → slice_cmp nat_cmp s t ≡ Greater → slice_cmp nat_cmp t s ≡ Less

@@ -7,7 +7,9 @@ use Rattle.query_trees.specs.Trees.{Trees, call, tree_before, trees_of}
 use Rattle.query_trees.proofs.Rows.{tree_before-Call}
 
 -- a call stands before others with the trees of its arguments
-pub call_before : (tree : Tree) (head : Token) (arguments : Vec Tree Global) (span : Span) (list : List Tree) (others : Trees) → tree ≡ Call head arguments span → list ≡ arguments.items → tree_before tree others ≡ call head (trees_of list) span others
+pub call_before : (tree : Tree) (head : Token) (arguments : Vec Tree Global) (span : Span)
+    (list : List Tree) (others : Trees) → tree ≡ Call head arguments span → list ≡ arguments.items
+    → tree_before tree others ≡ call head (trees_of list) span others
 call_before tree head arguments span list others is items =
     ap (λ t. tree_before t others) is
     ∙ tree_before-Call head arguments span others

@@ -1,5 +1,7 @@
 -- The first wrong word of a program, part by part.
-use Rattle.std.proofs.Common.{◌≡◌, ℕ, ◌+◌, ◌<◌, ◌≤◌, Bool, true, false, not, cond, List, [], ◌∷◌, ◌++◌, length, map, get_or, drop, drop-cons, add-one, Option, Some, None, Result, Ok, Err, IfOk, refl, sym, ap, ◌∙◌}
+use Rattle.std.proofs.Common.{◌≡◌, ℕ, ◌+◌, ◌<◌, ◌≤◌, Bool, true, false, not, cond, List, [], ◌∷◌}
+use Rattle.std.proofs.Common.{◌++◌, length, map, get_or, drop, drop-cons, add-one, Option, Some}
+use Rattle.std.proofs.Common.{None, Result, Ok, Err, IfOk, refl, sym, ap, ◌∙◌}
 use Rattle.std.proofs.lemmas.List.{drop_all}
 use Rattle.language_base.specs.declared.span.Span.{Span}
 use Rattle.query_syntax.specs.declared.leaf.Name.{Name}
@@ -11,7 +13,8 @@ use Rattle.query_syntax.specs.Programs.{Let, Program}
 use Rattle.query_syntax.specs.Queries as q
 use Rattle.query_syntax.specs.Queries.{Query}
 use Rattle.query_lets.specs.Known.{first_of, first_unknown}
-use Rattle.query_lets.specs.Words.{Word, uses, column_words, first_wrong, is_known, is_wrong, let_words, names_in, query_words, word_span, wrong_name}
+use Rattle.query_lets.specs.Words.{Word, uses, column_words, first_wrong, is_known, is_wrong}
+use Rattle.query_lets.specs.Words.{let_words, names_in, query_words, word_span, wrong_name}
 
 -- what is left of a list begins with the next
 left_is : {X : Type 0} (xs : List X) (at : ℕ) (x : X) → x ≡ get_or xs at x → at < length xs
@@ -29,8 +32,8 @@ first_wrong_append : (words others : List Word) → first_wrong (words ++ others
     ≡ first_of (first_wrong words) (first_wrong others)
 first_wrong_append [] others = refl
 first_wrong_append (word ∷ words) others =
-    chosen (is_wrong word) (word_span word) (first_wrong words) (first_wrong (words ++ others)) (first_wrong others)
-    (first_wrong_append words others)
+    chosen (is_wrong word) (word_span word) (first_wrong words) (first_wrong (words ++ others))
+    (first_wrong others) (first_wrong_append words others)
 
 -- names before others
 uses_append : (known : List (List ℕ)) (names others : List Name)
@@ -43,7 +46,8 @@ uses_append known (name ∷ names) others =
     (uses_append known names others)
 
 -- a name is wrong where it is not known
-swapped : (known : Bool) (span : Span) → cond known None (Some span) ≡ cond (not known) (Some span) None
+swapped : (known : Bool) (span : Span)
+    → cond known None (Some span) ≡ cond (not known) (Some span) None
 swapped true span = refl
 swapped false span = refl
 
@@ -59,7 +63,8 @@ module _ (known : List (List ℕ)) where
       ∙ sym (uses_append known (names_in f) (names_in g))
 
   -- the first unknown name is the first wrong word of a query
-  pub first_unknown_is : (query : Query) → first_unknown known query ≡ first_wrong (query_words known query)
+  pub first_unknown_is : (query : Query)
+      → first_unknown known query ≡ first_wrong (query_words known query)
   first_unknown_is (q.name name) = swapped (is_known known name.bytes) name.span
   first_unknown_is (q.atom predicate value span) = refl
   first_unknown_is (q.eps number span) = refl
@@ -75,11 +80,13 @@ module _ (known : List (List ℕ)) where
   pub let_first : (one : Let) (lets : List Let) (main : Query)
       → first_wrong (let_words known (one ∷ lets) main)
       ≡ cond (is_known known one.name.bytes) (Some one.name.span)
-      (first_of (first_unknown known one.query) (first_wrong (let_words (one.name.bytes ∷ known) lets main)))
+      (first_of (first_unknown known one.query)
+      (first_wrong (let_words (one.name.bytes ∷ known) lets main)))
   let_first one lets main =
       let rest = first_wrong (let_words (one.name.bytes ∷ known) lets main) in
       ap (cond (is_known known one.name.bytes) (Some one.name.span))
-      (first_wrong_append (query_words known one.query) (let_words (one.name.bytes ∷ known) lets main)
+      (first_wrong_append (query_words known one.query)
+      (let_words (one.name.bytes ∷ known) lets main)
       ∙ ap (λ (o : Option Span). first_of o rest) (sym (first_unknown_is one.query)))
 
 -- the columns, and then the lets
@@ -87,11 +94,14 @@ pub wrong_name_is : (program : Program) → wrong_name program
     ≡ first_of (first_wrong (column_words [] program.stream.columns))
     (first_wrong (let_words [] program.lets program.main.query))
 wrong_name_is program =
-    first_wrong_append (column_words [] program.stream.columns) (let_words [] program.lets program.main.query)
+    first_wrong_append (column_words [] program.stream.columns)
+    (let_words [] program.lets program.main.query)
 
-module _ (columns : List Column) (at : ℕ) (column : Column) (is_at : column ≡ get_or columns at column)
-    (within : at < length columns) (names : List (List ℕ))
-    (so_far : first_wrong (column_words [] columns) ≡ first_wrong (column_words names (drop at columns))) where
+module _ (columns : List Column) (at : ℕ) (column : Column)
+    (is_at : column ≡ get_or columns at column) (within : at < length columns)
+    (names : List (List ℕ))
+    (so_far : first_wrong (column_words [] columns)
+    ≡ first_wrong (column_words names (drop at columns))) where
   column_is : first_wrong (column_words [] columns)
       ≡ cond (is_known names column.name.bytes) (Some column.name.span)
       (first_wrong (column_words (column.name.bytes ∷ names) (drop (at + 1) columns)))
@@ -133,7 +143,8 @@ module _ (lets : List raw.Let) (at : ℕ) (one : raw.Let) (is_at : one ≡ get_o
   -- a let of a known name
   pub let_again : is_known names one.name.bytes ≡ true
       → Some one.name.span ≡ first_wrong (let_words [] (map plain_let lets) main)
-  let_again again = sym (let_is ∙ ap (λ (b : Bool). given b (first_unknown names (plain_query one.query.value))) again)
+  let_again again = sym (let_is
+      ∙ ap (λ (b : Bool). given b (first_unknown names (plain_query one.query.value))) again)
 
   -- a let of a new name that uses an unknown one
   pub let_unknown : is_known names one.name.bytes ≡ false → (span : Span)
@@ -144,20 +155,23 @@ module _ (lets : List raw.Let) (at : ℕ) (one : raw.Let) (is_at : one ≡ get_o
       ∙ ap (given false) (sym found))
 
   -- a let that has nothing wrong
-  pub let_more : is_known names one.name.bytes ≡ false → None ≡ first_unknown names (plain_query one.query.value)
+  pub let_more : is_known names one.name.bytes ≡ false
+      → None ≡ first_unknown names (plain_query one.query.value)
       → first_wrong (let_words [] (map plain_let lets) main)
       ≡ first_wrong (let_words (one.name.bytes ∷ names) (map plain_let (drop (at + 1) lets)) main)
   let_more new none = let_is
-      ∙ ap (λ (b : Bool). given b (first_unknown names (plain_query one.query.value))) new ∙ ap (given false) (sym none)
+      ∙ ap (λ (b : Bool). given b (first_unknown names (plain_query one.query.value))) new
+      ∙ ap (given false) (sym none)
 
 -- after the last let stands the main query
-pub main_last : (lets : List raw.Let) (at : ℕ) (main : Query) (names : List (List ℕ)) → length lets ≤ at
-    → first_wrong (let_words [] (map plain_let lets) main)
+pub main_last : (lets : List raw.Let) (at : ℕ) (main : Query) (names : List (List ℕ))
+    → length lets ≤ at → first_wrong (let_words [] (map plain_let lets) main)
     ≡ first_wrong (let_words names (map plain_let (drop at lets)) main)
     → first_unknown names main ≡ first_wrong (let_words [] (map plain_let lets) main)
 main_last lets at main names over so_far =
     first_unknown_is names main
-    ∙ sym (so_far ∙ ap (λ l. first_wrong (let_words names (map plain_let l) main)) (drop_all at lets over))
+    ∙ sym (so_far
+    ∙ ap (λ l. first_wrong (let_words names (map plain_let l) main)) (drop_all at lets over))
 
 -- a program whose columns have a wrong name
 pub columns_wrong : (program : Program) (span : Span)
@@ -168,8 +182,8 @@ columns_wrong program span found =
     ap (λ (o : Option Span). first_of o rest) found ∙ sym (wrong_name_is program)
 
 -- a program whose columns have none
-pub lets_wrong : {E : Type 0} (program : Program) → first_wrong (column_words [] program.stream.columns) ≡ None
-    → (found : Result (Option Span) E)
+pub lets_wrong : {E : Type 0} (program : Program)
+    → first_wrong (column_words [] program.stream.columns) ≡ None → (found : Result (Option Span) E)
     → IfOk found (λ wrong. wrong ≡ first_wrong (let_words [] program.lets program.main.query))
     → IfOk found (λ wrong. wrong ≡ wrong_name program)
 lets_wrong program none (Ok wrong) is =
@@ -180,10 +194,13 @@ lets_wrong program none (Err stop) is = tt
 -- a query that is a name
 pub name_known : (names : List (List ℕ)) (query : tree.Query) (name : Name) → query ≡ tree.Name name
     → is_known names name.bytes ≡ true → None ≡ first_unknown names (plain_query query)
-name_known names query name is known = sym (ap (λ (t : tree.Query). first_unknown names (plain_query t)) is
+name_known names query name is known =
+    sym (ap (λ (t : tree.Query). first_unknown names (plain_query t)) is
     ∙ ap (λ (b : Bool). cond b None (Some name.span)) known)
 
-pub name_unknown : (names : List (List ℕ)) (query : tree.Query) (name : Name) → query ≡ tree.Name name
-    → is_known names name.bytes ≡ false → Some name.span ≡ first_unknown names (plain_query query)
-name_unknown names query name is unknown = sym (ap (λ (t : tree.Query). first_unknown names (plain_query t)) is
+pub name_unknown : (names : List (List ℕ)) (query : tree.Query) (name : Name)
+    → query ≡ tree.Name name → is_known names name.bytes ≡ false
+    → Some name.span ≡ first_unknown names (plain_query query)
+name_unknown names query name is unknown =
+    sym (ap (λ (t : tree.Query). first_unknown names (plain_query t)) is
     ∙ ap (λ (b : Bool). cond b None (Some name.span)) unknown)

@@ -1,5 +1,6 @@
 -- Names as the keys of sets and maps.
-use Rattle.std.proofs.Common.{◌≡◌, ℕ, Bool, true, false, cond, ◌||◌, List, [], ◌∷◌, Bor, bytes_eq, Some, refl, ap, subst, ◌∙◌}
+use Rattle.std.proofs.Common.{◌≡◌, ℕ, Bool, true, false, cond, ◌||◌, List, [], ◌∷◌, Bor, bytes_eq}
+use Rattle.std.proofs.Common.{Some, refl, ap, subst, ◌∙◌}
 use Rattle.std.specs.Cmp.Lexicographic.{nat_list_eq_equiv}
 use Rattle.std.specs.HashMap as hash
 use Rattle.std.specs.HashMap.{HashMap, get_by}
@@ -23,8 +24,9 @@ pub holds_none : {S : Type 0} (set : HashSet (Bor (List ℕ)) S) → bag.IsEmpty
 holds_none set empty = λ name. ap (list_any (λ k. bytes_eq name k.now)) empty
 
 -- a set with one name more
-pub holds_more : {S : Type 0} (old new : HashSet (Bor (List ℕ)) S) (name : Bor (List ℕ)) (known : List (List ℕ))
-    → Holds old known → bag.Updates (λ x y. bytes_eq x.now y.now) old new name true → Holds new (name.now ∷ known)
+pub holds_more : {S : Type 0} (old new : HashSet (Bor (List ℕ)) S) (name : Bor (List ℕ))
+    (known : List (List ℕ)) → Holds old known
+    → bag.Updates (λ x y. bytes_eq x.now y.now) old new name true → Holds new (name.now ∷ known)
 holds_more old new name known holds updates = λ other.
     updates.0 (key other)
     ∙ ap (λ (b : Bool). cond b true (contains_by (λ k. bytes_eq other k.now) old))
@@ -33,21 +35,22 @@ holds_more old new name known holds updates = λ other.
     ∙ ap (λ (b : Bool). bytes_eq other name.now || b) (holds other)
 
 -- the same, where the name is given by its bytes
-pub holds_step : {S : Type 0} (old new : HashSet (Bor (List ℕ)) S) (name : Bor (List ℕ)) (bytes : List ℕ)
-    → name.now ≡ bytes
-    → (known : List (List ℕ)) → Holds old known → bag.Updates (λ x y. bytes_eq x.now y.now) old new name true
-    → Holds new (bytes ∷ known)
+pub holds_step : {S : Type 0} (old new : HashSet (Bor (List ℕ)) S) (name : Bor (List ℕ))
+    (bytes : List ℕ) → name.now ≡ bytes
+    → (known : List (List ℕ)) → Holds old known
+    → bag.Updates (λ x y. bytes_eq x.now y.now) old new name true → Holds new (bytes ∷ known)
 holds_step old new name bytes is known holds updates =
     subst (λ (n : List ℕ). Holds new (n ∷ known)) is (holds_more old new name known holds updates)
 
 -- whether a set has a name
-pub known_is : {S : Type 0} (set : HashSet (Bor (List ℕ)) S) (known : List (List ℕ)) → Holds set known
-    → (name : Bor (List ℕ)) (bytes : List ℕ) → name.now ≡ bytes → (has : Bool)
+pub known_is : {S : Type 0} (set : HashSet (Bor (List ℕ)) S) (known : List (List ℕ))
+    → Holds set known → (name : Bor (List ℕ)) (bytes : List ℕ) → name.now ≡ bytes → (has : Bool)
     → has ≡ contains_by (λ k. bytes_eq name.now k.now) set → has ≡ is_known known bytes
 known_is set known holds name bytes is has found = found ∙ holds name.now ∙ ap (is_known known) is
 
 -- what a map has under a name after a change
-pub changed : {S X : Type 0} (old new : HashMap (Bor (List ℕ)) X S) (name : Bor (List ℕ)) (value : X)
+pub changed : {S X : Type 0} (old new : HashMap (Bor (List ℕ)) X S)
+    (name : Bor (List ℕ)) (value : X)
     → hash.Updates (λ x y. bytes_eq x.now y.now) old new name (Some value)
     → (other : List ℕ) → get_by (λ k. bytes_eq other k.now) new
     ≡ cond (bytes_eq other name.now) (Some value) (get_by (λ k. bytes_eq other k.now) old)

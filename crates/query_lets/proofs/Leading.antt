@@ -1,5 +1,6 @@
 -- From the name of a let to its query, and the lets before it.
-use Rattle.std.proofs.Common.{◌≡◌, ℕ, ◌<◌, ◌≤◌, List, length, map, take, Bor, Some, None, unwrap_or, option_map, refl, sym, ap, subst, ◌∙◌, slice_get, arith}
+use Rattle.std.proofs.Common.{◌≡◌, ℕ, ◌<◌, ◌≤◌, List, length, map, take, Bor, Some, None, unwrap_or}
+use Rattle.std.proofs.Common.{option_map, refl, sym, ap, subst, ◌∙◌, slice_get, arith}
 use Rattle.std.proofs.lemmas.List.{length-map}
 use Rattle.std.proofs.lemmas.Option.{none-some, same_Some, slice_get-map}
 use Rattle.std.specs.HashMap.{HashMap}
@@ -10,7 +11,8 @@ use Rattle.query_syntax.specs.Plain.{plain_let, plain_query}
 use Rattle.query_syntax.specs.Queries as q
 use Rattle.query_syntax.specs.Queries.{Query}
 use Rattle.query_lets.specs.declared.scope.Scope.{Scope}
-use Rattle.query_lets.specs.Places.{ArePlaces, IsPlaced, IsRoot, Leads, lets_of, nodes_with, query_of}
+use Rattle.query_lets.specs.Places.{ArePlaces, IsPlaced, IsRoot, Leads, lets_of, nodes_with}
+use Rattle.query_lets.specs.Places.{query_of}
 use Rattle.query_lets.specs.Unfolded.{bindings_of, meaning, replaced}
 use Rattle.query_lets.proofs.Building.{place_of}
 use Rattle.query_lets.proofs.Placed.{fewer, placed, taken, unplaced}
@@ -20,12 +22,13 @@ abbrev name_in : Name → Query → Name
 name_in other (q.name name) = name
 name_in other query = other
 
-module _ {S : Type 0} (places : HashMap (Bor (List ℕ)) ℕ S) (from : Scope) (are : ArePlaces places (lets_of from))
-    (name : Name) (is_name : query_of from ≡ q.name name) where
+module _ {S : Type 0} (places : HashMap (Bor (List ℕ)) ℕ S) (from : Scope)
+    (are : ArePlaces places (lets_of from)) (name : Name)
+    (is_name : query_of from ≡ q.name name) where
   -- a name of one of the lets
   module _ (place : ℕ) (found : place_of places name.bytes ≡ Some place) (one : raw.Let)
-      (at : slice_get from.lets.now place ≡ Some one) (to : Scope) (lets : to.lets.now ≡ take place from.lets.now)
-      (query : to.query.now ≡ one.query.value) where
+      (at : slice_get from.lets.now place ≡ Some one) (to : Scope)
+      (lets : to.lets.now ≡ take place from.lets.now) (query : to.query.now ≡ one.query.value) where
     lets_is : lets_of to ≡ take place (lets_of from)
     lets_is = ap (map plain_let) lets ∙ sym (take-map plain_let place from.lets.now)
 
@@ -48,14 +51,16 @@ module _ {S : Type 0} (places : HashMap (Bor (List ℕ)) ℕ S) (from : Scope) (
 
     pub leads : to.places ≡ from.places → Leads from to
     leads places_are = record {
-      before = λ k x here. taken place (lets_of from) k x (subst (λ l. slice_get l k ≡ Some x) lets_is here);
+      before = λ k x here. taken place (lets_of from) k x
+          (subst (λ l. slice_get l k ≡ Some x) lets_is here);
       places = places_are;
       same = same_query;
       fewer = fewer_nodes;
     }
 
   -- a name of none of them
-  pub is_root : ((place : ℕ) → place_of places name.bytes ≡ Some place → place < length from.lets.now → ⊥)
+  pub is_root :
+      ((place : ℕ) → place_of places name.bytes ≡ Some place → place < length from.lets.now → ⊥)
       → IsRoot from
   is_root none = λ other is.
       let same : name ≡ other = ap (name_in name) (sym is_name ∙ is) in
@@ -68,13 +73,15 @@ module _ {S : Type 0} (places : HashMap (Bor (List ℕ)) ℕ S) (from : Scope) (
   no_place none = is_root (λ place found within. none-some place (sym none ∙ found))
 
   -- its place is after these
-  pub place_after : (place : ℕ) → place_of places name.bytes ≡ Some place → length from.lets.now ≤ place → IsRoot from
+  pub place_after : (place : ℕ) → place_of places name.bytes ≡ Some place
+      → length from.lets.now ≤ place → IsRoot from
   place_after place found after = is_root (λ other there within.
       let same : other ≡ place = same_Some other place (sym there ∙ found) in omega arith)
 
 -- a scope leads to itself
 pub leads_self : (scope : Scope) → Leads scope scope
-leads_self scope = record { before = λ place one at. at; places = refl; same = refl; fewer = omega arith }
+leads_self scope =
+    record { before = λ place one at. at; places = refl; same = refl; fewer = omega arith }
 
 -- and on
 pub leads_on : (one two three : Scope) → Leads one two → Leads two three → Leads one three

@@ -1,5 +1,7 @@
 -- Lets by their names, and what their names stand for.
-use Rattle.std.proofs.Common.{◌≡◌, ℕ, zero, suc, ◌+◌, ◌<◌, ◌≤◌, Bool, true, false, cond, List, [], ◌∷◌, length, take, Bor, bytes_eq, Option, Some, None, unwrap_or, refl, sym, ap, ◌∙◌, slice_get, arith}
+use Rattle.std.proofs.Common.{◌≡◌, ℕ, zero, suc, ◌+◌, ◌<◌, ◌≤◌, Bool, true, false, cond, List, []}
+use Rattle.std.proofs.Common.{◌∷◌, length, take, Bor, bytes_eq, Option, Some, None, unwrap_or, refl}
+use Rattle.std.proofs.Common.{sym, ap, ◌∙◌, slice_get, arith}
 use Rattle.std.proofs.lemmas.Bool.{false_from_ne_true}
 use Rattle.std.proofs.lemmas.Option.{slice_get_within}
 use Rattle.std.specs.Cmp.Lexicographic.{bytes_decides}
@@ -27,7 +29,8 @@ taken (suc count) (first ∷ xs) (suc place) x at = taken count xs place x at
 
 -- lets without the name change nothing
 absent : (bindings : List Binding) (lets : List Let) (name : List ℕ)
-    → ((place : ℕ) (one : Let) → slice_get lets place ≡ Some one → bytes_eq name one.name.bytes ≡ false)
+    → ((place : ℕ) (one : Let) → slice_get lets place ≡ Some one
+    → bytes_eq name one.name.bytes ≡ false)
     → meaning (bindings_after bindings lets) name ≡ meaning bindings name
 absent bindings [] name none = refl
 absent bindings (one ∷ lets) name none =
@@ -50,12 +53,14 @@ present bindings (first ∷ lets) zero one name at same none =
     (λ later other found. none (suc later) other (omega arith) found)
     ∙ ap (λ (l : Let). cond (bytes_eq name l.name.bytes) (Some (replaced bindings l.query))
     (meaning bindings name)) is
-    ∙ ap (λ (test : Bool). cond test (Some (replaced bindings one.query)) (meaning bindings name)) same
+    ∙ ap (λ (test : Bool). cond test (Some (replaced bindings one.query)) (meaning bindings name))
+    same
 present bindings (first ∷ lets) (suc place) one name at same none =
     present (binding bindings first.name.bytes first.query ∷ bindings) lets place one name at same
     (λ later other after found. none (suc later) other (omega arith) found)
 
-module _ {S : Type 0} (places : HashMap (Bor (List ℕ)) ℕ S) (lets : List Let) (are : ArePlaces places lets) where
+module _ {S : Type 0} (places : HashMap (Bor (List ℕ)) ℕ S) (lets : List Let)
+    (are : ArePlaces places lets) where
   -- the place of a name
   abbrev place_of : List ℕ → Option ℕ
   place_of name = get_by (λ k. bytes_eq name k.now) places
@@ -72,13 +77,16 @@ module _ {S : Type 0} (places : HashMap (Bor (List ℕ)) ℕ S) (lets : List Let
       → slice_get lets place ≡ Some one
       → meaning (bindings_of lets) name ≡ Some (replaced (bindings_of (take place lets)) one.query)
   placed name place one is at =
-      present [] lets place one name at ((bytes_decides name one.name.bytes).1 ((are place one at).1 name is))
+      present [] lets place one name at
+      ((bytes_decides name one.name.bytes).1 ((are place one at).1 name is))
       (λ later other after found. false_from_ne_true (bytes_eq name other.name.bytes)
       (λ same. let two : later ≡ place =
-      one_thing later place (sym (found_at name later other found same) ∙ is) in absurd (omega arith)))
+      one_thing later place (sym (found_at name later other found same) ∙ is) in
+      absurd (omega arith)))
 
   -- a name of none of them
-  pub unplaced : (name : List ℕ) → ((place : ℕ) → place_of name ≡ Some place → place < length lets → ⊥)
+  pub unplaced : (name : List ℕ)
+      → ((place : ℕ) → place_of name ≡ Some place → place < length lets → ⊥)
       → meaning (bindings_of lets) name ≡ None
   unplaced name none =
       absent [] lets name (λ place one at. false_from_ne_true (bytes_eq name one.name.bytes)
@@ -102,11 +110,13 @@ part_sum (first ∷ lets) (suc place) one at =
     omega arith
 
 -- a let's query has, with those before it, no more nodes than a name of it
-pub fewer : (lets : List Let) (place : ℕ) (one : Let) → slice_get lets place ≡ Some one → (name : Name)
+pub fewer : (lets : List Let) (place : ℕ) (one : Let)
+    → slice_get lets place ≡ Some one → (name : Name)
     → nodes_with (take place lets) one.query ≤ nodes_with lets (q.name name)
 fewer lets place one at name =
     let part = part_sum lets place one at in
-    let here : nodes_with (take place lets) one.query ≡ nodes_in_lets (take place lets) + nodes_of one.query =
+    let here : nodes_with (take place lets) one.query
+    ≡ nodes_in_lets (take place lets) + nodes_of one.query =
     refl in
     let all : nodes_with lets (q.name name) ≡ nodes_in_lets lets + 1 = refl in
     omega arith

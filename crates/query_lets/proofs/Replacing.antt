@@ -1,5 +1,6 @@
 -- Where no name is wrong, none is left.
-use Rattle.std.proofs.Common.{◌≡◌, ℕ, Bool, true, false, cond, ◌||◌, is_some, List, [], ◌∷◌, ◌++◌, bytes_eq, Option, Some, None, unwrap_or, refl, sym, ap, ◌∙◌}
+use Rattle.std.proofs.Common.{◌≡◌, ℕ, Bool, true, false, cond, ◌||◌, is_some, List, [], ◌∷◌, ◌++◌}
+use Rattle.std.proofs.Common.{bytes_eq, Option, Some, None, unwrap_or, refl, sym, ap, ◌∙◌}
 use Rattle.language_base.specs.declared.span.Span.{Span}
 use Rattle.query_syntax.specs.declared.leaf.Name.{Name}
 use Rattle.query_syntax.specs.Programs.{Let, Program}
@@ -8,7 +9,8 @@ use Rattle.query_syntax.specs.Queries.{Query}
 use Rattle.query_lets.specs.Known.{first_of, first_unknown}
 use Rattle.query_lets.specs.Places.{AreNamedApart}
 use Rattle.query_lets.specs.Unfolded.{Binding, bindings_after, meaning, replaced, unfolded}
-use Rattle.query_lets.specs.Words.{column_words, first_wrong, is_known, let_words, names_in, wrong_name}
+use Rattle.query_lets.specs.Words.{column_words, first_wrong, is_known, let_words, names_in}
+use Rattle.query_lets.specs.Words.{wrong_name}
 use Rattle.query_lets.proofs.Bound.{binding}
 use Rattle.query_lets.proofs.FirstWrong.{first_unknown_is, let_first, wrong_name_is}
 
@@ -30,8 +32,8 @@ pub let_right : (known : List (List ℕ)) (one : Let) (lets : List Let) (main : 
     × (first_wrong (let_words (one.name.bytes ∷ known) lets main) ≡ None)
 let_right known one lets main right =
     let rest = first_wrong (let_words (one.name.bytes ∷ known) lets main) in
-    let split = untrue (is_known known one.name.bytes) one.name.span (first_of (first_unknown known one.query) rest)
-    (sym (let_first known one lets main) ∙ right) in
+    let split = untrue (is_known known one.name.bytes) one.name.span
+    (first_of (first_unknown known one.query) rest) (sym (let_first known one lets main) ∙ right) in
     let parts = neither (first_unknown known one.query) rest split.1 in
     (split.0, parts.0, parts.1)
 
@@ -58,8 +60,8 @@ record AreClear (known : List (List ℕ)) (bindings : List Binding) : Type 0 whe
 
 module _ (known : List (List ℕ)) (bindings : List Binding) (are : AreClear known bindings) where
   -- what a known name stands for
-  meant : (name : Name) (found : Option Query) → found ≡ meaning bindings name.bytes → is_some found ≡ true
-      → names_in (unwrap_or found (q.name name)) ≡ []
+  meant : (name : Name) (found : Option Query) → found ≡ meaning bindings name.bytes
+      → is_some found ≡ true → names_in (unwrap_or found (q.name name)) ≡ []
   meant name None is some = absurd (cc)
   meant name (Some query) is some = are.clear name.bytes query (sym is)
 
@@ -76,10 +78,12 @@ module _ (known : List (List ℕ)) (bindings : List Binding) (are : AreClear kno
       → names_in (replaced bindings f) ++ names_in (replaced bindings g) ≡ []
   both f g left right none =
       let parts = neither (first_unknown known f) (first_unknown known g) none in
-      nothing (names_in (replaced bindings f)) (names_in (replaced bindings g)) (left parts.0) (right parts.1)
+      nothing (names_in (replaced bindings f)) (names_in (replaced bindings g))
+      (left parts.0) (right parts.1)
 
   -- a query that uses only known names has none left
-  all_replaced : (query : Query) → first_unknown known query ≡ None → names_in (replaced bindings query) ≡ []
+  all_replaced : (query : Query) → first_unknown known query ≡ None
+      → names_in (replaced bindings query) ≡ []
   all_replaced (q.name name) none =
       meant name (meaning bindings name.bytes) refl
       (sym (are.known_is name.bytes) ∙ seen (is_known known name.bytes) name.span none)
@@ -115,7 +119,8 @@ module _ (known : List (List ℕ)) (bindings : List Binding) (are : AreClear kno
 -- lets with right names leave no name
 all_unfolded : (known : List (List ℕ)) (bindings : List Binding) → AreClear known bindings
     → (lets : List Let) (main : Query)
-    → first_wrong (let_words known lets main) ≡ None → names_in (replaced (bindings_after bindings lets) main) ≡ []
+    → first_wrong (let_words known lets main) ≡ None
+    → names_in (replaced (bindings_after bindings lets) main) ≡ []
 all_unfolded known bindings are [] main right =
     all_replaced known bindings are main (first_unknown_is known main ∙ right)
 all_unfolded known bindings are (one ∷ lets) main right =
@@ -128,5 +133,7 @@ at_first : AreClear [] []
 at_first = record { known_is = λ name. refl; clear = λ name query is. absurd (cc) }
 
 -- a program with right names has no name left
-pub no_name_left : (program : Program) → wrong_name program ≡ None → names_in (unfolded program) ≡ []
-no_name_left program right = all_unfolded [] [] at_first program.lets program.main.query (lets_right program right)
+pub no_name_left : (program : Program) → wrong_name program ≡ None
+    → names_in (unfolded program) ≡ []
+no_name_left program right =
+    all_unfolded [] [] at_first program.lets program.main.query (lets_right program right)

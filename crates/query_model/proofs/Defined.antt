@@ -1,5 +1,6 @@
 -- A query has a value on each word of its rate, where it is bound.
-use Rattle.std.proofs.Common.{append-nil, append_assoc, ◌≡◌, ◌≢◌, ℕ, ◌++◌, ◌∙◌, List, [], ◌∷◌, Some, None, refl, sym, subst, ap, ◌⊎◌, inl, inr}
+use Rattle.std.proofs.Common.{append-nil, append_assoc, ◌≡◌, ◌≢◌, ℕ, ◌++◌, ◌∙◌, List, [], ◌∷◌, Some}
+use Rattle.std.proofs.Common.{None, refl, sym, subst, ap, ◌⊎◌, inl, inr}
 use Rattle.std.specs.List.{AllByRecursion}
 use Rattle.value_ops.specs.declared.field.Field.{Field}
 use Rattle.value_ops.specs.declared.field.Field.TheVariants as field
@@ -19,8 +20,10 @@ use Rattle.rate_expr.specs.Words.{Word, IsWordOf, join}
 use Rattle.rate_expr.specs.Readings.{HasAllButEmpty}
 use Rattle.rate_expr.proofs.Deciding.{in_or_not}
 use Rattle.rate_expr.proofs.Wording.{word_parts, word_more}
-use Rattle.query_model.specs.Denotation.{AreEntries, Den, Emits, Folds, Outputs, keys_after, projection}
-use Rattle.query_model.specs.Queries.{Qre, atom, eps, choice, split, iter, combine, apply, compose, collect}
+use Rattle.query_model.specs.Denotation.{AreEntries, Den, Emits, Folds, Outputs, keys_after}
+use Rattle.query_model.specs.Denotation.{projection}
+use Rattle.query_model.specs.Queries.{Qre, atom, eps, choice, split, iter, combine, apply, compose}
+use Rattle.query_model.specs.Queries.{collect}
 use Rattle.query_model.specs.QueryTypes.{derived_columns, of_two, type_of}
 use Rattle.query_model.specs.Rates.{rate_of}
 use Rattle.query_model.specs.Rules.{Standing, free, bound, IsClear}
@@ -46,7 +49,8 @@ fold_some columns ty A D expression each typed (piece ∷ pieces) so_far begins 
     let last = each piece parts.0 all.0 in
     let next = two_gives type.Number ty type.Number expression so_far last.0 begins last.2 typed in
     let rest = fold_some columns ty A D expression each typed pieces next.0
-    (two_ranges type.Number ty type.Number expression so_far last.0 next.0 begins last.2 typed next.1)
+    (two_ranges type.Number ty type.Number expression so_far last.0 next.0 begins
+    last.2 typed next.1)
     parts.1 all.1 in
     (rest.0, (last.0, next.0, last.1, next.1, rest.1))
 
@@ -75,8 +79,8 @@ outputs_some columns D decides before (item ∷ word) is rest =
     (first.0 ++ others.0, (first.0, others.0, first.1, others.1, refl))
 
 -- where the whole word has a value, something comes out
-emits_none : (D : Word → Value → Type 0) (word items : Word) (v : Value) → D word v → Emits D word items
-    → items ≡ [] → ⊥
+emits_none : (D : Word → Value → Type 0) (word items : Word) (v : Value) → D word v
+    → Emits D word items → items ≡ [] → ⊥
 emits_none D word items v den emits empty =
     elim emits [
       | inl (x, den', whole) ↦ cons_nil (sym whole ∙ empty)
@@ -90,8 +94,8 @@ right_empty : (u v : Word) → u ++ v ≡ [] → v ≡ []
 right_empty [] v same = same
 right_empty (x ∷ u) v same = cc
 
-outputs_none : (D : Word → Value → Type 0) (before word items : Word) (v : Value) → D (before ++ word) v
-    → Outputs D before word items → items ≡ [] → ⊥
+outputs_none : (D : Word → Value → Type 0) (before word items : Word) (v : Value)
+    → D (before ++ word) v → Outputs D before word items → items ≡ [] → ⊥
 outputs_none D before [] items v den outputs empty =
     emits_none D before items v (subst (λ w. D w v) (append-nil before) den) outputs empty
 outputs_none D before (item ∷ word) items v den (first, others, emits, more, whole) empty =
@@ -101,7 +105,8 @@ outputs_none D before (item ∷ word) items v den (first, others, emits, more, w
 
 -- for each key it is decided too
 entries_some : (D : List ℕ → Value → Type 0)
-    → ((key : List ℕ) → ((scalar : Scalar) × D key (value.Scalar scalar)) ⊎ ((v : Value) → D key v → ⊥))
+    → ((key : List ℕ)
+    → ((scalar : Scalar) × D key (value.Scalar scalar)) ⊎ ((v : Value) → D key v → ⊥))
     → (keys : List (List ℕ)) → (entries : List (List ℕ × Scalar)) × AreEntries D keys entries
 entries_some D decides [] = ([], refl)
 entries_some D decides (key ∷ keys) =
@@ -112,18 +117,20 @@ entries_some D decides (key ∷ keys) =
     ]
 
 -- a number is a scalar
-number_inside : (v : Value) → IsValueOf type.Number v → (scalar : Scalar) × (v ≡ value.Scalar scalar)
+number_inside : (v : Value) → IsValueOf type.Number v
+    → (scalar : Scalar) × (v ≡ value.Scalar scalar)
 number_inside (value.Scalar scalar) is = (scalar, refl)
 number_inside (value.Table entries) is = absurd is
 
 -- a value with its type
-with_type : (columns : List Column) (f : Qre) (word : Word) → IsClear bound columns f → IsWordOf columns word
-    → ((v : Value) × Den f word v) → (v : Value) × Den f word v × IsValueOf (type_of columns f) v
+with_type : (columns : List Column) (f : Qre) (word : Word) → IsClear bound columns f
+    → IsWordOf columns word → ((v : Value) × Den f word v)
+    → (v : Value) × Den f word v × IsValueOf (type_of columns f) v
 with_type columns f word clear is (v, den) = (v, den, den_typed bound columns f word v clear is den)
 
 -- whether there is a value, since it is decided whether the word is in the rate
-pub decided : (columns : List Column) (f : Qre) (word : Word) → IsClear bound columns f → IsWordOf columns word
-    → (In (rate_of f) word → (v : Value) × Den f word v)
+pub decided : (columns : List Column) (f : Qre) (word : Word) → IsClear bound columns f
+    → IsWordOf columns word → (In (rate_of f) word → (v : Value) × Den f word v)
     → ((v : Value) × Den f word v) ⊎ ((v : Value) → Den f word v → ⊥)
 decided columns f word clear is some =
     elim (in_or_not (rate_of f) word) [
@@ -139,7 +146,8 @@ scalar_decided : (columns : List Column) (f : Qre) (word : Word) → IsClear bou
 scalar_decided columns f word clear number is some =
     elim (decided columns f word clear is some) [
       | inl (v, den) ↦
-          let inside = number_inside v (subst (λ ty. IsValueOf ty v) number (den_typed bound columns f word v clear is den)) in
+          let inside = number_inside v
+          (subst (λ ty. IsValueOf ty v) number (den_typed bound columns f word v clear is den)) in
           inl (inside.0, subst (Den f word) inside.1 den)
       | inr none ↦ inr none
     ]
@@ -151,10 +159,11 @@ fed columns g [] all is some = absurd (some refl)
 fed columns g (item ∷ more) all is some = all item more is
 
 -- a value on each word of the rate
-pub in_den : (columns : List Column) (q : Qre) (word : Word) → IsClear bound columns q → IsWordOf columns word
-    → In (rate_of q) word → (v : Value) × Den q word v
+pub in_den : (columns : List Column) (q : Qre) (word : Word) → IsClear bound columns q
+    → IsWordOf columns word → In (rate_of q) word → (v : Value) × Den q word v
 in_den columns (atom pred expression) word clear is (item, whole, meets) =
-    let given_value = atom_gives columns item expression (subst (IsWordOf columns) whole is).0 clear.1 in
+    let given_value = atom_gives columns item expression
+    (subst (IsWordOf columns) whole is).0 clear.1 in
     (given_value.0, (item, whole, meets, given_value.1))
 in_den columns (eps number) word clear is in_rate = (value.Scalar (Number number), (in_rate, refl))
 in_den columns (choice f g) word clear is in_rate =
@@ -172,8 +181,10 @@ in_den columns (split f g expression) word clear is (first, second, whole, left,
     (found.0, (first, second, x.0, y.0, whole, x.1, y.1, found.1))
 in_den columns (iter f number expression) word clear is (pieces, whole, each) =
     let found = fold_some columns (type_of columns f) (In (rate_of f)) (Den f) expression
-    (λ piece piece_is in_rate. with_type columns f piece clear.0 piece_is (in_den columns f piece clear.0 piece_is in_rate))
-    clear.2 pieces (value.Scalar (Number number)) clear.1 (subst (IsWordOf columns) whole is) each in
+    (λ piece piece_is in_rate. with_type columns f piece clear.0 piece_is
+    (in_den columns f piece clear.0 piece_is in_rate))
+    clear.2 pieces (value.Scalar (Number number)) clear.1
+    (subst (IsWordOf columns) whole is) each in
     (found.0, (pieces, whole, found.1))
 in_den columns (combine f g expression) word clear is in_rate =
     let x = in_den columns f word clear.0 is in_rate in
@@ -184,22 +195,27 @@ in_den columns (combine f g expression) word clear is in_rate =
     (found.0, (x.0, y.0, x.1, y.1, found.1))
 in_den columns (apply f expression) word clear is in_rate =
     let x = in_den columns f word clear.0 is in_rate in
-    let found = one_gives (type_of columns f) _ expression x.0 (den_typed bound columns f word x.0 clear.0 is x.1) clear.1 in
+    let found = one_gives (type_of columns f) _ expression x.0
+    (den_typed bound columns f word x.0 clear.0 is x.1) clear.1 in
     (found.0, (x.0, x.1, found.1))
 in_den columns (compose f g) word clear is in_rate =
     let x = in_den columns f word clear.0 is in_rate in
     let out = outputs_some columns (Den f)
-    (λ part part_is. decided columns f part clear.0 part_is (λ in_part. in_den columns f part clear.0 part_is in_part))
+    (λ part part_is. decided columns f part clear.0 part_is
+    (λ in_part. in_den columns f part clear.0 part_is in_part))
     [] word tt is in
     let out_is = outputs_word columns (type_of columns f) (Den f)
-    (λ part last part_is den. den_typed bound columns f part last clear.0 part_is den) [] word out.0 tt is out.1 in
+    (λ part last part_is den. den_typed bound columns f part last clear.0 part_is den) [] word
+    out.0 tt is out.1 in
     let outer = in_den (derived_columns (type_of columns f)) g out.0 clear.1 out_is
-    (fed (derived_columns (type_of columns f)) g out.0 clear.3 out_is (outputs_none (Den f) [] word out.0 x.0 x.1 out.1)) in
+    (fed (derived_columns (type_of columns f)) g out.0 clear.3 out_is
+    (outputs_none (Den f) [] word out.0 x.0 x.1 out.1)) in
     (outer.0, (x.0, out.0, x.1, out.1, outer.1))
 in_den columns (collect column sync rate f) word clear is in_rate =
     let entries = entries_some (on_keys f column sync word)
     (λ key. scalar_decided columns f (projection column sync key word) clear.0 clear.1
     (kept_word columns _ word is)
-    (λ in_part. in_den columns f (projection column sync key word) clear.0 (kept_word columns _ word is) in_part))
+    (λ in_part. in_den columns f (projection column sync key word) clear.0
+    (kept_word columns _ word is) in_part))
     (keys_after column sync [] word) in
     (value.Table entries.0, (entries.0, in_rate, entries.1, refl))

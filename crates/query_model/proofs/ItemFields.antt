@@ -1,5 +1,6 @@
 -- What stands in the fields of an item.
-use Rattle.std.proofs.Common.{◌≡◌, ℕ, zero, suc, List, [], ◌∷◌, map, Option, Some, None, refl, ap, sym, subst}
+use Rattle.std.proofs.Common.{◌≡◌, ℕ, zero, suc, List, [], ◌∷◌, map, Option, Some, None, refl, ap}
+use Rattle.std.proofs.Common.{sym, subst}
 use Rattle.std.specs.Prelude.{unwrap_or, slice_get}
 use Rattle.std.specs.Option.{option_and_then}
 use Rattle.value_ops.specs.declared.field.Field.{Field}
@@ -32,8 +33,10 @@ type_of_value type.Table (value.Scalar scalar) is = absurd is
 type_of_value type.Table (value.Table entries) is = refl
 
 -- and is a value of its own type
-pub value_of_own : (type : ValueType) (value : Value) → IsValueOf type value → IsValueOf (type_of value) value
-value_of_own type value is = subst (λ own. IsValueOf own value) (sym (type_of_value type value is)) is
+pub value_of_own : (type : ValueType) (value : Value) → IsValueOf type value
+    → IsValueOf (type_of value) value
+value_of_own type value is =
+    subst (λ own. IsValueOf own value) (sym (type_of_value type value is)) is
 
 -- the text of a field, and nothing where there is none
 abbrev text_in : Field → List ℕ
@@ -42,12 +45,14 @@ text_in field = unwrap_or (text_of field) []
 -- what is known of each field of an item
 record IsKnown (kind : Kind) (field : Field) : Type 0 where
   typed : type_of_field field ≡ type_of_kind kind
-  value : (value : Value) → value_of_field (Some field) ≡ Some value → IsValueOf (type_of value) value
+  value : (value : Value) → value_of_field (Some field) ≡ Some value
+      → IsValueOf (type_of value) value
   text : IsText (text_in field)
 
 the_value : (other found : Value) → IsValueOf (type_of found) found → Some found ≡ Some other
     → IsValueOf (type_of other) other
-the_value other found is same = subst (λ v. IsValueOf (type_of v) v) (same_inside found other same) is
+the_value other found is same =
+    subst (λ v. IsValueOf (type_of v) v) (same_inside found other same) is
 
 known : (kind : Kind) (field : Field) → IsFieldOf kind field → IsKnown kind field
 known Int (field.Int number) is = record {
@@ -86,16 +91,19 @@ field_types (column ∷ columns) (x ∷ item) is =
 pub atom_types : (columns : List Column) (item : List Field) → IsItemOf columns item
     → types_of (given item None None) ≡ of_columns columns
 atom_types columns item is =
-    ap (λ fields. record { fields = fields; left = None; right = None }) (field_types columns item is)
+    ap (λ fields. record { fields = fields; left = None; right = None })
+    (field_types columns item is)
 
 -- a field that is found is known
-found_known : (columns : List Column) (item : List Field) (at : ℕ) (found : Field) → IsItemOf columns item
-    → slice_get item at ≡ Some found → (kind : Kind) × IsKnown kind found
+found_known : (columns : List Column) (item : List Field) (at : ℕ) (found : Field)
+    → IsItemOf columns item → slice_get item at ≡ Some found → (kind : Kind) × IsKnown kind found
 found_known [] [] at found is there = cc
 found_known [] (x ∷ item) at found is there = absurd is
 found_known (column ∷ columns) [] at found is there = absurd is
-found_known (column ∷ columns) (x ∷ item) zero found is there =
-    (column.kind, subst (IsKnown column.kind) (same_inside x found there) (known column.kind x is.0))
+found_known (column ∷ columns) (x ∷ item) zero found is there = (
+  column.kind,
+  subst (IsKnown column.kind) (same_inside x found there) (known column.kind x is.0),
+)
 found_known (column ∷ columns) (x ∷ item) (suc at) found is there =
     found_known columns item at found is.1 there
 
@@ -115,7 +123,8 @@ atom_values columns item is var.Left value same = cc
 atom_values columns item is var.Right value same = cc
 
 key_text : (columns : List Column) (item : List Field) (at : ℕ) → IsItemOf columns item
-    → (found : Option Field) → slice_get item at ≡ found → IsText (unwrap_or (option_and_then text_of found) [])
+    → (found : Option Field) → slice_get item at ≡ found
+    → IsText (unwrap_or (option_and_then text_of found) [])
 key_text columns item at is None there = refl
 key_text columns item at is (Some found) there = (found_known columns item at found is there).1.text
 
@@ -130,22 +139,24 @@ pub one_type : (type : ValueType) (left : Value) → IsValueOf type left
 one_type type left is =
     ap (λ own. record { fields = []; left = Some own; right = None }) (type_of_value type left is)
 
-pub two_types : (type other : ValueType) (left right : Value) → IsValueOf type left → IsValueOf other right
-    → types_of (given [] (Some left) (Some right)) ≡ of_two type other
+pub two_types : (type other : ValueType) (left right : Value) → IsValueOf type left
+    → IsValueOf other right → types_of (given [] (Some left) (Some right)) ≡ of_two type other
 two_types type other left right is right_is =
     rw (type_of_value type left is, type_of_value other right right_is) refl
 
 -- and they are values
-pub one_value : (type : ValueType) (left : Value) → IsValueOf type left → AreValues (given [] (Some left) None)
+pub one_value : (type : ValueType) (left : Value) → IsValueOf type left
+    → AreValues (given [] (Some left) None)
 one_value type left is (var.Field at) value same = cc
 one_value type left is var.Left value same =
     subst (λ v. IsValueOf (type_of v) v) (same_inside left value same) (value_of_own type left is)
 one_value type left is var.Right value same = cc
 
-pub two_values : (type other : ValueType) (left right : Value) → IsValueOf type left → IsValueOf other right
-    → AreValues (given [] (Some left) (Some right))
+pub two_values : (type other : ValueType) (left right : Value) → IsValueOf type left
+    → IsValueOf other right → AreValues (given [] (Some left) (Some right))
 two_values type other left right is right_is (var.Field at) value same = cc
 two_values type other left right is right_is var.Left value same =
     subst (λ v. IsValueOf (type_of v) v) (same_inside left value same) (value_of_own type left is)
 two_values type other left right is right_is var.Right value same =
-    subst (λ v. IsValueOf (type_of v) v) (same_inside right value same) (value_of_own other right right_is)
+    subst (λ v. IsValueOf (type_of v) v) (same_inside right value same)
+    (value_of_own other right right_is)

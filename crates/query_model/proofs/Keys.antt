@@ -1,11 +1,13 @@
 -- The keys of a word: they are texts that differ, and so are those that have an entry.
-use Rattle.std.proofs.Common.{◌≡◌, ℕ, ◌++◌, Bool, true, false, cond, List, [], ◌∷◌, map, refl, sym, subst, ◌⊎◌, inl, inr}
+use Rattle.std.proofs.Common.{◌≡◌, ℕ, ◌++◌, Bool, true, false, cond, List, [], ◌∷◌, map, refl, sym}
+use Rattle.std.proofs.Common.{subst, ◌⊎◌, inl, inr}
 use Rattle.std.specs.Prelude.{All, filter}
 use Rattle.std.proofs.lemmas.List.Elements.{All-cons, All-nil}
 use Rattle.std.specs.List.{AllByRecursion, IsDistinct, list_any}
 use Rattle.std.specs.Str.{bytes_eq}
 use Rattle.std.proofs.lemmas.Cmp.{nat_list_eq_equiv}
-use Rattle.std.proofs.lemmas.Map.Keys.{IsDistinct-push, IsDistinct-head, IsDistinct-tail, IsDistinct-cons}
+use Rattle.std.proofs.lemmas.Map.Keys.{IsDistinct-push, IsDistinct-head, IsDistinct-tail}
+use Rattle.std.proofs.lemmas.Map.Keys.{IsDistinct-cons}
 use Rattle.value_ops.specs.declared.field.Field.{Field}
 use Rattle.value_ops.specs.declared.scalar.Scalar.{Scalar}
 use Rattle.value_ops.specs.declared.value.Value.{Value}
@@ -20,8 +22,8 @@ use Rattle.query_model.specs.Denotation.{AreEntries, key_of, keys_after, project
 use Rattle.query_model.proofs.ItemFields.{key_is_text}
 
 -- a part of a word that a test keeps is a word of the same items
-pub kept_word : (columns : List Column) (test : List Field → Bool) (word : Word) → IsWordOf columns word
-    → IsWordOf columns (filter test word)
+pub kept_word : (columns : List Column) (test : List Field → Bool) (word : Word)
+    → IsWordOf columns word → IsWordOf columns (filter test word)
 kept_word columns test [] is = tt
 kept_word columns test (item ∷ word) is = by (test item) (kept_word columns test word is.1)
   where
@@ -41,7 +43,8 @@ all_push P [] x all one = (one, tt)
 all_push P (y ∷ xs) x all one = (all.0, all_push P xs x all.1 one)
 
 -- one more key
-key_added : (keys : List (List ℕ)) (key : List ℕ) → AreKeys keys → IsText key → AreKeys (with_key keys key)
+key_added : (keys : List (List ℕ)) (key : List ℕ) → AreKeys keys → IsText key
+    → AreKeys (with_key keys key)
 key_added keys key are text = by (list_any (bytes_eq key) keys) refl
   where
     by : (b : Bool) → list_any (bytes_eq key) keys ≡ b → AreKeys (cond b keys (keys ++ key ∷ []))
@@ -52,8 +55,9 @@ key_added keys key are text = by (list_any (bytes_eq key) keys) refl
     }
 
 -- the keys of a word after others
-keys_more : (columns : List Column) (column : ℕ) (sync : Predicate) (word : Word) (keys : List (List ℕ))
-    → AreKeys keys → IsWordOf columns word → AreKeys (keys_after column sync keys word)
+keys_more : (columns : List Column) (column : ℕ) (sync : Predicate) (word : Word)
+    (keys : List (List ℕ)) → AreKeys keys → IsWordOf columns word
+    → AreKeys (keys_after column sync keys word)
 keys_more columns column sync [] keys are is = are
 keys_more columns column sync (item ∷ word) keys are is =
     keys_more columns column sync word _ (by (holds sync item)) is.1
@@ -67,8 +71,8 @@ unfolding IsDistinct
 no_keys = record { texts = tt; distinct = tt }
 
 -- the keys of a word
-pub keys_are : (columns : List Column) (column : ℕ) (sync : Predicate) (word : Word) → IsWordOf columns word
-    → AreKeys (keys_after column sync [] word)
+pub keys_are : (columns : List Column) (column : ℕ) (sync : Predicate) (word : Word)
+    → IsWordOf columns word → AreKeys (keys_after column sync [] word)
 keys_are columns column sync word is = keys_more columns column sync word [] no_keys is
 
 -- what holds of all keys holds of those that have an entry
@@ -79,13 +83,15 @@ entry_keys P D [] entries all are = subst (λ es. AllByRecursion P (keys_of es))
 entry_keys P D (key ∷ keys) entries all are =
     elim are [
       | inl (scalar, others, gives, rest, whole) ↦
-          subst (λ es. AllByRecursion P (keys_of es)) (sym whole) (all.0, entry_keys P D keys others all.1 rest)
+          subst (λ es. AllByRecursion P (keys_of es)) (sym whole)
+          (all.0, entry_keys P D keys others all.1 rest)
       | inr (none, rest) ↦ entry_keys P D keys entries all.1 rest
     ]
 
 -- and these differ
-pub entry_keys_differ : (D : List ℕ → Value → Type 0) (keys : List (List ℕ)) (entries : List (List ℕ × Scalar))
-    → IsDistinct bytes_eq keys → AreEntries D keys entries → IsDistinct bytes_eq (keys_of entries)
+pub entry_keys_differ : (D : List ℕ → Value → Type 0) (keys : List (List ℕ))
+    (entries : List (List ℕ × Scalar)) → IsDistinct bytes_eq keys → AreEntries D keys entries
+    → IsDistinct bytes_eq (keys_of entries)
 entry_keys_differ D [] entries distinct are =
     subst (λ es. IsDistinct bytes_eq (keys_of es)) (sym are) distinct
 entry_keys_differ D (key ∷ keys) entries distinct are =
@@ -93,14 +99,17 @@ entry_keys_differ D (key ∷ keys) entries distinct are =
       | inl (scalar, others, gives, rest, whole) ↦
           subst (λ es. IsDistinct bytes_eq (keys_of es)) (sym whole)
           (IsDistinct-cons bytes_eq key (keys_of others)
-          (entry_keys (λ other. bytes_eq key other ≡ false) D keys others (IsDistinct-head bytes_eq key keys distinct) rest)
+          (entry_keys (λ other. bytes_eq key other ≡ false) D keys others
+          (IsDistinct-head bytes_eq key keys distinct) rest)
           (entry_keys_differ D keys others (IsDistinct-tail bytes_eq key keys distinct) rest))
-      | inr (none, rest) ↦ entry_keys_differ D keys entries (IsDistinct-tail bytes_eq key keys distinct) rest
+      | inr (none, rest) ↦ entry_keys_differ D keys entries
+          (IsDistinct-tail bytes_eq key keys distinct) rest
     ]
 
 -- what holds of all scalars that a key may have holds of those of the entries
 pub entry_values : (P : Scalar → Type 0) (D : List ℕ → Value → Type 0) (keys : List (List ℕ))
-    (entries : List (List ℕ × Scalar)) → ((key : List ℕ) (scalar : Scalar) → D key (value.Scalar scalar) → P scalar)
+    (entries : List (List ℕ × Scalar))
+    → ((key : List ℕ) (scalar : Scalar) → D key (value.Scalar scalar) → P scalar)
     → AreEntries D keys entries → AllByRecursion P (values_of entries)
 entry_values P D [] entries each are = subst (λ es. AllByRecursion P (values_of es)) (sym are) tt
 entry_values P D (key ∷ keys) entries each are =

@@ -1,5 +1,6 @@
 -- Where a token fault lies.
-use Rattle.std.proofs.Common.{◌≡◌, ℕ, ◌+◌, ◌≤◌, List, [], ◌∷◌, ◌++◌, length, arith, ap, length-append}
+use Rattle.std.proofs.Common.{◌≡◌, ℕ, ◌+◌, ◌≤◌, List, [], ◌∷◌, ◌++◌, length, arith, ap}
+use Rattle.std.proofs.Common.{length-append}
 use Rattle.query_tokens.specs.declared.token.Token.{Token}
 use Rattle.query_tokens.specs.Tokens.{Stands, FaultAfter}
 
@@ -17,7 +18,8 @@ rest_within at text token rest stands =
     )
 
 -- a fault is no place after the text
-pub fault_within : (at : ℕ) (text : List ℕ) (before : List Token) (place : ℕ) → FaultAfter at text before place →
+pub fault_within : (at : ℕ) (text : List ℕ) (before : List Token) (place : ℕ)
+    → FaultAfter at text before place →
     place ≤ at + length text
 fault_within at text [] place fails =
     omega (arith, fails.is, ap length fails.split, length-append fails.blank fails.rest)

@@ -10,7 +10,8 @@ use Rattle.query_parser.proofs.TextTokens.{tokens_of_text}
 use Rattle.query_parser.proofs.PlacedFile.{unfit_file-end}
 
 -- the terms of a text of bytes are a file
-pub is_file : (text : List ℕ) (terms : Terms) → All (λ byte. byte < 256) text → IsFileOf text terms → IsFile terms
+pub is_file : (text : List ℕ) (terms : Terms) → All (λ byte. byte < 256) text
+    → IsFileOf text terms → IsFile terms
 is_file text terms small is =
     let has = is.has.has in
     let tokens = has.has.has in

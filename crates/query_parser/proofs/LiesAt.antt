@@ -1,5 +1,6 @@
 -- Where bytes lie in a text.
-use Rattle.std.proofs.Common.{◌≡◌, ℕ, ◌+◌, ◌-◌, List, [], ◌∷◌, ◌++◌, length, drop, refl, sym, ap, ◌∙◌, arith, append_assoc, length-append, take_at, drop_at}
+use Rattle.std.proofs.Common.{◌≡◌, ℕ, ◌+◌, ◌-◌, List, [], ◌∷◌, ◌++◌, length, drop, refl, sym, ap}
+use Rattle.std.proofs.Common.{◌∙◌, arith, append_assoc, length-append, take_at, drop_at}
 use Rattle.std.specs.Prelude.{slice_range}
 use Rattle.query_forms.specs.Terms.{bytes_at}
 use Rattle.query_parser.proofs.PrintedLayout.{call_bytes, span_at, inner_at}
@@ -12,7 +13,8 @@ pub record LiesAt (text : List ℕ) (at : ℕ) (bytes : List ℕ) : Type 0 where
   pub place : at ≡ length front
 
 -- the first of the bytes
-pub LiesAt-first : (text : List ℕ) (at : ℕ) (bytes more : List ℕ) → LiesAt text at (bytes ++ more) → LiesAt text at bytes
+pub LiesAt-first : (text : List ℕ) (at : ℕ) (bytes more : List ℕ) → LiesAt text at (bytes ++ more)
+    → LiesAt text at bytes
 LiesAt-first text at bytes more lies = record {
   front = lies.front;
   after = more ++ lies.after;
@@ -21,8 +23,8 @@ LiesAt-first text at bytes more lies = record {
 }
 
 -- the bytes after the first
-pub LiesAt-rest : (text : List ℕ) (at next : ℕ) (bytes more : List ℕ) → LiesAt text at (bytes ++ more) → next ≡ at + length bytes
-    → LiesAt text next more
+pub LiesAt-rest : (text : List ℕ) (at next : ℕ) (bytes more : List ℕ)
+    → LiesAt text at (bytes ++ more) → next ≡ at + length bytes → LiesAt text next more
 LiesAt-rest text at next bytes more lies is = record {
   front = lies.front ++ bytes;
   after = lies.after;
@@ -32,8 +34,8 @@ LiesAt-rest text at next bytes more lies is = record {
 }
 
 -- the bytes at the place are these
-pub LiesAt-slice : (text : List ℕ) (at to : ℕ) (bytes : List ℕ) → LiesAt text at bytes → to ≡ at + length bytes
-    → bytes ≡ slice_range text at to
+pub LiesAt-slice : (text : List ℕ) (at to : ℕ) (bytes : List ℕ) → LiesAt text at bytes
+    → to ≡ at + length bytes → bytes ≡ slice_range text at to
 LiesAt-slice text at to bytes lies is =
     let count : to - at ≡ length bytes = omega (arith, is) in
     let from : drop at text ≡ bytes ++ lies.after =
@@ -41,31 +43,37 @@ LiesAt-slice text at to bytes lies is =
     sym (rw (count, from) (take_at bytes lies.after (length bytes) refl))
 
 -- and so at the place of this many bytes
-pub LiesAt-bytes : (text : List ℕ) (at : ℕ) (bytes : List ℕ) → LiesAt text at bytes → bytes ≡ bytes_at text (span_at at (length bytes))
+pub LiesAt-bytes : (text : List ℕ) (at : ℕ) (bytes : List ℕ) → LiesAt text at bytes
+    → bytes ≡ bytes_at text (span_at at (length bytes))
 LiesAt-bytes text at bytes lies = LiesAt-slice text at (at + length bytes) bytes lies refl
 
 -- the bytes after the first and an LF
-pub LiesAt-line : (text : List ℕ) (at : ℕ) (bytes more : List ℕ) → LiesAt text at (bytes ++ 10 ∷ more)
-    → LiesAt text (at + length bytes + 1) more
+pub LiesAt-line : (text : List ℕ) (at : ℕ) (bytes more : List ℕ)
+    → LiesAt text at (bytes ++ 10 ∷ more) → LiesAt text (at + length bytes + 1) more
 LiesAt-line text at bytes more lies =
     LiesAt-rest text (at + length bytes) (at + length bytes + 1) (10 ∷ []) more
     (LiesAt-rest text at (at + length bytes) bytes (10 ∷ more) lies refl) refl
 
 -- the head of a call
-pub LiesAt-head : (text : List ℕ) (at : ℕ) (head inner rest : List ℕ) → LiesAt text at (call_bytes head inner rest) → LiesAt text at head
-LiesAt-head text at head inner rest lies = LiesAt-first text at head (40 ∷ (inner ++ 41 ∷ rest)) lies
+pub LiesAt-head : (text : List ℕ) (at : ℕ) (head inner rest : List ℕ)
+    → LiesAt text at (call_bytes head inner rest) → LiesAt text at head
+LiesAt-head text at head inner rest lies =
+    LiesAt-first text at head (40 ∷ (inner ++ 41 ∷ rest)) lies
 
 -- its arguments and its `)`
-pub LiesAt-inner : (text : List ℕ) (at : ℕ) (head inner rest : List ℕ) → LiesAt text at (call_bytes head inner rest)
+pub LiesAt-inner : (text : List ℕ) (at : ℕ) (head inner rest : List ℕ)
+    → LiesAt text at (call_bytes head inner rest)
     → LiesAt text (inner_at at head) (inner ++ 41 ∷ rest)
 LiesAt-inner text at head inner rest lies =
     LiesAt-rest text (at + length head) (inner_at at head) (40 ∷ []) (inner ++ 41 ∷ rest)
     (LiesAt-rest text at (at + length head) head (40 ∷ (inner ++ 41 ∷ rest)) lies refl) refl
 
 -- what stands after it
-pub LiesAt-after : (text : List ℕ) (at : ℕ) (head inner rest : List ℕ) → LiesAt text at (call_bytes head inner rest)
+pub LiesAt-after : (text : List ℕ) (at : ℕ) (head inner rest : List ℕ)
+    → LiesAt text at (call_bytes head inner rest)
     → LiesAt text (inner_at at head + length inner + 1) rest
 LiesAt-after text at head inner rest lies =
-    LiesAt-rest text (inner_at at head + length inner) (inner_at at head + length inner + 1) (41 ∷ []) rest
+    LiesAt-rest text (inner_at at head + length inner)
+    (inner_at at head + length inner + 1) (41 ∷ []) rest
     (LiesAt-rest text (inner_at at head) (inner_at at head + length inner) inner (41 ∷ rest)
     (LiesAt-inner text at head inner rest lies) refl) refl

@@ -1,5 +1,6 @@
 -- A text has one reading.
-use Rattle.std.proofs.Common.{◌≡◌, ℕ, ◌+◌, List, length, Option, Some, None, refl, sym, ap, ◌∙◌, subst, arith}
+use Rattle.std.proofs.Common.{◌≡◌, ℕ, ◌+◌, List, length, Option, Some, None, refl, sym, ap, ◌∙◌}
+use Rattle.std.proofs.Common.{subst, arith}
 use Rattle.language_base.specs.declared.refusal.Refusal.{Refusal}
 use Rattle.language_base.specs.declared.rule.Rule.{Rule}
 use Rattle.language_base.specs.declared.rule.Rule.TheVariants as rule
@@ -13,7 +14,8 @@ use Rattle.query_trees.proofs.Laws.{only-terms, terms-or-place, one-place}
 use Rattle.query_forms.specs.Terms.{Terms, Say}
 use Rattle.query_forms.specs.File.{unfit_file, first_large}
 use Rattle.query_forms.proofs.Says.{one_terms}
-use Rattle.query_parser.specs.Reading.{refusal, HasTokens, HasTrees, HasTerms, HasForms, IsFileOf, IsRefused, long, token, term, depth, form, literal}
+use Rattle.query_parser.specs.Reading.{refusal, HasTokens, HasTrees, HasTerms, HasForms, IsFileOf}
+use Rattle.query_parser.specs.Reading.{IsRefused, long, token, term, depth, form, literal}
 
 -- what is some is not none
 some_or_none : {X : Type 0} (o : Option X) (x : X) → o ≡ None → o ≡ Some x → ⊥
@@ -41,20 +43,25 @@ module _ (text : List ℕ) where
       one_terms text has.trees a b has.say (subst (λ t. Say text t b) trees other.say)
 
   -- a text of tokens has no token fault
-  no_token : (tokens before : List Token) (place : ℕ) → HasTokens text tokens → FaultAfter 0 text before place → ⊥
+  no_token : (tokens before : List Token) (place : ℕ) → HasTokens text tokens
+      → FaultAfter 0 text before place → ⊥
   no_token tokens before place has fault = no_fault 0 place text tokens before has.are fault
 
   -- a text of trees is a list of terms
-  no_term : (trees : Trees) (tokens : List Token) (span : Span) → HasTrees text trees → HasTokens text tokens →
+  no_term : (trees : Trees) (tokens : List Token) (span : Span) → HasTrees text trees
+      → HasTokens text tokens →
       IsNoList tokens (length text) span → ⊥
   no_term trees tokens span has other none =
-      terms-or-place trees tokens (length text) span (subst (AreTerms trees) (same_tokens tokens has.tokens other has.has) has.are) none
+      terms-or-place trees tokens (length text) span
+      (subst (AreTerms trees) (same_tokens tokens has.tokens other has.has) has.are) none
 
   -- a text of terms is not too deep
-  no_depth : (terms : Terms) (trees : Trees) (span : Span) → HasTerms text terms → HasTrees text trees →
+  no_depth : (terms : Terms) (trees : Trees) (span : Span) → HasTerms text terms
+      → HasTrees text trees →
       first_deep 1 trees ≡ Some span → ⊥
   no_depth terms trees span has other deep =
-      some_or_none (first_deep 1 trees) span (ap (first_deep 1) (same_trees has.trees trees has.has other) ∙ has.not_deep) deep
+      some_or_none (first_deep 1 trees) span
+      (ap (first_deep 1) (same_trees has.trees trees has.has other) ∙ has.not_deep) deep
 
   -- a text of forms has no unfit term
   no_form : (terms others : Terms) (span : Span) → HasForms text terms → HasTerms text others →
@@ -67,28 +74,36 @@ module _ (text : List ℕ) where
   no_literal : (terms others : Terms) (span : Span) → IsFileOf text terms → HasForms text others →
       first_large others ≡ Some span → ⊥
   no_literal terms others span has other large =
-      some_or_none (first_large others) span (ap first_large (same_terms terms others has.has.has other.has) ∙ has.within) large
+      some_or_none (first_large others) span
+      (ap first_large (same_terms terms others has.has.has other.has) ∙ has.within) large
 
 -- a text is a file of one list of terms
-pub one_file : (text : List ℕ) (terms others : Terms) → IsFileOf text terms → IsFileOf text others → others ≡ terms
+pub one_file : (text : List ℕ) (terms others : Terms) → IsFileOf text terms → IsFileOf text others
+    → others ≡ terms
 one_file text terms others is other = same_terms text terms others is.has.has other.has.has
 
 -- a file is not refused
-pub file_or_refused : (text : List ℕ) (terms : Terms) (refusal : Refusal) → IsFileOf text terms → IsRefused text refusal → ⊥
+pub file_or_refused : (text : List ℕ) (terms : Terms) (refusal : Refusal) → IsFileOf text terms
+    → IsRefused text refusal → ⊥
 file_or_refused text terms _ is (long beyond) = let short = is.has.has.has.has.short in omega arith
 file_or_refused text terms _ is (token before place short fault) =
     no_token text is.has.has.has.tokens before place is.has.has.has.has fault
-file_or_refused text terms _ is (term tokens span has none) = no_term text is.has.has.trees tokens span is.has.has.has has none
-file_or_refused text terms _ is (depth trees span has deep) = no_depth text terms trees span is.has.has has deep
-file_or_refused text terms _ is (form others span has unfit) = no_form text terms others span is.has has unfit
-file_or_refused text terms _ is (literal others span has large) = no_literal text terms others span is has large
+file_or_refused text terms _ is (term tokens span has none) =
+    no_term text is.has.has.trees tokens span is.has.has.has has none
+file_or_refused text terms _ is (depth trees span has deep) =
+    no_depth text terms trees span is.has.has has deep
+file_or_refused text terms _ is (form others span has unfit) =
+    no_form text terms others span is.has has unfit
+file_or_refused text terms _ is (literal others span has large) =
+    no_literal text terms others span is has large
 
 -- a refusal by a rule at a place
 abbrev refused_at : Rule → Span → Refusal
 refused_at rule span = record { rule = rule; span = span }
 
 -- a text has one first refusal
-pub one_refusal : (text : List ℕ) (first other : Refusal) → IsRefused text first → IsRefused text other → other ≡ first
+pub one_refusal : (text : List ℕ) (first other : Refusal) → IsRefused text first
+    → IsRefused text other → other ≡ first
 one_refusal text _ _ (long beyond) (long beyond2) =
     refl
 one_refusal text _ _ (long beyond) (token before2 place2 short2 fault2) =
@@ -104,7 +119,8 @@ one_refusal text _ _ (long beyond) (literal terms2 span2 has2 large2) =
 one_refusal text _ _ (token before place short fault) (long beyond2) =
     let within = short in absurd (omega arith)
 one_refusal text _ _ (token before place short fault) (token before2 place2 short2 fault2) =
-    ap (λ at. refusal rule.Token at (at + 1)) (one_place 0 place place2 text before before2 fault fault2)
+    ap (λ at. refusal rule.Token at (at + 1))
+    (one_place 0 place place2 text before before2 fault fault2)
 one_refusal text _ _ (token before place short fault) (term tokens2 span2 has2 none2) =
     absurd (no_token text tokens2 before place has2 fault)
 one_refusal text _ _ (token before place short fault) (depth trees2 span2 has2 deep2) =

@@ -1,5 +1,6 @@
 -- The canonical text, term by term.
-use Rattle.std.proofs.Common.{◌≡◌, ℕ, ℤ, List, [], ◌∷◌, ◌++◌, codes, refl, sym, ap, ◌∙◌, arith, ◌≤◌, length, take, drop, get_or}
+use Rattle.std.proofs.Common.{◌≡◌, ℕ, ℤ, List, [], ◌∷◌, ◌++◌, codes, refl, sym, ap, ◌∙◌, arith, ◌≤◌}
+use Rattle.std.proofs.Common.{length, take, drop, get_or}
 use Rattle.std.proofs.lemmas.List.{take_all}
 use Rattle.std.specs.List.{flat_map}
 use Rattle.std.specs.Fmt.{signed_decimal}
@@ -33,7 +34,8 @@ pub ruleset leaf_texts = (word_text, number_text, quoted_text)
 
 -- the arguments of a call stand in parentheses
 pub call_text : (head : List ℕ) (arguments : Terms) (span : Span) →
-    term_text (Call head arguments span) ≡ head ++ codes "(" ++ arguments_text (terms_of arguments.terms.items) ++ codes ")"
+    term_text (Call head arguments span)
+    ≡ head ++ codes "(" ++ arguments_text (terms_of arguments.terms.items) ++ codes ")"
 unfolding term_text
 call_text head arguments span = ap arguments_text (call_before head arguments span plain.none)
 
@@ -60,11 +62,13 @@ argument_after term = codes ", " ++ term_text term
 
 -- each argument after the first has a comma and a space before it
 joined_arguments : (first : List ℕ) (terms : List Term) →
-    joined first (terms_of terms) (arguments_text (terms_of terms)) ≡ first ++ flat_map argument_after terms
+    joined first (terms_of terms) (arguments_text (terms_of terms))
+    ≡ first ++ flat_map argument_after terms
 joined_arguments first [] = grind (arith, common_steps)
 joined_arguments first (term ∷ terms) =
     joined_term first term (terms_of terms) (arguments_text (terms_of (term ∷ terms)))
-    ∙ ap (λ text. first ++ codes ", " ++ text) (first_text term (terms_of terms) ∙ joined_arguments (term_text term) terms)
+    ∙ ap (λ text. first ++ codes ", " ++ text)
+    (first_text term (terms_of terms) ∙ joined_arguments (term_text term) terms)
     ∙ grind (arith, common_steps)
 
 -- the arguments are the first and those after it
@@ -77,7 +81,8 @@ abbrev pub term_line : Term → List ℕ
 term_line term = term_text term ++ codes "\n"
 
 -- a top term, and the lines after it
-first_line : (term : Term) (rest : plain.Terms) → file_text (term_before term rest) ≡ term_line term ++ file_text rest
+first_line : (term : Term) (rest : plain.Terms)
+    → file_text (term_before term rest) ≡ term_line term ++ file_text rest
 unfolding term_text
 first_line (Word bytes span) rest = refl
 first_line (Number value span) rest = refl
@@ -87,15 +92,18 @@ first_line (Call' head shape row span) rest = refl
 -- each top term is a line
 pub file_lines : (terms : List Term) → file_text (terms_of terms) ≡ flat_map term_line terms
 file_lines [] = refl
-file_lines (term ∷ terms) = first_line term (terms_of terms) ∙ ap (λ text. term_line term ++ text) (file_lines terms)
+file_lines (term ∷ terms) =
+    first_line term (terms_of terms) ∙ ap (λ text. term_line term ++ text) (file_lines terms)
 
 -- lines up to the last are the text of a file
 pub whole_file : (terms : List Term) (count : ℕ) → length terms ≤ count →
     flat_map term_line (take count terms) ≡ file_text (terms_of terms)
-whole_file terms count le = ap (flat_map term_line) (take_all count terms le) ∙ sym (file_lines terms)
+whole_file terms count le =
+    ap (flat_map term_line) (take_all count terms le) ∙ sym (file_lines terms)
 
 -- the first argument and those after it, up to the last, are the text of all
-pub whole_row : (terms : List Term) (first : Term) (others : List Term) (count : ℕ) → 1 ≤ length terms →
+pub whole_row : (terms : List Term) (first : Term) (others : List Term) (count : ℕ)
+    → 1 ≤ length terms →
     first ≡ get_or terms 0 first → others ≡ drop 1 terms → length others ≤ count →
     term_text first ++ flat_map argument_after (take count others) ≡ arguments_text (terms_of terms)
 whole_row [] first others count le is after all = absurd (omega arith)

@@ -1,12 +1,14 @@
--- Where the tokens and terms of a printed text lie. A printed list of terms is seen as tokens and calls; it lies
--- from a place on, with a gap of this many bytes between its terms.
-use Rattle.std.proofs.Common.{◌≡◌, ℕ, ◌+◌, List, [], ◌∷◌, ◌++◌, length, refl, sym, ap, ◌∙◌, append_assoc, append-nil}
+-- Where the tokens and terms of a printed text lie. A printed list of terms is seen as tokens and
+-- calls; it lies from a place on, with a gap of this many bytes between its terms.
+use Rattle.std.proofs.Common.{◌≡◌, ℕ, ◌+◌, List, [], ◌∷◌, ◌++◌, length, refl, sym, ap, ◌∙◌}
+use Rattle.std.proofs.Common.{append_assoc, append-nil}
 use Rattle.std.specs.Prelude.{codes}
 use Rattle.std.specs.Fmt.{signed_decimal}
 use Rattle.language_base.specs.declared.span.Span.{Span}
 use Rattle.query_tokens.specs.declared.token.Token.{Token}
 use Rattle.query_tokens.specs.declared.token.TokenKind.{TokenKind}
-use Rattle.query_tokens.specs.declared.token.TokenKind.TheVariants.{Word, Number, Text, Open, Close, Comma}
+use Rattle.query_tokens.specs.declared.token.TokenKind.TheVariants.{Word, Number, Text, Open, Close}
+use Rattle.query_tokens.specs.declared.token.TokenKind.TheVariants.{Comma}
 use Rattle.query_tokens.specs.Raw.{IsWord, IsRaw}
 use Rattle.query_trees.specs.Trees as trees
 use Rattle.query_trees.specs.Trees.{Trees}
@@ -47,7 +49,8 @@ argument_bytes (applied head arguments rest) =
 abbrev pub top_bytes : Printed → List ℕ
 top_bytes nothing = []
 top_bytes (single kind raw rest) = raw ++ 10 ∷ top_bytes rest
-top_bytes (applied head arguments rest) = call_bytes head (argument_bytes arguments) (10 ∷ top_bytes rest)
+top_bytes (applied head arguments rest) =
+    call_bytes head (argument_bytes arguments) (10 ∷ top_bytes rest)
 
 -- this many bytes from a place on
 abbrev pub span_at : ℕ → ℕ → Span
@@ -75,8 +78,8 @@ trees_at gap at nothing = trees.none
 trees_at gap at (single kind raw rest) =
     trees.leaf (token_at kind at (length raw)) (trees_at gap (at + length raw + gap) rest)
 trees_at gap at (applied head arguments rest) =
-    trees.call (token_at Word at (length head)) (trees_at 2 (inner_at at head) arguments) (call_span at head arguments)
-    (trees_at gap (close_at at head arguments + 1 + gap) rest)
+    trees.call (token_at Word at (length head)) (trees_at 2 (inner_at at head) arguments)
+    (call_span at head arguments) (trees_at gap (close_at at head arguments + 1 + gap) rest)
 
 -- a call's tokens before others
 abbrev pub call_tokens : ℕ → List ℕ → Printed → List Token → List Token → List Token
@@ -96,12 +99,14 @@ argument_tokens at (single kind raw rest) = token_at kind at (length raw)
     ∷ more_tokens (at + length raw) rest (argument_tokens (at + length raw + 2) rest)
 argument_tokens at (applied head arguments rest) =
     call_tokens at head arguments (argument_tokens (inner_at at head) arguments)
-    (more_tokens (close_at at head arguments + 1) rest (argument_tokens (close_at at head arguments + 1 + 2) rest))
+    (more_tokens (close_at at head arguments + 1) rest
+    (argument_tokens (close_at at head arguments + 1 + 2) rest))
 
 -- the tokens of a file
 abbrev pub top_tokens : ℕ → Printed → List Token
 top_tokens at nothing = []
-top_tokens at (single kind raw rest) = token_at kind at (length raw) ∷ top_tokens (at + length raw + 1) rest
+top_tokens at (single kind raw rest) =
+    token_at kind at (length raw) ∷ top_tokens (at + length raw + 1) rest
 top_tokens at (applied head arguments rest) =
     call_tokens at head arguments (argument_tokens (inner_at at head) arguments)
     (top_tokens (close_at at head arguments + 1 + 1) rest)
@@ -135,17 +140,20 @@ IsSingle _ = ⊥
 abbrev pub AreRaw : Printed → Type 0
 AreRaw nothing = Unit {0}
 AreRaw (single kind raw rest) = IsSingle kind × IsRaw kind raw × AreRaw rest
-AreRaw (applied head arguments rest) = IsWord head × HasSome arguments × AreRaw arguments × AreRaw rest
+AreRaw (applied head arguments rest) =
+    IsWord head × HasSome arguments × AreRaw arguments × AreRaw rest
 
 -- a call's text, taken apart from its head on
-call_text-is : (head inner rest : List ℕ) → head ++ codes "(" ++ inner ++ codes ")" ++ rest ≡ call_bytes head inner rest
+call_text-is : (head inner rest : List ℕ)
+    → head ++ codes "(" ++ inner ++ codes ")" ++ rest ≡ call_bytes head inner rest
 call_text-is head inner rest =
     append_assoc (head ++ codes "(" ++ inner) (codes ")") rest
     ∙ append_assoc (head ++ codes "(") inner (41 ∷ rest)
     ∙ append_assoc head (codes "(") (inner ++ 41 ∷ rest)
 
 -- what stands after an argument in the text
-joined-is : (first : List ℕ) (rest : Terms) (others : List ℕ) → joined first rest others ≡ first ++ more_bytes (printed rest) others
+joined-is : (first : List ℕ) (rest : Terms) (others : List ℕ)
+    → joined first rest others ≡ first ++ more_bytes (printed rest) others
 joined-is first none others = sym (append-nil first)
 joined-is first (word bytes span rest) others = append_assoc first (codes ", ") others
 joined-is first (number value span rest) others = append_assoc first (codes ", ") others
@@ -158,22 +166,30 @@ arguments_text-is none = refl
 arguments_text-is (word bytes span rest) =
     joined-is bytes rest _ ∙ ap (λ l. bytes ++ more_bytes (printed rest) l) (arguments_text-is rest)
 arguments_text-is (number value span rest) =
-    joined-is (signed_decimal value) rest _ ∙ ap (λ l. signed_decimal value ++ more_bytes (printed rest) l) (arguments_text-is rest)
+    joined-is (signed_decimal value) rest _
+    ∙ ap (λ l. signed_decimal value ++ more_bytes (printed rest) l) (arguments_text-is rest)
 arguments_text-is (string bytes span rest) =
-    joined-is (string_text bytes) rest _ ∙ ap (λ l. string_text bytes ++ more_bytes (printed rest) l) (arguments_text-is rest)
+    joined-is (string_text bytes) rest _
+    ∙ ap (λ l. string_text bytes ++ more_bytes (printed rest) l) (arguments_text-is rest)
 arguments_text-is (call head arguments span rest) =
-    joined-is _ rest _ ∙ call_text-is head (arguments_text arguments) (more_bytes (printed rest) (arguments_text rest))
-    ∙ ap (λ l. call_bytes head l (more_bytes (printed rest) (arguments_text rest))) (arguments_text-is arguments)
-    ∙ ap (λ l. call_bytes head (argument_bytes (printed arguments)) (more_bytes (printed rest) l)) (arguments_text-is rest)
+    joined-is _ rest _
+    ∙ call_text-is head (arguments_text arguments) (more_bytes (printed rest) (arguments_text rest))
+    ∙ ap (λ l. call_bytes head l (more_bytes (printed rest) (arguments_text rest)))
+    (arguments_text-is arguments)
+    ∙ ap (λ l. call_bytes head (argument_bytes (printed arguments)) (more_bytes (printed rest) l))
+    (arguments_text-is rest)
 
 -- and the text of a file these
 pub file_text-is : (terms : Terms) → file_text terms ≡ top_bytes (printed terms)
 file_text-is none = refl
-file_text-is (word bytes span rest) = append_assoc bytes (codes "\n") _ ∙ ap (λ l. bytes ++ 10 ∷ l) (file_text-is rest)
+file_text-is (word bytes span rest) =
+    append_assoc bytes (codes "\n") _ ∙ ap (λ l. bytes ++ 10 ∷ l) (file_text-is rest)
 file_text-is (number value span rest) =
-    append_assoc (signed_decimal value) (codes "\n") _ ∙ ap (λ l. signed_decimal value ++ 10 ∷ l) (file_text-is rest)
+    append_assoc (signed_decimal value) (codes "\n") _
+    ∙ ap (λ l. signed_decimal value ++ 10 ∷ l) (file_text-is rest)
 file_text-is (string bytes span rest) =
-    append_assoc (string_text bytes) (codes "\n") _ ∙ ap (λ l. string_text bytes ++ 10 ∷ l) (file_text-is rest)
+    append_assoc (string_text bytes) (codes "\n") _
+    ∙ ap (λ l. string_text bytes ++ 10 ∷ l) (file_text-is rest)
 file_text-is (call head arguments span rest) =
     append_assoc (head ++ codes "(" ++ arguments_text arguments ++ codes ")") (codes "\n") _
     ∙ call_text-is head (arguments_text arguments) (10 ∷ file_text rest)

@@ -1,5 +1,6 @@
 -- Numbers as they are printed.
-use Rattle.std.proofs.Common.{◌≡◌, ◌≢◌, ℕ, suc, ◌^◌, ℤ, pos, negsuc, neg_ℤ, true, List, [], ◌∷◌, refl, ap, ◌∙◌, subst, arith}
+use Rattle.std.proofs.Common.{◌≡◌, ◌≢◌, ℕ, suc, ◌^◌, ℤ, pos, negsuc, neg_ℤ, true, List, [], ◌∷◌}
+use Rattle.std.proofs.Common.{refl, ap, ◌∙◌, subst, arith}
 use Rattle.std.proofs.lemmas.Bool.{ne_eqb, ltb-true}
 use Rattle.std.proofs.lemmas.Str.Parse.{digit_from_value}
 use Rattle.std.proofs.lemmas.Fmt.{decimal_is_IsNumeral}
@@ -11,9 +12,11 @@ use Rattle.query_forms.specs.File.{is_within}
 use Rattle.query_parser.proofs.LongestTokens.{EndToken, longest-ended}
 
 -- a number as it stands before bytes that end it
-pub longest-number : (raw rest : List ℕ) → IsNumeral 10 (without_leading_sign raw) → EndToken rest → IsLongest Number raw rest
+pub longest-number : (raw rest : List ℕ) → IsNumeral 10 (without_leading_sign raw) → EndToken rest
+    → IsLongest Number raw rest
 longest-number [] rest is ends = absurd (omega (arith, is.0))
-longest-number (first ∷ tail) rest is ends = longest-ended Number first tail rest is (no_quote is) ends
+longest-number (first ∷ tail) rest is ends =
+    longest-ended Number first tail rest is (no_quote is) ends
   where
     no_quote : IsNumeral 10 (without_leading_sign (first ∷ tail)) → first ≢ 34
     no_quote numeral e =
@@ -23,7 +26,8 @@ longest-number (first ∷ tail) rest is ends = longest-ended Number first tail r
 
 -- digits have no sign
 digits-no_sign : (digits : List ℕ) → IsNumeral 10 digits
-    → (without_leading_sign digits ≡ digits) × (signed_digits_value 10 digits ≡ pos (digits_value 10 digits))
+    → (without_leading_sign digits ≡ digits)
+    × (signed_digits_value 10 digits ≡ pos (digits_value 10 digits))
 digits-no_sign [] is = absurd (omega (arith, is.0))
 digits-no_sign (first ∷ tail) is =
     let range = digit_from_value first is.1.0 in
@@ -33,7 +37,8 @@ digits-no_sign (first ∷ tail) is =
 
 -- a number in range is printed as a number that reads back
 pub signed_decimal-is : (value : ℤ) → is_within value ≡ true
-    → IsNumeral 10 (without_leading_sign (signed_decimal value)) × (signed_digits_value 10 (signed_decimal value) ≡ value)
+    → IsNumeral 10 (without_leading_sign (signed_decimal value))
+    × (signed_digits_value 10 (signed_decimal value) ≡ value)
 signed_decimal-is (pos n) within =
     let small = ltb-true n (2 ^ 63) within in
     let numeral = decimal_is_IsNumeral n (omega (arith, small)) in

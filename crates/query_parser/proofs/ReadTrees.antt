@@ -19,12 +19,14 @@ AreTrees P (call head arguments span rest) =
     P head × (head.kind ≡ Word) × HasTree arguments × AreTrees P arguments × AreTrees P rest
 
 -- what holds of all holds of those in front
-all-front : (P : Token → Type 0) (front after : List Token) → AllByRecursion P (front ++ after) → AllByRecursion P front
+all-front : (P : Token → Type 0) (front after : List Token) → AllByRecursion P (front ++ after)
+    → AllByRecursion P front
 all-front P [] after all = tt
 all-front P (token ∷ front) after all = (all.0, all-front P front after all.1)
 
 -- and of those that follow
-all-after : (P : Token → Type 0) (front after : List Token) → AllByRecursion P (front ++ after) → AllByRecursion P after
+all-after : (P : Token → Type 0) (front after : List Token) → AllByRecursion P (front ++ after)
+    → AllByRecursion P after
 all-after P [] after all = all
 all-after P (token ∷ front) after all = all-after P front after all.1
 
@@ -35,9 +37,10 @@ arguments-some (leaf token rest) tokens are = tt
 arguments-some (call head arguments span rest) tokens are = tt
 
 -- the trees after an argument
-more-trees : (P : Token → Type 0) (rest : Trees) (tokens : List Token) → AreMore (AreArguments rest) rest tokens
-    → AllByRecursion P tokens
-    → ((more : List Token) → AreArguments rest more → AllByRecursion P more → AreTrees P rest) → AreTrees P rest
+more-trees : (P : Token → Type 0) (rest : Trees) (tokens : List Token)
+    → AreMore (AreArguments rest) rest tokens → AllByRecursion P tokens
+    → ((more : List Token) → AreArguments rest more → AllByRecursion P more → AreTrees P rest)
+    → AreTrees P rest
 more-trees P none tokens are all trees = tt
 more-trees P (leaf token rest) tokens (comma, more, split, is, are) all trees =
     trees more are (subst (AllByRecursion P) split all).1
@@ -45,8 +48,8 @@ more-trees P (call head arguments span rest) tokens (comma, more, split, is, are
     trees more are (subst (AllByRecursion P) split all).1
 
 -- the trees of arguments
-arguments-trees : (P : Token → Type 0) (trees : Trees) (tokens : List Token) → AreArguments trees tokens
-    → AllByRecursion P tokens → AreTrees P trees
+arguments-trees : (P : Token → Type 0) (trees : Trees) (tokens : List Token)
+    → AreArguments trees tokens → AllByRecursion P tokens → AreTrees P trees
 arguments-trees P none tokens are all = absurd are
 arguments-trees P (leaf token rest) tokens (others, split, is, more) all =
     let parts = subst (AllByRecursion P) split all in
@@ -57,7 +60,8 @@ arguments-trees P (call head arguments span rest) tokens (others, calls, more) a
       parts.0,
       calls.word,
       arguments-some arguments calls.inner calls.holds,
-      arguments-trees P arguments calls.inner calls.holds (all-front P calls.inner (calls.close ∷ others) parts.1.1),
+      arguments-trees P arguments calls.inner calls.holds
+          (all-front P calls.inner (calls.close ∷ others) parts.1.1),
       more-trees P rest others more after.1 (arguments-trees P rest),
     )
 
@@ -74,6 +78,7 @@ terms-trees P (call head arguments span rest) tokens (others, calls, more) all =
       parts.0,
       calls.word,
       arguments-some arguments calls.inner calls.holds,
-      arguments-trees P arguments calls.inner calls.holds (all-front P calls.inner (calls.close ∷ others) parts.1.1),
+      arguments-trees P arguments calls.inner calls.holds
+          (all-front P calls.inner (calls.close ∷ others) parts.1.1),
       terms-trees P rest others more after.1,
     )

@@ -4,7 +4,8 @@ use Rattle.query_forms.specs.Terms.{Terms}
 use Rattle.language_base.specs.Limits.{max_text}
 use Rattle.query_parser.specs.Reading.{IsFileOf}
 use Rattle.query_parser.specs.Printing.{file_text, unplaced, IsFile}
-use Rattle.query_parser.proofs.PrintedLayout.{printed, top_bytes, trees_at, top_tokens, placed, file_text-is}
+use Rattle.query_parser.proofs.PrintedLayout.{printed, top_bytes, trees_at, top_tokens, placed}
+use Rattle.query_parser.proofs.PrintedLayout.{file_text-is}
 use Rattle.query_parser.proofs.PrintedTokens.{file-tokens, blank-none}
 use Rattle.query_parser.proofs.PrintedTrees.{terms-are}
 use Rattle.query_parser.proofs.PrintedTerms.{printed-said}
@@ -23,7 +24,10 @@ top_bytes-file terms is short =
           trees = trees_at 1 0 (printed terms);
           has = record {
             tokens = top_tokens 0 (printed terms);
-            has = record { short = short; are = file-tokens (printed terms) [] 0 0 raws blank-none refl };
+            has = record {
+              short = short;
+              are = file-tokens (printed terms) [] 0 0 raws blank-none refl;
+            };
             are = terms-are (printed terms) 0 raws;
           };
           not_deep = AreWritable-not_deep terms 1 0 1 is.writable;

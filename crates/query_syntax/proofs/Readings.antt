@@ -1,5 +1,6 @@
 -- What each term says at each place, so that no two trees are written alike.
-use Rattle.std.proofs.Common.{◌≡◌, ℕ, zero, suc, pos, List, [], ◌∷◌, length, codes, Option, Some, None, refl, sym, ap, ◌∙◌}
+use Rattle.std.proofs.Common.{◌≡◌, ℕ, zero, suc, pos, List, [], ◌∷◌, length, codes, Option, Some}
+use Rattle.std.proofs.Common.{None, refl, sym, ap, ◌∙◌}
 use Rattle.language_base.specs.declared.span.Span.{Span}
 use Rattle.query_forms.specs.Terms.{Terms, none, word, number, string, call}
 use Rattle.query_syntax.specs.declared.expression_head.ExpressionHead.{ExpressionHead}
@@ -10,7 +11,8 @@ use Rattle.query_syntax.specs.declared.leaf.Name.{Name}
 use Rattle.query_syntax.specs.declared.leaf.Number.{Number}
 use Rattle.query_syntax.specs.declared.leaf.Text.{Text}
 use Rattle.language_base.specs.declared.binary.BinaryOp.{BinaryOp}
-use Rattle.language_base.specs.declared.binary.BinaryOp.TheVariants.{Add, Sub, Mul, Div, Rem, Min, Max}
+use Rattle.language_base.specs.declared.binary.BinaryOp.TheVariants.{Add, Sub, Mul, Div, Rem, Min}
+use Rattle.language_base.specs.declared.binary.BinaryOp.TheVariants.{Max}
 use Rattle.language_base.specs.declared.compare.Compare.{Compare}
 use Rattle.language_base.specs.declared.compare.Compare.TheVariants.{Lt, Le, Gt, Ge, Eq, Ne}
 use Rattle.query_syntax.specs.declared.operator.Connective.{Connective}
@@ -46,8 +48,11 @@ use Rattle.query_syntax.specs.RateHeads.{rates}
 use Rattle.query_syntax.specs.Rates as r
 use Rattle.query_syntax.specs.Rates.{Rate}
 use Rattle.query_syntax.specs.Rows.{head_in}
-use Rattle.query_syntax.specs.Words.{unary_word, binary_word, compare_word, summary_word, extremum_word, equality_word, order_word, connective_word, join_word}
-use Rattle.query_syntax.specs.Written.{number_before, literal_before, expression_before, predicate_before, rate_before, query_before}
+use Rattle.query_syntax.specs.Words.{unary_word, binary_word, compare_word, summary_word}
+use Rattle.query_syntax.specs.Words.{extremum_word, equality_word, order_word, connective_word}
+use Rattle.query_syntax.specs.Words.{join_word}
+use Rattle.query_syntax.specs.Written.{number_before, literal_before, expression_before}
+use Rattle.query_syntax.specs.Written.{predicate_before, rate_before, query_before}
 use Rattle.query_syntax.proofs.SomeTrees.{Comparison}
 
 -- a term read at each place; where it has no form of one, anything
@@ -76,7 +81,8 @@ abbrev no_text : Text
 no_text = record { bytes = []; span = no_place }
 
 abbrev no_comparison : Comparison
-no_comparison = record { compare = Lt; left = e.name no_name; right = e.name no_name; span = no_place }
+no_comparison =
+    record { compare = Lt; left = e.name no_name; right = e.name no_name; span = no_place }
 
 -- a name, a number and a string as they are read
 abbrev name_reading : Name → Reading
@@ -93,7 +99,8 @@ name_reading n = record {
 }
 
 abbrev number_reading : Number → Reading
-number_reading n = record (name_reading no_name) { number = n; literal = literal.Number n; expression = e.number n }
+number_reading n = record (name_reading no_name)
+    { number = n; literal = literal.Number n; expression = e.number n }
 
 abbrev text_reading : Text → Reading
 text_reading t = record (name_reading no_name) { text = t; literal = literal.Text t }
@@ -108,25 +115,37 @@ at (suc n) (first ∷ others) = at n others
 abbrev expression_from : Option ExpressionHead → List Reading → Span → Expression
 expression_from None rs span = e.name no_name
 expression_from (Some (expression.Unary op)) rs span = e.unary op (at 0 rs).expression span
-expression_from (Some (expression.Binary op)) rs span = e.binary op (at 0 rs).expression (at 1 rs).expression span
-expression_from (Some expression.If) rs span = e.choice (at 0 rs).comparison.compare (at 0 rs).comparison.left (at 0 rs).comparison.right
+expression_from (Some (expression.Binary op)) rs span =
+    e.binary op (at 0 rs).expression (at 1 rs).expression span
+expression_from (Some expression.If) rs span =
+    e.choice (at 0 rs).comparison.compare (at 0 rs).comparison.left (at 0 rs).comparison.right
     (at 0 rs).comparison.span (at 1 rs).expression (at 2 rs).expression span
 expression_from (Some (expression.Summary op)) rs span = e.summary op (at 0 rs).name span
-expression_from (Some (expression.Extremum op)) rs span = e.extremum op (at 0 rs).name (at 1 rs).expression span
-expression_from (Some expression.Get) rs span = e.get (at 0 rs).name (at 1 rs).text (at 2 rs).expression span
+expression_from (Some (expression.Extremum op)) rs span =
+    e.extremum op (at 0 rs).name (at 1 rs).expression span
+expression_from (Some expression.Get) rs span =
+    e.get (at 0 rs).name (at 1 rs).text (at 2 rs).expression span
 
 abbrev comparison_from : Option Compare → List Reading → Span → Comparison
 comparison_from None rs span = no_comparison
 comparison_from (Some compare) rs span =
-    record { compare = compare; left = (at 0 rs).expression; right = (at 1 rs).expression; span = span }
+    record {
+      compare = compare;
+      left = (at 0 rs).expression;
+      right = (at 1 rs).expression;
+      span = span;
+    }
 
 abbrev predicate_from : Option PredicateHead → List Reading → Span → Predicate
 predicate_from None rs span = p.any span
-predicate_from (Some (predicate.Equality op)) rs span = p.equality op (at 0 rs).name (at 1 rs).literal span
+predicate_from (Some (predicate.Equality op)) rs span =
+    p.equality op (at 0 rs).name (at 1 rs).literal span
 predicate_from (Some (predicate.Order op)) rs span = p.order op (at 0 rs).name (at 1 rs).number span
-predicate_from (Some predicate.Between) rs span = p.between (at 0 rs).name (at 1 rs).number (at 2 rs).number span
+predicate_from (Some predicate.Between) rs span =
+    p.between (at 0 rs).name (at 1 rs).number (at 2 rs).number span
 predicate_from (Some predicate.IsNum) rs span = p.is_num (at 0 rs).name span
-predicate_from (Some (predicate.Joined op)) rs span = p.joined op (at 0 rs).predicate (at 1 rs).predicate span
+predicate_from (Some (predicate.Joined op)) rs span =
+    p.joined op (at 0 rs).predicate (at 1 rs).predicate span
 predicate_from (Some predicate.Not) rs span = p.negated (at 0 rs).predicate span
 
 abbrev rate_from : Option RateHead → List Reading → Span → Rate
@@ -140,12 +159,16 @@ query_from None rs span = q.name no_name
 query_from (Some query.Atom) rs span = q.atom (at 0 rs).predicate (at 1 rs).expression span
 query_from (Some query.Eps) rs span = q.eps (at 0 rs).number span
 query_from (Some query.Or) rs span = q.or (at 0 rs).query (at 1 rs).query span
-query_from (Some query.Split) rs span = q.split (at 0 rs).query (at 1 rs).query (at 2 rs).expression span
-query_from (Some query.Iter) rs span = q.iter (at 0 rs).query (at 1 rs).number (at 2 rs).expression span
-query_from (Some query.Combine) rs span = q.combine (at 0 rs).query (at 1 rs).query (at 2 rs).expression span
+query_from (Some query.Split) rs span =
+    q.split (at 0 rs).query (at 1 rs).query (at 2 rs).expression span
+query_from (Some query.Iter) rs span =
+    q.iter (at 0 rs).query (at 1 rs).number (at 2 rs).expression span
+query_from (Some query.Combine) rs span =
+    q.combine (at 0 rs).query (at 1 rs).query (at 2 rs).expression span
 query_from (Some query.Apply) rs span = q.apply (at 0 rs).query (at 1 rs).expression span
 query_from (Some query.Compose) rs span = q.compose (at 0 rs).query (at 1 rs).query span
-query_from (Some query.Collect) rs span = q.collect (at 0 rs).name (at 1 rs).predicate (at 2 rs).rate (at 3 rs).query span
+query_from (Some query.Collect) rs span =
+    q.collect (at 0 rs).name (at 1 rs).predicate (at 2 rs).rate (at 3 rs).query span
 
 -- a call as it is read
 abbrev call_reading : List ℕ → List Reading → Span → Reading
@@ -160,10 +183,14 @@ call_reading head rs span = record (name_reading no_name) {
 -- terms as they are read
 abbrev pub readings : Terms → List Reading
 readings none = []
-readings (word bytes span rest) = name_reading (record { bytes = bytes; span = span }) ∷ readings rest
-readings (number value span rest) = number_reading (record { value = value; span = span }) ∷ readings rest
-readings (string bytes span rest) = text_reading (record { bytes = bytes; span = span }) ∷ readings rest
-readings (call head arguments span rest) = call_reading head (readings arguments) span ∷ readings rest
+readings (word bytes span rest) =
+    name_reading (record { bytes = bytes; span = span }) ∷ readings rest
+readings (number value span rest) =
+    number_reading (record { value = value; span = span }) ∷ readings rest
+readings (string bytes span rest) =
+    text_reading (record { bytes = bytes; span = span }) ∷ readings rest
+readings (call head arguments span rest) =
+    call_reading head (readings arguments) span ∷ readings rest
 
 -- the first of the terms reads as the tree, and the others are the rest
 pub record Back {X : Type 0} (field : Reading → X) (tree : X) (terms rest : Terms) : Type 0 where
@@ -172,8 +199,10 @@ pub record Back {X : Type 0} (field : Reading → X) (tree : X) (terms rest : Te
   pub says : field reading ≡ tree
 
 -- a call reads as the tree, where its arguments are read so
-call_back : {X : Type 0} (field : Reading → X) (tree : X) (head : List ℕ) (arguments : Terms) (span : Span) (rest : Terms) (rs : List Reading)
-    → readings arguments ≡ rs → field (call_reading head rs span) ≡ tree → Back field tree (call head arguments span rest) rest
+call_back : {X : Type 0} (field : Reading → X) (tree : X) (head : List ℕ) (arguments : Terms)
+    (span : Span) (rest : Terms) (rs : List Reading)
+    → readings arguments ≡ rs → field (call_reading head rs span) ≡ tree
+    → Back field tree (call head arguments span rest) rest
 call_back field tree head arguments span rest rs are is = record {
   reading = call_reading head rs span;
   is = ap (λ (l : List Reading). call_reading head l span ∷ readings rest) are;
@@ -181,16 +210,18 @@ call_back field tree head arguments span rest rs are is = record {
 }
 
 -- one argument, and others after it
-before : {X : Type 0} (field : Reading → X) (tree : X) (terms rest : Terms) (rs : List Reading) → (back : Back field tree terms rest)
-    → readings rest ≡ rs → readings terms ≡ back.reading ∷ rs
-before field tree terms rest rs back others = back.is ∙ ap (λ (l : List Reading). back.reading ∷ l) others
+before : {X : Type 0} (field : Reading → X) (tree : X) (terms rest : Terms) (rs : List Reading)
+    → (back : Back field tree terms rest) → readings rest ≡ rs → readings terms ≡ back.reading ∷ rs
+before field tree terms rest rs back others =
+    back.is ∙ ap (λ (l : List Reading). back.reading ∷ l) others
 
 -- the heads of the operators are found
 unary_found : (op : UnaryOp) → head_in expressions (unary_word op) 1 ≡ Some (expression.Unary op)
 unary_found Neg = refl
 unary_found Abs = refl
 
-binary_found : (op : BinaryOp) → head_in expressions (binary_word op) 2 ≡ Some (expression.Binary op)
+binary_found : (op : BinaryOp)
+    → head_in expressions (binary_word op) 2 ≡ Some (expression.Binary op)
 binary_found Add = refl
 binary_found Sub = refl
 binary_found Mul = refl
@@ -199,11 +230,13 @@ binary_found Rem = refl
 binary_found Min = refl
 binary_found Max = refl
 
-summary_found : (op : Summary) → head_in expressions (summary_word op) 1 ≡ Some (expression.Summary op)
+summary_found : (op : Summary)
+    → head_in expressions (summary_word op) 1 ≡ Some (expression.Summary op)
 summary_found Sum = refl
 summary_found Count = refl
 
-extremum_found : (op : Extremum) → head_in expressions (extremum_word op) 2 ≡ Some (expression.Extremum op)
+extremum_found : (op : Extremum)
+    → head_in expressions (extremum_word op) 2 ≡ Some (expression.Extremum op)
 extremum_found extremum.Max = refl
 extremum_found extremum.Min = refl
 
@@ -215,7 +248,8 @@ compare_found Ge = refl
 compare_found Eq = refl
 compare_found Ne = refl
 
-equality_found : (op : Equality) → head_in predicates (equality_word op) 2 ≡ Some (predicate.Equality op)
+equality_found : (op : Equality)
+    → head_in predicates (equality_word op) 2 ≡ Some (predicate.Equality op)
 equality_found equality.Eq = refl
 equality_found equality.Ne = refl
 
@@ -225,7 +259,8 @@ order_found order.Le = refl
 order_found order.Gt = refl
 order_found order.Ge = refl
 
-connective_found : (op : Connective) → head_in predicates (connective_word op) 2 ≡ Some (predicate.Joined op)
+connective_found : (op : Connective)
+    → head_in predicates (connective_word op) 2 ≡ Some (predicate.Joined op)
 connective_found And = refl
 connective_found Or = refl
 
@@ -234,70 +269,97 @@ join_found Seq = refl
 join_found Alt = refl
 
 -- a literal reads back
-literal_back : (l : Literal) (rest : Terms) → Back (λ (x : Reading). x.literal) l (literal_before l rest) rest
+literal_back : (l : Literal) (rest : Terms)
+    → Back (λ (x : Reading). x.literal) l (literal_before l rest) rest
 literal_back (literal.Number n) rest = record { reading = number_reading n; is = refl; says = refl }
 literal_back (literal.Text t) rest = record { reading = text_reading t; is = refl; says = refl }
 
 -- an expression reads back
-pub expression_back : (v : Expression) (rest : Terms) → Back (λ (x : Reading). x.expression) v (expression_before v rest) rest
+pub expression_back : (v : Expression) (rest : Terms)
+    → Back (λ (x : Reading). x.expression) v (expression_before v rest) rest
 expression_back (e.number n) rest = record { reading = number_reading n; is = refl; says = refl }
 expression_back (e.name n) rest = record { reading = name_reading n; is = refl; says = refl }
 expression_back (e.unary op a span) rest =
     let x = expression_back a none in
     call_back _ _ _ _ span rest (x.reading ∷ []) x.is
-    (ap (λ h. expression_from h (x.reading ∷ []) span) (unary_found op) ∙ ap (λ t. e.unary op t span) x.says)
+    (ap (λ h. expression_from h (x.reading ∷ []) span) (unary_found op)
+    ∙ ap (λ t. e.unary op t span) x.says)
 expression_back (e.binary op a b span) rest =
     let x = expression_back a (expression_before b none) in
     let y = expression_back b none in
     call_back _ _ _ _ span rest (x.reading ∷ y.reading ∷ []) (before _ _ _ _ _ x y.is)
-    (ap (λ h. expression_from h (x.reading ∷ y.reading ∷ []) span) (binary_found op) ∙ (λ i. e.binary op (x.says i) (y.says i) span))
+    (ap (λ h. expression_from h (x.reading ∷ y.reading ∷ []) span) (binary_found op)
+    ∙ (λ i. e.binary op (x.says i) (y.says i) span))
 expression_back (e.choice op a b place c d span) rest =
     let x = expression_back a (expression_before b none) in
     let y = expression_back b none in
     let test : Comparison = record { compare = op; left = a; right = b; span = place } in
     let after = expression_before c (expression_before d none) in
-    let t = call_back (λ (x : Reading). x.comparison) test (compare_word op) _ place after (x.reading ∷ y.reading ∷ []) (before _ _ _ _ _ x y.is)
-    (ap (λ h. comparison_from h (x.reading ∷ y.reading ∷ []) place) (compare_found op) ∙ (λ i. record { compare = op; left = x.says i; right = y.says i; span = place })) in
+    let t = call_back (λ (x : Reading). x.comparison) test (compare_word op) _ place after
+    (x.reading ∷ y.reading ∷ []) (before _ _ _ _ _ x y.is)
+    (ap (λ h. comparison_from h (x.reading ∷ y.reading ∷ []) place) (compare_found op)
+    ∙ (λ i. record { compare = op; left = x.says i; right = y.says i; span = place })) in
     let z = expression_back c (expression_before d none) in
     let w = expression_back d none in
-    call_back _ _ _ _ span rest (t.reading ∷ z.reading ∷ w.reading ∷ []) (before (λ (x : Reading). x.comparison) test _ _ _ t (before _ _ _ _ _ z w.is))
-    (λ i. e.choice (t.says i).compare (t.says i).left (t.says i).right (t.says i).span (z.says i) (w.says i) span)
+    call_back _ _ _ _ span rest (t.reading ∷ z.reading ∷ w.reading ∷ [])
+    (before (λ (x : Reading). x.comparison) test _ _ _ t (before _ _ _ _ _ z w.is))
+    (λ i. e.choice (t.says i).compare (t.says i).left (t.says i).right (t.says i).span (z.says i)
+    (w.says i) span)
 expression_back (e.summary op table span) rest =
-    call_back _ _ _ _ span rest (name_reading table ∷ []) refl (ap (λ h. expression_from h (name_reading table ∷ []) span) (summary_found op))
+    call_back _ _ _ _ span rest (name_reading table ∷ []) refl
+    (ap (λ h. expression_from h (name_reading table ∷ []) span) (summary_found op))
 expression_back (e.extremum op table a span) rest =
     let x = expression_back a none in
-    call_back _ _ _ _ span rest (name_reading table ∷ x.reading ∷ []) (ap (λ (l : List Reading). name_reading table ∷ l) x.is)
-    (ap (λ h. expression_from h (name_reading table ∷ x.reading ∷ []) span) (extremum_found op) ∙ ap (λ t. e.extremum op table t span) x.says)
+    call_back _ _ _ _ span rest (name_reading table ∷ x.reading ∷ [])
+    (ap (λ (l : List Reading). name_reading table ∷ l) x.is)
+    (ap (λ h. expression_from h (name_reading table ∷ x.reading ∷ []) span) (extremum_found op)
+    ∙ ap (λ t. e.extremum op table t span) x.says)
 expression_back (e.get table key a span) rest =
     let x = expression_back a none in
     call_back _ _ _ _ span rest (name_reading table ∷ text_reading key ∷ x.reading ∷ [])
-    (ap (λ (l : List Reading). name_reading table ∷ text_reading key ∷ l) x.is) (ap (λ t. e.get table key t span) x.says)
+    (ap (λ (l : List Reading). name_reading table ∷ text_reading key ∷ l) x.is)
+    (ap (λ t. e.get table key t span) x.says)
 
 -- a predicate reads back
-pub predicate_back : (f : Predicate) (rest : Terms) → Back (λ (x : Reading). x.predicate) f (predicate_before f rest) rest
-predicate_back (p.any span) rest = record { reading = name_reading (record { bytes = codes "any"; span = span }); is = refl; says = refl }
+pub predicate_back : (f : Predicate) (rest : Terms)
+    → Back (λ (x : Reading). x.predicate) f (predicate_before f rest) rest
+predicate_back (p.any span) rest = record {
+  reading = name_reading (record { bytes = codes "any"; span = span });
+  is = refl;
+  says = refl;
+}
 predicate_back (p.equality op column l span) rest =
     let x = literal_back l none in
-    call_back _ _ _ _ span rest (name_reading column ∷ x.reading ∷ []) (ap (λ (l : List Reading). name_reading column ∷ l) x.is)
-    (ap (λ h. predicate_from h (name_reading column ∷ x.reading ∷ []) span) (equality_found op) ∙ ap (λ t. p.equality op column t span) x.says)
+    call_back _ _ _ _ span rest (name_reading column ∷ x.reading ∷ [])
+    (ap (λ (l : List Reading). name_reading column ∷ l) x.is)
+    (ap (λ h. predicate_from h (name_reading column ∷ x.reading ∷ []) span) (equality_found op)
+    ∙ ap (λ t. p.equality op column t span) x.says)
 predicate_back (p.order op column n span) rest =
     call_back _ _ _ _ span rest (name_reading column ∷ number_reading n ∷ []) refl
     (ap (λ h. predicate_from h (name_reading column ∷ number_reading n ∷ []) span) (order_found op))
 predicate_back (p.between column m n span) rest =
-    call_back _ _ _ _ span rest (name_reading column ∷ number_reading m ∷ number_reading n ∷ []) refl refl
-predicate_back (p.is_num column span) rest = call_back _ _ _ _ span rest (name_reading column ∷ []) refl refl
+    call_back _ _ _ _ span rest
+    (name_reading column ∷ number_reading m ∷ number_reading n ∷ []) refl refl
+predicate_back (p.is_num column span) rest =
+    call_back _ _ _ _ span rest (name_reading column ∷ []) refl refl
 predicate_back (p.joined op a b span) rest =
     let x = predicate_back a (predicate_before b none) in
     let y = predicate_back b none in
     call_back _ _ _ _ span rest (x.reading ∷ y.reading ∷ []) (before _ _ _ _ _ x y.is)
-    (ap (λ h. predicate_from h (x.reading ∷ y.reading ∷ []) span) (connective_found op) ∙ (λ i. p.joined op (x.says i) (y.says i) span))
+    (ap (λ h. predicate_from h (x.reading ∷ y.reading ∷ []) span) (connective_found op)
+    ∙ (λ i. p.joined op (x.says i) (y.says i) span))
 predicate_back (p.negated a span) rest =
     let x = predicate_back a none in
     call_back _ _ _ _ span rest (x.reading ∷ []) x.is (ap (λ t. p.negated t span) x.says)
 
 -- a rate reads back
-pub rate_back : (t : Rate) (rest : Terms) → Back (λ (x : Reading). x.rate) t (rate_before t rest) rest
-rate_back (r.eps span) rest = record { reading = name_reading (record { bytes = codes "eps"; span = span }); is = refl; says = refl }
+pub rate_back : (t : Rate) (rest : Terms)
+    → Back (λ (x : Reading). x.rate) t (rate_before t rest) rest
+rate_back (r.eps span) rest = record {
+  reading = name_reading (record { bytes = codes "eps"; span = span });
+  is = refl;
+  says = refl;
+}
 rate_back (r.item f span) rest =
     let x = predicate_back f none in
     call_back _ _ _ _ span rest (x.reading ∷ []) x.is (ap (λ t. r.item t span) x.says)
@@ -305,46 +367,57 @@ rate_back (r.joined op a b span) rest =
     let x = rate_back a (rate_before b none) in
     let y = rate_back b none in
     call_back _ _ _ _ span rest (x.reading ∷ y.reading ∷ []) (before _ _ _ _ _ x y.is)
-    (ap (λ h. rate_from h (x.reading ∷ y.reading ∷ []) span) (join_found op) ∙ (λ i. r.joined op (x.says i) (y.says i) span))
+    (ap (λ h. rate_from h (x.reading ∷ y.reading ∷ []) span) (join_found op)
+    ∙ (λ i. r.joined op (x.says i) (y.says i) span))
 rate_back (r.star a span) rest =
     let x = rate_back a none in
     call_back _ _ _ _ span rest (x.reading ∷ []) x.is (ap (λ t. r.star t span) x.says)
 
 -- a query reads back
-pub query_back : (a : Query) (rest : Terms) → Back (λ (x : Reading). x.query) a (query_before a rest) rest
+pub query_back : (a : Query) (rest : Terms)
+    → Back (λ (x : Reading). x.query) a (query_before a rest) rest
 query_back (q.name n) rest = record { reading = name_reading n; is = refl; says = refl }
 query_back (q.atom f v span) rest =
     let x = predicate_back f (expression_before v none) in
     let y = expression_back v none in
-    call_back _ _ _ _ span rest (x.reading ∷ y.reading ∷ []) (before _ _ _ _ _ x y.is) (λ i. q.atom (x.says i) (y.says i) span)
+    call_back _ _ _ _ span rest (x.reading ∷ y.reading ∷ []) (before _ _ _ _ _ x y.is)
+    (λ i. q.atom (x.says i) (y.says i) span)
 query_back (q.eps n span) rest = call_back _ _ _ _ span rest (number_reading n ∷ []) refl refl
 query_back (q.or a b span) rest =
     let x = query_back a (query_before b none) in
     let y = query_back b none in
-    call_back _ _ _ _ span rest (x.reading ∷ y.reading ∷ []) (before _ _ _ _ _ x y.is) (λ i. q.or (x.says i) (y.says i) span)
+    call_back _ _ _ _ span rest (x.reading ∷ y.reading ∷ []) (before _ _ _ _ _ x y.is)
+    (λ i. q.or (x.says i) (y.says i) span)
 query_back (q.split a b v span) rest =
     let x = query_back a (query_before b (expression_before v none)) in
     let y = query_back b (expression_before v none) in
     let z = expression_back v none in
-    call_back _ _ _ _ span rest (x.reading ∷ y.reading ∷ z.reading ∷ []) (before _ _ _ _ _ x (before _ _ _ _ _ y z.is)) (λ i. q.split (x.says i) (y.says i) (z.says i) span)
+    call_back _ _ _ _ span
+    rest (x.reading ∷ y.reading ∷ z.reading ∷ []) (before _ _ _ _ _ x (before _ _ _ _ _ y z.is))
+    (λ i. q.split (x.says i) (y.says i) (z.says i) span)
 query_back (q.iter a n v span) rest =
     let x = query_back a (number_before n (expression_before v none)) in
     let z = expression_back v none in
-    call_back _ _ _ _ span rest (x.reading ∷ number_reading n ∷ z.reading ∷ []) (before _ _ _ _ _ x (ap (λ (l : List Reading). number_reading n ∷ l) z.is))
+    call_back _ _ _ _ span rest (x.reading ∷ number_reading n ∷ z.reading ∷ [])
+    (before _ _ _ _ _ x (ap (λ (l : List Reading). number_reading n ∷ l) z.is))
     (λ i. q.iter (x.says i) n (z.says i) span)
 query_back (q.combine a b v span) rest =
     let x = query_back a (query_before b (expression_before v none)) in
     let y = query_back b (expression_before v none) in
     let z = expression_back v none in
-    call_back _ _ _ _ span rest (x.reading ∷ y.reading ∷ z.reading ∷ []) (before _ _ _ _ _ x (before _ _ _ _ _ y z.is)) (λ i. q.combine (x.says i) (y.says i) (z.says i) span)
+    call_back _ _ _ _ span
+    rest (x.reading ∷ y.reading ∷ z.reading ∷ []) (before _ _ _ _ _ x (before _ _ _ _ _ y z.is))
+    (λ i. q.combine (x.says i) (y.says i) (z.says i) span)
 query_back (q.apply a v span) rest =
     let x = query_back a (expression_before v none) in
     let z = expression_back v none in
-    call_back _ _ _ _ span rest (x.reading ∷ z.reading ∷ []) (before _ _ _ _ _ x z.is) (λ i. q.apply (x.says i) (z.says i) span)
+    call_back _ _ _ _ span rest (x.reading ∷ z.reading ∷ []) (before _ _ _ _ _ x z.is)
+    (λ i. q.apply (x.says i) (z.says i) span)
 query_back (q.compose a b span) rest =
     let x = query_back a (query_before b none) in
     let y = query_back b none in
-    call_back _ _ _ _ span rest (x.reading ∷ y.reading ∷ []) (before _ _ _ _ _ x y.is) (λ i. q.compose (x.says i) (y.says i) span)
+    call_back _ _ _ _ span rest (x.reading ∷ y.reading ∷ []) (before _ _ _ _ _ x y.is)
+    (λ i. q.compose (x.says i) (y.says i) span)
 query_back (q.collect k f t a span) rest =
     let x = predicate_back f (rate_before t (query_before a none)) in
     let y = rate_back t (query_before a none) in

@@ -6,24 +6,92 @@ use Rattle.language_base.specs.declared.compare.Compare.{Compare}
 use Rattle.query_syntax.specs.declared.predicate_head.PredicateHead.{PredicateHead}
 use Rattle.query_syntax.specs.declared.query_head.QueryHead.{QueryHead}
 use Rattle.query_syntax.specs.declared.rate_head.RateHead.{RateHead}
-use Rattle.query_syntax.specs.ExpressionHeads.{expression_word, expression_places, expressions, compare_places, comparisons}
+use Rattle.query_syntax.specs.ExpressionHeads.{expression_word, expression_places, expressions}
+use Rattle.query_syntax.specs.ExpressionHeads.{compare_places, comparisons}
 use Rattle.query_syntax.specs.PredicateHeads.{predicate_word, predicate_places, predicates}
 use Rattle.query_syntax.specs.QueryHeads.{query_word, query_places, queries}
 use Rattle.query_syntax.specs.RateHeads.{rate_word, rate_places, rates}
 use Rattle.query_syntax.specs.Words.{compare_word}
 use Rattle.query_syntax.proofs.Heads.{IsOf}
 
-pub expressions_are : AllByRecursion (IsOf ExpressionHead expression_word expression_places) expressions
-expressions_are = ((refl, refl), ((refl, refl), ((refl, refl), ((refl, refl), ((refl, refl), ((refl, refl), ((refl, refl), ((refl, refl), ((refl, refl), ((refl, refl), ((refl, refl), ((refl, refl), ((refl, refl), ((refl, refl), ((refl, refl), tt)))))))))))))))
+pub expressions_are : AllByRecursion (IsOf ExpressionHead expression_word expression_places)
+    expressions
+expressions_are = (
+  (refl, refl),
+  (
+    (refl, refl),
+    (
+      (refl, refl),
+      (
+        (refl, refl),
+        (
+          (refl, refl),
+          (
+            (refl, refl),
+            (
+              (refl, refl),
+              (
+                (refl, refl),
+                (
+                  (refl, refl),
+                  (
+                    (refl, refl),
+                    (
+                      (refl, refl),
+                      ((refl, refl), ((refl, refl), ((refl, refl), ((refl, refl), tt)))),
+                    ),
+                  ),
+                ),
+              ),
+            ),
+          ),
+        ),
+      ),
+    ),
+  ),
+)
 
 pub comparisons_are : AllByRecursion (IsOf Compare compare_word compare_places) comparisons
-comparisons_are = ((refl, refl), ((refl, refl), ((refl, refl), ((refl, refl), ((refl, refl), ((refl, refl), tt))))))
+comparisons_are = (
+  (refl, refl),
+  ((refl, refl), ((refl, refl), ((refl, refl), ((refl, refl), ((refl, refl), tt))))),
+)
 
 pub predicates_are : AllByRecursion (IsOf PredicateHead predicate_word predicate_places) predicates
-predicates_are = ((refl, refl), ((refl, refl), ((refl, refl), ((refl, refl), ((refl, refl), ((refl, refl), ((refl, refl), ((refl, refl), ((refl, refl), ((refl, refl), ((refl, refl), tt)))))))))))
+predicates_are = (
+  (refl, refl),
+  (
+    (refl, refl),
+    (
+      (refl, refl),
+      (
+        (refl, refl),
+        (
+          (refl, refl),
+          (
+            (refl, refl),
+            ((refl, refl), ((refl, refl), ((refl, refl), ((refl, refl), ((refl, refl), tt))))),
+          ),
+        ),
+      ),
+    ),
+  ),
+)
 
 pub rates_are : AllByRecursion (IsOf RateHead rate_word rate_places) rates
 rates_are = ((refl, refl), ((refl, refl), ((refl, refl), ((refl, refl), tt))))
 
 pub queries_are : AllByRecursion (IsOf QueryHead query_word query_places) queries
-queries_are = ((refl, refl), ((refl, refl), ((refl, refl), ((refl, refl), ((refl, refl), ((refl, refl), ((refl, refl), ((refl, refl), ((refl, refl), tt)))))))))
+queries_are = (
+  (refl, refl),
+  (
+    (refl, refl),
+    (
+      (refl, refl),
+      (
+        (refl, refl),
+        ((refl, refl), ((refl, refl), ((refl, refl), ((refl, refl), ((refl, refl), tt))))),
+      ),
+    ),
+  ),
+)

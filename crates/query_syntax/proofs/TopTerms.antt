@@ -1,5 +1,7 @@
 -- The terms of a file, taken apart.
-use Rattle.std.proofs.Common.{◌≡◌, ℕ, suc, ◌+◌, ◌-◌, ◌≤◌, ◌==◌, ◌&&◌, nat_le, Bool, true, false, List, [], ◌∷◌, length, replicate, get_or, take, drop, codes, All, None, refl, sym, ap, ◌∙◌, subst, arith}
+use Rattle.std.proofs.Common.{◌≡◌, ℕ, suc, ◌+◌, ◌-◌, ◌≤◌, ◌==◌, ◌&&◌, nat_le, Bool, true, false}
+use Rattle.std.proofs.Common.{List, [], ◌∷◌, length, replicate, get_or, take, drop, codes, All}
+use Rattle.std.proofs.Common.{None, refl, sym, ap, ◌∙◌, subst, arith}
 use Rattle.std.specs.Str.{bytes_eq}
 use Rattle.std.proofs.lemmas.Bool.Decides.{nat_tests}
 use Rattle.std.proofs.lemmas.List.{take_all}
@@ -54,38 +56,51 @@ no_more (Text bytes span ∷ rest) is = absurd (Some-no_none span is)
 no_more (Call' head shape arguments span ∷ rest) is = absurd (Some-no_none span is)
 
 -- lets and `main`, from the first of them
-at_top : (end : ℕ) (term : Term) (rest : List Term) (main : Bool) → unfit_body end (terms_of (term ∷ rest)) ≡ None
+at_top : (end : ℕ) (term : Term) (rest : List Term) (main : Bool)
+    → unfit_body end (terms_of (term ∷ rest)) ≡ None
     → is_call (codes "main") 1 (term_before term none) ≡ main
     → (unfit_body end (terms_of rest) ≡ None → AreBody rest) → AreBody (term ∷ rest)
 at_top end term rest true fit is body =
     let terms = term_before term (terms_of rest) in
-    let apart = main_parts end terms (some_term term (terms_of rest)) (ap (is_call (codes "main") 1) (alone_is term (terms_of rest)) ∙ is) in
-    let parts = first_of_two-none (unfit_call (codes "main") (Query ∷ []) (alone terms)) (first_place (after terms)) (sym apart ∙ fit) in
+    let apart = main_parts end terms (some_term term (terms_of rest))
+    (ap (is_call (codes "main") 1) (alone_is term (terms_of rest)) ∙ is) in
+    let parts = first_of_two-none (unfit_call (codes "main") (Query ∷ []) (alone terms))
+    (first_place (after terms)) (sym apart ∙ fit) in
     record {
       lets = [];
       main = term;
-      split = ap (λ (l : List Term). term ∷ l) (no_more rest (ap first_place (sym (after_is term (terms_of rest))) ∙ parts.1));
+      split = ap (λ (l : List Term). term ∷ l)
+          (no_more rest (ap first_place (sym (after_is term (terms_of rest))) ∙ parts.1));
       lets_fit = All-nil FitsLet;
-      main_fits = record { fit = ap (unfit_call (codes "main") (Query ∷ [])) (sym (alone_is term (terms_of rest))) ∙ parts.0 };
+      main_fits = record {
+        fit = ap (unfit_call (codes "main") (Query ∷ [])) (sym (alone_is term (terms_of rest)))
+            ∙ parts.0;
+      };
     }
 at_top end term rest false fit is body =
     let terms = term_before term (terms_of rest) in
-    let apart = let_parts end terms (some_term term (terms_of rest)) (ap (is_call (codes "main") 1) (alone_is term (terms_of rest)) ∙ is) in
-    let parts = first_of_two-none (unfit_call (codes "let") (Name ∷ Query ∷ []) (alone terms)) (unfit_body end (after terms)) (sym apart ∙ fit) in
+    let apart = let_parts end terms (some_term term (terms_of rest))
+    (ap (is_call (codes "main") 1) (alone_is term (terms_of rest)) ∙ is) in
+    let parts = first_of_two-none (unfit_call (codes "let") (Name ∷ Query ∷ []) (alone terms))
+    (unfit_body end (after terms)) (sym apart ∙ fit) in
     let others = body (ap (unfit_body end) (sym (after_is term (terms_of rest))) ∙ parts.1) in
     record {
       lets = term ∷ others.lets;
       main = others.main;
       split = ap (λ (l : List Term). term ∷ l) others.split;
       lets_fit = All-cons FitsLet term others.lets
-          (record { fit = ap (unfit_call (codes "let") (Name ∷ Query ∷ [])) (sym (alone_is term (terms_of rest))) ∙ parts.0 }) others.lets_fit;
+          (record {
+            fit = ap (unfit_call (codes "let") (Name ∷ Query ∷ []))
+                (sym (alone_is term (terms_of rest))) ∙ parts.0;
+          }) others.lets_fit;
       main_fits = others.main_fits;
     }
 
 body_apart : (end : ℕ) (list : List Term) → unfit_body end (terms_of list) ≡ None → AreBody list
 body_apart end [] fit = absurd (Some-no_none _ fit)
 body_apart end (term ∷ rest) fit =
-    at_top end term rest (is_call (codes "main") 1 (term_before term none)) fit refl (body_apart end rest)
+    at_top end term rest (is_call (codes "main") 1 (term_before term none)) fit refl
+    (body_apart end rest)
 
 -- a file is `stream`, lets and `main`
 pub tops : (end : ℕ) (list : List Term) → unfit_file end (terms_of list) ≡ None → AreTops list
@@ -93,27 +108,35 @@ tops end [] fit = absurd (Some-no_none _ fit)
 tops end (stream ∷ body) fit =
     let terms = term_before stream (terms_of body) in
     let apart = stream_parts end terms (some_term stream (terms_of body)) in
-    let parts = first_of_two-none (unfit_stream (alone terms)) (unfit_body end (after terms)) (sym apart ∙ fit) in
+    let parts = first_of_two-none (unfit_stream (alone terms)) (unfit_body end (after terms))
+    (sym apart ∙ fit) in
     record {
       stream = stream;
       body = body;
       split = refl;
-      stream_fits = record { fit = ap unfit_stream (sym (alone_is stream (terms_of body))) ∙ parts.0 };
-      are_body = body_apart end body (ap (unfit_body end) (sym (after_is stream (terms_of body))) ∙ parts.1);
+      stream_fits =
+          record { fit = ap unfit_stream (sym (alone_is stream (terms_of body))) ∙ parts.0 };
+      are_body = body_apart end body
+          (ap (unfit_body end) (sym (after_is stream (terms_of body))) ∙ parts.1);
     }
 
 -- a call of a word, whose arguments fit
 called : (word written : List ℕ) (places : List TermPlace) (list : List Term) (span : Span)
-    → unfit_call written places (call word (terms_of list) span none) ≡ None → (word ≡ written) × AllFit places list
+    → unfit_call written places (call word (terms_of list) span none) ≡ None
+    → (word ≡ written) × AllFit places list
 called word written places list span fit =
     let inner = terms_of list in
-    let parts = chosen-none (bytes_eq word written && (count_of inner == length places)) (first_unfit places inner) span fit in
+    let parts = chosen-none (bytes_eq word written && (count_of inner == length places))
+    (first_unfit places inner) span fit in
     let tests = both_tests (bytes_eq word written) (count_of inner == length places) parts.0 in
-    let many : count_of inner ≡ length places = let t = tests.1 in grind (arith, nat_tests) in
-    ((bytes_eq-Decides word written).0 tests.0, record { as_many = sym (count_of_terms list) ∙ many; fit = parts.1 })
+    let many : count_of inner ≡ length places = let t = tests.1 in grind (arith, nat_tests) in (
+      (bytes_eq-Decides word written).0 tests.0,
+      record { as_many = sym (count_of_terms list) ∙ many; fit = parts.1 },
+    )
 
 -- a top term that is a call
-pub top_call : (term : Term) (written : List ℕ) (places : List TermPlace) (word : List ℕ) (arguments : Arguments) (span : Span) → FitsTop written places term
+pub top_call : (term : Term) (written : List ℕ) (places : List TermPlace) (word : List ℕ)
+    (arguments : Arguments) (span : Span) → FitsTop written places term
     → term ≡ Call word arguments span → (word ≡ written) × AllFit places arguments.terms.items
 top_call term written places word arguments span fits is =
     called word written places arguments.terms.items span
@@ -127,16 +150,19 @@ pub record IsStreamCall (word : List ℕ) (list : List Term) : Type 0 where
   pub some : 2 ≤ length list
   pub few : length list ≤ max_columns + 1
 
-pub stream_call : (term : Term) (word : List ℕ) (arguments : Arguments) (span : Span) → FitsStream term
-    → term ≡ Call word arguments span → IsStreamCall word arguments.terms.items
+pub stream_call : (term : Term) (word : List ℕ) (arguments : Arguments) (span : Span)
+    → FitsStream term → term ≡ Call word arguments span → IsStreamCall word arguments.terms.items
 stream_call term word arguments span fits is =
     let list = arguments.terms.items in
     let inner = terms_of list in
     let whole : unfit_stream (call word inner span none) ≡ None =
-    ap unfit_stream (sym (call_before word arguments span none)) ∙ subst (λ (t : Term). unfit_stream (term_before t none) ≡ None) is fits.fit in
+    ap unfit_stream (sym (call_before word arguments span none))
+    ∙ subst (λ (t : Term). unfit_stream (term_before t none) ≡ None) is fits.fit in
     let parts = chosen-none (nat_le 2 (count_of inner) && nat_le (count_of inner) (max_columns + 1))
-    (unfit_call (codes "stream") (stream_places (count_of inner)) (call word inner span none)) span whole in
-    let tests = both_tests (nat_le 2 (count_of inner)) (nat_le (count_of inner) (max_columns + 1)) parts.0 in
+    (unfit_call (codes "stream") (stream_places (count_of inner)) (call word inner span none)) span
+    whole in
+    let tests = both_tests (nat_le 2 (count_of inner))
+    (nat_le (count_of inner) (max_columns + 1)) parts.0 in
     let at = called word (codes "stream") (stream_places (count_of inner)) list span parts.1 in
     let many = count_of_terms list in
     record {
@@ -147,14 +173,16 @@ stream_call term word arguments span fits is =
     }
 
 -- each of the terms is a column
-pub columns_fit : (columns : List Term) (n : ℕ) → length columns ≡ n → first_unfit (replicate n Column) (terms_of columns) ≡ None
-    → All (Fits Column) columns
+pub columns_fit : (columns : List Term) (n : ℕ) → length columns ≡ n
+    → first_unfit (replicate n Column) (terms_of columns) ≡ None → All (Fits Column) columns
 columns_fit [] n many fit = All-nil (Fits Column)
 columns_fit (first ∷ columns) n many fit =
     let same : n ≡ suc (length columns) = sym many in
     let at = first_fits Column (replicate (length columns) Column) first (terms_of columns)
-    (subst (λ m. first_unfit (replicate m Column) (term_before first (terms_of columns)) ≡ None) same fit) in
-    All-cons (Fits Column) first columns (record { fit = at.0 }) (columns_fit columns (length columns) refl at.1)
+    (subst (λ m. first_unfit (replicate m Column) (term_before first (terms_of columns)) ≡ None)
+    same fit) in
+    All-cons (Fits Column) first columns (record { fit = at.0 })
+    (columns_fit columns (length columns) refl at.1)
 
 -- the mode and the columns of a stream
 pub record Splits (list : List Term) (mode : Term) (columns : List Term) : Type 0 where
@@ -162,15 +190,18 @@ pub record Splits (list : List Term) (mode : Term) (columns : List Term) : Type 
   pub columns_fit_all : All (Fits Column) columns
   pub terms : terms_of list ≡ term_before mode (terms_of columns)
 
-pub stream_split : (list : List Term) (mode : Term) → 2 ≤ length list → AllFit (stream_places (length list)) list → mode ≡ get_or list 0 mode
+pub stream_split : (list : List Term) (mode : Term) → 2 ≤ length list
+    → AllFit (stream_places (length list)) list → mode ≡ get_or list 0 mode
     → Splits list mode (take (length list - 1) (drop 1 list))
 stream_split [] mode some fit is = absurd (omega arith)
 stream_split (first ∷ list) mode some fit is =
     let rest : take (suc (length list) - 1) list ≡ list = take_all _ list (omega arith) in
     let many : suc (length list) - 1 ≡ length list = omega arith in
-    let at = first_fits Mode (replicate (suc (length list) - 1) Column) first (terms_of list) fit.fit in
+    let at = first_fits Mode (replicate (suc (length list) - 1) Column) first
+    (terms_of list) fit.fit in
     rw (rest, is) (record {
       mode_fits = record { fit = at.0 };
-      columns_fit_all = columns_fit list (length list) refl (subst (λ n. first_unfit (replicate n Column) (terms_of list) ≡ None) many at.1);
+      columns_fit_all = columns_fit list (length list) refl
+          (subst (λ n. first_unfit (replicate n Column) (terms_of list) ≡ None) many at.1);
       terms = refl;
     })

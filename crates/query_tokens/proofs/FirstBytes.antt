@@ -1,19 +1,22 @@
 -- The first byte of a token shows its kind.
-use Rattle.std.proofs.Common.{◌≡◌, ℕ, ◌<◌, Bool, true, false, cond, ◌||◌, ◌==◌, List, [], ◌∷◌, ◌++◌, length, drop, Option, Some, None, refl, ap, rules, arith}
+use Rattle.std.proofs.Common.{◌≡◌, ℕ, ◌<◌, Bool, true, false, cond, ◌||◌, ◌==◌, List, [], ◌∷◌, ◌++◌}
+use Rattle.std.proofs.Common.{length, drop, Option, Some, None, refl, ap, rules, arith}
 use Rattle.std.specs.Char.{digit_value, is_ascii_digit}
 use Rattle.std.specs.Str.Parse.{IsNumeral, without_leading_sign}
 use Rattle.std.proofs.lemmas.Bool.Decides.{nat_tests}
 use Rattle.std.proofs.lemmas.Grind.{common_steps}
 use Rattle.std.proofs.lemmas.Str.Parse.{digit_from_value}
 use Rattle.query_tokens.specs.declared.token.TokenKind.{TokenKind}
-use Rattle.query_tokens.specs.declared.token.TokenKind.TheVariants.{Word, Number, Text, Open, Close, Comma}
+use Rattle.query_tokens.specs.declared.token.TokenKind.TheVariants.{Word, Number, Text, Open, Close}
+use Rattle.query_tokens.specs.declared.token.TokenKind.TheVariants.{Comma}
 use Rattle.query_tokens.specs.Raw.{is_word_start, is_word_byte, IsRaw}
 use Rattle.query_tokens.specs.Front.{is_number_start, kind_of, kind_at, sign_len}
 
 -- the choice of a kind by tests
 abbrev pick : Bool → Bool → Bool → Bool → Bool → Bool → Option TokenKind
 pick open' close comma quote number word =
-    cond open' (Some Open) (cond close (Some Close) (cond comma (Some Comma) (cond quote (Some Text) (cond number (Some Number) (cond word (Some Word) None)))))
+    cond open' (Some Open) (cond close (Some Close) (cond comma (Some Comma)
+    (cond quote (Some Text) (cond number (Some Number) (cond word (Some Word) None)))))
 
 -- a word's first byte may begin a word
 picks_word : (a b c d e f : Bool) → pick a b c d e f ≡ Some Word → f ≡ true
@@ -26,7 +29,8 @@ picks_word false false false false false true is = refl
 picks_word false false false false false false is = absurd (cc)
 
 pub word_first : (byte : ℕ) → kind_of byte ≡ Some Word → is_word_start byte ≡ true
-word_first byte is = picks_word (byte == 40) (byte == 41) (byte == 44) (byte == 34) (is_number_start byte) (is_word_start byte) is
+word_first byte is = picks_word (byte == 40) (byte == 41) (byte == 44) (byte == 34)
+    (is_number_start byte) (is_word_start byte) is
 
 -- a string's first byte is a quote
 picks_text : (a b c d e f : Bool) → pick a b c d e f ≡ Some Text → d ≡ true
@@ -40,7 +44,8 @@ picks_text false false false false false false is = absurd (cc)
 
 pub text_first : (byte : ℕ) → kind_of byte ≡ Some Text → byte ≡ 34
 text_first byte is =
-    let quote = picks_text (byte == 40) (byte == 41) (byte == 44) (byte == 34) (is_number_start byte) (is_word_start byte) is in
+    let quote = picks_text (byte == 40) (byte == 41) (byte == 44) (byte == 34)
+    (is_number_start byte) (is_word_start byte) is in
     grind (arith, nat_tests)
 
 -- what may begin a word may stand in it
@@ -60,7 +65,9 @@ pub without_sign : (bytes : List ℕ) → without_leading_sign bytes ≡ drop (s
 without_sign [] = refl
 without_sign (b ∷ bytes) = by_tests (b == 45) (b == 43)
   where
-    by_tests : (minus plus : Bool) → cond minus (drop 1 (b ∷ bytes)) (drop (cond plus 1 0) (b ∷ bytes)) ≡ drop (cond (plus || minus) 1 0) (b ∷ bytes)
+    by_tests : (minus plus : Bool)
+        → cond minus (drop 1 (b ∷ bytes)) (drop (cond plus 1 0) (b ∷ bytes))
+        ≡ drop (cond (plus || minus) 1 0) (b ∷ bytes)
     by_tests true true = refl
     by_tests true false = refl
     by_tests false true = refl
@@ -76,10 +83,14 @@ pub digit_from_test : (byte : ℕ) → is_ascii_digit byte ≡ true → digit_va
 digit_from_test byte passes = grind (arith, common_steps)
 
 -- a number begins as numbers do
-number_first : (byte : ℕ) (rest : List ℕ) → IsNumeral 10 (without_leading_sign (byte ∷ rest)) → is_number_start byte ≡ true
-number_first byte rest numeral = by_tests (byte == 43) (byte == 45) refl refl (rw (without_sign (byte ∷ rest)) at numeral)
+number_first : (byte : ℕ) (rest : List ℕ) → IsNumeral 10 (without_leading_sign (byte ∷ rest))
+    → is_number_start byte ≡ true
+number_first byte rest numeral =
+    by_tests (byte == 43) (byte == 45) refl refl (rw (without_sign (byte ∷ rest)) at numeral)
   where
-    by_tests : (plus minus : Bool) → (byte == 43) ≡ plus → (byte == 45) ≡ minus → IsNumeral 10 (drop (cond (plus || minus) 1 0) (byte ∷ rest)) → ((plus || minus) || is_ascii_digit byte) ≡ true
+    by_tests : (plus minus : Bool) → (byte == 43) ≡ plus
+        → (byte == 45) ≡ minus → IsNumeral 10 (drop (cond (plus || minus) 1 0) (byte ∷ rest))
+        → ((plus || minus) || is_ascii_digit byte) ≡ true
     by_tests true minus p m numeral = refl
     by_tests false true p m numeral = refl
     by_tests false false p m numeral = digit_passes byte numeral.1.0
@@ -103,6 +114,7 @@ raw_not_empty kind [] is_raw =
 raw_not_empty kind (byte ∷ raw) is_raw = omega arith
 
 -- and they show it whatever follows
-pub raw_kind_at : (kind : TokenKind) (raw beyond : List ℕ) → IsRaw kind raw → kind_at (raw ++ beyond) ≡ Some kind
+pub raw_kind_at : (kind : TokenKind) (raw beyond : List ℕ) → IsRaw kind raw
+    → kind_at (raw ++ beyond) ≡ Some kind
 raw_kind_at kind [] beyond is_raw = absurd (omega (arith, raw_not_empty kind [] is_raw))
 raw_kind_at kind (byte ∷ raw) beyond is_raw = raw_kind kind (byte ∷ raw) is_raw

@@ -1,14 +1,17 @@
 -- The part that bytes begin with is the one that `part_of` finds, and no other.
-use Rattle.std.proofs.Common.{◌≡◌, ℕ, ◌+◌, ◌*◌, Bool, true, false, cond, ◌||◌, ◌==◌, nat_lt, List, [], ◌∷◌, ◌++◌, length, Option, Some, None, ◌⊎◌, inl, inr, refl, arith}
+use Rattle.std.proofs.Common.{◌≡◌, ℕ, ◌+◌, ◌*◌, Bool, true, false, cond, ◌||◌, ◌==◌, nat_lt, List}
+use Rattle.std.proofs.Common.{[], ◌∷◌, ◌++◌, length, Option, Some, None, ◌⊎◌, inl, inr, refl, arith}
 use Rattle.std.specs.Char.{digit_value}
 use Rattle.std.proofs.lemmas.Bool.Decides.{nat_tests}
 use Rattle.std.proofs.lemmas.Grind.{common_steps}
 use Rattle.query_tokens.specs.Raw.{IsPlain, IsHex, IsPart}
 use Rattle.query_tokens.specs.Raw.IsPart.{plain, quote, backslash, code}
-use Rattle.query_tokens.specs.StringParts.{hex_of, byte_of, code_of, coded, escape_of, is_plain, part_of}
+use Rattle.query_tokens.specs.StringParts.{hex_of, byte_of, code_of, coded, escape_of, is_plain}
+use Rattle.query_tokens.specs.StringParts.{part_of}
 
 -- which branch gave the value
-pub branch_taken : {A : Type 0} (test : Bool) (x y : Option A) (z : A) → cond test x y ≡ Some z → ((test ≡ true) × (x ≡ Some z)) ⊎ ((test ≡ false) × (y ≡ Some z))
+pub branch_taken : {A : Type 0} (test : Bool) (x y : Option A) (z : A) → cond test x y ≡ Some z
+    → ((test ≡ true) × (x ≡ Some z)) ⊎ ((test ≡ false) × (y ≡ Some z))
 branch_taken true x y z is = inl (refl, is)
 branch_taken false x y z is = inr (refl, is)
 
@@ -19,7 +22,8 @@ hex_value digit hex =
     rw below refl
 
 -- and what has a value is a digit
-hex_digit : (digit value : ℕ) → hex_of digit ≡ Some value → IsHex digit × (value ≡ digit_value digit)
+hex_digit : (digit value : ℕ) → hex_of digit ≡ Some value
+    → IsHex digit × (value ≡ digit_value digit)
 hex_digit digit value is =
     elim (branch_taken (nat_lt (digit_value digit) 16) (Some (digit_value digit)) None value is) [
       | inl taken ↦ (grind (arith, nat_tests), cc)
@@ -27,7 +31,8 @@ hex_digit digit value is =
     ]
 
 -- a part that stands at the front is found
-pub part_is_found : (part beyond : List ℕ) (byte : ℕ) → IsPart part byte → part_of (part ++ beyond) ≡ Some (byte, length part)
+pub part_is_found : (part beyond : List ℕ) (byte : ℕ) → IsPart part byte
+    → part_of (part ++ beyond) ≡ Some (byte, length part)
 part_is_found _ beyond _ (plain byte (inl seen)) = grind (arith, common_steps)
 part_is_found _ beyond _ (plain byte (inr high)) = grind (arith, common_steps)
 part_is_found _ beyond _ quote = refl
@@ -47,12 +52,14 @@ plain_from_test : (byte : ℕ) → is_plain byte ≡ true → IsPlain byte
 plain_from_test byte passes = grind (arith, common_steps)
 
 -- digits after `\x`
-code_found : (rest : List ℕ) (found : ℕ × ℕ) → coded (code_of rest) ≡ Some found → Fronts (92 ∷ 120 ∷ rest) found
+code_found : (rest : List ℕ) (found : ℕ × ℕ) → coded (code_of rest) ≡ Some found
+    → Fronts (92 ∷ 120 ∷ rest) found
 code_found [] found is = absurd (cc)
 code_found (high ∷ []) found is = absurd (cc)
 code_found (high ∷ low ∷ rest) found is = code_by (hex_of high) (hex_of low) refl refl is
   where
-    code_by : (a b : Option ℕ) → hex_of high ≡ a → hex_of low ≡ b → coded (byte_of a b) ≡ Some found → Fronts (92 ∷ 120 ∷ high ∷ low ∷ rest) found
+    code_by : (a b : Option ℕ) → hex_of high ≡ a → hex_of low ≡ b → coded (byte_of a b) ≡ Some found
+        → Fronts (92 ∷ 120 ∷ high ∷ low ∷ rest) found
     code_by None b _ _ e = absurd (cc)
     code_by (Some a) None _ _ e = absurd (cc)
     code_by (Some a) (Some b) ha hb e =
@@ -68,12 +75,14 @@ code_found (high ∷ low ∷ rest) found is = code_by (hex_of high) (hex_of low)
         }
 
 -- what stands after a backslash
-escape_found : (rest : List ℕ) (found : ℕ × ℕ) → escape_of rest ≡ Some found → Fronts (92 ∷ rest) found
+escape_found : (rest : List ℕ) (found : ℕ × ℕ) → escape_of rest ≡ Some found
+    → Fronts (92 ∷ rest) found
 escape_found [] found is = absurd (cc)
 escape_found (second ∷ rest) found is =
     escape_by (second == 34) (second == 92) (second == 120) refl refl refl is
   where
-    fronts : (value : ℕ) → second ≡ value → IsPart (92 ∷ value ∷ []) value → Some (second, 2) ≡ Some found → Fronts (92 ∷ second ∷ rest) found
+    fronts : (value : ℕ) → second ≡ value → IsPart (92 ∷ value ∷ []) value
+        → Some (second, 2) ≡ Some found → Fronts (92 ∷ second ∷ rest) found
     fronts value same is_part e = record {
       part = 92 ∷ value ∷ [];
       beyond = rest;
@@ -83,7 +92,8 @@ escape_found (second ∷ rest) found is =
     }
 
     escape_by : (a b c : Bool) → (second == 34) ≡ a → (second == 92) ≡ b → (second == 120) ≡ c
-        → cond (a || b) (Some (second, 2)) (cond c (coded (code_of rest)) None) ≡ Some found → Fronts (92 ∷ second ∷ rest) found
+        → cond (a || b) (Some (second, 2)) (cond c (coded (code_of rest)) None) ≡ Some found
+        → Fronts (92 ∷ second ∷ rest) found
     escape_by true b c ha hb hc e = fronts 34 (grind (arith, nat_tests)) quote e
     escape_by false true c ha hb hc e = fronts 92 (grind (arith, nat_tests)) backslash e
     escape_by false false true ha hb hc e =
@@ -97,7 +107,8 @@ part_fronts [] found is = absurd (cc)
 part_fronts (first ∷ rest) found is = part_by (first == 92) (is_plain first) refl refl is
   where
     part_by : (a b : Bool) → (first == 92) ≡ a → is_plain first ≡ b
-        → cond a (escape_of rest) (cond b (Some (first, 1)) None) ≡ Some found → Fronts (first ∷ rest) found
+        → cond a (escape_of rest) (cond b (Some (first, 1)) None) ≡ Some found
+        → Fronts (first ∷ rest) found
     part_by true b ha hb e =
         let same : first ≡ 92 = grind (arith, nat_tests) in
         rw same (escape_found rest found e)

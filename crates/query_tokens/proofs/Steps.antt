@@ -1,6 +1,8 @@
 -- One token after another.
-use Rattle.std.proofs.Common.{◌≡◌, ℕ, ◌+◌, ◌-◌, ◌<◌, ◌≤◌, List, [], ◌∷◌, ◌++◌, length, take, drop, Some, inl, inr, sym, ap, ◌∙◌, subst, arith}
-use Rattle.std.proofs.lemmas.List.{append_assoc, length-append, length-take-le, length-drop, drop-drop, drop_at, take-append-drop}
+use Rattle.std.proofs.Common.{◌≡◌, ℕ, ◌+◌, ◌-◌, ◌<◌, ◌≤◌, List, [], ◌∷◌, ◌++◌, length, take, drop}
+use Rattle.std.proofs.Common.{Some, inl, inr, sym, ap, ◌∙◌, subst, arith}
+use Rattle.std.proofs.lemmas.List.{append_assoc, length-append, length-take-le, length-drop}
+use Rattle.std.proofs.lemmas.List.{drop-drop, drop_at, take-append-drop}
 use Rattle.query_tokens.specs.declared.token.Token.{Token}
 use Rattle.query_tokens.specs.declared.token.TokenKind.{TokenKind}
 use Rattle.query_tokens.specs.Raw.{BeginsNone}
@@ -10,16 +12,19 @@ use Rattle.query_tokens.specs.Next.{IsTokenAt}
 use Rattle.query_tokens.proofs.FirstBytes.{raw_not_empty}
 
 -- blank that ends before the text does
-up_to : (bytes : List ℕ) (blank : ℕ) → IsBlankLength bytes blank → blank < length bytes → BlankUpTo bytes blank
+up_to : (bytes : List ℕ) (blank : ℕ) → IsBlankLength bytes blank → blank < length bytes
+    → BlankUpTo bytes blank
 up_to bytes blank (inl (all, to_end)) less = absurd (omega (arith, all))
 up_to bytes blank (inr found) less = found
 
 -- what stands after it
 after : (bytes : List ℕ) (blank : ℕ) (found : BlankUpTo bytes blank) → found.rest ≡ drop blank bytes
-after bytes blank found = sym (ap (drop blank) found.split ∙ drop_at found.blank found.rest blank (sym found.is))
+after bytes blank found =
+    sym (ap (drop blank) found.split ∙ drop_at found.blank found.rest blank (sym found.is))
 
 -- no token after the blank
-pub fails_at : (place : ℕ) (bytes : List ℕ) (blank : ℕ) → IsBlankLength bytes blank → blank < length bytes → BeginsNone (drop blank bytes) → FailsAt place bytes (place + blank)
+pub fails_at : (place : ℕ) (bytes : List ℕ) (blank : ℕ) → IsBlankLength bytes blank
+    → blank < length bytes → BeginsNone (drop blank bytes) → FailsAt place bytes (place + blank)
 fails_at place bytes blank is less none =
     let found = up_to bytes blank is less in
     record {
@@ -33,8 +38,10 @@ fails_at place bytes blank is less none =
     }
 
 -- a token after the blank
-pub stands_at : (place : ℕ) (bytes : List ℕ) (blank : ℕ) (kind : TokenKind) (len : ℕ) → IsBlankLength bytes blank → blank < length bytes
-    → IsFirst (drop blank bytes) (Some (kind, len)) → IsTokenAt place bytes (record { kind = kind; span = record { from = place + blank; to = place + blank + len } })
+pub stands_at : (place : ℕ) (bytes : List ℕ) (blank : ℕ) (kind : TokenKind) (len : ℕ)
+    → IsBlankLength bytes blank → blank < length bytes
+    → IsFirst (drop blank bytes) (Some (kind, len)) → IsTokenAt place bytes
+    (record { kind = kind; span = record { from = place + blank; to = place + blank + len } })
 stands_at place bytes blank kind len is less first =
     let found = up_to bytes blank is less in
     let here = drop blank bytes in
@@ -46,7 +53,8 @@ stands_at place bytes blank kind len is less first =
       stands = record {
         blank = found.blank;
         raw = take len here;
-        split = found.split ∙ ap (λ r. found.blank ++ r) (after bytes blank found ∙ sym (take-append-drop len here) ∙ ap (λ r. take len here ++ r) beyond);
+        split = found.split ∙ ap (λ r. found.blank ++ r) (after bytes blank found
+            ∙ sym (take-append-drop len here) ∙ ap (λ r. take len here ++ r) beyond);
         is_blank = found.is_blank;
         is_token = rw (← beyond) first.1;
         from = ap (λ n. place + n) found.is;
@@ -57,26 +65,36 @@ stands_at place bytes blank kind len is less first =
     }
 
 -- the text from the end of a token that stands at a place of it
-rest_at : (text : List ℕ) (place to : ℕ) → place ≤ to → drop (to - place) (drop place text) ≡ drop to text
+rest_at : (text : List ℕ) (place to : ℕ) → place ≤ to
+    → drop (to - place) (drop place text) ≡ drop to text
 rest_at text place to later =
     let same : place + (to - place) ≡ to = omega arith in
     drop-drop (to - place) place text ∙ ap (λ n. drop n text) same
 
 -- the tokens after it are the text's after it and what was before
-pub tokens_more : (text : List ℕ) (place : ℕ) (before : List Token) (token : Token) → IsTokenAt place (drop place text) token
-    → ((others : List Token) → AreTokens place (drop place text) others → AreTokens 0 text (before ++ others))
-    → (others : List Token) → AreTokens token.span.to (drop token.span.to text) others → AreTokens 0 text ((before ++ token ∷ []) ++ others)
+pub tokens_more : (text : List ℕ) (place : ℕ) (before : List Token) (token : Token)
+    → IsTokenAt place (drop place text) token
+    → ((others : List Token) → AreTokens place (drop place text) others
+    → AreTokens 0 text (before ++ others))
+    → (others : List Token) → AreTokens token.span.to (drop token.span.to text) others
+    → AreTokens 0 text ((before ++ token ∷ []) ++ others)
 tokens_more text place before token at continues others are =
     let rest = rest_at text place token.span.to (omega (arith, at.later)) in
-    rw append_assoc (continues (token ∷ others) (drop (token.span.to - place) (drop place text), at.stands, rw rest are))
+    rw append_assoc (continues (token ∷ others)
+    (drop (token.span.to - place) (drop place text), at.stands, rw rest are))
 
 -- and so is a fault after it
-pub fault_more : (text : List ℕ) (place : ℕ) (before : List Token) (token : Token) → IsTokenAt place (drop place text) token
-    → ((others : List Token) (fault : ℕ) → FaultAfter place (drop place text) others fault → FaultAfter 0 text (before ++ others) fault)
-    → (others : List Token) (fault : ℕ) → FaultAfter token.span.to (drop token.span.to text) others fault → FaultAfter 0 text ((before ++ token ∷ []) ++ others) fault
+pub fault_more : (text : List ℕ) (place : ℕ) (before : List Token) (token : Token)
+    → IsTokenAt place (drop place text) token
+    → ((others : List Token) (fault : ℕ) → FaultAfter place (drop place text) others fault
+    → FaultAfter 0 text (before ++ others) fault)
+    → (others : List Token) (fault : ℕ)
+    → FaultAfter token.span.to (drop token.span.to text) others fault
+    → FaultAfter 0 text ((before ++ token ∷ []) ++ others) fault
 fault_more text place before token at continues others fault fails =
     let rest = rest_at text place token.span.to (omega (arith, at.later)) in
-    rw append_assoc (continues (token ∷ others) fault (drop (token.span.to - place) (drop place text), at.stands, rw rest fails))
+    rw append_assoc (continues (token ∷ others) fault
+    (drop (token.span.to - place) (drop place text), at.stands, rw rest fails))
 
 -- blank is within the bytes
 pub blank_within : (bytes : List ℕ) (blank : ℕ) → IsBlankLength bytes blank → blank ≤ length bytes

@@ -1,5 +1,6 @@
 -- A term, read token by token.
-use Rattle.std.proofs.Common.{◌≡◌, ℕ, ◌+◌, ◌≤◌, List, [], ◌∷◌, ◌++◌, None, Ok, Err, Vec, refl, sym, ap, ◌∙◌, subst}
+use Rattle.std.proofs.Common.{◌≡◌, ℕ, ◌+◌, ◌≤◌, List, [], ◌∷◌, ◌++◌, None, Ok, Err, Vec, refl, sym}
+use Rattle.std.proofs.Common.{ap, ◌∙◌, subst}
 use Rattle.std.proofs.lemmas.Bool.{le-ltb}
 use Rattle.std.specs.declared.alloc.Global.{Global}
 use Rattle.language_base.specs.Limits.{max_level}
@@ -11,10 +12,12 @@ use Rattle.query_trees.specs.declared.stop.TreeStop.TheVariants.{NoList, Deep, M
 use Rattle.query_trees.specs.declared.tree.Tree.{Tree}
 use Rattle.query_trees.specs.Terms.{Calls, AreArguments}
 use Rattle.query_trees.specs.Trees.{Trees, none, leaf, call, tree_before, trees_of}
-use Rattle.query_trees.specs.Reads.{ReadsInCall, NextIs, Begins, IsBefore, AreInCall, after_first, deep_in_arguments, deep_in_first, IsFirst}
+use Rattle.query_trees.specs.Reads.{ReadsInCall, NextIs, Begins, IsBefore, AreInCall, after_first}
+use Rattle.query_trees.specs.Reads.{deep_in_arguments, deep_in_first, IsFirst}
 
 -- up to the most levels only its arguments may be
-deep-within : (level : ℕ) (trees : Trees) → level ≤ max_level → deep_in_first level trees ≡ deep_in_arguments (level + 1) trees
+deep-within : (level : ℕ) (trees : Trees) → level ≤ max_level
+    → deep_in_first level trees ≡ deep_in_arguments (level + 1) trees
 deep-within level trees within = let b = le-ltb max_level level within in rw b refl
 
 -- the tokens begin with this one and `(`, and the inner ones follow
@@ -25,8 +28,8 @@ pub record BeginsCall (tokens : List Token) (head : Token) (inner : List Token) 
 
 -- as they are read, one after the other
 pub begins-call :
-    (tokens rest inner : List Token) (head open_ : Token) → tokens ≡ head ∷ rest → rest ≡ open_ ∷ inner
-    → NextIs Open rest → BeginsCall tokens head inner
+    (tokens rest inner : List Token) (head open_ : Token) → tokens ≡ head ∷ rest
+    → rest ≡ open_ ∷ inner → NextIs Open rest → BeginsCall tokens head inner
 begins-call tokens rest inner head open_ first next opens = record {
   open_ = open_;
   split = first ∙ ap (λ (x : List Token). head ∷ x) next;
@@ -63,17 +66,21 @@ is-call (call word arguments span rest) tokens others inner head is begins =
       close = c.close;
       is = ap (λ (h : Token). call h arguments span rest) same;
       in_call = record { inner = c.inner; split = e; holds = c.holds; closes = c.closes };
-      place = c.place ∙ ap (λ (h : Token). record { from = h.span.from; to = c.close.span.to }) same;
+      place =
+          c.place ∙ ap (λ (h : Token). record { from = h.span.from; to = c.close.span.to }) same;
     }
 
 -- a call is read
 pub call-read :
-    (level : ℕ) (tokens inner now after : List Token) (head close : Token) (list : Vec Tree Global) (tree : Tree)
-    → level ≤ max_level → BeginsCall tokens head inner
+    (level : ℕ) (tokens inner now after : List Token) (head close : Token)
+    (list : Vec Tree Global) (tree : Tree) → level ≤ max_level → BeginsCall tokens head inner
     → ReadsInCall (level + 1) inner now (Ok list) → now ≡ close ∷ after
-    → ((rest : Trees) → tree_before tree rest ≡ call head (trees_of list.items) (record { from = head.span.from; to = close.span.to }) rest)
-    → (trees : Trees) (others : List Token) → IsBefore trees tokens others → IsFirst level trees others after (Ok tree)
-call-read level tokens inner now after head close list tree within begins reads closing made trees others is =
+    → ((rest : Trees) → tree_before tree rest
+    ≡ call head (trees_of list.items) (record { from = head.span.from; to = close.span.to }) rest)
+    → (trees : Trees) (others : List Token) → IsBefore trees tokens others
+    → IsFirst level trees others after (Ok tree)
+call-read level tokens inner now after head close list tree within begins reads closing made
+    trees others is =
     let c = is-call trees tokens others inner head is begins in
     let got = reads c.arguments (c.close ∷ others) c.in_call in
     let same : c.close ≡ close = cc (got.1, closing) in
@@ -84,20 +91,23 @@ call-read level tokens inner now after head close list tree within begins reads 
     let deep : deep_in_first level trees ≡ None =
     deep-within level trees within ∙ (ap (deep_in_arguments (level + 1)) c.is ∙ got.2) in
     let is_made = made (after_first trees) in
-    let whole : trees ≡ tree_before tree (after_first trees) = c.is ∙ (rw (got.0, place, ← further) (sym is_made)) in
+    let whole : trees ≡ tree_before tree (after_first trees) =
+    c.is ∙ (rw (got.0, place, ← further) (sym is_made)) in
     (whole, left, deep)
 
 -- the arguments of a call are not read
 pub call-err :
     (level : ℕ) (tokens inner now left : List Token) (head : Token) (stop : TreeStop)
-    → level ≤ max_level → BeginsCall tokens head inner → ReadsInCall (level + 1) inner now (Err stop)
-    → (trees : Trees) (others : List Token) → IsBefore trees tokens others → IsFirst level trees others left (Err stop)
+    → level ≤ max_level → BeginsCall tokens head inner
+    → ReadsInCall (level + 1) inner now (Err stop) → (trees : Trees) (others : List Token)
+    → IsBefore trees tokens others → IsFirst level trees others left (Err stop)
 call-err level tokens inner now left head (NoList span) within begins reads trees others is =
     let c = is-call trees tokens others inner head is begins in
     reads c.arguments (c.close ∷ others) c.in_call
 call-err level tokens inner now left head (Deep span) within begins reads trees others is =
     let c = is-call trees tokens others inner head is begins in
-    deep-within level trees within ∙ (ap (deep_in_arguments (level + 1)) c.is ∙ reads c.arguments (c.close ∷ others) c.in_call)
+    deep-within level trees within
+    ∙ (ap (deep_in_arguments (level + 1)) c.is ∙ reads c.arguments (c.close ∷ others) c.in_call)
 call-err level tokens inner now left head Memory within begins reads trees others is = tt
 
 -- after the arguments of a call something follows

@@ -1,13 +1,17 @@
 -- A reader that comes to the end has read terms.
-use Rattle.std.proofs.Common.{◌≡◌, ◌⊎◌, inl, inr, ℕ, zero, suc, true, List, [], ◌∷◌, ◌++◌, Option, Some, None, refl, ap, add-one, append_assoc}
+use Rattle.std.proofs.Common.{◌≡◌, ◌⊎◌, inl, inr, ℕ, zero, suc, true, List, [], ◌∷◌, ◌++◌, Option}
+use Rattle.std.proofs.Common.{Some, None, refl, ap, add-one, append_assoc}
 use Rattle.std.proofs.Math.Dec.{eqb-suc-zero}
 use Rattle.language_base.specs.declared.span.Span.{Span}
 use Rattle.query_tokens.specs.declared.token.Token.{Token}
 use Rattle.query_tokens.specs.declared.token.TokenKind.{TokenKind}
-use Rattle.query_tokens.specs.declared.token.TokenKind.TheVariants.{Word, Number, Text, Open, Close, Comma}
+use Rattle.query_tokens.specs.declared.token.TokenKind.TheVariants.{Word, Number, Text, Open, Close}
+use Rattle.query_tokens.specs.declared.token.TokenKind.TheVariants.{Comma}
 use Rattle.query_trees.specs.declared.reader_state.ReaderState.{ReaderState}
-use Rattle.query_trees.specs.declared.reader_state.ReaderState.TheVariants.{AfterTerm, AfterWord, Argument}
-use Rattle.query_trees.specs.Steps.{step, walk, ends, begin, continue_inside, continue_calls, call_or_continue}
+use Rattle.query_trees.specs.declared.reader_state.ReaderState.TheVariants.{AfterTerm, AfterWord}
+use Rattle.query_trees.specs.declared.reader_state.ReaderState.TheVariants.{Argument}
+use Rattle.query_trees.specs.Steps.{step, walk, ends, begin, continue_inside, continue_calls}
+use Rattle.query_trees.specs.Steps.{call_or_continue}
 use Rattle.query_trees.specs.Terms.{IsLeaf, AreMore, AreArguments, AreTerms}
 use Rattle.query_trees.specs.Trees.{Trees, none, leaf, call}
 use Rattle.query_trees.proofs.Places.{continue_calls-suc, walk-none}
@@ -54,7 +58,8 @@ FinishesFrom (AfterWord calls) tokens = Finishes calls tokens ⊎ Opens calls to
 FinishesFrom (Argument calls) tokens = FinishesCall calls tokens
 
 -- a leaf outside of calls
-top_leaf : (token : Token) (tokens : List Token) → IsLeaf token → Finishes 0 tokens → Finishes 0 (token ∷ tokens)
+top_leaf : (token : Token) (tokens : List Token) → IsLeaf token → Finishes 0 tokens
+    → Finishes 0 (token ∷ tokens)
 top_leaf token tokens is_leaf (trees, are) = (leaf token trees, (tokens, refl, is_leaf, are))
 
 -- a word outside of calls, with or without arguments
@@ -65,7 +70,8 @@ top_word head tokens word (inl finishes) = top_leaf head tokens (inl word) finis
 top_word head tokens word (inr o) =
     let c = o.finishes in
     let span : Span = record { from = head.span.from; to = c.close.span.to } in
-    let split : head ∷ tokens ≡ head ∷ o.open_ ∷ c.inner ++ c.close ∷ c.others = cc (o.split, c.split) in (
+    let split : head ∷ tokens ≡ head ∷ o.open_ ∷ c.inner ++ c.close ∷ c.others =
+    cc (o.split, c.split) in (
       call head c.is.0 span c.finishes.0,
       (
         c.others,
@@ -100,8 +106,8 @@ inner_leaf token tokens calls is_leaf c = record {
 
 -- a word as an argument, with or without arguments of its own
 inner_word :
-    (head : Token) (tokens : List Token) (calls : ℕ) → head.kind ≡ Word → FinishesFrom (AfterWord (suc calls)) tokens
-    → FinishesCall calls (head ∷ tokens)
+    (head : Token) (tokens : List Token) (calls : ℕ) → head.kind ≡ Word
+    → FinishesFrom (AfterWord (suc calls)) tokens → FinishesCall calls (head ∷ tokens)
 inner_word head tokens calls word (inl finishes) = inner_leaf head tokens calls (inl word) finishes
 inner_word head tokens calls word (inr o) =
     let c = o.finishes in
@@ -109,7 +115,8 @@ inner_word head tokens calls word (inr o) =
     let span : Span = record { from = head.span.from; to = c.close.span.to } in
     let inner = head ∷ o.open_ ∷ c.inner ++ c.close ∷ d.inner in
     let assoc = append_assoc c.inner (c.close ∷ d.inner) (d.close ∷ d.others) in
-    let split : head ∷ tokens ≡ inner ++ d.close ∷ d.others = rw (o.split, c.split, d.split, assoc) refl in
+    let split : head ∷ tokens ≡ inner ++ d.close ∷ d.others =
+    rw (o.split, c.split, d.split, assoc) refl in
     record {
       inner = inner;
       close = d.close;
@@ -138,16 +145,16 @@ inner_word head tokens calls word (inr o) =
     }
 
 -- a comma after an argument
-comma-more : (trees : Trees) (comma : Token) (more : List Token) → comma.kind ≡ Comma → AreArguments trees more
-    → AreMore (AreArguments trees) trees (comma ∷ more)
+comma-more : (trees : Trees) (comma : Token) (more : List Token) → comma.kind ≡ Comma
+    → AreArguments trees more → AreMore (AreArguments trees) trees (comma ∷ more)
 comma-more none comma more is are = absurd are
 comma-more (leaf token rest) comma more is are = (comma, more, refl, is, are)
 comma-more (call head arguments span rest) comma more is are = (comma, more, refl, is, are)
 
 -- the same of the tokens after the argument
 inner_comma :
-    (comma : Token) (tokens : List Token) (calls : ℕ) → comma.kind ≡ Comma → FinishesCall calls tokens
-    → Finishes (suc calls) (comma ∷ tokens)
+    (comma : Token) (tokens : List Token) (calls : ℕ) → comma.kind ≡ Comma
+    → FinishesCall calls tokens → Finishes (suc calls) (comma ∷ tokens)
 inner_comma comma tokens calls is c = record {
   inner = comma ∷ c.inner;
   close = c.close;
@@ -189,29 +196,38 @@ top-finish :
     (token : Token) (tokens : List Token) → Rest tokens → (kind : TokenKind) → token.kind ≡ kind
     → Comes tokens (begin 0 kind) → Finishes 0 (token ∷ tokens)
 top-finish token tokens rest Word is comes = top_word token tokens is (rest (AfterWord 0) comes)
-top-finish token tokens rest Number is comes = top_leaf token tokens (inr (inl is)) (rest (AfterTerm 0) comes)
-top-finish token tokens rest Text is comes = top_leaf token tokens (inr (inr is)) (rest (AfterTerm 0) comes)
+top-finish token tokens rest Number is comes =
+    top_leaf token tokens (inr (inl is)) (rest (AfterTerm 0) comes)
+top-finish token tokens rest Text is comes =
+    top_leaf token tokens (inr (inr is)) (rest (AfterTerm 0) comes)
 top-finish token tokens rest Open is comes = comes-none tokens comes
 top-finish token tokens rest Close is comes = comes-none tokens comes
 top-finish token tokens rest Comma is comes = comes-none tokens comes
 
 -- from a place for an argument
 argument-finish :
-    (token : Token) (tokens : List Token) (calls : ℕ) → Rest tokens → (kind : TokenKind) → token.kind ≡ kind
-    → Comes tokens (begin (suc calls) kind) → FinishesCall calls (token ∷ tokens)
-argument-finish token tokens calls rest Word is comes = inner_word token tokens calls is (rest (AfterWord (suc calls)) comes)
-argument-finish token tokens calls rest Number is comes = inner_leaf token tokens calls (inr (inl is)) (rest (AfterTerm (suc calls)) comes)
-argument-finish token tokens calls rest Text is comes = inner_leaf token tokens calls (inr (inr is)) (rest (AfterTerm (suc calls)) comes)
+    (token : Token) (tokens : List Token) (calls : ℕ) → Rest tokens → (kind : TokenKind)
+    → token.kind ≡ kind → Comes tokens (begin (suc calls) kind)
+    → FinishesCall calls (token ∷ tokens)
+argument-finish token tokens calls rest Word is comes =
+    inner_word token tokens calls is (rest (AfterWord (suc calls)) comes)
+argument-finish token tokens calls rest Number is comes =
+    inner_leaf token tokens calls (inr (inl is)) (rest (AfterTerm (suc calls)) comes)
+argument-finish token tokens calls rest Text is comes =
+    inner_leaf token tokens calls (inr (inr is)) (rest (AfterTerm (suc calls)) comes)
 argument-finish token tokens calls rest Open is comes = comes-none tokens comes
 argument-finish token tokens calls rest Close is comes = comes-none tokens comes
 argument-finish token tokens calls rest Comma is comes = comes-none tokens comes
 
 -- from the place after an argument
 inner-finish :
-    (token : Token) (tokens : List Token) (calls : ℕ) → Rest tokens → (kind : TokenKind) → token.kind ≡ kind
-    → Comes tokens (continue_inside calls kind) → Finishes (suc calls) (token ∷ tokens)
-inner-finish token tokens calls rest Comma is comes = inner_comma token tokens calls is (rest (Argument calls) comes)
-inner-finish token tokens calls rest Close is comes = inner_close token tokens calls is (rest (AfterTerm calls) comes)
+    (token : Token) (tokens : List Token) (calls : ℕ) → Rest tokens → (kind : TokenKind)
+    → token.kind ≡ kind → Comes tokens (continue_inside calls kind)
+    → Finishes (suc calls) (token ∷ tokens)
+inner-finish token tokens calls rest Comma is comes =
+    inner_comma token tokens calls is (rest (Argument calls) comes)
+inner-finish token tokens calls rest Close is comes =
+    inner_close token tokens calls is (rest (AfterTerm calls) comes)
 inner-finish token tokens calls rest Word is comes = comes-none tokens comes
 inner-finish token tokens calls rest Number is comes = comes-none tokens comes
 inner-finish token tokens calls rest Text is comes = comes-none tokens comes
@@ -219,16 +235,17 @@ inner-finish token tokens calls rest Open is comes = comes-none tokens comes
 
 -- from the place after a term
 term-finish :
-    (token : Token) (tokens : List Token) (calls : ℕ) → Rest tokens → (kind : TokenKind) → token.kind ≡ kind
-    → Comes tokens (continue_calls calls kind) → Finishes calls (token ∷ tokens)
+    (token : Token) (tokens : List Token) (calls : ℕ) → Rest tokens → (kind : TokenKind)
+    → token.kind ≡ kind → Comes tokens (continue_calls calls kind) → Finishes calls (token ∷ tokens)
 term-finish token tokens zero rest kind is comes = top-finish token tokens rest kind is comes
 term-finish token tokens (suc calls) rest kind is comes =
     inner-finish token tokens calls rest kind is (rw (continue_calls-suc calls kind) at comes)
 
 -- from the place after a word
 word-finish :
-    (token : Token) (tokens : List Token) (calls : ℕ) → Rest tokens → (kind : TokenKind) → token.kind ≡ kind
-    → Comes tokens (call_or_continue calls kind) → FinishesFrom (AfterWord calls) (token ∷ tokens)
+    (token : Token) (tokens : List Token) (calls : ℕ) → Rest tokens → (kind : TokenKind)
+    → token.kind ≡ kind → Comes tokens (call_or_continue calls kind)
+    → FinishesFrom (AfterWord calls) (token ∷ tokens)
 word-finish token tokens calls rest Open is comes = inr (record {
   open_ = token;
   more = tokens;
@@ -236,18 +253,25 @@ word-finish token tokens calls rest Open is comes = inr (record {
   opens = is;
   finishes = rest (Argument calls) comes;
 })
-word-finish token tokens calls rest Word is comes = inl (term-finish token tokens calls rest Word is comes)
-word-finish token tokens calls rest Number is comes = inl (term-finish token tokens calls rest Number is comes)
-word-finish token tokens calls rest Text is comes = inl (term-finish token tokens calls rest Text is comes)
-word-finish token tokens calls rest Close is comes = inl (term-finish token tokens calls rest Close is comes)
-word-finish token tokens calls rest Comma is comes = inl (term-finish token tokens calls rest Comma is comes)
+word-finish token tokens calls rest Word is comes =
+    inl (term-finish token tokens calls rest Word is comes)
+word-finish token tokens calls rest Number is comes =
+    inl (term-finish token tokens calls rest Number is comes)
+word-finish token tokens calls rest Text is comes =
+    inl (term-finish token tokens calls rest Text is comes)
+word-finish token tokens calls rest Close is comes =
+    inl (term-finish token tokens calls rest Close is comes)
+word-finish token tokens calls rest Comma is comes =
+    inl (term-finish token tokens calls rest Comma is comes)
 
 -- over one token
 step-finish :
     (token : Token) (tokens : List Token) → Rest tokens → (place : ReaderState)
     → Comes tokens (step place token.kind) → FinishesFrom place (token ∷ tokens)
-step-finish token tokens rest (AfterTerm calls) comes = term-finish token tokens calls rest token.kind refl comes
-step-finish token tokens rest (AfterWord calls) comes = word-finish token tokens calls rest token.kind refl comes
+step-finish token tokens rest (AfterTerm calls) comes =
+    term-finish token tokens calls rest token.kind refl comes
+step-finish token tokens rest (AfterWord calls) comes =
+    word-finish token tokens calls rest token.kind refl comes
 step-finish token tokens rest (Argument calls) comes =
     argument-finish token tokens calls rest token.kind refl (rw add-one at comes)
 
@@ -260,6 +284,7 @@ end-finish (AfterWord (suc calls)) comes = let e = eqb-suc-zero calls in absurd 
 end-finish (Argument calls) comes = absurd (cc)
 
 -- what is read to the end is what may stand there
-pub walk-finish : (tokens : List Token) (place : ReaderState) → ends (walk (Some place) tokens) ≡ true → FinishesFrom place tokens
+pub walk-finish : (tokens : List Token) (place : ReaderState)
+    → ends (walk (Some place) tokens) ≡ true → FinishesFrom place tokens
 walk-finish [] place comes = end-finish place comes
 walk-finish (token ∷ tokens) place comes = step-finish token tokens (walk-finish tokens) place comes

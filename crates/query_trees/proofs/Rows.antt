@@ -4,7 +4,9 @@ use Rattle.std.proofs.Common.{Vec, Global}
 use mathlib.Core.Former.{Count}
 use Rattle.language_base.specs.declared.span.Span.{Span}
 use Rattle.query_tokens.specs.declared.token.Token.{Token}
-use Rattle.query_trees.specs.declared.tree.Tree.{Tree, Call, Call', Row_of-Tree, end_of-Tree, more_of-Tree, items-the_row-Tree, items_hidden-the_row-Tree-0}
+use Rattle.query_trees.specs.declared.tree.Tree.{Tree, Call, Call', Row_of-Tree, end_of-Tree}
+use Rattle.query_trees.specs.declared.tree.Tree.{more_of-Tree, items-the_row-Tree}
+use Rattle.query_trees.specs.declared.tree.Tree.{items_hidden-the_row-Tree-0}
 use Rattle.query_trees.specs.Trees.{Trees, call, tree_before, row_trees, trees_of}
 
 -- the arguments are those of the list

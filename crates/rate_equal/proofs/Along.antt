@@ -21,8 +21,10 @@ module _ (first second : Automaton) (letters : List Letter) (are : AreLetters fi
       → IsSearched first second pairs' (end + 1) × AreGone first second pairs' gone'
   searched_along pairs' (inl (known, same)) =
       subst (λ ps. IsSearched first second ps (end + 1) × AreGone first second ps gone') (sym same)
-      (searched_known first second gone gone' ways more pairs before end searched from found here known)
+      (searched_known first second gone gone' ways more pairs before end searched from
+      found here known)
   searched_along pairs' (inr (places, targets)) =
-      searched_new first second gone gone' ways more pairs before end searched from found here pairs'
-      (found_explored first second letters are from ways here
-      (reached_at first second pairs end from searched found) pairs searched.reached pairs' places targets)
+      searched_new first second gone gone' ways more pairs before end searched from
+      found here pairs' (found_explored first second letters are from ways here
+      (reached_at first second pairs end from searched found) pairs searched.reached
+      pairs' places targets)

@@ -1,5 +1,6 @@
 -- How many pairs of states words lead to, by the pairs that were found.
-use Rattle.std.proofs.Common.{◌≡◌, ℕ, suc, ◌<◌, ◌∙◌, Bool, false, List, [], ◌∷◌, length, refl, sym, ap, arith}
+use Rattle.std.proofs.Common.{◌≡◌, ℕ, suc, ◌<◌, ◌∙◌, Bool, false, List, [], ◌∷◌, length, refl, sym}
+use Rattle.std.proofs.Common.{ap, arith}
 use Rattle.std.specs.List.{AllByRecursion, AllPairs, Contains, IsDistinct}
 use Rattle.std.proofs.lemmas.Map.Keys.{IsDistinct-head, IsDistinct-tail}
 use Rattle.item_schema.specs.declared.column.Column.{Column}
@@ -38,7 +39,8 @@ module _ (first second : Automaton) where
     apart_to : (x y : Pair) (one : IsReached first second x)
         (other : IsReached first second y) → eq x y ≡ false
         → LeadToApart first.sets second.sets one.0 other.0
-    apart_to x y (u, is, (at, at')) (v, is', (to, to')) differ s s' t t' after after' also also' same same' =
+    apart_to x y (u, is, (at, at')) (v, is', (to, to')) differ s s' t t' after after' also
+        also' same same' =
         let one : x.first ≡ y.first = sym (one_after first.sets u x.first s at after) ∙ same
         ∙ one_after first.sets v y.first s' to after' in
         let two : x.second ≡ y.second = sym (one_after second.sets u x.second t at' also) ∙ same'
@@ -60,14 +62,15 @@ module _ (first second : Automaton) where
         → IsDistinct eq pairs → AllPairs (LeadToApart first.sets second.sets) (words_to pairs all)
     unfolding words_to
     all_apart [] all distinct = λ i j d lt within. absurd (omega arith)
-    all_apart (x ∷ pairs) all distinct = pairs_more (LeadToApart first.sets second.sets) all.0.0 (words_to pairs all.1)
+    all_apart (x ∷ pairs) all distinct =
+        pairs_more (LeadToApart first.sets second.sets) all.0.0 (words_to pairs all.1)
         (apart_from x all.0 pairs all.1 (IsDistinct-head eq x pairs distinct))
         (all_apart pairs all.1 (IsDistinct-tail eq x pairs distinct))
 
     -- as many words have different pairs of states after them
     pub as_many_words : (pairs : List Pair) → IsDistinct eq pairs
-        → ((pair : Pair) → Contains pairs pair → IsReached first second pair) → (count : ℕ) → length pairs ≡ count
-        → ReachPairs first.cells.layout.columns first.sets second.sets count
+        → ((pair : Pair) → Contains pairs pair → IsReached first second pair) → (count : ℕ)
+        → length pairs ≡ count → ReachPairs first.cells.layout.columns first.sets second.sets count
     as_many_words pairs distinct reached count is =
         let all = all_of_contained (IsReached first second) pairs reached in
         record {
@@ -83,17 +86,19 @@ module _ (first second : Automaton) where
     pub no_more_pairs : ReachPairs first.cells.layout.columns first.sets second.sets count → ⊥
     no_more_pairs reach =
         let few' = as_many_places (AreAfter first second) (LeadToApart first.sets second.sets)
-        (λ u v pair at to apart. apart pair.first pair.first pair.second pair.second at.0 to.0 at.1 to.1 refl refl)
+        (λ u v pair at to apart. apart pair.first pair.first pair.second pair.second at.0 to.0
+        at.1 to.1 refl refl)
         reach.words pairs (all_as _ _ reach.words all.whole reach.items) reach.each_two in
         omega (arith, reach.word_count, all.reached.few)
 
     -- nor different states of the first automaton
     pub no_more_states : ReachStates first.cells.layout.columns first.sets count → ⊥
     no_more_states reach =
-        let few' = as_many_places (λ w (pair : Pair). IsAfter first.sets w pair.first) (LeadApart first.sets)
-        (λ u v pair at to apart. apart pair.first pair.first at to refl)
+        let few' = as_many_places (λ w (pair : Pair). IsAfter first.sets w pair.first)
+        (LeadApart first.sets) (λ u v pair at to apart. apart pair.first pair.first at to refl)
         reach.words pairs
-        (all_as _ _ reach.words (λ w is. let (pair, c, (at, to)) = all.whole w is in (pair, c, at)) reach.items)
+        (all_as _ _ reach.words
+        (λ w is. let (pair, c, (at, to)) = all.whole w is in (pair, c, at)) reach.items)
         reach.each_two in
         omega (arith, reach.word_count, all.reached.few)
 

@@ -1,5 +1,6 @@
 -- The pairs to which letters lead, as those to which items lead, and as the search keeps them.
-use Rattle.std.proofs.Common.{◌≡◌, ℕ, ◌+◌, List, [], ◌∷◌, ◌++◌, Some, refl, slice_get, subst, sym, inl, inr}
+use Rattle.std.proofs.Common.{◌≡◌, ℕ, ◌+◌, List, [], ◌∷◌, ◌++◌, Some, refl, slice_get, subst, sym}
+use Rattle.std.proofs.Common.{inl, inr}
 use Rattle.std.specs.List.{Contains}
 use Rattle.std.proofs.lemmas.List.Elements.{All-contains, Contains-push_cases}
 use Rattle.value_ops.specs.declared.field.Field.{Field}
@@ -26,13 +27,14 @@ use Rattle.rate_equal.proofs.Differing.{as_many_words}
 module _ (first second : Automaton) where
   -- the item leads from the one pair to the other
   abbrev Leads : Pair → List Field → Pair → Type 0
-  Leads from item to = Steps first.sets from.first item to.first × Steps second.sets from.second item to.second
+  Leads from item to =
+      Steps first.sets from.first item to.first × Steps second.sets from.second item to.second
 
-  module _ (letters : List Letter) (are : AreLetters first second letters) (from : Pair) (ways : ℕ × ℕ)
-      (on : AreWaysOnFrom first second from ways) where
+  module _ (letters : List Letter) (are : AreLetters first second letters)
+      (from : Pair) (ways : ℕ × ℕ) (on : AreWaysOnFrom first second from ways) where
     -- the items of a letter's cell lead where it does
-    leads_by : (cell : ℕ) (letter : Letter) → IsLetterOf first second cell letter → (item : List Field)
-        → IsIn first.cells cell item → Leads from item (target ways letter)
+    leads_by : (cell : ℕ) (letter : Letter) → IsLetterOf first second cell letter
+        → (item : List Field) → IsIn first.cells cell item → Leads from item (target ways letter)
     leads_by cell letter (one, two) item is = (
       steps_to-and first.sets first.cells from.first cell ways.0 letter.first item on.0 one is,
       steps_to-and second.sets second.cells from.second cell ways.1 letter.second item on.1 two
@@ -65,8 +67,8 @@ module _ (first second : Automaton) where
 
       module _ (old : List Pair) (reached : AreReached first second old) where
         -- where they are found, the pair is explored
-        pub found_explored : (new : List Pair) (places : List ℕ) → AreFound letters ways old new places
-            → IsExplored first second from old new
+        pub found_explored : (new : List Pair) (places : List ℕ)
+            → AreFound letters ways old new places → IsExplored first second from old new
         found_explored new places found = record {
           reached = record {
             each = λ pair c. elim (found.each pair c) [
@@ -78,14 +80,19 @@ module _ (first second : Automaton) where
           grown = found.grown;
           done = λ item is.
               let (letter, c, (one, two)) = leads_to item is in
-              let there = found.targets.whole letter c in
-              (target ways letter, contains_found new there.place (target ways letter) there.found, one, two);
+              let there = found.targets.whole letter c in (
+                target ways letter,
+                contains_found new there.place (target ways letter) there.found,
+                one,
+                two,
+              );
         }
 
         -- where they are too many, words lead to too many
         pub too_many_reached : AreTooMany old (IsTarget letters ways)
             → ReachPairs first.cells.layout.columns first.sets second.sets (max_reach + 1)
-        too_many_reached many = as_many_words first second many.eq many.unlike many.pairs many.distinct
+        too_many_reached many =
+            as_many_words first second many.eq many.unlike many.pairs many.distinct
             (λ pair c. elim (many.each pair c) [
               | inl was ↦ reached.each pair was
               | inr is ↦ target_reached pair is
@@ -114,17 +121,20 @@ module _ (letters : List Letter) where
       (are known (contains_found gone place known found))
 
   -- one more of the known ways
-  pub known_more : (old new : List Pair) (gone : List Known) (known : Known) → AreKnown letters old gone
-      → AreFound letters known.ways old new known.targets → AreKnown letters new (gone ++ known ∷ [])
-  known_more old new gone known before found other c = elim (Contains-push_cases gone known other c) [
-    | inl was ↦ targets_grown other.ways old new other.targets found.grown (before other was)
-    | inr is ↦ subst (λ (k : Known). HasTargets letters k.ways new k.targets) is found.targets
-  ]
+  pub known_more : (old new : List Pair) (gone : List Known) (known : Known)
+      → AreKnown letters old gone → AreFound letters known.ways old new known.targets
+      → AreKnown letters new (gone ++ known ∷ [])
+  known_more old new gone known before found other c =
+      elim (Contains-push_cases gone known other c) [
+        | inl was ↦ targets_grown other.ways old new other.targets found.grown (before other was)
+        | inr is ↦ subst (λ (k : Known). HasTargets letters k.ways new k.targets) is found.targets
+      ]
 
   -- the same by its parts
-  pub known_put : (old new : List Pair) (gone : List Known) (known : Known) (ways : ℕ × ℕ) (places : List ℕ)
-      → known.ways ≡ ways → known.targets ≡ places → AreKnown letters old gone
+  pub known_put : (old new : List Pair) (gone : List Known) (known : Known) (ways : ℕ × ℕ)
+      (places : List ℕ) → known.ways ≡ ways → known.targets ≡ places → AreKnown letters old gone
       → AreFound letters ways old new places → AreKnown letters new (gone ++ known ∷ [])
-  known_put old new gone known ways places same same' before found = known_more old new gone known before
+  known_put old new gone known ways places same same' before found =
+      known_more old new gone known before
       (subst (λ w. AreFound letters w old new known.targets) (sym same)
       (subst (λ ps. AreFound letters ways old new ps) (sym same') found))

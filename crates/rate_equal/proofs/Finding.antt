@@ -1,5 +1,6 @@
 -- That all targets are found, by letters, and by those along other ways.
-use Rattle.std.proofs.Common.{◌≡◌, ℕ, ◌<◌, ◌∙◌, ◌^◌, ◌↔◌, ◌⊎◌, List, Some, bit_and, slice_get, ap, arith, sym, subst, inl, inr}
+use Rattle.std.proofs.Common.{◌≡◌, ℕ, ◌<◌, ◌∙◌, ◌^◌, ◌↔◌, ◌⊎◌, List, Some, bit_and, slice_get, ap}
+use Rattle.std.proofs.Common.{arith, sym, subst, inl, inr}
 use Rattle.std.proofs.lemmas.Bool.Decides.{eqb_tells}
 use Rattle.std.proofs.lemmas.Option.{slice_get-get_or}
 use Rattle.std.specs.Int.{bit_at}
@@ -52,37 +53,45 @@ kept_near : (ways near gained met : ℕ)
     → ((position : ℕ) → Has gained position ↔ (Has ways position × (Has near position → ⊥)))
     → ((position : ℕ) → Has gained position → Has met position → ⊥)
     → (position : ℕ) → Has ways position → Has met position → Has near position
-kept_near ways near gained met exact none position on has = elim (eqb_tells (bit_at near position) 1) [
-  | inl (test, one) ↦ one
-  | inr (test, apart) ↦ absurd (none position ((exact position).1 (on, apart)) has)
-]
+kept_near ways near gained met exact none position on has =
+    elim (eqb_tells (bit_at near position) 1) [
+      | inl (test, one) ↦ one
+      | inr (test, apart) ↦ absurd (none position ((exact position).1 (on, apart)) has)
+    ]
 
-module _ (letters : List Letter) (ways near gained : ℕ × ℕ) (fits : gained.0 < 2 ^ 128) (fits' : gained.1 < 2 ^ 128)
-    (exact : (position : ℕ) → Has gained.0 position ↔ (Has ways.0 position × (Has near.0 position → ⊥)))
-    (exact' : (position : ℕ) → Has gained.1 position ↔ (Has ways.1 position × (Has near.1 position → ⊥)))
+module _ (letters : List Letter) (ways near gained : ℕ × ℕ) (fits : gained.0 < 2 ^ 128)
+    (fits' : gained.1 < 2 ^ 128)
+    (exact : (position : ℕ)
+    → Has gained.0 position ↔ (Has ways.0 position × (Has near.0 position → ⊥)))
+    (exact' : (position : ℕ)
+    → Has gained.1 position ↔ (Has ways.1 position × (Has near.1 position → ⊥)))
     (old mid new : List Pair) (known left between places : List ℕ)
     (targets : HasTargets letters near old known)
     (narrows : (pair : Pair) → HasPair old known pair → IsTarget letters ways (narrowed ways pair)
     → HasPair mid between (narrowed ways pair))
-    (in_left : (place position : ℕ) (letter : Letter) → slice_get letters place ≡ Some letter → Has gained.0 position
-    → Has letter.first position → HasPlace left place)
-    (in_left' : (place position : ℕ) (letter : Letter) → slice_get letters place ≡ Some letter → Has gained.1 position
-    → Has letter.second position → HasPlace left place)
+    (in_left : (place position : ℕ) (letter : Letter) → slice_get letters place ≡ Some letter
+    → Has gained.0 position → Has letter.first position → HasPlace left place)
+    (in_left' : (place position : ℕ) (letter : Letter) → slice_get letters place ≡ Some letter
+    → Has gained.1 position → Has letter.second position → HasPlace left place)
     (added : AreAlong letters ways mid between new places)
     (those : HasThose letters (HasPlace left) ways new places) where
-  -- a letter has a position that is gained, and is left, or leads to what its target has in common with the ways
-  pub found_near : (letter : Letter) → Contains letters letter → HasPair new places (target ways letter)
+  -- a letter has a position that is gained, and is left, or leads to what its target has in
+  -- common with the ways
+  pub found_near : (letter : Letter) → Contains letters letter
+      → HasPair new places (target ways letter)
   found_near letter c = let (place, at) = stands_at letters letter c in
       elim (meet_or_not gained.0 letter.first fits) [
         | inl (position, on, met) ↦ those place letter (in_left place position letter at on met) at
         | inr none ↦ elim (meet_or_not gained.1 letter.second fits') [
-          | inl (position, on, met) ↦ those place letter (in_left' place position letter at on met) at
+          | inl (position, on, met) ↦ those place letter
+              (in_left' place position letter at on met) at
           | inr none' ↦
-              let one : narrowed ways (target near letter) ≡ target ways letter = narrowed_target ways near letter
+              let one : narrowed ways (target near letter) ≡ target ways letter =
+              narrowed_target ways near letter
               (kept_near ways.0 near.0 gained.0 letter.first exact none)
               (kept_near ways.1 near.1 gained.1 letter.second exact' none') in
-              pair_kept (IsTarget letters ways) (AreStatesWithin ways) mid new between places (target ways letter) added
-              (subst (λ q. HasPair mid between q) one
+              pair_kept (IsTarget letters ways) (AreStatesWithin ways) mid new between places
+              (target ways letter) added (subst (λ q. HasPair mid between q) one
               (narrows (target near letter) (targets.whole letter c) (letter, c, sym one)))
         ]
       ]

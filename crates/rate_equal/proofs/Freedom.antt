@@ -1,5 +1,6 @@
 -- Positions that letters can lack, one after the other and all together.
-use Rattle.std.proofs.Common.{◌≡◌, ℕ, zero, suc, ◌++◌, [], ◌∷◌, arith, get_or, length, ◌<◌, ◌↔◌, ◌⊎◌, List, bit_or, ap, sym, subst, inl, inr}
+use Rattle.std.proofs.Common.{◌≡◌, ℕ, zero, suc, ◌++◌, [], ◌∷◌, arith, get_or, length, ◌<◌, ◌↔◌}
+use Rattle.std.proofs.Common.{◌⊎◌, List, bit_or, ap, sym, subst, inl, inr}
 use Rattle.std.proofs.lemmas.List.Elements.{All-append, Contains-get_or}
 use Rattle.std.specs.List.{All, Contains}
 use Rattle.rate_expr.specs.Sets.{Has}
@@ -17,12 +18,14 @@ none_free letters = record {
 }
   where
     same : (letter : Letter) → IsWithout (0, 0) letter letter
-    same letter (First position) = (λ has. (has, λ zero. has_zero position zero), λ (has, none). has)
-    same letter (Second position) = (λ has. (has, λ zero. has_zero position zero), λ (has, none). has)
+    same letter (First position) =
+        (λ has. (has, λ zero. has_zero position zero), λ (has, none). has)
+    same letter (Second position) =
+        (λ has. (has, λ zero. has_zero position zero), λ (has, none). has)
 
 -- two sets of free positions are free together
-pub both_free : (letters : List Letter) (one other : ℕ × ℕ) → AreFree letters one → AreFree letters other
-    → AreFree letters (bit_or one.0 other.0, bit_or one.1 other.1)
+pub both_free : (letters : List Letter) (one other : ℕ × ℕ) → AreFree letters one
+    → AreFree letters other → AreFree letters (bit_or one.0 other.0, bit_or one.1 other.1)
 both_free letters one other free free' = record {
   each = λ letter c.
       let mid = free.each letter c in
@@ -67,9 +70,12 @@ both_free letters one other free free' = record {
     )
 
 -- a letter with the positions that are left of one is that one without the others
-pub left_without : (letters : List Letter) (met : List (ℕ × ℕ)) (are : AreMet letters met) (letter : Letter)
-    (gone left : ℕ × ℕ) → ((position : ℕ) → Has left.0 position ↔ (Has letter.first position × (Has gone.0 position → ⊥)))
-    → ((position : ℕ) → Has left.1 position ↔ (Has letter.second position × (Has gone.1 position → ⊥)))
+pub left_without : (letters : List Letter) (met : List (ℕ × ℕ)) (are : AreMet letters met)
+    (letter : Letter)
+    (gone left : ℕ × ℕ) → ((position : ℕ)
+    → Has left.0 position ↔ (Has letter.first position × (Has gone.0 position → ⊥)))
+    → ((position : ℕ)
+    → Has left.1 position ↔ (Has letter.second position × (Has gone.1 position → ⊥)))
     → Contains met left → HasOther letters gone letter
 left_without letters met are letter gone left exact exact' c =
     let (other, c', same) = are.each left c in record {
@@ -80,18 +86,25 @@ left_without letters met are letter gone left exact exact' c =
   where
     without : (other : Letter) → positions_of other ≡ left → IsWithout gone letter other
     without other same (First position) = (
-      λ has. (exact position).0 (subst (λ (m : ℕ). Has m position) (ap (λ (m : ℕ × ℕ). m.0) same) has),
-      λ there. subst (λ (m : ℕ). Has m position) (sym (ap (λ (m : ℕ × ℕ). m.0) same)) ((exact position).1 there),
+      λ has. (exact position).0
+          (subst (λ (m : ℕ). Has m position) (ap (λ (m : ℕ × ℕ). m.0) same) has),
+      λ there. subst (λ (m : ℕ). Has m position) (sym (ap (λ (m : ℕ × ℕ). m.0) same))
+          ((exact position).1 there),
     )
     without other same (Second position) = (
-      λ has. (exact' position).0 (subst (λ (m : ℕ). Has m position) (ap (λ (m : ℕ × ℕ). m.1) same) has),
-      λ there. subst (λ (m : ℕ). Has m position) (sym (ap (λ (m : ℕ × ℕ). m.1) same)) ((exact' position).1 there),
+      λ has. (exact' position).0
+          (subst (λ (m : ℕ). Has m position) (ap (λ (m : ℕ × ℕ). m.1) same) has),
+      λ there. subst (λ (m : ℕ). Has m position) (sym (ap (λ (m : ℕ × ℕ). m.1) same))
+          ((exact' position).1 there),
     )
 
 -- a letter that loses nothing is itself without the positions
-pub all_left : (letters : List Letter) (letter : Letter) (gone left : ℕ × ℕ) → Contains letters letter
-    → ((position : ℕ) → Has left.0 position ↔ (Has letter.first position × (Has gone.0 position → ⊥)))
-    → ((position : ℕ) → Has left.1 position ↔ (Has letter.second position × (Has gone.1 position → ⊥)))
+pub all_left : (letters : List Letter) (letter : Letter) (gone left : ℕ × ℕ)
+    → Contains letters letter
+    → ((position : ℕ)
+    → Has left.0 position ↔ (Has letter.first position × (Has gone.0 position → ⊥)))
+    → ((position : ℕ)
+    → Has left.1 position ↔ (Has letter.second position × (Has gone.1 position → ⊥)))
     → left.0 ≡ letter.first → left.1 ≡ letter.second
     → HasOther letters gone letter
 all_left letters letter gone left c exact exact' same same' = record {
@@ -113,7 +126,8 @@ all_left letters letter gone left c exact exact' same same' = record {
 -- free positions that have all that is to be lacked and none of the ways
 pub free_lack : (letters : List Letter) (free lost ways : ℕ × ℕ) → AreFree letters free
     → ((position : Position) → HasAt lost position → HasAt free position)
-    → ((position : Position) → HasAt free position → HasAt ways position → ⊥) → CanLack letters lost ways
+    → ((position : Position) → HasAt free position → HasAt ways position → ⊥)
+    → CanLack letters lost ways
 free_lack letters free lost ways are wider apart letter c =
     let there = are.each letter c in (
       there.other,
@@ -126,10 +140,11 @@ free_lack letters free lost ways are wider apart letter c =
     )
 
 -- one more letter of which the positions were entered
-pub met_next : (letters : List Letter) (met met' : List (ℕ × ℕ)) (at : ℕ) (d : Letter) → AreMet letters met
-    → at < length letters
+pub met_next : (letters : List Letter) (met met' : List (ℕ × ℕ)) (at : ℕ) (d : Letter)
+    → AreMet letters met → at < length letters
     → ((positions : ℕ × ℕ) → Contains met' positions
-    → Contains met positions ⊎ (positions_of (get_or letters at d) ≡ positions)) → AreMet letters met'
+    → Contains met positions ⊎ (positions_of (get_or letters at d) ≡ positions))
+    → AreMet letters met'
 met_next letters met met' at d before lt more = record {
   each = λ positions there. elim (more positions there) [
     | inl was ↦ before.each positions was
@@ -138,8 +153,8 @@ met_next letters met met' at d before lt more = record {
 }
 
 -- free positions after others
-pub free_pushed : (letters : List Letter) (free : List (ℕ × ℕ)) (more : ℕ × ℕ) → AreAllFree letters free
-    → AreFree letters more → AreAllFree letters (free ++ more ∷ [])
+pub free_pushed : (letters : List Letter) (free : List (ℕ × ℕ)) (more : ℕ × ℕ)
+    → AreAllFree letters free → AreFree letters more → AreAllFree letters (free ++ more ∷ [])
 free_pushed letters free more all one = All-append (AreFree letters) free (more ∷ []) all alone
   where
     alone : All (AreFree letters) (more ∷ [])

@@ -1,5 +1,6 @@
 -- How letters are gathered.
-use Rattle.std.proofs.Common.{◌≡◌, ℕ, ◌+◌, ◌<◌, Bool, true, List, [], ◌∷◌, ◌++◌, sym, subst, inl, inr, arith, All}
+use Rattle.std.proofs.Common.{◌≡◌, ℕ, ◌+◌, ◌<◌, Bool, true, List, [], ◌∷◌, ◌++◌, sym, subst, inl}
+use Rattle.std.proofs.Common.{inr, arith, All}
 use Rattle.std.specs.List.{Contains, IsDistinct, list_any}
 use Rattle.std.proofs.lemmas.Bool.{cases_lt}
 use Rattle.std.proofs.lemmas.List.Elements.{All-push, Contains-append_left, Contains-push}
@@ -15,10 +16,11 @@ use Rattle.indexmap.proofs.CallerLemmas.{Contains-list_any, Contains-insert_key}
 use Rattle.rate_equal.proofs.Inserted.{put_after}
 
 module _ (first second : Automaton) where
-  module _ (eq : ℕ × ℕ → ℕ × ℕ → Bool) (cell : ℕ) (known known' : List (ℕ × ℕ)) (letters : List Letter)
-      (met : ℕ × ℕ) (distinct : IsDistinct eq known') (put_in : known' ≡ insert_key eq known met)
-      (same : (x y : ℕ × ℕ) → eq x y ≡ true → x ≡ y)
-      (before : IsGathered first second cell known letters) (here : AreMetBy first second cell met) where
+  module _ (eq : ℕ × ℕ → ℕ × ℕ → Bool) (cell : ℕ) (known known' : List (ℕ × ℕ))
+      (letters : List Letter) (met : ℕ × ℕ) (distinct : IsDistinct eq known')
+      (put_in : known' ≡ insert_key eq known met) (same : (x y : ℕ × ℕ) → eq x y ≡ true → x ≡ y)
+      (before : IsGathered first second cell known letters)
+      (here : AreMetBy first second cell met) where
     -- one more cell, for whose masks some letter stands
     gathered_next : (letters' : List Letter) → All (IsLetter first second) letters'
         → ((letter : Letter) → Contains letters letter → Contains letters' letter)
@@ -36,7 +38,8 @@ module _ (first second : Automaton) where
           below = λ other lt. elim (cases_lt other cell) [
             | inl less ↦ let old = before.below other less in (
               old.0,
-              subst (λ l. Contains l old.0) (sym put.1) (Contains-append_left known put.0 old.0 old.1),
+              subst (λ l. Contains l old.0) (sym put.1)
+                  (Contains-append_left known put.0 old.0 old.1),
               old.2,
             )
             | inr most ↦ let is : other ≡ cell = omega arith in (
@@ -70,7 +73,8 @@ module _ (first second : Automaton) where
 
   -- all cells
   pub gathered_all : first.cells ≡ second.cells → (known : List (ℕ × ℕ)) (letters : List Letter)
-      → IsGathered first second (cell_count first.cells) known letters → AreLetters first second letters
+      → IsGathered first second (cell_count first.cells) known letters
+      → AreLetters first second letters
   gathered_all same known letters all = record {
     same = same;
     sound = all.sound;
@@ -87,8 +91,9 @@ module _ (first second : Automaton) where
   }
 
 -- in whatever order
-pub letters_moved : (first second : Automaton) (letters letters' : List Letter) → IsPermutation letters letters'
-    → AreLetters first second letters → AreLetters first second letters'
+pub letters_moved : (first second : Automaton) (letters letters' : List Letter)
+    → IsPermutation letters letters' → AreLetters first second letters
+    → AreLetters first second letters'
 letters_moved first second letters letters' moved are = record {
   same = are.same;
   sound = All-permutation (IsLetter first second) letters letters' moved are.sound;

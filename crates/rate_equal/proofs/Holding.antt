@@ -1,11 +1,14 @@
 -- How the places of pairs are put into the rows of their positions, and gathered from these.
-use Rattle.std.proofs.Common.{◌≡◌, ℕ, ◌+◌, ◌*◌, ◌/◌, ◌%◌, ◌^◌, ◌<◌, ◌≤◌, ◌∙◌, ◌↔◌, ◌⊎◌, List, Some, bit_or, get_or, length, replicate, set, slice_get, sym, ap, subst, inl, inr, arith}
+use Rattle.std.proofs.Common.{◌≡◌, ℕ, ◌+◌, ◌*◌, ◌/◌, ◌%◌, ◌^◌, ◌<◌, ◌≤◌, ◌∙◌, ◌↔◌, ◌⊎◌, List, Some}
+use Rattle.std.proofs.Common.{bit_or, get_or, length, replicate, set, slice_get, sym, ap, subst}
+use Rattle.std.proofs.Common.{inl, inr, arith}
 use Rattle.std.proofs.lemmas.Bool.{cases_lt}
 use Rattle.std.proofs.lemmas.Bool.Decides.{eqb_tells}
 use Rattle.std.proofs.lemmas.List.{get_or-set_same, get_or-set_other}
 use Rattle.std.proofs.lemmas.Option.{same_Some}
 use Rattle.rate_expr.specs.Sets.{Has, IsLowest}
-use Rattle.rate_expr.proofs.MaskMembers.{has_first, has_one, has_only_one, has_or, has_second, has_zero}
+use Rattle.rate_expr.proofs.MaskMembers.{has_first, has_one, has_only_one, has_or, has_second}
+use Rattle.rate_expr.proofs.MaskMembers.{has_zero}
 use Rattle.rate_equal.specs.Holding.{AreHeld, HasRow, KeepsRows}
 use Rattle.rate_equal.specs.Pairs.{IsGrown, mask_of}
 use Rattle.rate_equal.specs.PlaceSets.{block_count}
@@ -28,14 +31,18 @@ low_or_left rest low after position is exact has = elim (eqb_tells position low)
         let below = is.least other also.has in let above = also.least low is.has in omega arith
 
 -- a list of masks with one that has more has more
-set_keeps : (rows : List ℕ) (at mask : ℕ) → at < length rows → ((bit : ℕ) → Has (get_or rows at 0) bit → Has mask bit)
+set_keeps : (rows : List ℕ) (at mask : ℕ) → at < length rows
+    → ((bit : ℕ) → Has (get_or rows at 0) bit → Has mask bit)
     → (other bit : ℕ) → Has (get_or rows other 0) bit → Has (get_or (set rows at mask) other 0) bit
 set_keeps rows at mask within more other bit has = elim (eqb_tells other at) [
   | inl here ↦
       let now : get_or (set rows at mask) other 0 ≡ mask =
-      ap (λ (i : ℕ). get_or (set rows at mask) i 0) here.1 ∙ get_or-set_same rows at mask 0 within in
-      subst (λ (m : ℕ). Has m bit) (sym now) (more bit (subst (λ (i : ℕ). Has (get_or rows i 0) bit) here.1 has))
-  | inr apart ↦ subst (λ (m : ℕ). Has m bit) (sym (get_or-set_other rows at other mask 0 apart.1)) has
+      ap (λ (i : ℕ). get_or (set rows at mask) i 0) here.1
+      ∙ get_or-set_same rows at mask 0 within in
+      subst (λ (m : ℕ). Has m bit) (sym now)
+      (more bit (subst (λ (i : ℕ). Has (get_or rows i 0) bit) here.1 has))
+  | inr apart ↦ subst (λ (m : ℕ). Has m bit)
+      (sym (get_or-set_other rows at other mask 0 apart.1)) has
 ]
 
 module _ (old : List ℕ) (place mask : ℕ) where
@@ -65,8 +72,10 @@ module _ (old : List ℕ) (place mask : ℕ) where
     -- they have what they had
     kept_rows : KeepsRows rows rows'
     kept_rows position other has = record {
-      bit = set_keeps rows (low * block_count + place / 128) (bit_or word (2 ^ (place % 128))) within
-          (λ bit was. has_first word (2 ^ (place % 128)) bit (subst (λ (m : ℕ). Has m bit) (sym read) was))
+      bit =
+          set_keeps rows (low * block_count + place / 128) (bit_or word (2 ^ (place % 128))) within
+          (λ bit was. has_first word (2 ^ (place % 128)) bit
+          (subst (λ (m : ℕ). Has m bit) (sym read) was))
           (position * block_count + other / 128) (other % 128) has.bit;
     }
 
@@ -74,19 +83,23 @@ module _ (old : List ℕ) (place mask : ℕ) where
     row_has : HasRow rows' low place
     row_has = record {
       bit = subst (λ (m : ℕ). Has m (place % 128))
-          (sym (get_or-set_same rows (low * block_count + place / 128) (bit_or word (2 ^ (place % 128))) 0 within))
+          (sym (get_or-set_same rows (low * block_count + place / 128)
+          (bit_or word (2 ^ (place % 128))) 0 within))
           (has_second word (2 ^ (place % 128)) (place % 128) (has_one (place % 128)));
     }
 
     -- and no other
-    only_row : (position other : ℕ) → place < max_reach → other < max_reach → HasRow rows' position other
+    only_row : (position other : ℕ) → place < max_reach → other < max_reach
+        → HasRow rows' position other
         → HasRow rows position other ⊎ ((place ≡ other) × (position ≡ low))
     only_row position other below lt row =
         elim (eqb_tells (position * block_count + other / 128) (low * block_count + place / 128)) [
           | inl (test, here) ↦
-              let now : get_or rows' (position * block_count + other / 128) 0 ≡ bit_or word (2 ^ (place % 128)) =
+              let now : get_or rows' (position * block_count + other / 128) 0
+              ≡ bit_or word (2 ^ (place % 128)) =
               ap (λ (i : ℕ). get_or rows' i 0) here
-              ∙ get_or-set_same rows (low * block_count + place / 128) (bit_or word (2 ^ (place % 128))) 0 within in
+              ∙ get_or-set_same rows (low * block_count + place / 128)
+              (bit_or word (2 ^ (place % 128))) 0 within in
               elim (has_or word (2 ^ (place % 128)) (other % 128)
               (subst (λ (m : ℕ). Has m (other % 128)) now row.bit)) [
                 | inl was ↦ inl (record {
@@ -94,19 +107,23 @@ module _ (old : List ℕ) (place mask : ℕ) where
                       (read ∙ sym (ap (λ (i : ℕ). get_or rows i 0) here)) was;
                 })
                 | inr one ↦
-                    let same : place % 128 ≡ other % 128 = has_only_one (place % 128) (other % 128) one in
+                    let same : place % 128 ≡ other % 128 =
+                    has_only_one (place % 128) (other % 128) one in
                     inr (omega arith, omega arith)
               ]
           | inr (test, apart) ↦ inl (record {
             bit = subst (λ (m : ℕ). Has m (other % 128))
-                (get_or-set_other rows (low * block_count + place / 128) (position * block_count + other / 128)
-                (bit_or word (2 ^ (place % 128))) 0 apart) row.bit;
+                (get_or-set_other rows (low * block_count + place / 128)
+                (position * block_count + other / 128) (bit_or word (2 ^ (place % 128)))
+                0 apart) row.bit;
           })
         ]
 
     -- the lowest of them
-    pub holding_next : (rest after : ℕ) → place < max_reach → IsHolding rest rows → IsLowest rest low
-        → ((other : ℕ) → Has after other ↔ (Has rest other × (IsLowest rest other → ⊥))) → IsHolding after rows'
+    pub holding_next : (rest after : ℕ) → place < max_reach → IsHolding rest rows
+        → IsLowest rest low
+        → ((other : ℕ) → Has after other ↔ (Has rest other × (IsLowest rest other → ⊥)))
+        → IsHolding after rows'
     holding_next rest after below before is exact = record {
       left = λ position has. before.left position ((exact position).0 has).0;
       kept = λ position other has. kept_rows position other (before.kept position other has);
@@ -124,7 +141,8 @@ module _ (old : List ℕ) (place mask : ℕ) where
     }
 
   -- all are done
-  pub holding_all : (rows : List ℕ) → IsHolding 0 rows → (position : ℕ) → Has mask position → HasRow rows position place
+  pub holding_all : (rows : List ℕ) → IsHolding 0 rows → (position : ℕ) → Has mask position
+      → HasRow rows position place
   holding_all rows all position has = elim (all.held position has) [
     | inl waits ↦ absurd (has_zero position waits)
     | inr done ↦ done
@@ -138,8 +156,8 @@ module _ (rows : List ℕ) (mask block : ℕ) where
   -- what is in the rows of the positions was found, but for those that are left
   pub record IsGathering (rest found : ℕ) : Type 0 where
     pub left : (position : ℕ) → Has rest position → Has mask position
-    pub found_in : (position place : ℕ) → Has mask position → place / 128 ≡ block → HasRow rows position place
-        → Has rest position ⊎ Has found (place % 128)
+    pub found_in : (position place : ℕ) → Has mask position → place / 128 ≡ block
+        → HasRow rows position place → Has rest position ⊎ Has found (place % 128)
     pub only : (place : ℕ) → place / 128 ≡ block → Has found (place % 128) → IsInSome place
 
   -- all are left
@@ -163,7 +181,8 @@ module _ (rows : List ℕ) (mask block : ℕ) where
             let same : get_or rows (position * block_count + place / 128) 0 ≡ word =
             ap (λ (p : ℕ). get_or rows (p * block_count + place / 128) 0) lowest
             ∙ ap (λ (b : ℕ). get_or rows (low * block_count + b) 0) here ∙ sym read in
-            inr (has_second found word (place % 128) (subst (λ (m : ℕ). Has m (place % 128)) same row.bit))
+            inr (has_second found word (place % 128)
+            (subst (λ (m : ℕ). Has m (place % 128)) same row.bit))
         | inr still ↦ inl still
       ]
     ];
@@ -171,21 +190,26 @@ module _ (rows : List ℕ) (mask block : ℕ) where
       | inl was ↦ before.only place here was
       | inr bit ↦
           let same : word ≡ get_or rows (low * block_count + place / 128) 0 =
-          read ∙ ap (λ (b : ℕ). get_or rows (low * block_count + b) 0) (sym here) in
-          (low, before.left low is.has, record { bit = subst (λ (m : ℕ). Has m (place % 128)) same bit })
+          read ∙ ap (λ (b : ℕ). get_or rows (low * block_count + b) 0) (sym here) in (
+            low,
+            before.left low is.has,
+            record { bit = subst (λ (m : ℕ). Has m (place % 128)) same bit },
+          )
     ];
   }
 
   -- all are done
   pub gathering_all : (found : ℕ) → IsGathering 0 found → (position place : ℕ) → Has mask position
       → place / 128 ≡ block → HasRow rows position place → Has found (place % 128)
-  gathering_all found all position place has here row = elim (all.found_in position place has here row) [
-    | inl waits ↦ absurd (has_zero position waits)
-    | inr done ↦ done
-  ]
+  gathering_all found all position place has here row =
+      elim (all.found_in position place has here row) [
+        | inl waits ↦ absurd (has_zero position waits)
+        | inr done ↦ done
+      ]
 
 -- no pair is held by rows of zeros
-pub held_begun : (count count' : ℕ) (pairs : List Pair) → AreHeld (replicate count 0) (replicate count' 0) pairs 0
+pub held_begun : (count count' : ℕ) (pairs : List Pair)
+    → AreHeld (replicate count 0) (replicate count' 0) pairs 0
 held_begun count count' pairs = record {
   one = λ place position pair lt found. absurd (omega (arith, lt));
   two = λ place position pair lt found. absurd (omega (arith, lt));
@@ -193,12 +217,14 @@ held_begun count count' pairs = record {
 }
   where
     zero_row : (count position place : ℕ) → HasRow (replicate count 0) position place → ⊥
-    zero_row count position place row = has_zero (place % 128) (subst (λ (m : ℕ). Has m (place % 128))
+    zero_row count position place row =
+        has_zero (place % 128) (subst (λ (m : ℕ). Has m (place % 128))
         (zero_there count (position * block_count + place / 128)) row.bit)
 
 -- more pairs after the others change none
-pub held_grown : (first second : List ℕ) (pairs pairs' : List Pair) (end : ℕ) → AreHeld first second pairs end
-    → end ≤ length pairs → IsGrown pairs pairs' → AreHeld first second pairs' end
+pub held_grown : (first second : List ℕ) (pairs pairs' : List Pair) (end : ℕ)
+    → AreHeld first second pairs end → end ≤ length pairs → IsGrown pairs pairs'
+    → AreHeld first second pairs' end
 held_grown first second pairs pairs' end before within grown = record {
   one = λ place position pair lt found. before.one place position pair lt
       (found_before pairs pairs' place pair grown (omega arith) found);
@@ -209,15 +235,15 @@ held_grown first second pairs pairs' end before within grown = record {
 
 module _ (mask : Pair → ℕ) (rows rows' : List ℕ) (pairs : List Pair) (place : ℕ) (pair : Pair)
     (found : slice_get pairs place ≡ Some pair) (below : place < max_reach)
-    (before : (other position : ℕ) (pair' : Pair) → other < place → slice_get pairs other ≡ Some pair'
-    → Has (mask pair') position ↔ HasRow rows position other)
+    (before : (other position : ℕ) (pair' : Pair) → other < place
+    → slice_get pairs other ≡ Some pair' → Has (mask pair') position ↔ HasRow rows position other)
     (none : (position : ℕ) → HasRow rows position place → ⊥) (kept : KeepsRows rows rows')
     (held : (position : ℕ) → Has (mask pair) position → HasRow rows' position place)
     (only : (position other : ℕ) → other < max_reach → HasRow rows' position other
     → HasRow rows position other ⊎ ((place ≡ other) × Has (mask pair) position)) where
   -- the rows of one automaton with one pair more
-  one_held : (other position : ℕ) (pair' : Pair) → other < place + 1 → slice_get pairs other ≡ Some pair'
-      → Has (mask pair') position ↔ HasRow rows' position other
+  one_held : (other position : ℕ) (pair' : Pair) → other < place + 1
+      → slice_get pairs other ≡ Some pair' → Has (mask pair') position ↔ HasRow rows' position other
   one_held other position pair' lt found' = elim (cases_lt other place) [
     | inl less ↦
         let was = before other position pair' less found' in (
@@ -234,7 +260,8 @@ module _ (mask : Pair → ℕ) (rows rows' : List ℕ) (pairs : List Pair) (plac
           λ has. subst (λ (p : ℕ). HasRow rows' position p) here
               (held position (subst (λ q. Has (mask q) position) same has)),
           λ row. elim (only position other (omega (arith, lt, below)) row) [
-            | inl still ↦ absurd (none position (subst (λ (p : ℕ). HasRow rows position p) (sym here) still))
+            | inl still ↦
+                absurd (none position (subst (λ (p : ℕ). HasRow rows position p) (sym here) still))
             | inr (same_place, has) ↦ subst (λ q. Has (mask q) position) (sym same) has
           ],
         )
@@ -243,26 +270,29 @@ module _ (mask : Pair → ℕ) (rows rows' : List ℕ) (pairs : List Pair) (plac
 -- one more pair is held
 pub held_next : (first second first' second' : List ℕ) (pairs : List Pair) (place : ℕ) (pair : Pair)
     → AreHeld first second pairs place → slice_get pairs place ≡ Some pair → place < max_reach
-    → KeepsRows first first' → ((position : ℕ) → Has (mask_of pair.first) position → HasRow first' position place)
+    → KeepsRows first first'
+    → ((position : ℕ) → Has (mask_of pair.first) position → HasRow first' position place)
     → ((position other : ℕ) → other < max_reach → HasRow first' position other
     → HasRow first position other ⊎ ((place ≡ other) × Has (mask_of pair.first) position))
-    → KeepsRows second second' → ((position : ℕ) → Has (mask_of pair.second) position → HasRow second' position place)
+    → KeepsRows second second'
+    → ((position : ℕ) → Has (mask_of pair.second) position → HasRow second' position place)
     → ((position other : ℕ) → other < max_reach → HasRow second' position other
     → HasRow second position other ⊎ ((place ≡ other) × Has (mask_of pair.second) position))
     → AreHeld first' second' pairs (place + 1)
-held_next first second first' second' pairs place pair before found below kept held only kept' held' only' = record {
-  one = one_held (λ q. mask_of q.first) first first' pairs place pair found below before.one
-      (λ position. (before.none place position (omega arith) below).0) kept held only;
-  two = one_held (λ q. mask_of q.second) second second' pairs place pair found below before.two
-      (λ position. (before.none place position (omega arith) below).1) kept' held' only';
-  none = λ other position le lt. (
-    λ row. elim (only position other lt row) [
-      | inl was ↦ (before.none other position (omega (arith, le)) lt).0 was
-      | inr (here, has) ↦ absurd (omega (arith, le, here))
-    ],
-    λ row. elim (only' position other lt row) [
-      | inl was ↦ (before.none other position (omega (arith, le)) lt).1 was
-      | inr (here, has) ↦ absurd (omega (arith, le, here))
-    ],
-  );
-}
+held_next first second first' second' pairs place pair before found below kept held only kept' held'
+    only' = record {
+      one = one_held (λ q. mask_of q.first) first first' pairs place pair found below before.one
+          (λ position. (before.none place position (omega arith) below).0) kept held only;
+      two = one_held (λ q. mask_of q.second) second second' pairs place pair found below before.two
+          (λ position. (before.none place position (omega arith) below).1) kept' held' only';
+      none = λ other position le lt. (
+        λ row. elim (only position other lt row) [
+          | inl was ↦ (before.none other position (omega (arith, le)) lt).0 was
+          | inr (here, has) ↦ absurd (omega (arith, le, here))
+        ],
+        λ row. elim (only' position other lt row) [
+          | inl was ↦ (before.none other position (omega (arith, le)) lt).1 was
+          | inr (here, has) ↦ absurd (omega (arith, le, here))
+        ],
+      );
+    }

@@ -1,5 +1,7 @@
 -- A list of different things with one more.
-use Rattle.std.proofs.Common.{◌≡◌, ◌+◌, ◌≤◌, ◌⊎◌, ℕ, zero, suc, Bool, true, false, cond, List, [], ◌∷◌, ◌++◌, Some, length, refl, sym, ap, subst, ◌∙◌, inl, arith, length-append, if◌then◌else◌}
+use Rattle.std.proofs.Common.{◌≡◌, ◌+◌, ◌≤◌, ◌⊎◌, ℕ, zero, suc, Bool, true, false, cond, List, []}
+use Rattle.std.proofs.Common.{◌∷◌, ◌++◌, Some, length, refl, sym, ap, subst, ◌∙◌, inl, arith}
+use Rattle.std.proofs.Common.{length-append, if◌then◌else◌}
 use Rattle.std.specs.List.{Contains, IsDistinct, list_any, position, position_from, slice_get}
 use Rattle.std.proofs.lemmas.Option.{none-some, same_Some}
 use Rattle.std.proofs.lemmas.Iterator.Adapters.{position_from-zero}
@@ -19,18 +21,20 @@ module _ {K : Type 0} (eq : K → K → Bool) (ks : List K) (k : K) where
           × (insert_key eq ks k ≡ ks ++ more)
           × ((other : K) → Contains (insert_key eq ks k) other → Contains ks other ⊎ (k ≡ other))
           × (length (insert_key eq ks k) ≤ length ks + 1)
-      by true is = let same : insert_key eq ks k ≡ ks = ap (λ test. if test then ks else ks ++ k ∷ []) is in (
-        [],
-        same ∙ sym (append-nil ks),
-        λ other c. inl (subst (λ l. Contains l other) same c),
-        omega (arith, ap length same),
-      )
-      by false is = let same : insert_key eq ks k ≡ ks ++ k ∷ [] = ap (λ test. if test then ks else ks ++ k ∷ []) is in (
-        k ∷ [],
-        same,
-        λ other c. Contains-push_cases ks k other (subst (λ l. Contains l other) same c),
-        omega (arith, ap length same, length-append ks (k ∷ [])),
-      )
+      by true is = let same : insert_key eq ks k ≡ ks =
+          ap (λ test. if test then ks else ks ++ k ∷ []) is in (
+            [],
+            same ∙ sym (append-nil ks),
+            λ other c. inl (subst (λ l. Contains l other) same c),
+            omega (arith, ap length same),
+          )
+      by false is = let same : insert_key eq ks k ≡ ks ++ k ∷ [] =
+          ap (λ test. if test then ks else ks ++ k ∷ []) is in (
+            k ∷ [],
+            same,
+            λ other c. Contains-push_cases ks k other (subst (λ l. Contains l other) same c),
+            omega (arith, ap length same, length-append ks (k ∷ [])),
+          )
 
 module _ {K : Type 0} (eq : K → K → Bool) (ks ks' : List K) (k : K) (distinct : IsDistinct eq ks')
     (put_in : ks' ≡ insert_key eq ks k) where
@@ -58,7 +62,8 @@ module _ {K : Type 0} (test : K → Bool) where
   there_from : (xs : List K) (from i : ℕ) → position_from test from xs ≡ Some i
       → (j : ℕ) × (k : K) × (i ≡ from + j) × (slice_get xs j ≡ Some k) × (test k ≡ true)
   there_from [] from i some = absurd (none-some i some)
-  there_from (x ∷ xs) from i some = there_first (test x) x xs from i refl (there_from xs (from + 1) i) some
+  there_from (x ∷ xs) from i some =
+      there_first (test x) x xs from i refl (there_from xs (from + 1) i) some
 
   -- at the place that a test finds stands what passes it
   pub stands_there : (xs : List K) (i : ℕ) → position test xs ≡ Some i

@@ -1,7 +1,10 @@
--- Things of which each two differ are no more than the places that they go to, one thing to a place.
-use Rattle.std.proofs.Common.{◌≡◌, ℕ, zero, suc, ◌<◌, ◌≤◌, ◌⊎◌, List, [], ◌∷◌, ◌++◌, length, get_or, refl, sym, ap, subst, inl, inr, arith, length-append}
+-- Things of which each two differ are no more than the places that they go to, one
+-- thing to a place.
+use Rattle.std.proofs.Common.{◌≡◌, ℕ, zero, suc, ◌<◌, ◌≤◌, ◌⊎◌, List, [], ◌∷◌, ◌++◌, length, get_or}
+use Rattle.std.proofs.Common.{refl, sym, ap, subst, inl, inr, arith, length-append}
 use Rattle.std.specs.List.{AllByRecursion, AllPairs, Contains}
-use Rattle.std.proofs.lemmas.List.Elements.{Contains-append_left, Contains-append_right, Contains-append_cases}
+use Rattle.std.proofs.lemmas.List.Elements.{Contains-append_left, Contains-append_right}
+use Rattle.std.proofs.lemmas.List.Elements.{Contains-append_cases}
 
 -- what holds of each that is in a list holds of all
 pub all_of_contained : {A : Type 0} (P : A → Type 0) (xs : List A) → ((x : A) → Contains xs x → P x)
@@ -41,14 +44,16 @@ all_by_index P (x ∷ xs) d each =
 module _ {A : Type 0} (R : A → A → Type 0) where
   -- the first and each other
   pub pairs_first : (x : A) (xs : List A) → AllPairs R (x ∷ xs) → AllByRecursion (R x) xs
-  pairs_first x xs all = all_by_index (R x) xs x (λ k lt. all 0 (suc k) x (omega arith) (omega arith))
+  pairs_first x xs all =
+      all_by_index (R x) xs x (λ k lt. all 0 (suc k) x (omega arith) (omega arith))
 
   -- the others
   pub pairs_rest : (x : A) (xs : List A) → AllPairs R (x ∷ xs) → AllPairs R xs
   pairs_rest x xs all = λ i j d lt within. all (suc i) (suc j) d (omega arith) (omega arith)
 
   -- one more in front
-  pub pairs_more : (x : A) (xs : List A) → AllByRecursion (R x) xs → AllPairs R xs → AllPairs R (x ∷ xs)
+  pub pairs_more : (x : A) (xs : List A) → AllByRecursion (R x) xs → AllPairs R xs
+      → AllPairs R (x ∷ xs)
   pairs_more x xs first rest zero zero d lt within = absurd (omega arith)
   pairs_more x xs first rest zero (suc j) d lt within = all_at (R x) xs j d (omega arith) first
   pairs_more x xs first rest (suc i) zero d lt within = absurd (omega arith)
@@ -97,4 +102,9 @@ module _ {A B : Type 0} (goes : A → B → Type 0) (apart : A → A → Type 0)
       ])
       all.1 (pairs_first apart x xs differ))
       (pairs_rest apart x xs differ) in
-      omega (arith, ap length parted.2, length-append parted.0 (y ∷ parted.1), length-append parted.0 parted.1)
+      omega (
+        arith,
+        ap length parted.2,
+        length-append parted.0 (y ∷ parted.1),
+        length-append parted.0 parted.1,
+      )

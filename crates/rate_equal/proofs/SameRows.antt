@@ -1,5 +1,6 @@
 -- Positions that have the same row, and what that says of letters.
-use Rattle.std.proofs.Common.{◌≡◌, ℕ, ◌+◌, ◌*◌, ◌/◌, ◌%◌, ◌<◌, ◌≤◌, ◌∙◌, ◌↔◌, ◌⊎◌, List, get_or, length, replicate, set, slice_index, ap, arith, sym, subst, inl, inr}
+use Rattle.std.proofs.Common.{◌≡◌, ℕ, ◌+◌, ◌*◌, ◌/◌, ◌%◌, ◌<◌, ◌≤◌, ◌∙◌, ◌↔◌, ◌⊎◌, List, get_or}
+use Rattle.std.proofs.Common.{length, replicate, set, slice_index, ap, arith, sym, subst, inl, inr}
 use Rattle.std.proofs.lemmas.Bool.Decides.{eqb_tells}
 use Rattle.std.proofs.lemmas.List.{get_or-set_same, get_or-set_other}
 use Rattle.std.proofs.lemmas.Option.{slice_get_within}
@@ -31,23 +32,29 @@ twins_begun first second count position twin has =
     absurd (has_zero twin (subst (λ (m : ℕ). Has m twin) (zero_there count position) has))
 
 -- and so do others where one was put that has twins alone
-pub twins_next : (first second twins : List ℕ) (at mask : ℕ) → at < length twins → AreTwins first second twins
-    → ((twin : ℕ) → Has mask twin → HaveSameRow first second twin at) → AreTwins first second (set twins at mask)
-twins_next first second twins at mask within before same position twin has = elim (eqb_tells position at) [
-  | inl here ↦
-      let now : get_or (set twins at mask) position 0 ≡ mask =
-      ap (λ (i : ℕ). get_or (set twins at mask) i 0) here.1 ∙ get_or-set_same twins at mask 0 within in
-      subst (λ (p : ℕ). HaveSameRow first second twin p) (sym here.1)
-      (same twin (subst (λ (m : ℕ). Has m twin) now has))
-  | inr apart ↦ before position twin
-      (subst (λ (m : ℕ). Has m twin) (get_or-set_other twins at position mask 0 apart.1) has)
-]
+pub twins_next : (first second twins : List ℕ) (at mask : ℕ) → at < length twins
+    → AreTwins first second twins → ((twin : ℕ) → Has mask twin → HaveSameRow first second twin at)
+    → AreTwins first second (set twins at mask)
+twins_next first second twins at mask within before same position twin has =
+    elim (eqb_tells position at) [
+      | inl here ↦
+          let now : get_or (set twins at mask) position 0 ≡ mask =
+          ap (λ (i : ℕ). get_or (set twins at mask) i 0) here.1
+          ∙ get_or-set_same twins at mask 0 within in
+          subst (λ (p : ℕ). HaveSameRow first second twin p) (sym here.1)
+          (same twin (subst (λ (m : ℕ). Has m twin) now has))
+      | inr apart ↦ before position twin
+          (subst (λ (m : ℕ). Has m twin) (get_or-set_other twins at position mask 0 apart.1) has)
+    ]
 
-module _ (first second : List ℕ) (letters : List Letter) (in_first : AreRows (λ l. l.first) first letters (length letters))
-    (in_second : AreRows (λ l. l.second) second letters (length letters)) (few : length letters ≤ max_reach)
-    (twin position : ℕ) (same : HaveSameRow first second twin position) where
+module _ (first second : List ℕ) (letters : List Letter)
+    (in_first : AreRows (λ l. l.first) first letters (length letters))
+    (in_second : AreRows (λ l. l.second) second letters (length letters))
+    (few : length letters ≤ max_reach) (twin position : ℕ)
+    (same : HaveSameRow first second twin position) where
   -- a letter has a position where it has its twin
-  pub letter_twin : (letter : Letter) → Contains letters letter → Has letter.second position ↔ Has letter.first twin
+  pub letter_twin : (letter : Letter) → Contains letters letter
+      → Has letter.second position ↔ Has letter.first twin
   letter_twin letter c = let (place, at) = stands_at letters letter c in
       let within = slice_get_within letters place letter at in
       let below : place < max_reach = omega (arith, within, few) in (
@@ -57,9 +64,11 @@ module _ (first second : List ℕ) (letters : List Letter) (in_first : AreRows (
             ((same place below).0 (in_first.has place twin letter within at has))).1,
       )
 
-  -- so where a place is in the row of the twin exactly where the letter has it, the same holds of the position
+  -- so where a place is in the row of the twin exactly where the letter has it, the same holds
+  -- of the position
   pub alike_twin : (letter : Letter) → Contains letters letter → (place : ℕ) → place < max_reach
-      → (Has letter.first twin ↔ HasRow first twin place) → Has letter.second position ↔ HasRow second position place
+      → (Has letter.first twin ↔ HasRow first twin place)
+      → Has letter.second position ↔ HasRow second position place
   alike_twin letter c place lt alike = let both = letter_twin letter c in (
     λ has. (same place lt).0 (alike.0 (both.0 has)),
     λ row. both.1 (alike.1 ((same place lt).1 row)),
@@ -73,7 +82,8 @@ module _ (twins : List ℕ) (first second : ℕ) where
   -- each position of the second mask is left, or was found, or has a twin
   pub record IsSorting (rest found : ℕ) : Type 0 where
     pub left : (position : ℕ) → Has rest position → Has second position
-    pub sorted : (position : ℕ) → Has second position → Has rest position ⊎ (Has found position ⊎ HasTwin position)
+    pub sorted : (position : ℕ) → Has second position
+        → Has rest position ⊎ (Has found position ⊎ HasTwin position)
 
   -- all are left
   pub sorting_begun : IsSorting second 0

@@ -1,5 +1,7 @@
 -- What the search for pairs keeps, and that it ends with all of them.
-use Rattle.std.proofs.Common.{◌≡◌, ℕ, zero, suc, ◌+◌, ◌<◌, ◌≤◌, ◌∙◌, List, [], ◌∷◌, ◌++◌, length, get_or, slice_get, Some, None, sym, ap, subst, inl, inr, arith, append_assoc, length-append}
+use Rattle.std.proofs.Common.{◌≡◌, ℕ, zero, suc, ◌+◌, ◌<◌, ◌≤◌, ◌∙◌, List, [], ◌∷◌, ◌++◌, length}
+use Rattle.std.proofs.Common.{get_or, slice_get, Some, None, sym, ap, subst, inl, inr, arith}
+use Rattle.std.proofs.Common.{append_assoc, length-append}
 use Rattle.std.specs.List.{Contains}
 use Rattle.std.proofs.lemmas.Bool.{cases_lt}
 use Rattle.std.proofs.lemmas.List.{append-nil, get_or_append_left}
@@ -47,23 +49,26 @@ module _ (first second : Automaton) where
   pub searched_next : (pairs pairs' : List Pair) (end : ℕ) (from : Pair) → IsSearched pairs end
       → ((d : Pair) → get_or pairs end d ≡ from) → end < length pairs
       → IsExplored first second from pairs pairs' → IsSearched pairs' (end + 1)
-  searched_next pairs pairs' end from before at within explored = let (more, is) = explored.grown in record {
-    begun = subst (λ l. Contains l initial) (sym is) (Contains-append_left pairs more initial before.begun);
-    reached = explored.reached;
-    done = λ k d lt. elim (cases_lt k end) [
-      | inl less ↦ subst (λ l. LeadsInto first second l (get_or l k d)) (sym is)
-          (subst (λ p. LeadsInto first second (pairs ++ more) p)
-          (sym (get_or_append_left pairs more d k (omega (arith, before.within))))
-          (leads_on pairs more (get_or pairs k d) (before.done k d less)))
-      | inr most ↦ let here : k ≡ end = omega arith in
-          subst (λ p. LeadsInto first second pairs' p)
-          (sym (ap (λ l. get_or l k d) is ∙ get_or_append_left pairs more d k (omega arith)
-          ∙ ap (λ (i : ℕ). get_or pairs i d) here ∙ at d)) explored.done
-    ];
-    within = omega (arith, ap length is, length-append pairs more);
-  }
+  searched_next pairs pairs' end from before at within explored =
+      let (more, is) = explored.grown in record {
+        begun = subst (λ l. Contains l initial) (sym is)
+            (Contains-append_left pairs more initial before.begun);
+        reached = explored.reached;
+        done = λ k d lt. elim (cases_lt k end) [
+          | inl less ↦ subst (λ l. LeadsInto first second l (get_or l k d)) (sym is)
+              (subst (λ p. LeadsInto first second (pairs ++ more) p)
+              (sym (get_or_append_left pairs more d k (omega (arith, before.within))))
+              (leads_on pairs more (get_or pairs k d) (before.done k d less)))
+          | inr most ↦ let here : k ≡ end = omega arith in
+              subst (λ p. LeadsInto first second pairs' p)
+              (sym (ap (λ l. get_or l k d) is ∙ get_or_append_left pairs more d k (omega arith)
+              ∙ ap (λ (i : ℕ). get_or pairs i d) here ∙ at d)) explored.done
+        ];
+        within = omega (arith, ap length is, length-append pairs more);
+      }
 
-  module _ (pairs : List Pair) (closed : (pair : Pair) → Contains pairs pair → LeadsInto first second pairs pair) where
+  module _ (pairs : List Pair)
+      (closed : (pair : Pair) → Contains pairs pair → LeadsInto first second pairs pair) where
     -- a word leads on into these
     word_leads : (u rest : Word) (pair : Pair) → Contains pairs pair → AreAfter first second u pair
         → IsWordOf first.cells.layout.columns rest
@@ -84,6 +89,7 @@ module _ (first second : Automaton) where
   searched_all pairs end all most = record {
     reached = all.reached;
     whole = λ word is. word_leads pairs
-        (λ pair c. subst (λ p. LeadsInto first second pairs p) c.2 (all.done c.0 pair (omega (arith, c.1))))
+        (λ pair c. subst (λ p. LeadsInto first second pairs p) c.2
+        (all.done c.0 pair (omega (arith, c.1))))
         [] word initial all.begun (tt, tt) is;
   }

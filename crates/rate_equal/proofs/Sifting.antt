@@ -1,5 +1,7 @@
 -- Which letters are in all rows of some positions, and in none of others.
-use Rattle.std.proofs.Common.{◌≡◌, ℕ, ◌+◌, ◌*◌, ◌/◌, ◌%◌, ◌^◌, ◌-◌, ◌<◌, ◌≤◌, ◌∙◌, ◌↔◌, ◌⊎◌, List, Some, bit_and, get_or, length, slice_get, ap, arith, sym, subst, inl, inr}
+use Rattle.std.proofs.Common.{◌≡◌, ℕ, ◌+◌, ◌*◌, ◌/◌, ◌%◌, ◌^◌, ◌-◌, ◌<◌, ◌≤◌, ◌∙◌, ◌↔◌, ◌⊎◌, List}
+use Rattle.std.proofs.Common.{Some, bit_and, get_or, length, slice_get, ap, arith, sym, subst, inl}
+use Rattle.std.proofs.Common.{inr}
 use Rattle.std.proofs.lemmas.Bool.{cases_lt}
 use Rattle.std.proofs.lemmas.Option.{slice_get-get_or, slice_get_within}
 use Rattle.std.proofs.lemmas.Nat.Bits.{bit_at_ones}
@@ -22,7 +24,8 @@ use Rattle.rate_equal.proofs.Holding.{low_or_left}
 module _ (rows : List ℕ) (mask block some : ℕ) where
   -- the place is in the rows of the positions but for those that are left
   abbrev IsInOthers : ℕ → ℕ → Type 0
-  IsInOthers rest place = (position : ℕ) → Has mask position → Has rest position ⊎ HasRow rows position place
+  IsInOthers rest place =
+      (position : ℕ) → Has mask position → Has rest position ⊎ HasRow rows position place
 
   -- of the bits of some those were found that are in the rows of the positions that are not left
   pub record IsCutting (rest found : ℕ) : Type 0 where
@@ -71,7 +74,8 @@ module _ (rows : List ℕ) (mask block some : ℕ) where
         ]);
   }
     where
-      same : (place : ℕ) → place / 128 ≡ block → word ≡ get_or rows (low * block_count + place / 128) 0
+      same : (place : ℕ) → place / 128 ≡ block
+          → word ≡ get_or rows (low * block_count + place / 128) 0
       same place here = read ∙ ap (λ (b : ℕ). get_or rows (low * block_count + b) 0) (sym here)
 
   -- the bits that were found are those that are in all rows
@@ -99,9 +103,11 @@ module _ (rows : List ℕ) (mask block some : ℕ) where
     λ (in_some, in_rows). none.whole place here in_some (λ position on. inr (in_rows position on)),
   )
 
-module _ (first second : List ℕ) (letters : List Letter) (in_first : AreRows (λ l. l.first) first letters (length letters))
-    (in_second : AreRows (λ l. l.second) second letters (length letters)) (few : length letters ≤ max_reach)
-    (pattern : Pattern) (place : ℕ) (letter : Letter) (at : slice_get letters place ≡ Some letter) where
+module _ (first second : List ℕ) (letters : List Letter)
+    (in_first : AreRows (λ l. l.first) first letters (length letters))
+    (in_second : AreRows (λ l. l.second) second letters (length letters))
+    (few : length letters ≤ max_reach) (pattern : Pattern) (place : ℕ) (letter : Letter)
+    (at : slice_get letters place ≡ Some letter) where
   within : place < length letters
   within = slice_get_within letters place letter at
 
@@ -128,11 +134,13 @@ module _ (first second : List ℕ) (letters : List Letter) (in_first : AreRows (
   pub sifted_like : IsSifted → IsLike pattern letter
   sifted_like ((one, two), (not_one, not_two)) = record { has = has; lacks = lacks }
     where
-      has : (position : Position) → HasAt pattern.has position → HasAt (positions_of letter) position
+      has : (position : Position) → HasAt pattern.has position
+          → HasAt (positions_of letter) position
       has (First position) on = (row_first position).0 (one position on)
       has (Second position) on = (row_second position).0 (two position on)
 
-      lacks : (position : Position) → HasAt pattern.lacks position → HasAt (positions_of letter) position → ⊥
+      lacks : (position : Position) → HasAt pattern.lacks position
+          → HasAt (positions_of letter) position → ⊥
       lacks (First position) on is = not_one position on ((row_first position).1 is)
       lacks (Second position) on is = not_two position on ((row_second position).1 is)
 
@@ -149,8 +157,10 @@ module _ (first second : List ℕ) (letters : List Letter) (in_first : AreRows (
   )
 
   module _ (block one both lacked also kept result : ℕ) (here : place / 128 ≡ block)
-      (cut : IsCut first pattern.has.0 block (2 ^ 128 - 1) one) (cut' : IsCut second pattern.has.1 block one both) where
-    both_cut : Has both (place % 128) ↔ (IsInRows first pattern.has.0 place × IsInRows second pattern.has.1 place)
+      (cut : IsCut first pattern.has.0 block (2 ^ 128 - 1) one)
+      (cut' : IsCut second pattern.has.1 block one both) where
+    both_cut : Has both (place % 128)
+        ↔ (IsInRows first pattern.has.0 place × IsInRows second pattern.has.1 place)
     both_cut = (
       λ has. let (there, two) = (cut' place here).0 has in (((cut place here).0 there).1, two),
       λ (in_one, in_two). (cut' place here).1
@@ -172,8 +182,10 @@ module _ (first second : List ℕ) (letters : List Letter) (in_first : AreRows (
         → HasRow second position other → Has also (other % 128))
         (only_also : (other : ℕ) → other / 128 ≡ block → Has also (other % 128)
         → (position : ℕ) × Has pattern.lacks.1 position × HasRow second position other)
-        (without : (position : ℕ) → Has kept position ↔ (Has both position × (Has lacked position → ⊥)))
-        (without' : (position : ℕ) → Has result position ↔ (Has kept position × (Has also position → ⊥))) where
+        (without : (position : ℕ)
+        → Has kept position ↔ (Has both position × (Has lacked position → ⊥)))
+        (without' : (position : ℕ)
+        → Has result position ↔ (Has kept position × (Has also position → ⊥))) where
       -- a bit of the rest is that of a letter of the pattern
       pub some_like : Has result (place % 128) ↔ IsLike pattern letter
       some_like = (
@@ -192,9 +204,11 @@ module _ (first second : List ℕ) (letters : List Letter) (in_first : AreRows (
             (without' (place % 128)).1 (
               (without (place % 128)).1 (
                 both_cut.1 rows,
-                λ in_lacked. let (position, on, row) = only_lacked place here in_lacked in none position on row,
+                λ in_lacked. let (position, on, row) = only_lacked place here in_lacked in
+                    none position on row,
               ),
-              λ in_also. let (position, on, row) = only_also place here in_also in none' position on row,
+              λ in_also. let (position, on, row) = only_also place here in_also in
+                  none' position on row,
             ),
       )
 
@@ -208,19 +222,22 @@ module _ (letters : List Letter) (pattern : Pattern) (block bits : ℕ) where
   pub zero_none : bits ≡ 0 → AreOfPattern letters pattern block bits → (place : ℕ) (letter : Letter)
       → place / 128 ≡ block → slice_get letters place ≡ Some letter → IsLike pattern letter → ⊥
   zero_none zero are place letter here at like =
-      has_zero (place % 128) (subst (λ (m : ℕ). Has m (place % 128)) zero ((are place letter here at).1 like))
+      has_zero (place % 128)
+      (subst (λ (m : ℕ). Has m (place % 128)) zero ((are place letter here at).1 like))
 
   module _ (low : ℕ) (is : IsLowest bits low) (are : AreOfPattern letters pattern block bits) where
     -- the letter of the lowest one
     pub low_like : bits < 2 ^ 128 → block * 128 + low < length letters → (letter : Letter)
-        → letter ≡ get_or letters (block * 128 + low) letter → Contains letters letter × IsLike pattern letter
+        → letter ≡ get_or letters (block * 128 + low) letter
+        → Contains letters letter × IsLike pattern letter
     low_like fits within letter read =
         let at = slice_get-get_or letters (block * 128 + low) letter within ∙ ap Some (sym read) in
         let below = has-below bits 128 low fits is.has in
         let in_block : (block * 128 + low) / 128 ≡ block = omega (arith, below) in
         let the_bit : low ≡ (block * 128 + low) % 128 = omega (arith, below) in (
           contains_found letters (block * 128 + low) letter at,
-          (are (block * 128 + low) letter in_block at).0 (subst (λ (p : ℕ). Has bits p) the_bit is.has),
+          (are (block * 128 + low) letter in_block at).0
+              (subst (λ (p : ℕ). Has bits p) the_bit is.has),
         )
 
     -- none stands there
@@ -237,18 +254,20 @@ NoneBelow letters pattern block = (place : ℕ) (letter : Letter) → place / 12
     → slice_get letters place ≡ Some letter → IsLike pattern letter → ⊥
 
 -- nor of one more
-pub none_next : (letters : List Letter) (pattern : Pattern) (block : ℕ) → NoneBelow letters pattern block
+pub none_next : (letters : List Letter) (pattern : Pattern) (block : ℕ)
+    → NoneBelow letters pattern block
     → ((place : ℕ) (letter : Letter) → place / 128 ≡ block → slice_get letters place ≡ Some letter
     → IsLike pattern letter → ⊥) → NoneBelow letters pattern (block + 1)
-none_next letters pattern block below here place letter lt at like = elim (cases_lt (place / 128) block) [
-  | inl less ↦ below place letter less at like
-  | inr most ↦ here place letter (omega (arith, lt, most)) at like
-]
+none_next letters pattern block below here place letter lt at like =
+    elim (cases_lt (place / 128) block) [
+      | inl less ↦ below place letter less at like
+      | inr most ↦ here place letter (omega (arith, lt, most)) at like
+    ]
 
 -- nor any
 pub none_all : (letters : List Letter) (pattern : Pattern) (block : ℕ) → length letters ≤ max_reach
-    → block_count ≤ block → NoneBelow letters pattern block → (letter : Letter) → Contains letters letter
-    → IsLike pattern letter → ⊥
+    → block_count ≤ block → NoneBelow letters pattern block → (letter : Letter)
+    → Contains letters letter → IsLike pattern letter → ⊥
 none_all letters pattern block few enough none letter c like =
     let (place, at) = stands_at letters letter c in
     let within = slice_get_within letters place letter at in

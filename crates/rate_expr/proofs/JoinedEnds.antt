@@ -1,12 +1,14 @@
 -- Where words of a rate begin and end, from where those of its parts do.
-use Rattle.std.proofs.Common.{◌≡◌, ◌⊎◌, inl, inr, ℕ, ◌+◌, ◌^◌, ◌<◌, ◌≤◌, ◌↔◌, Bool, true, bit_or, refl, subst}
+use Rattle.std.proofs.Common.{◌≡◌, ◌⊎◌, inl, inr, ℕ, ◌+◌, ◌^◌, ◌<◌, ◌≤◌, ◌↔◌, Bool, true, bit_or}
+use Rattle.std.proofs.Common.{refl, subst}
 use Rattle.rate_expr.specs.declared.part.Part.{Part}
 use Rattle.rate_expr.specs.FirstLastFollow.{IsNullable, IsFirst, IsLast}
 use Rattle.rate_expr.specs.Joined.{moved, part_moved}
 use Rattle.rate_expr.specs.Parts.{with_if, of_choice, of_sequence, of_star}
 use Rattle.rate_expr.specs.Rates.{Regex, sequence, choice, star, size_of}
 use Rattle.rate_expr.specs.Sets.{Has}
-use Rattle.rate_expr.proofs.MaskMembers.{has_or, has_first, has_second, has_kept, has_more, has_no_more}
+use Rattle.rate_expr.proofs.MaskMembers.{has_or, has_first, has_second, has_kept, has_more}
+use Rattle.rate_expr.proofs.MaskMembers.{has_no_more}
 use Rattle.rate_expr.proofs.Moved.{IsMoved, is_moved}
 use Rattle.rate_expr.proofs.Renumbered.{IsFrom, first_from, last_from}
 use Rattle.rate_expr.proofs.Textbook.{test_either, test_both}
@@ -84,7 +86,8 @@ turned X P Q N same = (λ x. there (same.0 x), λ holds. same.1 (back holds))
 pub choice_ends : (base : ℕ) (x y : Part) (r s : Regex) → AreEnds base x r
     → AreEnds (base + size_of r) y s → AreEnds base (of_choice x y) (choice r s)
 choice_ends base x y r s one other = record {
-  nullable = test_either x.nullable y.nullable (IsNullable r) (IsNullable s) one.nullable other.nullable;
+  nullable =
+      test_either x.nullable y.nullable (IsNullable r) (IsNullable s) one.nullable other.nullable;
   first = λ n. has_either x.first y.first n (IsFirst r base n) (IsFirst s (base + size_of r) n)
       (one.first n) (other.first n);
   last = λ n. has_either x.last y.last n (IsLast r base n) (IsLast s (base + size_of r) n)
@@ -94,7 +97,8 @@ choice_ends base x y r s one other = record {
 pub sequence_ends : (base : ℕ) (x y : Part) (r s : Regex) → AreEnds base x r
     → AreEnds (base + size_of r) y s → AreEnds base (of_sequence x y) (sequence r s)
 sequence_ends base x y r s one other = record {
-  nullable = test_both x.nullable y.nullable (IsNullable r) (IsNullable s) one.nullable other.nullable;
+  nullable =
+      test_both x.nullable y.nullable (IsNullable r) (IsNullable s) one.nullable other.nullable;
   first = λ n. has_with x.first x.nullable y.first n
       (IsFirst r base n) (IsFirst s (base + size_of r) n) (IsNullable r)
       one.nullable (one.first n) (other.first n);

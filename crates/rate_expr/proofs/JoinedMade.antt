@@ -1,15 +1,18 @@
 -- What is made of the sets of parts, step by step.
-use Rattle.std.proofs.Common.{◌≡◌, ℕ, ◌+◌, ◌^◌, ◌<◌, ◌≤◌, List, [], ◌∷◌, ◌++◌, map, take, drop, length, sym, ap, ◌∙◌, subst, arith}
+use Rattle.std.proofs.Common.{◌≡◌, ℕ, ◌+◌, ◌^◌, ◌<◌, ◌≤◌, List, [], ◌∷◌, ◌++◌, map, take, drop}
+use Rattle.std.proofs.Common.{length, sym, ap, ◌∙◌, subst, arith}
 use Rattle.std.proofs.lemmas.List.{take_at}
 use Rattle.predicate_cells.specs.Predicates.{Predicate}
 use Rattle.rate_expr.specs.declared.part.Part.{Part}
 use Rattle.rate_expr.specs.FirstLastFollow.{AreSetsOf}
-use Rattle.rate_expr.specs.Joined.{moved, part_moved, ends_of, ends_after, with_ends, with_links, beside, sets_of_one}
+use Rattle.rate_expr.specs.Joined.{moved, part_moved, ends_of, ends_after, with_ends, with_links}
+use Rattle.rate_expr.specs.Joined.{beside, sets_of_one}
 use Rattle.rate_expr.specs.Parts.{all_linked, of_choice, of_sequence, of_star}
 use Rattle.rate_expr.specs.Rates as rates
 use Rattle.rate_expr.specs.Rates.{Regex}
 use Rattle.rate_expr.specs.Sets.{Sets, AreSets}
-use Rattle.rate_expr.proofs.JoinedSets.{AreFew, beside_sets, linked_sets, after_below, choice_below, sequence_below, choice_of, sequence_of, star_of, one_of}
+use Rattle.rate_expr.proofs.JoinedSets.{AreFew, beside_sets, linked_sets, after_below, choice_below}
+use Rattle.rate_expr.proofs.JoinedSets.{sequence_below, choice_of, sequence_of, star_of, one_of}
 use Rattle.rate_expr.proofs.Linking.{length-all_linked}
 
 -- the sets with other masks and predicates

@@ -1,12 +1,15 @@
 -- The sets of a rate, from those of its parts.
-use Rattle.std.proofs.Common.{◌≡◌, ℕ, ◌+◌, ◌^◌, ◌<◌, ◌≤◌, ◌↔◌, ◌⊎◌, List, [], ◌∷◌, ◌++◌, map, length, sym, ap, ◌∙◌, subst, length-append, arith}
+use Rattle.std.proofs.Common.{◌≡◌, ℕ, ◌+◌, ◌^◌, ◌<◌, ◌≤◌, ◌↔◌, ◌⊎◌, List, [], ◌∷◌, ◌++◌, map}
+use Rattle.std.proofs.Common.{length, sym, ap, ◌∙◌, subst, length-append, arith}
 use Rattle.std.proofs.lemmas.List.{length-map}
 use Rattle.std.proofs.lemmas.Nat.{or_lt}
 use Rattle.std.specs.List.{AllByRecursion}
 use Rattle.predicate_cells.specs.Predicates.{Predicate}
 use Rattle.rate_expr.specs.declared.part.Part.{Part}
 use Rattle.rate_expr.specs.FirstLastFollow.{AreSetsOf, IsFirst, IsLast, IsFollowedBy}
-use Rattle.rate_expr.specs.Joined.{moved, ends_of, ends_after, with_ends, with_links, beside, sets_of_empty, sets_of_one, sets_of_choice, sets_of_sequence, sets_of_star}
+use Rattle.rate_expr.specs.Joined.{moved, ends_of, ends_after, with_ends, with_links, beside}
+use Rattle.rate_expr.specs.Joined.{sets_of_empty, sets_of_one, sets_of_choice, sets_of_sequence}
+use Rattle.rate_expr.specs.Joined.{sets_of_star}
 use Rattle.rate_expr.specs.Parts.{of_choice, of_sequence}
 use Rattle.rate_expr.specs.Rates.{Regex, empty, one, sequence, choice, star, size_of, preds_of}
 use Rattle.rate_expr.specs.Sets.{Sets, AreSets}
@@ -28,7 +31,8 @@ pub record AreFew (a b : Sets) : Type 0 where
 all_raised : (masks : List ℕ) (j k : ℕ) → j ≤ k → AllByRecursion (λ mask. mask < 2 ^ j) masks
     → AllByRecursion (λ mask. mask < 2 ^ k) masks
 all_raised [] j k le all = tt
-all_raised (mask ∷ masks) j k le (below, all) = (raised mask j k le below, all_raised masks j k le all)
+all_raised (mask ∷ masks) j k le (below, all) =
+    (raised mask j k le below, all_raised masks j k le all)
 
 -- two lists, one after the other
 all_append : (k : ℕ) (masks others : List ℕ) → AllByRecursion (λ mask. mask < 2 ^ k) masks
@@ -67,9 +71,11 @@ beside_sets a b both =
       each = masks ∙ sym long;
       first = raised a.first (length a.preds) (length (a.preds ++ b.preds)) le both.first.first;
       last = raised a.last (length a.preds) (length (a.preds ++ b.preds)) le both.first.last;
-      follow = all_append (length (a.preds ++ b.preds)) a.follow (map (moved (length a.preds)) b.follow)
+      follow =
+          all_append (length (a.preds ++ b.preds)) a.follow (map (moved (length a.preds)) b.follow)
           (all_raised a.follow (length a.preds) (length (a.preds ++ b.preds)) le both.first.follow)
-          (subst (λ (k : ℕ). AllByRecursion (λ mask. mask < 2 ^ k) (map (moved (length a.preds)) b.follow)) (sym long)
+          (subst (λ (k : ℕ). AllByRecursion (λ mask. mask < 2 ^ k)
+          (map (moved (length a.preds)) b.follow)) (sym long)
           (all_moved (length a.preds) (length b.preds) b.follow few both.second.follow));
     }
 

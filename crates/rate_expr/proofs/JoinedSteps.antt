@@ -1,5 +1,6 @@
 -- Where words of a rate continue, from where those of its parts do.
-use Rattle.std.proofs.Common.{◌≡◌, ◌⊎◌, inl, inr, ℕ, zero, suc, ◌+◌, ◌^◌, ◌<◌, ◌≤◌, ◌↔◌, List, [], ◌∷◌, ◌++◌, map, length, refl, sym, ap, ◌∙◌, subst, arith}
+use Rattle.std.proofs.Common.{◌≡◌, ◌⊎◌, inl, inr, ℕ, zero, suc, ◌+◌, ◌^◌, ◌<◌, ◌≤◌, ◌↔◌, List, []}
+use Rattle.std.proofs.Common.{◌∷◌, ◌++◌, map, length, refl, sym, ap, ◌∙◌, subst, arith}
 use Rattle.std.specs.List.{AllByRecursion}
 use Rattle.rate_expr.specs.FirstLastFollow.{IsFollowedBy}
 use Rattle.rate_expr.specs.Joined.{moved}
@@ -96,7 +97,8 @@ steps_beside count long xs ys r s is_long is_size few all of_r of_s i n =
         let step = (follow_from s count i n).0
         (subst (λ (b : ℕ). IsFollowedBy s b i n) (sym base) holds) in
         let at : length xs + step.0 ≡ i = ap (λ (k : ℕ). k + step.0) is_long ∙ step.2 in
-        let goes = goes_higher count long ys few all step.0 step.1 ((of_s step.0 step.1).1 step.4) in
+        let goes = goes_higher count long ys few all step.0 step.1
+        ((of_s step.0 step.1).1 step.4) in
         subst (λ (k : ℕ). Goes (xs ++ map (moved count) ys) k n) at
         (goes_in_second xs (map (moved count) ys) step.0 n
         (subst (λ (k : ℕ). Goes (map (moved count) ys) step.0 k) step.3 goes))

@@ -1,9 +1,12 @@
 -- The lowest position of a mask, and the others.
-use Rattle.std.proofs.Common.{◌≡◌, ◌⊎◌, inl, inr, ℕ, ◌+◌, ◌-◌, ◌*◌, ◌/◌, ◌%◌, ◌^◌, ◌<◌, ◌≤◌, ◌↔◌, sym, ap, ◌∙◌, subst, arith, bit_and}
+use Rattle.std.proofs.Common.{◌≡◌, ◌⊎◌, inl, inr, ℕ, ◌+◌, ◌-◌, ◌*◌, ◌/◌, ◌%◌, ◌^◌, ◌<◌, ◌≤◌, ◌↔◌}
+use Rattle.std.proofs.Common.{sym, ap, ◌∙◌, subst, arith, bit_and}
 use Rattle.std.proofs.Math.Nat.{div-add-mod, eq-or-lt_of_le, mod-lt, mul_comm}
 use Rattle.std.proofs.lemmas.Nat.{pow_pos}
 use Rattle.std.proofs.lemmas.Bool.Decides.{eqb_tells}
-use Rattle.std.proofs.lemmas.Nat.Bits.{bit_at-lt, bit_at-pow_same, bit_at-pow_other, bit_at-zero, bit_at_above, bit_at_cat_low, bit_at_cat_high, bit_at-trailing_zeros, same_from_bits}
+use Rattle.std.proofs.lemmas.Nat.Bits.{bit_at-lt, bit_at-pow_same, bit_at-pow_other, bit_at-zero}
+use Rattle.std.proofs.lemmas.Nat.Bits.{bit_at_above, bit_at_cat_low, bit_at_cat_high}
+use Rattle.std.proofs.lemmas.Nat.Bits.{bit_at-trailing_zeros, same_from_bits}
 use Rattle.std.specs.Int.{bit_at, trailing_zeros, w128}
 use Rattle.rate_expr.specs.Sets.{Has, IsLowest}
 use Rattle.rate_expr.proofs.MaskSets.{below_or_not, has-and, has-and_both}
@@ -73,7 +76,8 @@ is_lowest mask some fits =
     }
 
 -- the bits up to the lowest that is set are a power
-power_below : (mask low : ℕ) → Has mask low → ((i : ℕ) → i < low → bit_at mask i ≡ 0) → mask % 2 ^ (low + 1) ≡ 2 ^ low
+power_below : (mask low : ℕ) → Has mask low → ((i : ℕ) → i < low → bit_at mask i ≡ 0)
+    → mask % 2 ^ (low + 1) ≡ 2 ^ low
 power_below mask low has none = same_from_bits (mask % 2 ^ (low + 1)) (2 ^ low) same
   where
     kept : (i : ℕ) → i < low + 1 → bit_at (mask % 2 ^ (low + 1)) i ≡ bit_at mask i
@@ -83,32 +87,37 @@ power_below mask low has none = same_from_bits (mask % 2 ^ (low + 1)) (2 ^ low) 
 
     same : (i : ℕ) → bit_at (mask % 2 ^ (low + 1)) i ≡ bit_at (2 ^ low) i
     same i = elim (below_or_not i (low + 1)) [
-      | inr above ↦ bit_at_above (mask % 2 ^ (low + 1)) (low + 1) i (mod-lt mask (pow_pos (low + 1))) above
-          ∙ sym (bit_at-pow_other low i (λ at. omega arith))
+      | inr above ↦ bit_at_above (mask % 2 ^ (low + 1)) (low + 1) i
+          (mod-lt mask (pow_pos (low + 1))) above ∙ sym (bit_at-pow_other low i (λ at. omega arith))
       | inl below ↦ kept i below ∙ (elim (eqb_tells i low) [
-        | inl at ↦ subst (λ (k : ℕ). bit_at mask k ≡ bit_at (2 ^ low) k) (sym at.1) (has ∙ sym (bit_at-pow_same low))
+        | inl at ↦ subst (λ (k : ℕ). bit_at mask k ≡ bit_at (2 ^ low) k) (sym at.1)
+            (has ∙ sym (bit_at-pow_same low))
         | inr other ↦ let differ = other.1 in
             none i (omega arith) ∙ sym (bit_at-pow_other low i other.1)
       ])
     ]
 
 -- so one less has it not
-not_lowest : (mask low : ℕ) → Has mask low → ((i : ℕ) → i < low → bit_at mask i ≡ 0) → bit_at (mask - 1) low ≡ 0
+not_lowest : (mask low : ℕ) → Has mask low → ((i : ℕ) → i < low → bit_at mask i ≡ 0)
+    → bit_at (mask - 1) low ≡ 0
 not_lowest mask low has none =
     let power = power_below mask low has none in
     let some : 0 < 2 ^ low = pow_pos low in
     let whole : mask / 2 ^ (low + 1) * 2 ^ (low + 1) + 2 ^ low ≡ mask =
     ap (λ m. mask / 2 ^ (low + 1) * 2 ^ (low + 1) + m) (sym power) ∙ by_parts mask (low + 1) in
-    let less : mask / 2 ^ (low + 1) * 2 ^ (low + 1) + (2 ^ low - 1) ≡ mask - 1 = one_less _ _ mask some whole in
+    let less : mask / 2 ^ (low + 1) * 2 ^ (low + 1) + (2 ^ low - 1) ≡ mask - 1 =
+    one_less _ _ mask some whole in
     ap (λ m. bit_at m low) (sym less)
     ∙ bit_at_cat_low (mask / 2 ^ (low + 1)) (low + 1) (2 ^ low - 1) low (omega arith)
     ∙ bit_at_above (2 ^ low - 1) low low (omega arith) (omega arith)
   where
-    one_less : (above power whole : ℕ) → 0 < power → above + power ≡ whole → above + (power - 1) ≡ whole - 1
+    one_less : (above power whole : ℕ) → 0 < power → above + power ≡ whole
+        → above + (power - 1) ≡ whole - 1
     one_less above power whole some e = omega arith
 
 -- without its lowest position, a mask has exactly the others
-pub without_lowest : (mask : ℕ) → 0 < mask → mask < 2 ^ 128 → (position : ℕ) → Has (bit_and mask (mask - 1)) position ↔ (Has mask position × (IsLowest mask position → ⊥))
+pub without_lowest : (mask : ℕ) → 0 < mask → mask < 2 ^ 128 → (position : ℕ)
+    → Has (bit_and mask (mask - 1)) position ↔ (Has mask position × (IsLowest mask position → ⊥))
 without_lowest mask some fits position = (
   λ has.
       let both = has-and mask (mask - 1) position has in (
@@ -118,7 +127,8 @@ without_lowest mask some fits position = (
       ),
   λ each. elim (has-others mask position some fits each.0) [
     | inr other ↦ other
-    | inl here ↦ absurd (each.1 (subst (λ (p : ℕ). IsLowest mask p) here (is_lowest mask some fits)))
+    | inl here ↦
+        absurd (each.1 (subst (λ (p : ℕ). IsLowest mask p) here (is_lowest mask some fits)))
   ],
 )
   where

@@ -1,7 +1,9 @@
 -- The positions in a mask.
-use Rattle.std.proofs.Common.{◌≡◌, ◌≢◌, ◌⊎◌, inl, inr, ℕ, ◌^◌, ◌==◌, max, Bool, true, false, bit_or, refl, sym, ◌∙◌, arith}
+use Rattle.std.proofs.Common.{◌≡◌, ◌≢◌, ◌⊎◌, inl, inr, ℕ, ◌^◌, ◌==◌, max, Bool, true, false, bit_or}
+use Rattle.std.proofs.Common.{refl, sym, ◌∙◌, arith}
 use Rattle.std.proofs.lemmas.Bool.Decides.{eqb_tells}
-use Rattle.std.proofs.lemmas.Nat.Bits.{bit_at_or, bit_at-zero, bit_at-lt, bit_at-pow_same, bit_at-pow_other}
+use Rattle.std.proofs.lemmas.Nat.Bits.{bit_at_or, bit_at-zero, bit_at-lt, bit_at-pow_same}
+use Rattle.std.proofs.lemmas.Nat.Bits.{bit_at-pow_other}
 use Rattle.std.specs.Int.{bit_at}
 use Rattle.rate_expr.specs.Parts.{with_if}
 use Rattle.rate_expr.specs.Sets.{Has}
@@ -48,12 +50,14 @@ has_kept mask true other n has = has_first mask other n has
 has_kept mask false other n has = has
 
 -- one of the other is there where the test holds
-pub has_more : (mask : ℕ) (test : Bool) (other n : ℕ) → test ≡ true → Has other n → Has (with_if mask test other) n
+pub has_more : (mask : ℕ) (test : Bool) (other n : ℕ) → test ≡ true → Has other n
+    → Has (with_if mask test other) n
 has_more mask true other n holds has = has_second mask other n has
 has_more mask false other n holds has = absurd (cc)
 
 -- and no others are
-pub has_no_more : (mask : ℕ) (test : Bool) (other n : ℕ) → Has (with_if mask test other) n → Has mask n ⊎ (test ≡ true) × Has other n
+pub has_no_more : (mask : ℕ) (test : Bool) (other n : ℕ) → Has (with_if mask test other) n
+    → Has mask n ⊎ (test ≡ true) × Has other n
 has_no_more mask true other n has = in_one (has_or mask other n has)
   where
     in_one : Has mask n ⊎ Has other n → Has mask n ⊎ (true ≡ true) × Has other n
@@ -62,7 +66,8 @@ has_no_more mask true other n has = in_one (has_or mask other n has)
 has_no_more mask false other n has = inl has
 
 -- a mask with one position more has that position and its own
-pub has_added : (mask at position : ℕ) → Has (bit_or mask (2 ^ at)) position → Has mask position ⊎ (position ≡ at)
+pub has_added : (mask at position : ℕ) → Has (bit_or mask (2 ^ at)) position
+    → Has mask position ⊎ (position ≡ at)
 has_added mask at position has = in_one (has_or mask (2 ^ at) position has)
   where
     in_one : Has mask position ⊎ Has (2 ^ at) position → Has mask position ⊎ (position ≡ at)

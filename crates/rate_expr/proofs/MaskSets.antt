@@ -1,9 +1,12 @@
 -- Masks and their positions: bounds, common positions, equal masks.
-use Rattle.std.proofs.Common.{◌≡◌, ◌⊎◌, inl, inr, ℕ, suc, zero, ◌+◌, ◌*◌, ◌/◌, ◌%◌, ◌^◌, ◌<◌, ◌≤◌, refl, sym, ap, ◌∙◌, subst, arith, bit_and, Bool, true, false, IsTrue, not, nat_eq, ltb, ◌↔◌, ◌-◌}
+use Rattle.std.proofs.Common.{◌≡◌, ◌⊎◌, inl, inr, ℕ, suc, zero, ◌+◌, ◌*◌, ◌/◌, ◌%◌, ◌^◌, ◌<◌, ◌≤◌}
+use Rattle.std.proofs.Common.{refl, sym, ap, ◌∙◌, subst, arith, bit_and, Bool, true, false, IsTrue}
+use Rattle.std.proofs.Common.{not, nat_eq, ltb, ◌↔◌, ◌-◌}
 use Rattle.std.proofs.Math.Nat.{div-add-mod, eq-or-lt_of_le, mod-lt, mul_comm, pow-suc}
 use Rattle.std.proofs.Math.Pow.{pow_mono}
 use Rattle.std.proofs.lemmas.Nat.{pow_pos, and_le_l, and_le_r, leading_length}
-use Rattle.std.proofs.lemmas.Nat.Bits.{bit_at_and, bit_at-lt, bit_at_above, bit_at_cat_low, bit_at-trailing_zeros, same_from_bits}
+use Rattle.std.proofs.lemmas.Nat.Bits.{bit_at_and, bit_at-lt, bit_at_above, bit_at_cat_low}
+use Rattle.std.proofs.lemmas.Nat.Bits.{bit_at-trailing_zeros, same_from_bits}
 use Rattle.std.proofs.lemmas.Bool.Decides.{eqb_tells, nat_tests}
 use Rattle.std.proofs.lemmas.Bool.{eqb-true, eqb-false, ltb-true}
 use Rattle.std.specs.Int.Count.{count_leading_zeros}
@@ -120,9 +123,12 @@ and-meeting a b fits = (
 )
 
 -- the same where an answer says which of both
-pub overlap_decides : (first second : ℕ) (test : Bool) → MatchBool test (AreMeeting first second) ((position : ℕ) → Has first position → Has second position → ⊥) → IsTrue test ↔ AreMeeting first second
+pub overlap_decides : (first second : ℕ) (test : Bool) → MatchBool test (AreMeeting first second)
+    ((position : ℕ) → Has first position → Has second position → ⊥)
+    → IsTrue test ↔ AreMeeting first second
 overlap_decides first second true some = (λ is. some, λ meeting. refl)
-overlap_decides first second false none = (λ is. cc, λ meeting. absurd (none meeting.0 meeting.1 meeting.2))
+overlap_decides first second false none =
+    (λ is. cc, λ meeting. absurd (none meeting.0 meeting.1 meeting.2))
 
 -- the test of these bits says so
 pub overlap_says : (first second : ℕ) → first < 2 ^ 128
@@ -161,8 +167,8 @@ end_least mask bound fits below =
     ]
 
 -- a mask is below a power where its end is no higher
-pub end_below : (mask bound end : ℕ) → ((position : ℕ) → Has mask position → position < end) → end ≤ bound
-    → mask < 2 ^ bound
+pub end_below : (mask bound end : ℕ)
+    → ((position : ℕ) → Has mask position → position < end) → end ≤ bound → mask < 2 ^ bound
 end_below mask bound end above le =
     below-has mask bound (λ position has. let less = above position has in omega arith)
 

@@ -1,5 +1,6 @@
 -- Masks whose positions are moved higher.
-use Rattle.std.proofs.Common.{◌≡◌, inl, inr, ℕ, ◌+◌, ◌-◌, ◌*◌, ◌%◌, ◌^◌, ◌<◌, ◌≤◌, sym, ap, ◌∙◌, subst, arith}
+use Rattle.std.proofs.Common.{◌≡◌, inl, inr, ℕ, ◌+◌, ◌-◌, ◌*◌, ◌%◌, ◌^◌, ◌<◌, ◌≤◌, sym, ap, ◌∙◌}
+use Rattle.std.proofs.Common.{subst, arith}
 use Rattle.std.proofs.Math.Nat.{mul_assoc, mul-mod_left}
 use Rattle.std.proofs.lemmas.Nat.{pow-add, pow_pos, shl_below, shl_whole}
 use Rattle.std.proofs.lemmas.Nat.Bits.{bit_at_cat_high, bit_at_cat_low}
@@ -56,7 +57,8 @@ shifted count mask = record { each = each; only = only }
     only : (m : ℕ) → Has (mask * 2 ^ count + 0) m → (n : ℕ) × (count + n ≡ m) × Has mask n
     only m has = elim (below_or_not m count) [
       | inl low ↦ absurd (has_zero m (sym (bit_at_cat_low mask count 0 m low) ∙ has))
-      | inr high ↦ (m - count, omega arith, sym (bit_at_cat_high mask count 0 m (pow_pos count) high) ∙ has)
+      | inr high ↦
+          (m - count, omega arith, sym (bit_at_cat_high mask count 0 m (pow_pos count) high) ∙ has)
     ]
 
 pub is_moved : (count mask long : ℕ) → mask < 2 ^ long → count + long ≤ 128

@@ -1,5 +1,6 @@
 -- A rate has one first, one last and one follow set.
-use Rattle.std.proofs.Common.{◌≡◌, ℕ, zero, suc, ◌↔◌, Bool, List, [], ◌∷◌, length, refl, sym, ap, ◌∙◌, subst, arith}
+use Rattle.std.proofs.Common.{◌≡◌, ℕ, zero, suc, ◌↔◌, Bool, List, [], ◌∷◌, length, refl, sym, ap}
+use Rattle.std.proofs.Common.{◌∙◌, subst, arith}
 use Rattle.predicate_cells.specs.Predicates.{Predicate}
 use Rattle.rate_expr.specs.FirstLastFollow.{AreSetsOf}
 use Rattle.rate_expr.specs.Rates.{Regex}
@@ -16,7 +17,8 @@ goes_here mask masks n = (here, λ has. (mask, refl, has))
     here (other, is, has) = let same : other ≡ mask = cc in subst (λ (m : ℕ). Has m n) same has
 
 -- as many masks with the same steps are the same
-same_masks : (masks others : List ℕ) → length masks ≡ length others → ((i n : ℕ) → Goes masks i n ↔ Goes others i n) → masks ≡ others
+same_masks : (masks others : List ℕ) → length masks ≡ length others
+    → ((i n : ℕ) → Goes masks i n ↔ Goes others i n) → masks ≡ others
 same_masks [] [] long same = refl
 same_masks [] (other ∷ others) long same = absurd (omega arith)
 same_masks (mask ∷ masks) [] long same = absurd (omega arith)
@@ -34,16 +36,19 @@ made nullable first last follow preds =
     record { nullable = nullable; first = first; last = last; follow = follow; preds = preds }
 
 -- sets with the same parts are the same
-same_parts : (sets other : Sets) → sets.nullable ≡ other.nullable → sets.first ≡ other.first → sets.last ≡ other.last → sets.follow ≡ other.follow → sets.preds ≡ other.preds → sets ≡ other
+same_parts : (sets other : Sets) → sets.nullable ≡ other.nullable → sets.first ≡ other.first
+    → sets.last ≡ other.last → sets.follow ≡ other.follow → sets.preds ≡ other.preds → sets ≡ other
 same_parts sets other nullable first last follow preds =
     ap (λ (b : Bool). made b sets.first sets.last sets.follow sets.preds) nullable
     ∙ ap (λ (m : ℕ). made other.nullable m sets.last sets.follow sets.preds) first
     ∙ ap (λ (m : ℕ). made other.nullable other.first m sets.follow sets.preds) last
     ∙ ap (λ (list : List ℕ). made other.nullable other.first other.last list sets.preds) follow
-    ∙ ap (λ (list : List Predicate). made other.nullable other.first other.last other.follow list) preds
+    ∙ ap (λ (list : List Predicate). made other.nullable other.first other.last other.follow list)
+    preds
 
 -- so sets of one rate are the same
-pub one_sets : (rate : Regex) (sets other : Sets) → AreSets sets → AreSets other → AreSetsOf sets rate → AreSetsOf other rate → other ≡ sets
+pub one_sets : (rate : Regex) (sets other : Sets) → AreSets sets → AreSets other
+    → AreSetsOf sets rate → AreSetsOf other rate → other ≡ sets
 one_sets rate sets other are also of_rate of_rate_too =
     let preds : other.preds ≡ sets.preds = of_rate_too.preds ∙ sym of_rate.preds in
     same_parts other sets

@@ -25,13 +25,15 @@ number_from (one pred) base p = omega arith
 number_from (sequence r s) base p =
     either_from (automaton_of r).State (automaton_of s).State (number_of r base) (number_of r 0)
     (number_of s (base + size_of r)) (number_of s (0 + size_of r)) base (number_from r base)
-    (λ q. further base (size_of r) (number_of s (base + size_of r) q) (number_of s (0 + size_of r) q)
-    (number_of s 0 q) (number_from s (base + size_of r) q) (number_from s (0 + size_of r) q)) p
+    (λ q. further base (size_of r) (number_of s (base + size_of r) q)
+    (number_of s (0 + size_of r) q) (number_of s 0 q) (number_from s (base + size_of r) q)
+    (number_from s (0 + size_of r) q)) p
 number_from (choice r s) base p =
     either_from (automaton_of r).State (automaton_of s).State (number_of r base) (number_of r 0)
     (number_of s (base + size_of r)) (number_of s (0 + size_of r)) base (number_from r base)
-    (λ q. further base (size_of r) (number_of s (base + size_of r) q) (number_of s (0 + size_of r) q)
-    (number_of s 0 q) (number_from s (base + size_of r) q) (number_from s (0 + size_of r) q)) p
+    (λ q. further base (size_of r) (number_of s (base + size_of r) q)
+    (number_of s (0 + size_of r) q) (number_of s 0 q) (number_from s (base + size_of r) q)
+    (number_from s (0 + size_of r) q)) p
 number_from (star inner) base p = number_from inner base p
 
 -- a position that is higher by this much than one of which it holds
@@ -86,7 +88,8 @@ follow_from rate base i m = (there, back)
           number_of rate 0 p.1,
           sym (number_from rate base p.0) ∙ p.2,
           sym (number_from rate base p.1) ∙ p.3,
-          (follow_as rate 0 (number_of rate 0 p.0) (number_of rate 0 p.1)).0 (p.0, p.1, refl, refl, p.4),
+          (follow_as rate 0 (number_of rate 0 p.0) (number_of rate 0 p.1)).0
+              (p.0, p.1, refl, refl, p.4),
         )
 
     back : IsStepFrom rate base i m → IsFollowedBy rate base i m

@@ -1,5 +1,6 @@
 -- The sets of a rate are those of the textbook, and such sets spell its words.
-use Rattle.std.proofs.Common.{◌≡◌, ◌⊎◌, inl, inr, ℕ, ◌↔◌, Bool, true, false, List, [], refl, sym, subst}
+use Rattle.std.proofs.Common.{◌≡◌, ◌⊎◌, inl, inr, ℕ, ◌↔◌, Bool, true, false, List, [], refl, sym}
+use Rattle.std.proofs.Common.{subst}
 use Rattle.value_ops.specs.declared.field.Field.{Field}
 use Rattle.predicate_cells.specs.Predicates.{Predicate}
 use Rattle.rate_expr.specs.FirstLastFollow.{AreSetsOf}
@@ -29,12 +30,15 @@ sets_of rate =
     }
 
 -- nothing continues where there is no mask
-step_only : (a : Automaton) (number : a.State → ℕ) (i n : ℕ) → Goes [] i n ⊎ Step a number i n → Step a number i n
+step_only : (a : Automaton) (number : a.State → ℕ) (i n : ℕ) → Goes [] i n ⊎ Step a number i n
+    → Step a number i n
 step_only a number i n (inl (mask, is, has)) = absurd (cc)
 step_only a number i n (inr step) = step
 
 -- nothing is met where there is no predicate
-meet_only : (A : Type 0) (number : A → ℕ) (Meet : A → List Field → Type 0) (n : ℕ) (item : List Field) → MeetsAt [] n item ⊎ ((p : A) × (number p ≡ n) × Meet p item) → (p : A) × (number p ≡ n) × Meet p item
+meet_only : (A : Type 0) (number : A → ℕ) (Meet : A → List Field → Type 0) (n : ℕ)
+    (item : List Field) → MeetsAt [] n item ⊎ ((p : A) × (number p ≡ n) × Meet p item)
+    → (p : A) × (number p ≡ n) × Meet p item
 meet_only A number Meet n item (inl (pred, is, meet)) = absurd (cc)
 meet_only A number Meet n item (inr met) = met
 
@@ -52,7 +56,8 @@ sets_say rate =
       goes = steps.each;
       step = λ i n goes. step_only a (number_of rate 0) i n (steps.only i n goes);
       meets = preds.each;
-      meet = λ n item meets. meet_only a.State (number_of rate 0) a.Meet n item (preds.only n item meets);
+      meet = λ n item meets. meet_only a.State (number_of rate 0) a.Meet n item
+          (preds.only n item meets);
       apart = number_apart rate 0;
     }
 
@@ -61,11 +66,13 @@ through : (P Q R : Type 0) → P ↔ Q → Q ↔ R → P ↔ R
 through P Q R one other = (λ p. other.0 (one.0 p), λ r. one.1 (other.1 r))
 
 -- a mask has the numbers of these states where it has what is the number of one
-numbers_in : (A : Type 0) (number : A → ℕ) (P : A → Type 0) (mask : ℕ) → AreIn A number P mask → (n : ℕ) → Has mask n ↔ IsNumberOf A number P n
+numbers_in : (A : Type 0) (number : A → ℕ) (P : A → Type 0) (mask : ℕ) → AreIn A number P mask
+    → (n : ℕ) → Has mask n ↔ IsNumberOf A number P n
 numbers_in A number P mask are n =
     (are.only n, λ some. subst (λ (m : ℕ). Has mask m) some.1 (are.each some.0 some.2))
 
-in_numbers : (A : Type 0) (number : A → ℕ) (P : A → Type 0) (mask : ℕ) → ((n : ℕ) → Has mask n ↔ IsNumberOf A number P n) → AreIn A number P mask
+in_numbers : (A : Type 0) (number : A → ℕ) (P : A → Type 0) (mask : ℕ)
+    → ((n : ℕ) → Has mask n ↔ IsNumberOf A number P n) → AreIn A number P mask
 in_numbers A number P mask same = record {
   each = λ p holds. (same (number p)).1 (p, refl, holds);
   only = λ n has. (same n).0 has;
@@ -86,22 +93,28 @@ are_sets_of rate =
     let sets = sets_of rate in
     record {
       nullable = through (sets.nullable ≡ true) (a.nullable ≡ true) _
-          (subst (λ (b : Bool). (sets.nullable ≡ true) ↔ (b ≡ true)) say.nullable (λ is. is, λ is. is))
+          (subst (λ (b : Bool). (sets.nullable ≡ true) ↔ (b ≡ true)) say.nullable
+          (λ is. is, λ is. is))
           (nullable_as rate);
-      first = λ n. through (Has sets.first n) _ _ (numbers_in a.State number a.First sets.first say.first n) (first_as rate 0 n);
-      last = λ n. through (Has sets.last n) _ _ (numbers_in a.State number a.Last sets.last say.last n) (last_as rate 0 n);
+      first = λ n. through (Has sets.first n) _ _
+          (numbers_in a.State number a.First sets.first say.first n) (first_as rate 0 n);
+      last = λ n. through (Has sets.last n) _ _
+          (numbers_in a.State number a.Last sets.last say.last n) (last_as rate 0 n);
       follow = λ i n. through (Goes sets.follow i n) (Step a number i n) _
           (say.step i n, λ step. goes_at i n step) (follow_as rate 0 i n);
       preds = refl;
     }
   where
-    goes_at : (i n : ℕ) → Step (automaton_of rate) (number_of rate 0) i n → Goes (sets_of rate).follow i n
+    goes_at : (i n : ℕ) → Step (automaton_of rate) (number_of rate 0) i n
+        → Goes (sets_of rate).follow i n
     goes_at i n (p, q, at, at_next, follow) =
         subst (λ (m : ℕ). Goes (sets_of rate).follow m n) at
-        (subst (λ (m : ℕ). Goes (sets_of rate).follow (number_of rate 0 p) m) at_next ((sets_say rate).goes p q follow))
+        (subst (λ (m : ℕ). Goes (sets_of rate).follow (number_of rate 0 p) m) at_next
+        ((sets_say rate).goes p q follow))
 
 -- and sets of the textbook say what the automaton says
-say_of : (sets : Sets) (rate : Regex) → AreSetsOf sets rate → Say sets (automaton_of rate) (number_of rate 0)
+say_of : (sets : Sets) (rate : Regex) → AreSetsOf sets rate
+    → Say sets (automaton_of rate) (number_of rate 0)
 say_of sets rate are =
     let a = automaton_of rate in
     let number = number_of rate 0 in
@@ -109,16 +122,20 @@ say_of sets rate are =
     record {
       nullable = same_test sets.nullable a.nullable _ are.nullable (nullable_as rate);
       first = in_numbers a.State number a.First sets.first (λ n.
-          let same = first_as rate 0 n in (λ has. same.1 ((are.first n).0 has), λ is. (are.first n).1 (same.0 is)));
+          let same = first_as rate 0 n in
+          (λ has. same.1 ((are.first n).0 has), λ is. (are.first n).1 (same.0 is)));
       last = in_numbers a.State number a.Last sets.last (λ n.
-          let same = last_as rate 0 n in (λ has. same.1 ((are.last n).0 has), λ is. (are.last n).1 (same.0 is)));
+          let same = last_as rate 0 n in
+          (λ has. same.1 ((are.last n).0 has), λ is. (are.last n).1 (same.0 is)));
       goes = λ p q follow. (are.follow (number p) (number q)).1
           ((follow_as rate 0 (number p) (number q)).0 (p, q, refl, refl, follow));
       step = λ i n goes. (follow_as rate 0 i n).1 ((are.follow i n).0 goes);
       meets = λ p item meet.
-          subst (λ (list : List Predicate). MeetsAt list (number p) item) (sym are.preds) (preds.each p item meet);
+          subst (λ (list : List Predicate). MeetsAt list (number p) item) (sym are.preds)
+          (preds.each p item meet);
       meet = λ n item meets. meet_only a.State number a.Meet n item
-          (preds.only n item (subst (λ (list : List Predicate). MeetsAt list n item) are.preds meets));
+          (preds.only n item
+          (subst (λ (list : List Predicate). MeetsAt list n item) are.preds meets));
       apart = number_apart rate 0;
     }
 

@@ -19,12 +19,14 @@ pub record Say (sets : Sets) (a : Automaton) (number : a.State → ℕ) : Type 0
   pub goes : (p q : a.State) → a.Follow p q → Follows sets (number p) (number q)
   pub step : (i n : ℕ) → Follows sets i n → Step a number i n
   pub meets : (p : a.State) (item : List Field) → a.Meet p item → Meets sets (number p) item
-  pub meet : (n : ℕ) (item : List Field) → Meets sets n item → (p : a.State) × (number p ≡ n) × a.Meet p item
+  pub meet : (n : ℕ) (item : List Field) → Meets sets n item
+      → (p : a.State) × (number p ≡ n) × a.Meet p item
   pub apart : (p q : a.State) → number p ≡ number q → p ≡ q
 
 module _ (sets : Sets) (a : Automaton) (number : a.State → ℕ) (say : Say sets a number) where
   -- a path after a state is one after its number
-  number_path : (p : a.State) (word : Word) → Continues a p word → (to : ℕ) × LeadsOn sets (number p) word to × Has sets.last to
+  number_path : (p : a.State) (word : Word) → Continues a p word
+      → (to : ℕ) × LeadsOn sets (number p) word to × Has sets.last to
   number_path p [] last = (number p, refl, say.last.each p last)
   number_path p (item ∷ word) (q, follow, meet, on) =
       let rest = number_path q word on in
@@ -35,7 +37,8 @@ module _ (sets : Sets) (a : Automaton) (number : a.State → ℕ) (say : Say set
   renamed P p q n is other holds = subst P (say.apart p q (is ∙ sym other)) holds
 
   -- a path after a number is one after its state
-  state_path : (p : a.State) (from : ℕ) → number p ≡ from → (word : Word) (to : ℕ) → LeadsOn sets from word to → Has sets.last to → Continues a p word
+  state_path : (p : a.State) (from : ℕ) → number p ≡ from → (word : Word) (to : ℕ)
+      → LeadsOn sets from word to → Has sets.last to → Continues a p word
   state_path p from is [] to same has =
       let q = say.last.only to has in renamed a.Last q.0 p to q.1 (is ∙ same) q.2
   state_path p from is (item ∷ word) to (next, follows, meets, on) has =
@@ -59,11 +62,16 @@ module _ (sets : Sets) (a : Automaton) (number : a.State → ℕ) (say : Say set
   accepted [] nullable = sym say.nullable ∙ nullable
   accepted (item ∷ word) (to, (begin, has, meets, on), last) =
       let p = say.first.only begin has in
-      let met = say.meet begin item meets in
-      (p.0, p.2, renamed (λ r. a.Meet r item) met.0 p.0 begin met.1 p.1 met.2, state_path p.0 begin p.1 word to on last)
+      let met = say.meet begin item meets in (
+        p.0,
+        p.2,
+        renamed (λ r. a.Meet r item) met.0 p.0 begin met.1 p.1 met.2,
+        state_path p.0 begin p.1 word to on last,
+      )
 
 -- the paths over such sets spell exactly the words of the rate
-pub spell_exactly : (rate : Regex) (sets : Sets) → Say sets (automaton_of rate) (number_of rate 0) → AreOf sets rate
+pub spell_exactly : (rate : Regex) (sets : Sets) → Say sets (automaton_of rate) (number_of rate 0)
+    → AreOf sets rate
 spell_exactly rate sets say word =
     let a = automaton_of rate in (
       λ is. spelled sets a (number_of rate 0) say word (in_accepted rate word is),

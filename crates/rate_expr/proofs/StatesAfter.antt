@@ -1,5 +1,6 @@
 -- After each word there is a state, and only one.
-use Rattle.std.proofs.Common.{◌≡◌, ◌⊎◌, inl, inr, ℕ, zero, suc, ◌^◌, ◌<◌, ◌≤◌, ◌↔◌, true, List, [], ◌∷◌, length, bit_or, refl, sym, ap, subst, arith}
+use Rattle.std.proofs.Common.{◌≡◌, ◌⊎◌, inl, inr, ℕ, zero, suc, ◌^◌, ◌<◌, ◌≤◌, ◌↔◌, true, List, []}
+use Rattle.std.proofs.Common.{◌∷◌, length, bit_or, refl, sym, ap, subst, arith}
 use Rattle.std.proofs.Math.Nat.{eq-or-lt_of_le}
 use Rattle.std.proofs.lemmas.Bool.Decides.{eqb_tells}
 use Rattle.value_ops.specs.declared.field.Field.{Field}
@@ -13,7 +14,8 @@ use Rattle.rate_expr.specs.declared.state.State.{State}
 use Rattle.rate_expr.specs.declared.state.State.TheVariants.{Initial, At}
 use Rattle.rate_expr.proofs.Deciding.{Decided, decided_as, decided_three, decided_test}
 use Rattle.rate_expr.proofs.Linking.{Goes}
-use Rattle.rate_expr.proofs.MaskMembers.{has_zero, has_one, has_only_one, has_or, has_first, has_second}
+use Rattle.rate_expr.proofs.MaskMembers.{has_zero, has_one, has_only_one, has_or, has_first}
+use Rattle.rate_expr.proofs.MaskMembers.{has_second}
 use Rattle.rate_expr.proofs.MaskSets.{below-has, same-has}
 use Rattle.rate_expr.proofs.Meetings.{MeetsAt}
 use Rattle.rate_expr.proofs.PathSteps.{meets_below, leads_below}
@@ -29,24 +31,27 @@ decided_goes [] before next = inr none
     none : Goes [] before next → ⊥
     none (mask, is, has) = cc
 decided_goes (mask ∷ masks) zero next =
-    decided_as (Has mask next) (Goes (mask ∷ masks) zero next) (λ has. (mask, refl, has)) here (decided_same _ 1)
+    decided_as (Has mask next) (Goes (mask ∷ masks) zero next) (λ has. (mask, refl, has)) here
+    (decided_same _ 1)
   where
     here : Goes (mask ∷ masks) zero next → Has mask next
     here (other, is, has) = let same : other ≡ mask = cc in subst (λ (m : ℕ). Has m next) same has
 decided_goes (mask ∷ masks) (suc before) next = decided_goes masks before next
 
 -- whether an item meets a position
-decided_meets : (preds : List Predicate) (position : ℕ) (item : List Field) → Decided (MeetsAt preds position item)
+decided_meets : (preds : List Predicate) (position : ℕ) (item : List Field)
+    → Decided (MeetsAt preds position item)
 decided_meets [] position item = inr none
   where
     none : MeetsAt [] position item → ⊥
     none (pred, is, meet) = cc
 decided_meets (pred ∷ preds) zero item =
-    decided_as (holds pred item ≡ true) (MeetsAt (pred ∷ preds) zero item) (λ meet. (pred, refl, meet)) here
-    (decided_test (holds pred item))
+    decided_as (holds pred item ≡ true) (MeetsAt (pred ∷ preds) zero item)
+    (λ meet. (pred, refl, meet)) here (decided_test (holds pred item))
   where
     here : MeetsAt (pred ∷ preds) zero item → holds pred item ≡ true
-    here (other, is, meet) = let same : other ≡ pred = cc in subst (λ (p : Predicate). holds p item ≡ true) same meet
+    here (other, is, meet) = let same : other ≡ pred = cc in
+        subst (λ (p : Predicate). holds p item ≡ true) same meet
 decided_meets (pred ∷ preds) (suc position) item = decided_meets preds position item
 
 -- one below the next number is that number or below it
@@ -54,7 +59,8 @@ this_or_below : (i n : ℕ) → i < suc n → (i ≡ n) ⊎ (i < n)
 this_or_below i n below = let most : i ≤ n = omega arith in eq-or-lt_of_le most
 
 -- whether some number below a bound has a decided property
-some_below : (bound : ℕ) (P : ℕ → Type 0) → ((i : ℕ) → Decided (P i)) → Decided ((i : ℕ) × (i < bound) × P i)
+some_below : (bound : ℕ) (P : ℕ → Type 0) → ((i : ℕ) → Decided (P i))
+    → Decided ((i : ℕ) × (i < bound) × P i)
 some_below zero P each = inr (λ some. let below = some.1 in omega arith)
 some_below (suc bound) P each = elim (each bound) [
   | inl holds ↦ inl (bound, omega arith, holds)
@@ -68,8 +74,10 @@ some_below (suc bound) P each = elim (each bound) [
 ]
 
 -- the mask of the numbers below a bound that have a decided property
-mask_of : (bound : ℕ) (P : ℕ → Type 0) → ((i : ℕ) → Decided (P i)) → (mask : ℕ) × ((i : ℕ) → Has mask i ↔ ((i < bound) × P i))
-mask_of zero P each = (0, λ i. (λ has. absurd (has_zero i has), λ both. let below = both.0 in absurd (omega arith)))
+mask_of : (bound : ℕ) (P : ℕ → Type 0) → ((i : ℕ) → Decided (P i))
+    → (mask : ℕ) × ((i : ℕ) → Has mask i ↔ ((i < bound) × P i))
+mask_of zero P each =
+    (0, λ i. (λ has. absurd (has_zero i has), λ both. let below = both.0 in absurd (omega arith)))
 mask_of (suc bound) P each =
     let rest = mask_of bound P each in
     elim (each bound) [
@@ -81,7 +89,8 @@ mask_of (suc bound) P each =
             | inr one ↦ let same = has_only_one bound i one in (omega arith, subst P same holds)
           ],
           λ both. elim (this_or_below i bound both.0) [
-            | inl same ↦ has_second rest.0 (2 ^ bound) i (subst (λ (n : ℕ). Has (2 ^ bound) n) (sym same) (has_one bound))
+            | inl same ↦ has_second rest.0 (2 ^ bound) i
+                (subst (λ (n : ℕ). Has (2 ^ bound) n) (sym same) (has_one bound))
             | inr below ↦ has_first rest.0 (2 ^ bound) i ((rest.1 i).1 (below, both.1))
           ],
         ),
@@ -102,21 +111,24 @@ mask_of (suc bound) P each =
 decided_on : (sets : Sets) (from : ℕ) (word : Word) (to : ℕ) → Decided (LeadsOn sets from word to)
 decided_on sets from [] to = decided_same from to
 decided_on sets from (item ∷ word) to =
-    let Next : ℕ → Type 0 = λ next. Follows sets from next × Meets sets next item × LeadsOn sets next word to in
-    decided_as ((next : ℕ) × (next < length sets.preds) × Next next) (LeadsOn sets from (item ∷ word) to)
-    (λ some. (some.0, some.2.0, some.2.1, some.2.2))
+    let Next : ℕ → Type 0 =
+    λ next. Follows sets from next × Meets sets next item × LeadsOn sets next word to in
+    decided_as ((next : ℕ) × (next < length sets.preds) × Next next)
+    (LeadsOn sets from (item ∷ word) to) (λ some. (some.0, some.2.0, some.2.1, some.2.2))
     (λ on. (on.0, meets_below sets on.0 item on.2, (on.1, on.2, on.3)))
     (some_below (length sets.preds) Next (λ next.
     decided_three (Follows sets from next) (Meets sets next item) (LeadsOn sets next word to)
-    (decided_goes sets.follow from next) (decided_meets sets.preds next item) (decided_on sets next word to)))
+    (decided_goes sets.follow from next) (decided_meets sets.preds next item)
+    (decided_on sets next word to)))
 
 -- and one from the beginning
 decided_leads : (sets : Sets) (word : Word) (to : ℕ) → Decided (Leads sets word to)
 decided_leads sets [] to = inr (λ none. none)
 decided_leads sets (item ∷ word) to =
-    let Begin : ℕ → Type 0 = λ begin. Has sets.first begin × Meets sets begin item × LeadsOn sets begin word to in
-    decided_as ((begin : ℕ) × (begin < length sets.preds) × Begin begin) (Leads sets (item ∷ word) to)
-    (λ some. (some.0, some.2.0, some.2.1, some.2.2))
+    let Begin : ℕ → Type 0 =
+    λ begin. Has sets.first begin × Meets sets begin item × LeadsOn sets begin word to in
+    decided_as ((begin : ℕ) × (begin < length sets.preds) × Begin begin)
+    (Leads sets (item ∷ word) to) (λ some. (some.0, some.2.0, some.2.1, some.2.2))
     (λ on. (on.0, meets_below sets on.0 item on.2, (on.1, on.2, on.3)))
     (some_below (length sets.preds) Begin (λ begin.
     decided_three (Has sets.first begin) (Meets sets begin item) (LeadsOn sets begin word to)
@@ -126,7 +138,8 @@ decided_leads sets (item ∷ word) to =
 pub some_after : (sets : Sets) (word : Word) → (state : State) × IsAfter sets word state
 some_after sets [] = (Initial, tt)
 some_after sets (item ∷ word) =
-    let made = mask_of (length sets.preds) (λ to. Leads sets (item ∷ word) to) (decided_leads sets (item ∷ word)) in (
+    let made = mask_of (length sets.preds) (λ to. Leads sets (item ∷ word) to)
+    (decided_leads sets (item ∷ word)) in (
       At made.0,
       λ to. (
         λ has. ((made.1 to).0 has).1,
@@ -135,14 +148,17 @@ some_after sets (item ∷ word) =
     )
 
 -- whose positions exist
-pub after_exists : (sets : Sets) (word : Word) (state : State) → IsAfter sets word state → IsStateOf sets state
+pub after_exists : (sets : Sets) (word : Word) (state : State) → IsAfter sets word state
+    → IsStateOf sets state
 after_exists sets word Initial after = tt
 after_exists sets [] (At mask) after = absurd after
 after_exists sets (item ∷ word) (At mask) after =
-    below-has mask (length sets.preds) (λ to has. leads_below sets (item ∷ word) to ((after to).0 has))
+    below-has mask (length sets.preds)
+    (λ to has. leads_below sets (item ∷ word) to ((after to).0 has))
 
 -- and no other
-pub one_after : (sets : Sets) (word : Word) (state other : State) → IsAfter sets word state → IsAfter sets word other → other ≡ state
+pub one_after : (sets : Sets) (word : Word) (state other : State) → IsAfter sets word state
+    → IsAfter sets word other → other ≡ state
 one_after sets [] Initial Initial after also = refl
 one_after sets [] Initial (At mask) after also = absurd also
 one_after sets [] (At mask) other after also = absurd after

@@ -1,5 +1,6 @@
 -- Words of items: put together and taken apart.
-use Rattle.std.proofs.Common.{◌≡◌, ◌≢◌, ◌<◌, List, [], ◌∷◌, ◌++◌, ◌⊎◌, length, refl, sym, ap, inl, inr, arith, length-append}
+use Rattle.std.proofs.Common.{◌≡◌, ◌≢◌, ◌<◌, List, [], ◌∷◌, ◌++◌, ◌⊎◌, length, refl, sym, ap, inl}
+use Rattle.std.proofs.Common.{inr, arith, length-append}
 use Rattle.value_ops.specs.declared.field.Field.{Field}
 use Rattle.item_schema.specs.declared.column.Column.{Column}
 use Rattle.item_schema.specs.Items.{IsItemOf}
@@ -15,7 +16,8 @@ word_more columns (x ∷ word) item is one = (is.0, word_more columns word item 
 pub word_parts : (columns : List Column) (u v : Word) → IsWordOf columns (u ++ v)
     → IsWordOf columns u × IsWordOf columns v
 word_parts columns [] v is = (tt, is)
-word_parts columns (x ∷ u) v is = let parts = word_parts columns u v is.1 in ((is.0, parts.0), parts.1)
+word_parts columns (x ∷ u) v is = let parts = word_parts columns u v is.1 in
+    ((is.0, parts.0), parts.1)
 
 -- of two beginnings of one word, one continues to the other
 pub comparable : (u v u' v' : Word) → u ++ v ≡ u' ++ v'

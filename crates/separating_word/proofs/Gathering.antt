@@ -16,8 +16,8 @@ module _ (automata : Automata) (cell : ℕ) (known known' : List (ℕ × ℕ)) (
   -- one more cell, for whose masks some letter stands
   gathered_next : (letters' : List Letter) → AreOfCells automata letters'
       → ((letter : Letter) → Contains letters letter → Contains letters' letter)
-      → (letter : Letter) × Contains letters' letter × (letter.left ≡ masks.0) × (letter.right ≡ masks.1)
-      → AreGathered automata (cell + 1) known' letters'
+      → (letter : Letter) × Contains letters' letter × (letter.left ≡ masks.0)
+      × (letter.right ≡ masks.1) → AreGathered automata (cell + 1) known' letters'
   gathered_next letters' cells kept one = record {
     cells = cells;
     stands = λ other c. elim (put.only other c) [
@@ -42,13 +42,15 @@ module _ (automata : Automata) (cell : ℕ) (known known' : List (ℕ × ℕ)) (
       → letter.cell < cell_count automata.left.cells
       → AreGathered automata (cell + 1) known' (letters ++ letter ∷ [])
   gathered_new letter left right lt = gathered_next (letters ++ letter ∷ [])
-      (All-push (λ letter. letter.cell < cell_count automata.left.cells) letters letter before.cells lt)
+      (All-push (λ letter. letter.cell < cell_count automata.left.cells) letters letter
+      before.cells lt)
       (λ other c. Contains-append_left letters (letter ∷ []) other c)
       (letter, Contains-push letters letter, left, right)
 
 -- all cells
 pub gathered_all : (automata : Automata) (known : List (ℕ × ℕ)) (letters : List Letter)
-    → AreGathered automata (cell_count automata.left.cells) known letters → AreLetters automata letters
+    → AreGathered automata (cell_count automata.left.cells) known letters
+    → AreLetters automata letters
 gathered_all automata known letters all = record {
   cells = all.cells;
   whole = λ cell lt.

@@ -21,7 +21,8 @@ module _ (automata : Automata) where
   grown_none known next = record { kept = λ masks c. c; more = λ masks c. inl c }
 
   -- items lead into what is known where they lead into a part of it
-  pub lead_more : (known known' : List (ℕ × ℕ)) → ((masks : ℕ × ℕ) → Contains known masks → Contains known' masks)
+  pub lead_more : (known known' : List (ℕ × ℕ))
+      → ((masks : ℕ × ℕ) → Contains known masks → Contains known' masks)
       → (left right : State) → LeadIntoKnown automata known left right
       → LeadIntoKnown automata known' left right
   lead_more known known' kept left right lead item is =

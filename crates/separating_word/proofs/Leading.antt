@@ -1,5 +1,6 @@
 -- Where items lead, by letters.
-use Rattle.std.proofs.Common.{◌≡◌, ◌∙◌, ℕ, ◌<◌, ◌+◌, List, length, get_or, bit_and, refl, sym, ap, subst, inl, inr, arith}
+use Rattle.std.proofs.Common.{◌≡◌, ◌∙◌, ℕ, ◌<◌, ◌+◌, List, length, get_or, bit_and, refl, sym, ap}
+use Rattle.std.proofs.Common.{subst, inl, inr, arith}
 use Rattle.std.specs.List.{Contains}
 use Rattle.std.proofs.lemmas.Bool.{cases_lt}
 use Rattle.std.proofs.lemmas.List.{get_or_default}
@@ -23,7 +24,8 @@ module _ (automata : Automata) (shared : ShareCells automata) (letters : List Le
     (on_right : AreWaysOn automata.right.sets right ways.1) where
   -- each item leads where some letter does
   pub lead_into_known : (known : List (ℕ × ℕ))
-      → ((k : ℕ) (d : Letter) → k < length letters → Contains known (target ways (get_or letters k d)))
+      → ((k : ℕ) (d : Letter) → k < length letters
+      → Contains known (target ways (get_or letters k d)))
       → LeadIntoKnown automata known left right
   lead_into_known known all item is =
       let cell = cell_of automata.left.cells item in
@@ -31,8 +33,8 @@ module _ (automata : Automata) (shared : ShareCells automata) (letters : List Le
       let letter = found.0 in (
         target ways letter,
         All-contains (λ letter. Contains known (target ways letter)) letters letter all found.1,
-        steps_to-and automata.left.sets automata.left.cells left cell ways.0 letter.left item on_left
-            found.2.0 (is, refl),
+        steps_to-and automata.left.sets automata.left.cells left cell ways.0
+            letter.left item on_left found.2.0 (is, refl),
         steps_to-and automata.right.sets automata.right.cells right cell ways.1 letter.right item
             on_right found.2.1 (subst (λ (cs : Partition). IsIn cs cell item) shared (is, refl)),
       )
@@ -53,9 +55,9 @@ one_further P xs i e below within is here k d lt = elim (cases_lt k i) [
 ]
 
 -- one letter more leads to what is known
-pub led_next : (letters : List Letter) (ways : ℕ × ℕ) (known known' : List (ℕ × ℕ)) (i : ℕ) (letter : Letter)
-    (masks : ℕ × ℕ) → IsPut known known' masks → i < length letters → letter ≡ get_or letters i letter
-    → masks ≡ target ways letter
+pub led_next : (letters : List Letter) (ways : ℕ × ℕ) (known known' : List (ℕ × ℕ)) (i : ℕ)
+    (letter : Letter) (masks : ℕ × ℕ) → IsPut known known' masks → i < length letters
+    → letter ≡ get_or letters i letter → masks ≡ target ways letter
     → ((k : ℕ) (d : Letter) → k < i → Contains known (target ways (get_or letters k d)))
     → (k : ℕ) (d : Letter) → k < i + 1 → Contains known' (target ways (get_or letters k d))
 led_next letters ways known known' i letter masks put within is leads before =
@@ -65,5 +67,6 @@ led_next letters ways known known' i letter masks put within is leads before =
 
 -- what holds of each holds of the one at an index
 pub holds_at : {A : Type 0} (P : A → Type 0) (xs : List A) (i : ℕ) (e : A)
-    → ((k : ℕ) (d : A) → k < length xs → P (get_or xs k d)) → i < length xs → e ≡ get_or xs i e → P e
+    → ((k : ℕ) (d : A) → k < length xs → P (get_or xs k d)) → i < length xs
+    → e ≡ get_or xs i e → P e
 holds_at P xs i e all within is = subst P (sym is) (all i e within)

@@ -1,14 +1,16 @@
 -- Masks that are put among others.
-use Rattle.std.proofs.Common.{◌≡◌, ℕ, Bool, true, false, List, [], ◌∷◌, ◌++◌, refl, sym, ap, subst, inl, if◌then◌else◌}
+use Rattle.std.proofs.Common.{◌≡◌, ℕ, Bool, true, false, List, [], ◌∷◌, ◌++◌, refl, sym, ap, subst}
+use Rattle.std.proofs.Common.{inl, if◌then◌else◌}
 use Rattle.std.specs.List.{Contains, IsDistinct, list_any}
-use Rattle.std.proofs.lemmas.List.Elements.{Contains-append_left, Contains-push, Contains-push_cases}
+use Rattle.std.proofs.lemmas.List.Elements.{Contains-append_left, Contains-push}
+use Rattle.std.proofs.lemmas.List.Elements.{Contains-push_cases}
 use Rattle.indexmap.specs.IndexSet.{insert_key}
 use Rattle.indexmap.proofs.CallerLemmas.{Contains-list_any}
 use Rattle.separating_word.specs.Known.{IsPut}
 
 module _ (eq : ℕ × ℕ → ℕ × ℕ → Bool) (known : List (ℕ × ℕ)) (masks : ℕ × ℕ) where
-  by_test : ((x y : ℕ × ℕ) → eq x y ≡ true → x ≡ y) → (test : Bool) → list_any (eq masks) known ≡ test
-      → IsPut known (insert_key eq known masks) masks
+  by_test : ((x y : ℕ × ℕ) → eq x y ≡ true → x ≡ y) → (test : Bool)
+      → list_any (eq masks) known ≡ test → IsPut known (insert_key eq known masks) masks
   by_test same true is =
       let here : insert_key eq known masks ≡ known =
       ap (λ (test : Bool). if test then known else known ++ masks ∷ []) is in

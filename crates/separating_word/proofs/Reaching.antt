@@ -1,5 +1,6 @@
 -- What a letter leads to from states that were reached.
-use Rattle.std.proofs.Common.{◌≡◌, ℕ, ◌+◌, ◌<◌, ◌^◌, List, [], ◌∷◌, ◌++◌, length, length-append, get_or, sym, ap, subst, arith}
+use Rattle.std.proofs.Common.{◌≡◌, ℕ, ◌+◌, ◌<◌, ◌^◌, List, [], ◌∷◌, ◌++◌, length, length-append}
+use Rattle.std.proofs.Common.{get_or, sym, ap, subst, arith}
 use Rattle.std.proofs.lemmas.List.Elements.{All-push}
 use Rattle.predicate_cells.specs.Cells.{cell_count}
 use Rattle.rate_expr.specs.After.{IsStateOf}
@@ -13,15 +14,17 @@ use Rattle.separating_word.specs.declared.letters.Letter.{Letter}
 use Rattle.separating_word.specs.declared.search.Reached.{Reached}
 use Rattle.separating_word.proofs.Leading.{within_ways}
 
-module _ (automata : Automata) (letters : List Letter) (are : AreLetters automata letters) (from : Reached)
-    (is_from : IsReachedIn automata from) (i : ℕ) (letter : Letter) (within : i < length letters)
-    (is : letter ≡ get_or letters i letter) (word : List ℕ)
+module _ (automata : Automata) (letters : List Letter) (are : AreLetters automata letters)
+    (from : Reached) (is_from : IsReachedIn automata from) (i : ℕ) (letter : Letter)
+    (within : i < length letters) (is : letter ≡ get_or letters i letter) (word : List ℕ)
     (longer : word ≡ from.word.items ++ letter.cell ∷ []) where
   -- the word has one more cell
   pub cells_next : AreCellsOf automata word
-  cells_next = subst (AreCellsOf automata) (sym longer) (All-push (λ cell. cell < cell_count automata.left.cells)
+  cells_next = subst (AreCellsOf automata) (sym longer)
+      (All-push (λ cell. cell < cell_count automata.left.cells)
       from.word.items letter.cell is_from.cells
-      (subst (λ (l : Letter). l.cell < cell_count automata.left.cells) (sym is) (are.cells i letter within)))
+      (subst (λ (l : Letter). l.cell < cell_count automata.left.cells) (sym is)
+      (are.cells i letter within)))
 
   pub one_longer : length word ≡ length from.word.items + 1
   one_longer = omega (arith, ap length longer, length-append from.word.items (letter.cell ∷ []))

@@ -1,5 +1,6 @@
 -- What a search has found out, level by level.
-use Rattle.std.proofs.Common.{◌≡◌, ℕ, ◌+◌, ◌<◌, ◌≤◌, ◌⊎◌, List, [], ◌∷◌, ◌++◌, length, refl, sym, ap, subst, inl, inr, arith}
+use Rattle.std.proofs.Common.{◌≡◌, ℕ, ◌+◌, ◌<◌, ◌≤◌, ◌⊎◌, List, [], ◌∷◌, ◌++◌, length, refl, sym}
+use Rattle.std.proofs.Common.{ap, subst, inl, inr, arith}
 use Rattle.std.specs.List.{Contains}
 use Rattle.std.proofs.lemmas.Bool.{cases_lt}
 use Rattle.value_ops.specs.declared.field.Field.{Field}
@@ -9,7 +10,8 @@ use Rattle.rate_expr.specs.declared.state.State.{State}
 use Rattle.rate_expr.specs.declared.state.State.TheVariants.{Initial, At}
 use Rattle.rate_expr.proofs.Wording.{word_parts}
 use Rattle.symbolic_nfa.proofs.WordsAfter.{is_after-step}
-use Rattle.separating_word.specs.Searched.{Agree, AgreeBelow, AreAfter, AreAmong, AreKnown, IsGrown, IsSearched, LeadIntoKnown}
+use Rattle.separating_word.specs.Searched.{Agree, AgreeBelow, AreAfter, AreAmong, AreKnown, IsGrown}
+use Rattle.separating_word.specs.Searched.{IsSearched, LeadIntoKnown}
 use Rattle.separating_word.specs.declared.automata.Automata.{Automata}
 use Rattle.separating_word.specs.declared.search.Reached.{Reached}
 use Rattle.separating_word.proofs.Growing.{lead_more}
@@ -32,8 +34,8 @@ none_in masks (k, below, is) = absurd (omega arith)
 
 module _ (automata : Automata) where
   -- before the first item, the initial states are the only ones known
-  module _ (known : List (ℕ × ℕ)) (none : known ≡ []) (level : List Reached) (agree : Agree automata Initial Initial)
-      (among : AreAmong level Initial Initial) where
+  module _ (known : List (ℕ × ℕ)) (none : known ≡ []) (level : List Reached)
+      (agree : Agree automata Initial Initial) (among : AreAmong level Initial Initial) where
     none_known : (masks : ℕ × ℕ) → Contains known masks → ⊥
     none_known masks c = none_in masks (subst (λ (l : List (ℕ × ℕ)). Contains l masks) none c)
 
@@ -44,7 +46,8 @@ module _ (automata : Automata) where
     first_agree (At left) (At right) is_known = absurd (none_known (left, right) is_known)
 
     first_words : (word : Word) → IsWordOf automata.left.cells.layout.columns word → length word ≤ 0
-        → (left : State) × (right : State) × AreAfter automata word left right × AreKnown known left right
+        → (left : State) × (right : State) × AreAfter automata word left right
+        × AreKnown known left right
     first_words [] is few = (Initial, Initial, (tt, tt), tt)
     first_words (item ∷ word) is few = absurd (omega arith)
 
@@ -78,7 +81,8 @@ module _ (automata : Automata) where
     known_still (At left) (At right) known = grown.kept (left, right) known
 
     -- items lead on from it
-    leads_on : (left right : State) → AreKnown old left right → LeadIntoKnown automata new left right
+    leads_on : (left right : State) → AreKnown old left right
+        → LeadIntoKnown automata new left right
     leads_on left right known = elim (before.gone left right known) [
       | inl led ↦ lead_more automata old new grown.kept left right led
       | inr (reached, c, same, same') ↦
@@ -124,8 +128,9 @@ module _ (automata : Automata) where
           led.1,
         )
 
-    words_on : (word : Word) → IsWordOf automata.left.cells.layout.columns word → length word ≤ items + 1
-        → (left : State) × (right : State) × AreAfter automata word left right × AreKnown new left right
+    words_on : (word : Word) → IsWordOf automata.left.cells.layout.columns word
+        → length word ≤ items + 1 → (left : State) × (right : State)
+        × AreAfter automata word left right × AreKnown new left right
     words_on word is few = elim (cases_lt items (length word)) [
       | inr most ↦
           let at = before.words word is most in

@@ -17,9 +17,12 @@ pub share_below : (left right : OnStream) (automata : Automata) (items : ℕ)
     → AreOfRates left right automata → AgreeBelow automata items
     → ShareWordsBelow (monitor_of left) (monitor_of right) items
 share_below left right automata items of agree word is less =
-    let at = agree word (subst (λ (layout : Layout). IsWordOf layout.columns word) (sym of.layout) is) less in
-    let one = is_accepted-in automata.left.sets (rate_of (plain_of left.main.shape)) word at.0 of.left_of at.2.0 in
-    let other = is_accepted-in automata.right.sets (rate_of (plain_of right.main.shape)) word at.1 of.right_of
+    let at = agree word
+    (subst (λ (layout : Layout). IsWordOf layout.columns word) (sym of.layout) is) less in
+    let one = is_accepted-in automata.left.sets (rate_of (plain_of left.main.shape)) word at.0
+    of.left_of at.2.0 in
+    let other = is_accepted-in automata.right.sets (rate_of (plain_of right.main.shape)) word
+    at.1 of.right_of
     at.2.1 in (
       λ in_left. other.0 (at.3.0 (one.1 in_left)),
       λ in_right. one.0 (at.3.1 (other.1 in_right)),

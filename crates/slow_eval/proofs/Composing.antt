@@ -1,5 +1,8 @@
 -- The answers of a composition.
-use Rattle.std.proofs.Common.{append-nil, append_assoc, ◌≡◌, ◌≤◌, ℕ, suc, ◌+◌, ◌++◌, ◌∙◌, List, [], ◌∷◌, Option, Some, None, length, take, drop, get_or, refl, sym, subst, ap, arith, inl, inr, length-append, length-take-le, take_at, take_all, get_or-take}
+use Rattle.std.proofs.Common.{append-nil, append_assoc, ◌≡◌, ◌≤◌, ℕ, suc, ◌+◌, ◌++◌, ◌∙◌, List, []}
+use Rattle.std.proofs.Common.{◌∷◌, Option, Some, None, length, take, drop, get_or, refl, sym, subst}
+use Rattle.std.proofs.Common.{ap, arith, inl, inr, length-append, length-take-le, take_at, take_all}
+use Rattle.std.proofs.Common.{get_or-take}
 use Rattle.std.proofs.lemmas.List.{take-take}
 use Rattle.std.specs.Prelude.{MatchOption}
 use Rattle.std.specs.Option.{option_and}
@@ -32,7 +35,8 @@ stream_first None row = refl
 stream_first (Some v) row = refl
 
 -- the values on all fronts of a word after a first part come out
-outputs : (D : Word → Value → Type 0) (before word : Word) (row : List (Option Value)) → length row ≡ length word + 1
+outputs : (D : Word → Value → Type 0) (before word : Word) (row : List (Option Value))
+    → length row ≡ length word + 1
     → ((k : ℕ) → k ≤ length word → IsValueOn D (before ++ take k word) (get_or row k None))
     → Outputs D before word (stream_of row)
 outputs D before [] [] count each = absurd (omega arith)
@@ -47,14 +51,15 @@ outputs D before (item ∷ word) (answer ∷ row) count each = (
   subst (λ w. Emits D w (stream_of (answer ∷ []))) (append-nil before)
       (emits D (before ++ []) answer (each 0 (omega arith))),
   outputs D (before ++ item ∷ []) word row (omega arith)
-      (λ k inside. subst (λ w. IsValueOn D w (get_or row k None)) (sym (append_assoc before (item ∷ []) (take k word)))
-      (each (suc k) (omega arith))),
+      (λ k inside. subst (λ w. IsValueOn D w (get_or row k None))
+      (sym (append_assoc before (item ∷ []) (take k word))) (each (suc k) (omega arith))),
   stream_first answer row,
 )
 
 -- those on the fronts of a front
-outputs_at : (f : Qre) (word : Word) (firsts : List (Option Value)) (place : ℕ) → AreAnswers f word firsts
-    → place ≤ length word → Outputs (Den f) [] (take place word) (stream_of (take (place + 1) firsts))
+outputs_at : (f : Qre) (word : Word) (firsts : List (Option Value)) (place : ℕ)
+    → AreAnswers f word firsts → place ≤ length word
+    → Outputs (Den f) [] (take place word) (stream_of (take (place + 1) firsts))
 outputs_at f word firsts place answers inside =
     let count : length firsts ≡ length word + 1 = answers.count in
     let short : length (take place word) ≡ place = length-take-le place word inside in
@@ -62,7 +67,8 @@ outputs_at f word firsts place answers inside =
     (length-take-le (place + 1) firsts (omega arith) ∙ ap (λ n. n + 1) (sym short))
     (λ k within.
     let below : k ≤ place = omega arith in
-    subst (IsAnswer f (take k (take place word))) (sym (get_or-take (place + 1) firsts k None (omega arith)))
+    subst (IsAnswer f (take k (take place word)))
+    (sym (get_or-take (place + 1) firsts k None (omega arith)))
     (subst (λ w. IsAnswer f w (get_or firsts k None)) (sym (take-take k place word below))
     (answers.each k (omega arith))))
 
@@ -86,8 +92,8 @@ of_source f g word can = record {
   positions = can.positions.0;
 }
 
-pub of_stream : (f g : Qre) (word : Word) (firsts : List (Option Value)) → CanBeRead (compose f g) word
-    → AreAnswers f word firsts → CanBeRead g (stream_of firsts)
+pub of_stream : (f g : Qre) (word : Word) (firsts : List (Option Value))
+    → CanBeRead (compose f g) word → AreAnswers f word firsts → CanBeRead g (stream_of firsts)
 of_stream f g word firsts can answers = record {
   standing = can.standing;
   columns = derived_columns (type_of can.columns f);
@@ -119,9 +125,11 @@ module _ (f g : Qre) (word : Word) (firsts seconds : List (Option Value)) (place
       → other ≡ stream_of (take (place + 1) firsts)
   only other outputs_other =
       outputs_one can.columns (Den f)
-      (λ part v w part_is den den'. one_value can.standing can.columns f part v w can.clear.0 part_is den den')
+      (λ part v w part_is den den'. one_value can.standing can.columns f part v w can.clear.0
+      part_is den den')
       [] (take place word) other (stream_of (take (place + 1) firsts)) tt
-      (front_word can.columns word place can.is_word) outputs_other (outputs_at f word firsts place left inside)
+      (front_word can.columns word place can.is_word) outputs_other
+      (outputs_at f word firsts place left inside)
 
   composed_at : (first second : Option Value) → IsAnswer f (take place word) first
       → IsAnswer g (stream_of (take (place + 1) firsts)) second
@@ -130,12 +138,18 @@ module _ (f g : Qre) (word : Word) (firsts seconds : List (Option Value)) (place
   composed_at (Some x) None den none =
       λ v (x', other, den'', outputs_other, den').
       none v (subst (λ o. Den g o v) (only other outputs_other) den')
-  composed_at (Some x) (Some v) den den' =
-      (x, stream_of (take (place + 1) firsts), den, outputs_at f word firsts place left inside, den')
+  composed_at (Some x) (Some v) den den' = (
+    x,
+    stream_of (take (place + 1) firsts),
+    den,
+    outputs_at f word firsts place left inside,
+    den',
+  )
 
 -- all answers of a composition
-pub composed : (f g : Qre) (word : Word) (firsts seconds row : List (Option Value)) → CanBeRead (compose f g) word
-    → AreAnswers f word firsts → AreAnswers g (stream_of firsts) seconds → IsOnStream firsts seconds row
+pub composed : (f g : Qre) (word : Word) (firsts seconds row : List (Option Value))
+    → CanBeRead (compose f g) word → AreAnswers f word firsts
+    → AreAnswers g (stream_of firsts) seconds → IsOnStream firsts seconds row
     → AreAnswers (compose f g) word row
 composed f g word firsts seconds row can left right is = record {
   count = is.count ∙ left.count;
@@ -143,6 +157,7 @@ composed f g word firsts seconds row can left right is = record {
       let count : length firsts ≡ length word + 1 = left.count in
       subst (IsAnswer (compose f g) (take place word)) (sym (is.each place (omega arith)))
       (composed_at f g word firsts seconds place can left right inside
-      (get_or firsts place None) (get_or seconds (length (stream_of (take (place + 1) firsts))) None)
+      (get_or firsts place None)
+      (get_or seconds (length (stream_of (take (place + 1) firsts))) None)
       (left.each place inside) (outer f g word firsts seconds place can left right inside));
 }

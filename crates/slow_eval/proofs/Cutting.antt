@@ -1,5 +1,7 @@
 -- Fronts of words, and what is after them.
-use Rattle.std.proofs.Common.{append_assoc, ◌≡◌, ◌≤◌, ℕ, ◌+◌, ◌-◌, ◌++◌, ◌∙◌, List, length, take, drop, refl, sym, subst, ap, arith, length-append, length-take-le, take-append-drop, take_at, drop_at, take_all, length-drop}
+use Rattle.std.proofs.Common.{append_assoc, ◌≡◌, ◌≤◌, ℕ, ◌+◌, ◌-◌, ◌++◌, ◌∙◌, List, length, take}
+use Rattle.std.proofs.Common.{drop, refl, sym, subst, ap, arith, length-append, length-take-le}
+use Rattle.std.proofs.Common.{take-append-drop, take_at, drop_at, take_all, length-drop}
 use Rattle.item_schema.specs.declared.column.Column.{Column}
 use Rattle.rate_expr.specs.Words.{Word, IsWordOf}
 use Rattle.rate_expr.proofs.Wording.{word_parts}
@@ -15,12 +17,16 @@ pub cut : (word : Word) (place : ℕ) (first second : Word) → place ≤ length
 cut word place first second inside whole =
     let after = drop place word in
     let all : word ≡ first ++ (second ++ after) =
-    sym (take-append-drop place word) ∙ ap (λ u. u ++ drop place word) whole ∙ append_assoc first second (drop place word) in
+    sym (take-append-drop place word) ∙ ap (λ u. u ++ drop place word) whole
+    ∙ append_assoc first second (drop place word) in
     record {
-      count = sym (length-append first second) ∙ sym (ap length whole) ∙ length-take-le place word inside;
-      front = sym (ap (take (length first)) all ∙ take_at first (second ++ drop place word) (length first) refl);
+      count = sym (length-append first second) ∙ sym (ap length whole)
+          ∙ length-take-le place word inside;
+      front = sym (ap (take (length first)) all
+          ∙ take_at first (second ++ drop place word) (length first) refl);
       rest = sym (ap (λ u. take (length second) (drop (length first) u)) all
-          ∙ ap (take (length second)) (drop_at first (second ++ drop place word) (length first) refl)
+          ∙ ap (take (length second))
+          (drop_at first (second ++ drop place word) (length first) refl)
           ∙ take_at second (drop place word) (length second) refl);
     }
 
@@ -38,5 +44,7 @@ rest_word columns word place is =
     (subst (IsWordOf columns) (sym (take-append-drop place word)) is)).1
 
 -- all that is after a front
-pub rest_is : (word : Word) (place : ℕ) → take (length word - place) (drop place word) ≡ drop place word
-rest_is word place = take_all (length word - place) (drop place word) (omega (arith, length-drop place word))
+pub rest_is : (word : Word) (place : ℕ)
+    → take (length word - place) (drop place word) ≡ drop place word
+rest_is word place =
+    take_all (length word - place) (drop place word) (omega (arith, length-drop place word))

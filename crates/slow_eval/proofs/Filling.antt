@@ -1,5 +1,6 @@
 -- Rows that are filled with what a left value on a front and a right value after it give.
-use Rattle.std.proofs.Common.{◌≡◌, ◌<◌, ◌≤◌, ℕ, ◌+◌, ◌-◌, ◌∙◌, List, Option, Some, None, length, take, drop, get_or, refl, sym, subst, arith, ◌⊎◌, inl, inr}
+use Rattle.std.proofs.Common.{◌≡◌, ◌<◌, ◌≤◌, ℕ, ◌+◌, ◌-◌, ◌∙◌, List, Option, Some, None, length}
+use Rattle.std.proofs.Common.{take, drop, get_or, refl, sym, subst, arith, ◌⊎◌, inl, inr}
 use Rattle.value_ops.specs.declared.value.Value.{Value}
 use Rattle.value_ops.specs.Expressions.{Expression}
 use Rattle.rate_expr.specs.Words.{Word}
@@ -13,14 +14,16 @@ pub some_or_none : (answer : Option Value) → ((v : Value) × (answer ≡ Some 
 some_or_none None = inr refl
 some_or_none (Some v) = inl (v, refl)
 
--- The values of the row are values of the whole, and where the row has none, no left value on a front shorter
--- than `at` and right value after it give one.
+-- The values of the row are values of the whole, and where the row has none, no left value on a
+-- front shorter than `at` and right value after it give one.
 pub record IsFilled (L R W : Word → Value → Type 0) (expression : Expression) (word : Word) (at : ℕ)
     (row : List (Option Value)) : Type 0 where
   pub count : length row ≡ length word + 1
-  pub sound : (place : ℕ) (v : Value) → place ≤ length word → get_or row place None ≡ Some v → W (take place word) v
+  pub sound : (place : ℕ) (v : Value) → place ≤ length word → get_or row place None ≡ Some v
+      → W (take place word) v
   pub full : (k : ℕ) → k < at → (m : ℕ) (x y v : Value) → k + m ≤ length word → L (take k word) x
-      → R (take m (drop k word)) y → on_both expression x y ≡ Some v → get_or row (k + m) None ≡ None → ⊥
+      → R (take m (drop k word)) y → on_both expression x y ≡ Some v
+      → get_or row (k + m) None ≡ None → ⊥
 
 -- there is no left value on the front
 pub skipped : (L R W : Word → Value → Type 0) (expression : Expression) (word : Word) (at : ℕ)
@@ -33,13 +36,17 @@ skipped L R W expression word at row filled none = record {
 }
 
 -- the right answers after a front
-pub record AreAfter (R : Word → Value → Type 0) (word : Word) (at : ℕ) (right : List (Option Value)) : Type 0 where
+pub record AreAfter (R : Word → Value → Type 0) (word : Word) (at : ℕ)
+    (right : List (Option Value)) : Type 0 where
   pub count : length right ≡ length word - at + 1
-  pub some : (m : ℕ) (y : Value) → at + m ≤ length word → get_or right m None ≡ Some y → R (take m (drop at word)) y
-  pub none : (m : ℕ) (y : Value) → at + m ≤ length word → get_or right m None ≡ None → R (take m (drop at word)) y → ⊥
+  pub some : (m : ℕ) (y : Value) → at + m ≤ length word → get_or right m None ≡ Some y
+      → R (take m (drop at word)) y
+  pub none : (m : ℕ) (y : Value) → at + m ≤ length word → get_or right m None ≡ None
+      → R (take m (drop at word)) y → ⊥
 
 -- what is put is given, or stood there
-pub put_or_same : (expression : Expression) (x : Value) (right old new : Option Value) → IsPut expression x right old new
+pub put_or_same : (expression : Expression) (x : Value) (right old new : Option Value)
+    → IsPut expression x right old new
     → ((y : Value) × (right ≡ Some y) × IsGiven expression x y new) ⊎ ((right ≡ None) × (new ≡ old))
 put_or_same expression x None old new same = inr (refl, same)
 put_or_same expression x (Some y) old new given = inl (y, refl, given)
@@ -55,15 +62,16 @@ values_same a b same = cc
 joined_at : (L R W : Word → Value → Type 0) (expression : Expression) (word : Word) (at : ℕ)
     (old new right : List (Option Value)) (x : Value) → IsFilled L R W expression word at old
     → IsJoined expression x right at old new → AreAfter R word at right
-    → ((m : ℕ) (y v : Value) → at + m ≤ length word → R (take m (drop at word)) y → on_both expression x y ≡ Some v
-    → W (take (at + m) word) v)
-    → (m : ℕ) (v : Value) → at + m ≤ length word → get_or new (at + m) None ≡ Some v → W (take (at + m) word) v
+    → ((m : ℕ) (y v : Value) → at + m ≤ length word → R (take m (drop at word)) y
+    → on_both expression x y ≡ Some v → W (take (at + m) word) v)
+    → (m : ℕ) (v : Value) → at + m ≤ length word → get_or new (at + m) None ≡ Some v
+    → W (take (at + m) word) v
 joined_at L R W expression word at old new right x filled is_joined after whole m v within there =
     let count : length right ≡ length word - at + 1 = after.count in
     let below : m < length right = omega arith in
     elim (put_or_same expression x _ _ _ (is_joined.after m below)) [
-      | inl (y, some, (w, is, gives)) ↦ subst (W (take (at + m) word)) (values_same w v (sym is ∙ there))
-          (whole m y w within (after.some m y within some) gives)
+      | inl (y, some, (w, is, gives)) ↦ subst (W (take (at + m) word))
+          (values_same w v (sym is ∙ there)) (whole m y w within (after.some m y within some) gives)
       | inr (none, same) ↦ filled.sound (at + m) v within (sym same ∙ there)
     ]
 
@@ -86,7 +94,8 @@ kept_at L R W expression word at old new right x is_joined after place within no
       | inr (m, is) ↦
           let count : length right ≡ length word - at + 1 = after.count in
           let below : m < length right = omega arith in
-          let there : get_or new (at + m) None ≡ None = subst (λ p. get_or new p None ≡ None) is none in
+          let there : get_or new (at + m) None ≡ None =
+          subst (λ p. get_or new p None ≡ None) is none in
           subst (λ p. get_or old p None ≡ None) (sym is)
           (elim (put_or_same expression x _ _ _ (is_joined.after m below)) [
             | inl (y, some, (w, given, gives)) ↦ absurd (some_not_none w _ given there)
@@ -99,8 +108,8 @@ pub joined : (L R W : Word → Value → Type 0) (expression : Expression) (word
     (old new right : List (Option Value)) (x : Value) → IsFilled L R W expression word at old
     → IsJoined expression x right at old new → AreAfter R word at right → at ≤ length word
     → ((other : Value) → L (take at word) other → other ≡ x)
-    → ((m : ℕ) (y v : Value) → at + m ≤ length word → R (take m (drop at word)) y → on_both expression x y ≡ Some v
-    → W (take (at + m) word) v)
+    → ((m : ℕ) (y v : Value) → at + m ≤ length word → R (take m (drop at word)) y
+    → on_both expression x y ≡ Some v → W (take (at + m) word) v)
     → IsFilled L R W expression word (at + 1) new
 joined L R W expression word at old new right x filled is_joined after inside one whole = record {
   count = is_joined.count ∙ filled.count;
@@ -111,7 +120,8 @@ joined L R W expression word at old new right x filled is_joined after inside on
         (subst (λ p. p ≤ length word) is within) (subst (λ p. get_or new p None ≡ Some v) is there))
   ];
   full = below_more _ _
-      (λ k below m z y v within left right_den gives none. filled.full k below m z y v within left right_den gives
+      (λ k below m z y v within left right_den gives none. filled.full k below m z y v within
+      left right_den gives
       (kept_at L R W expression word at old new right x is_joined after (k + m) within none))
       (λ m z y v within left right_den gives none.
       let count : length right ≡ length word - at + 1 = after.count in

@@ -1,6 +1,10 @@
 -- The keys of a word, and what it has for each, front by front.
-use Rattle.std.proofs.Common.{append-nil, ◌≡◌, ◌<◌, ◌≤◌, ℕ, ◌+◌, ◌++◌, ◌∙◌, ◌||◌, Bool, true, false, cond, List, [], ◌∷◌, Option, None, length, take, drop, get_or, refl, sym, subst, ap, arith, inl, inr, length-append, take-append-drop, take_at, take_all}
-use Rattle.std.proofs.lemmas.List.{get_or_append_left, get_or_push, length_push, take-append-le, take_more}
+use Rattle.std.proofs.Common.{append-nil, ◌≡◌, ◌<◌, ◌≤◌, ℕ, ◌+◌, ◌++◌, ◌∙◌, ◌||◌, Bool, true, false}
+use Rattle.std.proofs.Common.{cond, List, [], ◌∷◌, Option, None, length, take, drop, get_or, refl}
+use Rattle.std.proofs.Common.{sym, subst, ap, arith, inl, inr, length-append, take-append-drop}
+use Rattle.std.proofs.Common.{take_at, take_all}
+use Rattle.std.proofs.lemmas.List.{get_or_append_left, get_or_push, length_push, take-append-le}
+use Rattle.std.proofs.lemmas.List.{take_more}
 use Rattle.std.proofs.lemmas.List.Elements.{filter-append, filter_more}
 use Rattle.std.specs.List.{list_any}
 use Rattle.std.specs.Str.{bytes_eq}
@@ -17,18 +21,20 @@ use Rattle.slow_eval.specs.Projections.{AreKeysOf, IsOnItems}
 abbrev pub keys_and : ℕ → Predicate → List (List ℕ) → List Field → List (List ℕ)
 keys_and column sync keys item = cond (holds sync item) keys (with_key keys (key_of column item))
 
-pub and_kept : (column : ℕ) (sync : Predicate) (keys : List (List ℕ)) (item : List Field) → holds sync item ≡ true
-    → keys_and column sync keys item ≡ keys
+pub and_kept : (column : ℕ) (sync : Predicate) (keys : List (List ℕ)) (item : List Field)
+    → holds sync item ≡ true → keys_and column sync keys item ≡ keys
 and_kept column sync keys item is = ap (λ b. cond b keys (with_key keys (key_of column item))) is
 
-pub and_added : (column : ℕ) (sync : Predicate) (keys : List (List ℕ)) (item : List Field) → holds sync item ≡ false
-    → keys_and column sync keys item ≡ with_key keys (key_of column item)
+pub and_added : (column : ℕ) (sync : Predicate) (keys : List (List ℕ)) (item : List Field)
+    → holds sync item ≡ false → keys_and column sync keys item ≡ with_key keys (key_of column item)
 and_added column sync keys item is = ap (λ b. cond b keys (with_key keys (key_of column item))) is
 
 keys_more : (column : ℕ) (sync : Predicate) (keys : List (List ℕ)) (word : Word) (item : List Field)
-    → keys_after column sync keys (word ++ item ∷ []) ≡ keys_and column sync (keys_after column sync keys word) item
+    → keys_after column sync keys (word ++ item ∷ [])
+    ≡ keys_and column sync (keys_after column sync keys word) item
 keys_more column sync keys [] item = refl
-keys_more column sync keys (first ∷ word) item = keys_more column sync (keys_and column sync keys first) word item
+keys_more column sync keys (first ∷ word) item =
+    keys_more column sync (keys_and column sync keys first) word item
 
 -- the keys that were there stand first
 record StandFirst (keys new : List (List ℕ)) : Type 0 where
@@ -57,7 +63,8 @@ and_first column sync keys item = by (holds sync item)
     by false = key_first keys (key_of column item)
 
 -- the keys of a front, and how many of them have appeared on each shorter one
-pub record AreKeysSoFar (column : ℕ) (sync : Predicate) (word : Word) (at : ℕ) (keys : List (List ℕ))
+pub record AreKeysSoFar (column : ℕ) (sync : Predicate) (word : Word) (at : ℕ)
+    (keys : List (List ℕ))
     (counts : List ℕ) : Type 0 where
   pub of_front : keys ≡ keys_after column sync [] (take at word)
   pub count : length counts ≡ at + 1
@@ -65,7 +72,8 @@ pub record AreKeysSoFar (column : ℕ) (sync : Predicate) (word : Word) (at : �
   pub each : (place : ℕ) → place ≤ at
       → keys_after column sync [] (take place word) ≡ take (get_or counts place 0) keys
 
-pub keys_begin : (column : ℕ) (sync : Predicate) (word : Word) → AreKeysSoFar column sync word 0 [] (0 ∷ [])
+pub keys_begin : (column : ℕ) (sync : Predicate) (word : Word)
+    → AreKeysSoFar column sync word 0 [] (0 ∷ [])
 keys_begin column sync word = record {
   of_front = refl;
   count = refl;
@@ -76,17 +84,19 @@ keys_begin column sync word = record {
     first : (place : ℕ) → place ≤ 0 → place ≡ 0
     first place none = omega arith
 
-pub keys_step : (column : ℕ) (sync : Predicate) (word : Word) (at : ℕ) (keys new : List (List ℕ)) (counts : List ℕ)
-    (item : List Field) → AreKeysSoFar column sync word at keys counts → at < length word
-    → get_or word at item ≡ item → new ≡ keys_and column sync keys item
+pub keys_step : (column : ℕ) (sync : Predicate) (word : Word) (at : ℕ) (keys new : List (List ℕ))
+    (counts : List ℕ) (item : List Field) → AreKeysSoFar column sync word at keys counts
+    → at < length word → get_or word at item ≡ item → new ≡ keys_and column sync keys item
     → AreKeysSoFar column sync word (at + 1) new (counts ++ length new ∷ [])
 keys_step column sync word at keys new counts item so_far inside read is =
     let more : take (at + 1) word ≡ take at word ++ item ∷ [] =
     take_more word at item inside ∙ ap (λ x. take at word ++ x ∷ []) read in
     let whole : new ≡ keys_after column sync [] (take (at + 1) word) =
     is ∙ ap (λ ks. keys_and column sync ks item) so_far.of_front
-    ∙ sym (keys_more column sync [] (take at word) item) ∙ ap (keys_after column sync []) (sym more) in
-    let first : StandFirst keys new = subst (StandFirst keys) (sym is) (and_first column sync keys item) in
+    ∙ sym (keys_more column sync [] (take at word) item)
+    ∙ ap (keys_after column sync []) (sym more) in
+    let first : StandFirst keys new =
+    subst (StandFirst keys) (sym is) (and_first column sync keys item) in
     let long : length counts ≡ at + 1 = so_far.count in
     record {
       of_front = whole;
@@ -94,28 +104,32 @@ keys_step column sync word at keys new counts item so_far inside read is =
       within = λ place within. elim (below-more place (at + 1) (omega arith)) [
         | inl here ↦
             subst (λ p. get_or (counts ++ length new ∷ []) p 0 ≤ length new) (sym here)
-            (subst (λ n. n ≤ length new) (sym (get_or_push counts (length new) 0 (at + 1) long)) (omega arith))
+            (subst (λ n. n ≤ length new)
+            (sym (get_or_push counts (length new) 0 (at + 1) long)) (omega arith))
         | inr before ↦
             let kept : get_or counts place 0 ≤ length keys = so_far.within place (omega arith) in
             let longer : length keys ≤ length new = first.longer in
-            subst (λ n. n ≤ length new) (sym (get_or_append_left counts (length new ∷ []) 0 place (omega arith)))
-            (omega arith)
+            subst (λ n. n ≤ length new)
+            (sym (get_or_append_left counts (length new ∷ []) 0 place (omega arith))) (omega arith)
       ];
       each = λ place within. elim (below-more place (at + 1) (omega arith)) [
         | inl here ↦
-            subst (λ p. keys_after column sync [] (take p word) ≡ take (get_or (counts ++ length new ∷ []) p 0) new)
+            subst (λ p. keys_after column sync [] (take p word)
+            ≡ take (get_or (counts ++ length new ∷ []) p 0) new)
             (sym here)
             (sym whole ∙ sym (take_all (length new) new (omega arith))
             ∙ ap (λ n. take n new) (sym (get_or_push counts (length new) 0 (at + 1) long)))
         | inr before ↦
             so_far.each place (omega arith)
             ∙ sym (first.front (get_or counts place 0) (so_far.within place (omega arith)))
-            ∙ ap (λ n. take n new) (sym (get_or_append_left counts (length new ∷ []) 0 place (omega arith)))
+            ∙ ap (λ n. take n new)
+            (sym (get_or_append_left counts (length new ∷ []) 0 place (omega arith)))
       ];
     }
 
-pub keys_end : (column : ℕ) (sync : Predicate) (word : Word) (at : ℕ) (keys : List (List ℕ)) (counts : List ℕ)
-    → AreKeysSoFar column sync word at keys counts → at ≡ length word → AreKeysOf column sync word keys counts
+pub keys_end : (column : ℕ) (sync : Predicate) (word : Word) (at : ℕ) (keys : List (List ℕ))
+    (counts : List ℕ) → AreKeysSoFar column sync word at keys counts → at ≡ length word
+    → AreKeysOf column sync word keys counts
 keys_end column sync word at keys counts all reached = record {
   whole = all.of_front ∙ ap (keys_after column sync []) (take_all at word (omega arith));
   count = all.count ∙ ap (λ n. n + 1) reached;
@@ -136,7 +150,8 @@ projection_front column sync key word place =
     ∙ filter-append (is_of column sync key) (take place word) (drop place word)
 
 pub projection_shorter : (column : ℕ) (sync : Predicate) (key : List ℕ) (word : Word) (place : ℕ)
-    → length (projection column sync key (take place word)) ≤ length (projection column sync key word)
+    → length (projection column sync key (take place word))
+    ≤ length (projection column sync key word)
 projection_shorter column sync key word place =
     let first = projection column sync key (take place word) in
     let rest = projection column sync key (drop place word) in
@@ -153,26 +168,30 @@ projection_taken column sync key word place =
     ∙ take_at first (projection column sync key (drop place word)) (length first) refl
 
 -- one more item is one of the key, or is not
-pub projection_more : (column : ℕ) (sync : Predicate) (key : List ℕ) (word : Word) (at : ℕ) (item : List Field)
-    → at < length word → get_or word at item ≡ item
+pub projection_more : (column : ℕ) (sync : Predicate) (key : List ℕ) (word : Word) (at : ℕ)
+    (item : List Field) → at < length word → get_or word at item ≡ item
     → projection column sync key (take (at + 1) word)
     ≡ projection column sync key (take at word) ++ cond (is_of column sync key item) (item ∷ []) []
 projection_more column sync key word at item inside read =
     filter_more (is_of column sync key) word at item inside
-    ∙ ap (λ x. projection column sync key (take at word) ++ cond (is_of column sync key x) (x ∷ []) []) read
+    ∙ ap
+    (λ x. projection column sync key (take at word) ++ cond (is_of column sync key x) (x ∷ []) [])
+    read
 
-pub counted : (column : ℕ) (sync : Predicate) (key : List ℕ) (word : Word) (at items : ℕ) (item : List Field)
-    → items ≡ length (projection column sync key (take at word)) → at < length word → get_or word at item ≡ item
-    → is_of column sync key item ≡ true → items + 1 ≡ length (projection column sync key (take (at + 1) word))
+pub counted : (column : ℕ) (sync : Predicate) (key : List ℕ) (word : Word) (at items : ℕ)
+    (item : List Field) → items ≡ length (projection column sync key (take at word))
+    → at < length word → get_or word at item ≡ item → is_of column sync key item ≡ true
+    → items + 1 ≡ length (projection column sync key (take (at + 1) word))
 counted column sync key word at items item so_far inside read is =
     ap (λ n. n + 1) so_far
     ∙ sym (length_push (projection column sync key (take at word)) item)
     ∙ ap (λ b. length (projection column sync key (take at word) ++ cond b (item ∷ []) [])) (sym is)
     ∙ ap length (sym (projection_more column sync key word at item inside read))
 
-pub passed : (column : ℕ) (sync : Predicate) (key : List ℕ) (word : Word) (at items : ℕ) (item : List Field)
-    → items ≡ length (projection column sync key (take at word)) → at < length word → get_or word at item ≡ item
-    → is_of column sync key item ≡ false → items ≡ length (projection column sync key (take (at + 1) word))
+pub passed : (column : ℕ) (sync : Predicate) (key : List ℕ) (word : Word) (at items : ℕ)
+    (item : List Field) → items ≡ length (projection column sync key (take at word))
+    → at < length word → get_or word at item ≡ item → is_of column sync key item ≡ false
+    → items ≡ length (projection column sync key (take (at + 1) word))
 passed column sync key word at items item so_far inside read is =
     so_far
     ∙ ap length (sym (append-nil (projection column sync key (take at word))))
@@ -185,10 +204,11 @@ pub record IsOnItemsSoFar (column : ℕ) (sync : Predicate) (key : List ℕ) (wo
   pub items_are : items ≡ length (projection column sync key (take at word))
   pub count : length row ≡ at + 1
   pub each : (place : ℕ) → place ≤ at
-      → get_or row place None ≡ get_or answers (length (projection column sync key (take place word))) None
+      → get_or row place None
+      ≡ get_or answers (length (projection column sync key (take place word))) None
 
-pub items_begin : (column : ℕ) (sync : Predicate) (key : List ℕ) (word : Word) (answers : List (Option Value))
-    (answer : Option Value) → answer ≡ get_or answers 0 None
+pub items_begin : (column : ℕ) (sync : Predicate) (key : List ℕ) (word : Word)
+    (answers : List (Option Value)) (answer : Option Value) → answer ≡ get_or answers 0 None
     → IsOnItemsSoFar column sync key word answers (answer ∷ []) 0 0
 items_begin column sync key word answers answer is = record {
   items_are = refl;
@@ -199,9 +219,11 @@ items_begin column sync key word answers answer is = record {
     first : (place : ℕ) → place ≤ 0 → place ≡ 0
     first place none = omega arith
 
-pub items_step : (column : ℕ) (sync : Predicate) (key : List ℕ) (word : Word) (answers row : List (Option Value))
-    (at items after : ℕ) (answer : Option Value) → IsOnItemsSoFar column sync key word answers row at items
-    → after ≡ length (projection column sync key (take (at + 1) word)) → answer ≡ get_or answers after None
+pub items_step : (column : ℕ) (sync : Predicate) (key : List ℕ) (word : Word)
+    (answers row : List (Option Value)) (at items after : ℕ) (answer : Option Value)
+    → IsOnItemsSoFar column sync key word answers row at items
+    → after ≡ length (projection column sync key (take (at + 1) word))
+    → answer ≡ get_or answers after None
     → IsOnItemsSoFar column sync key word answers (row ++ answer ∷ []) (at + 1) after
 items_step column sync key word answers row at items after answer so_far are is =
     let long : length row ≡ at + 1 = so_far.count in
@@ -214,12 +236,14 @@ items_step column sync key word answers row at items after answer so_far are is 
             ≡ get_or answers (length (projection column sync key (take p word))) None) (sym here)
             (get_or_push row answer None (at + 1) long ∙ is ∙ ap (λ n. get_or answers n None) are)
         | inr before ↦
-            get_or_append_left row (answer ∷ []) None place (omega arith) ∙ so_far.each place (omega arith)
+            get_or_append_left row (answer ∷ []) None place (omega arith)
+            ∙ so_far.each place (omega arith)
       ];
     }
 
-pub items_end : (column : ℕ) (sync : Predicate) (key : List ℕ) (word : Word) (answers row : List (Option Value))
-    (at items : ℕ) → IsOnItemsSoFar column sync key word answers row at items → at ≡ length word
+pub items_end : (column : ℕ) (sync : Predicate) (key : List ℕ) (word : Word)
+    (answers row : List (Option Value)) (at items : ℕ)
+    → IsOnItemsSoFar column sync key word answers row at items → at ≡ length word
     → IsOnItems column sync key word answers row
 items_end column sync key word answers row at items all whole = record {
   count = all.count ∙ ap (λ n. n + 1) whole;

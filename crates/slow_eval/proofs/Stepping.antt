@@ -1,5 +1,7 @@
 -- Where words continue in the positions of a rate, item by item.
-use Rattle.std.proofs.Common.{◌≡◌, inl, inr, ℕ, ◌+◌, ◌^◌, ◌<◌, ◌≤◌, ◌↔◌, ◌++◌, ◌∙◌, Bool, true, false, List, [], ◌∷◌, Some, IsTrue, bit_or, length, take, get_or, refl, sym, ap, subst, arith}
+use Rattle.std.proofs.Common.{◌≡◌, inl, inr, ℕ, ◌+◌, ◌^◌, ◌<◌, ◌≤◌, ◌↔◌, ◌++◌, ◌∙◌, Bool, true}
+use Rattle.std.proofs.Common.{false, List, [], ◌∷◌, Some, IsTrue, bit_or, length, take, get_or}
+use Rattle.std.proofs.Common.{refl, sym, ap, subst, arith}
 use Rattle.std.specs.Prelude.{MatchBool, slice_get}
 use Rattle.std.proofs.lemmas.List.{get_or_append_left, get_or_push, length_push, take_more}
 use Rattle.value_ops.specs.declared.field.Field.{Field}
@@ -7,15 +9,18 @@ use Rattle.rate_expr.specs.Paths.{AreOf, Follows, Leads, Meets, Spells}
 use Rattle.rate_expr.specs.Rates.{Regex}
 use Rattle.rate_expr.specs.Sets.{AreSets, Has, Sets}
 use Rattle.rate_expr.specs.Words.{Word}
-use Rattle.rate_expr.proofs.MaskMembers.{has_added, has_added_same, has_first, has_or, has_second, has_zero}
+use Rattle.rate_expr.proofs.MaskMembers.{has_added, has_added_same, has_first, has_or, has_second}
+use Rattle.rate_expr.proofs.MaskMembers.{has_zero}
 use Rattle.rate_expr.proofs.MaskSets.{AreMeeting, below-more, overlap_decides}
-use Rattle.rate_expr.proofs.PathSteps.{follows_below, leads_less, leads_more, leads_one, leads_only_one, meets_below}
+use Rattle.rate_expr.proofs.PathSteps.{follows_below, leads_less, leads_more, leads_one}
+use Rattle.rate_expr.proofs.PathSteps.{leads_only_one, meets_below}
 use Rattle.slow_eval.specs.Fronts.{AreAfter, AreInRate, AreMet, AreSpelled}
 
 -- those of the positions below a bound that the mask has and the item meets
 abbrev pub AreMetBelow : Sets → ℕ → List Field → ℕ → ℕ → Type 0
 AreMetBelow sets mask item bound met =
-    (position : ℕ) → Has met position ↔ ((position < bound) × Has mask position × Meets sets position item)
+    (position : ℕ)
+    → Has met position ↔ ((position < bound) × Has mask position × Meets sets position item)
 
 pub met_none : (sets : Sets) (mask : ℕ) (item : List Field) → AreMetBelow sets mask item 0 0
 met_none sets mask item position = (
@@ -24,11 +29,13 @@ met_none sets mask item position = (
 )
 
 -- one more that is met
-pub met_added : (sets : Sets) (mask : ℕ) (item : List Field) (at met : ℕ) → AreMetBelow sets mask item at met
-    → Has mask at → Meets sets at item → AreMetBelow sets mask item (at + 1) (bit_or met (2 ^ at))
+pub met_added : (sets : Sets) (mask : ℕ) (item : List Field) (at met : ℕ)
+    → AreMetBelow sets mask item at met → Has mask at → Meets sets at item
+    → AreMetBelow sets mask item (at + 1) (bit_or met (2 ^ at))
 met_added sets mask item at met so_far has meets position = (
   λ there. elim (has_added met at position there) [
-    | inl before ↦ let is = (so_far position).0 before in let below = is.0 in (omega arith, is.1, is.2)
+    | inl before ↦ let is = (so_far position).0 before in let below = is.0 in
+        (omega arith, is.1, is.2)
     | inr here ↦ (
       omega arith,
       subst (Has mask) (sym here) has,
@@ -42,19 +49,21 @@ met_added sets mask item at met so_far has meets position = (
 )
 
 -- one more that is not
-pub met_passed : (sets : Sets) (mask : ℕ) (item : List Field) (at met : ℕ) → AreMetBelow sets mask item at met
-    → (Has mask at → Meets sets at item → ⊥) → AreMetBelow sets mask item (at + 1) met
+pub met_passed : (sets : Sets) (mask : ℕ) (item : List Field) (at met : ℕ)
+    → AreMetBelow sets mask item at met → (Has mask at → Meets sets at item → ⊥)
+    → AreMetBelow sets mask item (at + 1) met
 met_passed sets mask item at met so_far not position = (
   λ there. let is = (so_far position).0 there in let below = is.0 in (omega arith, is.1, is.2),
   λ is. elim (below-more position at is.0) [
-    | inl here ↦ absurd (not (subst (Has mask) here is.1) (subst (λ p. Meets sets p item) here is.2))
+    | inl here ↦
+        absurd (not (subst (Has mask) here is.1) (subst (λ p. Meets sets p item) here is.2))
     | inr before ↦ (so_far position).1 (before, is.1, is.2)
   ],
 )
 
 -- all of them
-pub met_all : (sets : Sets) (mask : ℕ) (item : List Field) (bound met : ℕ) → AreMetBelow sets mask item bound met
-    → length sets.preds ≤ bound → AreMet sets mask item met
+pub met_all : (sets : Sets) (mask : ℕ) (item : List Field) (bound met : ℕ)
+    → AreMetBelow sets mask item bound met → length sets.preds ≤ bound → AreMet sets mask item met
 met_all sets mask item bound met so_far all position = (
   λ there. let is = (so_far position).0 there in (is.1, is.2),
   λ both. let below = meets_below sets position item both.1 in
@@ -64,7 +73,8 @@ met_all sets mask item bound met so_far all position = (
 -- the positions after those of the mask that are below a bound
 abbrev pub AreAfterBelow : Sets → ℕ → ℕ → ℕ → Type 0
 AreAfterBelow sets mask bound reached =
-    (next : ℕ) → Has reached next ↔ ((from : ℕ) × (from < bound) × Has mask from × Follows sets from next)
+    (next : ℕ)
+    → Has reached next ↔ ((from : ℕ) × (from < bound) × Has mask from × Follows sets from next)
 
 pub after_none : (sets : Sets) (mask : ℕ) → AreAfterBelow sets mask 0 0
 after_none sets mask next = (
@@ -73,16 +83,18 @@ after_none sets mask next = (
 )
 
 -- one mask of followers
-followers : (sets : Sets) (at follow next : ℕ) → slice_get sets.follow at ≡ Some follow → Follows sets at next
-    → Has follow next
+followers : (sets : Sets) (at follow next : ℕ) → slice_get sets.follow at ≡ Some follow
+    → Follows sets at next → Has follow next
 followers sets at follow next read (other, found, has) =
     let same : other ≡ follow = cc in subst (λ m. Has m next) same has
 
-pub after_added : (sets : Sets) (mask at reached follow : ℕ) → AreAfterBelow sets mask at reached → Has mask at
-    → slice_get sets.follow at ≡ Some follow → AreAfterBelow sets mask (at + 1) (bit_or reached follow)
+pub after_added : (sets : Sets) (mask at reached follow : ℕ)
+    → AreAfterBelow sets mask at reached → Has mask at → slice_get sets.follow at ≡ Some follow
+    → AreAfterBelow sets mask (at + 1) (bit_or reached follow)
 after_added sets mask at reached follow so_far has read next = (
   λ there. elim (has_or reached follow next there) [
-    | inl before ↦ let (from, below, has', follows) = (so_far next).0 before in (from, omega arith, has', follows)
+    | inl before ↦ let (from, below, has', follows) = (so_far next).0 before in
+        (from, omega arith, has', follows)
     | inr here ↦ (at, omega arith, has, (follow, read, here))
   ],
   λ (from, below, has', follows). elim (below-more from at below) [
@@ -92,18 +104,19 @@ after_added sets mask at reached follow so_far has read next = (
   ],
 )
 
-pub after_passed : (sets : Sets) (mask at reached : ℕ) → AreAfterBelow sets mask at reached → (Has mask at → ⊥)
-    → AreAfterBelow sets mask (at + 1) reached
+pub after_passed : (sets : Sets) (mask at reached : ℕ) → AreAfterBelow sets mask at reached
+    → (Has mask at → ⊥) → AreAfterBelow sets mask (at + 1) reached
 after_passed sets mask at reached so_far not next = (
-  λ there. let (from, below, has, follows) = (so_far next).0 there in (from, omega arith, has, follows),
+  λ there. let (from, below, has, follows) = (so_far next).0 there in
+      (from, omega arith, has, follows),
   λ (from, below, has, follows). elim (below-more from at below) [
     | inl here ↦ absurd (not (subst (Has mask) here has))
     | inr before ↦ (so_far next).1 (from, before, has, follows)
   ],
 )
 
-pub after_all : (sets : Sets) (mask bound reached : ℕ) → AreSets sets → AreAfterBelow sets mask bound reached
-    → length sets.preds ≤ bound → AreAfter sets mask reached
+pub after_all : (sets : Sets) (mask bound reached : ℕ) → AreSets sets
+    → AreAfterBelow sets mask bound reached → length sets.preds ≤ bound → AreAfter sets mask reached
 after_all sets mask bound reached are so_far all next = (
   λ there. let (from, below, has, follows) = (so_far next).0 there in (from, has, follows),
   λ (from, has, follows).
@@ -115,7 +128,8 @@ after_all sets mask bound reached are so_far all next = (
 -- a word continues in the position
 abbrev pub Continues : Sets → Word → ℕ → Type 0
 Continues sets [] next = Has sets.first next
-Continues sets (item ∷ word) next = (from : ℕ) × Leads sets (item ∷ word) from × Follows sets from next
+Continues sets (item ∷ word) next =
+    (from : ℕ) × Leads sets (item ∷ word) from × Follows sets from next
 
 -- the mask has exactly those in which it does
 abbrev pub AreWays : Sets → Word → ℕ → Type 0
@@ -126,8 +140,8 @@ abbrev pub AreEnds : Sets → Word → ℕ → Type 0
 AreEnds sets word ends = (to : ℕ) → Has ends to ↔ Leads sets word to
 
 -- the ways on that one more item meets are the ends of the longer word
-pub ends_more : (sets : Sets) (word : Word) (item : List Field) (ways ends : ℕ) → AreWays sets word ways
-    → AreMet sets ways item ends → AreEnds sets (word ++ item ∷ []) ends
+pub ends_more : (sets : Sets) (word : Word) (item : List Field) (ways ends : ℕ)
+    → AreWays sets word ways → AreMet sets ways item ends → AreEnds sets (word ++ item ∷ []) ends
 ends_more sets [] item ways ends are met to = (
   λ has. let both = (met to).0 has in leads_one sets item to ((are to).0 both.0) both.1,
   λ leads. let both = leads_only_one sets item to leads in (met to).1 ((are to).1 both.0, both.1),
@@ -138,13 +152,15 @@ ends_more sets (first ∷ word) item ways ends are met to = (
       let (from, leads, follows) = (are to).0 both.0 in
       leads_more sets (first ∷ word) from item to leads follows both.1,
   λ leads.
-      let (from, less, follows, meets) = leads_less sets (first ∷ word) item to (omega arith) leads in
+      let (from, less, follows, meets) = leads_less sets (first ∷ word) item to
+      (omega arith) leads in
       (met to).1 ((are to).1 (from, less, follows), meets),
 )
 
 -- what comes after the ends are the ways on
 pub ways_more : (sets : Sets) (word : Word) (item : List Field) (ends ways : ℕ)
-    → AreEnds sets (word ++ item ∷ []) ends → AreAfter sets ends ways → AreWays sets (word ++ item ∷ []) ways
+    → AreEnds sets (word ++ item ∷ []) ends → AreAfter sets ends ways
+    → AreWays sets (word ++ item ∷ []) ways
 ways_more sets [] item ends ways are reached next = (
   λ has. let (from, end, follows) = (reached next).0 has in (from, (are from).0 end, follows),
   λ (from, leads, follows). (reached next).1 (from, (are from).1 leads, follows),
@@ -170,7 +186,8 @@ spells_more sets (first ∷ word) item ends test are meeting = (
 -- which of the fronts so far are spelled, and where the longest of them continues
 pub record IsStepped (sets : Sets) (word : Word) (at ways : ℕ) (fronts : List Bool) : Type 0 where
   pub count : length fronts ≡ at + 1
-  pub each : (place : ℕ) → place ≤ at → IsTrue (get_or fronts place false) ↔ Spells sets (take place word)
+  pub each : (place : ℕ) → place ≤ at
+      → IsTrue (get_or fronts place false) ↔ Spells sets (take place word)
   pub continues : AreWays sets (take at word) ways
 
 pub step_none : (sets : Sets) (word : Word) → IsStepped sets word 0 sets.first (sets.nullable ∷ [])
@@ -187,10 +204,11 @@ step_none sets word = record {
     nullable_is nullable = (λ is. is, λ is. is)
 
 -- one more item
-pub step_more : (sets : Sets) (word : Word) (at ways ends after : ℕ) (fronts : List Bool) (item : List Field)
-    (test : Bool) → IsStepped sets word at ways fronts → at < length word → get_or word at item ≡ item
-    → AreMet sets ways item ends → AreAfter sets ends after
-    → MatchBool test ((p : ℕ) × Has ends p × Has sets.last p) ((p : ℕ) → Has ends p → Has sets.last p → ⊥)
+pub step_more : (sets : Sets) (word : Word) (at ways ends after : ℕ) (fronts : List Bool)
+    (item : List Field) (test : Bool) → IsStepped sets word at ways fronts → at < length word
+    → get_or word at item ≡ item → AreMet sets ways item ends → AreAfter sets ends after
+    → MatchBool test ((p : ℕ) × Has ends p × Has sets.last p)
+    ((p : ℕ) → Has ends p → Has sets.last p → ⊥)
     → IsStepped sets word (at + 1) after (fronts ++ test ∷ [])
 step_more sets word at ways ends after fronts item test so_far inside read met reached overlaps =
     let more : take (at + 1) word ≡ take at word ++ item ∷ [] =
@@ -202,17 +220,19 @@ step_more sets word at ways ends after fronts item test so_far inside read met r
       count = length_push fronts test ∙ ap (λ n. n + 1) long;
       each = λ place within. elim (below-more place (at + 1) (omega arith)) [
         | inl here ↦
-            subst (λ p. IsTrue (get_or (fronts ++ test ∷ []) p false) ↔ Spells sets (take p word)) (sym here)
-            (subst (λ b. IsTrue b ↔ Spells sets (take (at + 1) word))
+            subst (λ p. IsTrue (get_or (fronts ++ test ∷ []) p false) ↔ Spells sets (take p word))
+            (sym here) (subst (λ b. IsTrue b ↔ Spells sets (take (at + 1) word))
             (sym (get_or_push fronts test false (at + 1) long))
             (subst (λ w. IsTrue test ↔ Spells sets w) (sym more)
-            (spells_more sets (take at word) item ends test are (overlap_decides ends sets.last test overlaps))))
+            (spells_more sets (take at word) item ends test are
+            (overlap_decides ends sets.last test overlaps))))
         | inr before ↦
             subst (λ b. IsTrue b ↔ Spells sets (take place word))
             (sym (get_or_append_left fronts (test ∷ []) false place (omega arith)))
             (so_far.each place (omega arith))
       ];
-      continues = subst (λ w. AreWays sets w after) (sym more) (ways_more sets (take at word) item ends after are reached);
+      continues = subst (λ w. AreWays sets w after) (sym more)
+          (ways_more sets (take at word) item ends after are reached);
     }
 
 -- all fronts

@@ -1,10 +1,12 @@
 -- Lists of distinct entries.
-use Rattle.std.proofs.Common.{◌≡◌, ◌∙◌, ◌++◌, ◌≤◌, ℕ, Bool, true, false, cond, List, [], ◌∷◌, Option, None, length, refl, sym, ap, subst, arith}
+use Rattle.std.proofs.Common.{◌≡◌, ◌∙◌, ◌++◌, ◌≤◌, ℕ, Bool, true, false, cond, List, [], ◌∷◌}
+use Rattle.std.proofs.Common.{Option, None, length, refl, sym, ap, subst, arith}
 use Rattle.std.specs.List.{items_where_true}
 use Rattle.std.specs.List.Retain.{IsFiltered}
 use Rattle.split_eval.specs.Entries.{entry_at, live_entries, AreDistinct}
 use Rattle.split_eval.specs.declared.entry.Entry.{Entry}
-use Rattle.split_eval.proofs.Found.{entry_at-put_other, either, entry_at-live, first_differs, found_after, none_after}
+use Rattle.split_eval.proofs.Found.{entry_at-put_other, either, entry_at-live, first_differs}
+use Rattle.split_eval.proofs.Found.{found_after, none_after}
 
 module _ {V : Type 0} where
   -- with one more, whose inner start none has

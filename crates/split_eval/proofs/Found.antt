@@ -1,5 +1,6 @@
 -- What is found in lists of entries.
-use Rattle.std.proofs.Common.{◌≡◌, ◌≢◌, ◌==◌, ◌++◌, ◌∙◌, ℕ, Bool, true, false, cond, not, List, [], ◌∷◌, Option, Some, None, if◌then◌else◌, refl, sym, ap}
+use Rattle.std.proofs.Common.{◌≡◌, ◌≢◌, ◌==◌, ◌++◌, ◌∙◌, ℕ, Bool, true, false, cond, not, List, []}
+use Rattle.std.proofs.Common.{◌∷◌, Option, Some, None, if◌then◌else◌, refl, sym, ap}
 use Rattle.std.proofs.lemmas.Bool.{eqb-true, eqb-false, eq-eqb, ne_eqb}
 use Rattle.std.proofs.lemmas.Option.{none-some}
 use Rattle.split_eval.specs.Entries.{entry_at, live_entries, without}
@@ -102,4 +103,5 @@ module _ {V : Type 0} where
       ap
       (λ (same : Bool). cond (not same) (x ∷ without es inner) (without es inner))
       (ne_eqb x.inner inner (first_differs x es inner none))
-      ∙ ap (λ (rest : List (Entry V)). x ∷ rest) (without-none es inner (none_after x es inner none))
+      ∙ ap (λ (rest : List (Entry V)). x ∷ rest)
+      (without-none es inner (none_after x es inner none))

@@ -1,10 +1,12 @@
 -- What is kept in its room, where an entry is put, and where some are left out.
-use Rattle.std.proofs.Common.{◌≡◌, ◌∙◌, ◌++◌, ◌<◌, ◌≤◌, ℕ, Bool, true, false, cond, List, [], ◌∷◌, None, length, sym, subst, arith}
+use Rattle.std.proofs.Common.{◌≡◌, ◌∙◌, ◌++◌, ◌<◌, ◌≤◌, ℕ, Bool, true, false, cond, List, [], ◌∷◌}
+use Rattle.std.proofs.Common.{None, length, sym, subst, arith}
 use Rattle.std.specs.List.Retain.{IsFiltered}
 use Rattle.std.proofs.lemmas.List.{length-append}
 use Rattle.split_eval.specs.Entries.{entry_at, live_entries, IsKept}
 use Rattle.split_eval.specs.declared.entry.Entry.{Entry}
-use Rattle.split_eval.proofs.Distinct.{AreDistinct-filtered, AreDistinct-live, AreDistinct-put, few_filtered}
+use Rattle.split_eval.proofs.Distinct.{AreDistinct-filtered, AreDistinct-live, AreDistinct-put}
+use Rattle.split_eval.proofs.Distinct.{few_filtered}
 
 module _ {V : Type 0} where
   -- one more, where there is room and none has its inner start

@@ -1,11 +1,14 @@
 -- Entries by their places in a list.
-use Rattle.std.proofs.Common.{◌≡◌, ◌≢◌, ◌==◌, ◌+◌, ◌<◌, ◌∙◌, ℕ, zero, suc, Bool, true, false, cond, not, List, [], ◌∷◌, Option, Some, None, get_or, remove, slice_get, length, refl, sym, ap, subst, arith}
+use Rattle.std.proofs.Common.{◌≡◌, ◌≢◌, ◌==◌, ◌+◌, ◌<◌, ◌∙◌, ℕ, zero, suc, Bool, true, false, cond}
+use Rattle.std.proofs.Common.{not, List, [], ◌∷◌, Option, Some, None, get_or, remove, slice_get}
+use Rattle.std.proofs.Common.{length, refl, sym, ap, subst, arith}
 use Rattle.std.specs.List.{position_from}
 use Rattle.std.proofs.lemmas.Bool.{eqb-true, eq-eqb, ne_eqb}
 use Rattle.std.proofs.lemmas.Option.{none-some, same_Some, get_or_from_slice_get}
 use Rattle.split_eval.specs.Entries.{entry_at, is_at, without, AreDistinct}
 use Rattle.split_eval.specs.declared.entry.Entry.{Entry}
-use Rattle.split_eval.proofs.Found.{first_differs, found_after, found_first, none_after, without-none}
+use Rattle.split_eval.proofs.Found.{first_differs, found_after, found_first, none_after}
+use Rattle.split_eval.proofs.Found.{without-none}
 
 module _ {V : Type 0} where
   -- at the inner start of an entry something is found

@@ -9,13 +9,15 @@ module _ (meaning : Meaning) where
   pub answers_after-append : (before shown more : List Shown)
       → answers_after meaning before (shown ++ more)
       ≡ answers_after meaning before shown ++ answers_after meaning (before ++ shown) more
-  answers_after-append before [] more = ap (λ (b : List Shown). answers_after meaning b more) (sym (append-nil before))
+  answers_after-append before [] more =
+      ap (λ (b : List Shown). answers_after meaning b more) (sym (append-nil before))
   answers_after-append before (line ∷ shown) more =
       let here = answer meaning before line in
       let after = answers_after meaning (before ++ line ∷ []) shown in
       ap (λ (l : List ℕ). here ++ l) (answers_after-append (before ++ line ∷ []) shown more)
       ∙ sym (append_assoc here _ _)
-      ∙ ap (λ (b : List Shown). (here ++ after) ++ answers_after meaning b more) (append_assoc before (line ∷ []) shown)
+      ∙ ap (λ (b : List Shown). (here ++ after) ++ answers_after meaning b more)
+      (append_assoc before (line ∷ []) shown)
 
   -- the answer to one line more
   pub answers-push : (shown : List Shown) (line : Shown)

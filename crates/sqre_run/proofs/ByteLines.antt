@@ -1,5 +1,6 @@
 -- The lines of bytes are bytes, and so their items are items of the columns.
-use Rattle.std.proofs.Common.{◌≡◌, ◌==◌, ◌&&◌, ◌-◌, ℕ, zero, suc, Bool, true, false, cond, List, [], ◌∷◌, ◌++◌, length, take, Some, Result, Ok, Err, refl, nat_lt}
+use Rattle.std.proofs.Common.{◌≡◌, ◌==◌, ◌&&◌, ◌-◌, ℕ, zero, suc, Bool, true, false, cond, List, []}
+use Rattle.std.proofs.Common.{◌∷◌, ◌++◌, length, take, Some, Result, Ok, Err, refl, nat_lt}
 use Rattle.std.specs.List.{AllByRecursion, flat_map}
 use Rattle.std.specs.Io.BufRead.{ends_with_byte}
 use Rattle.io_edge.specs.Lines.{Shown, text, long, ended_by_end, ended_by_lf, lines, lines_from}
@@ -34,7 +35,8 @@ text_in : (bytes : List ℕ) → AreBytes bytes → IsText bytes
 text_in [] are = refl
 text_in (b ∷ bytes) are = and_both _ _ are.0 (text_in bytes are.1)
 
-bytes_push : (bytes : List ℕ) (b : ℕ) → AreBytes bytes → nat_lt b 256 ≡ true → AreBytes (bytes ++ b ∷ [])
+bytes_push : (bytes : List ℕ) (b : ℕ) → AreBytes bytes → nat_lt b 256 ≡ true
+    → AreBytes (bytes ++ b ∷ [])
 bytes_push [] b are is = (is, tt)
 bytes_push (x ∷ bytes) b are is = (are.0, bytes_push bytes b are.1 is)
 
@@ -54,7 +56,8 @@ shown_lf true ends raw are = tt
 shown_lf false true raw are = text_in _ (bytes_taken (length raw - 1) raw are)
 shown_lf false false raw are = text_in raw are
 
-shown_end : (is_long : Bool) (raw : List ℕ) → AreBytes raw → IsByteLine (cond is_long long (text raw))
+shown_end : (is_long : Bool) (raw : List ℕ) → AreBytes raw
+    → IsByteLine (cond is_long long (text raw))
 shown_end true raw are = tt
 shown_end false raw are = text_in raw are
 
@@ -63,8 +66,9 @@ last_shown : (there : Bool) (rest : List ℕ) → AreBytes rest
 last_shown true rest are = (shown_end (nat_lt max_line (length rest)) rest are, tt)
 last_shown false rest are = tt
 
-next_shown : (is_lf : Bool) (line : Shown) (here there : List Shown) → IsByteLine line → AllByRecursion IsByteLine here
-    → AllByRecursion IsByteLine there → AllByRecursion IsByteLine (cond is_lf (line ∷ here) there)
+next_shown : (is_lf : Bool) (line : Shown) (here there : List Shown) → IsByteLine line
+    → AllByRecursion IsByteLine here → AllByRecursion IsByteLine there
+    → AllByRecursion IsByteLine (cond is_lf (line ∷ here) there)
 next_shown true line here there is are are' = (is, are)
 next_shown false line here there is are are' = are'
 
@@ -72,17 +76,20 @@ lines_shown : (start bytes : List ℕ) (ended : Bool) → AreBytes start → Are
     → AllByRecursion IsByteLine (lines_from start bytes ended)
 lines_shown start [] ended are are' = last_shown (ended && nat_lt 0 (length start)) start are
 lines_shown start (x ∷ bytes) ended are are' =
-    next_shown (x == 10) (ended_by_lf start) (lines_from [] bytes ended) (lines_from (start ++ x ∷ []) bytes ended)
-    (shown_lf (nat_lt max_line (length start)) (ends_with_byte 13 start) start are) (lines_shown [] bytes ended tt are'.1)
+    next_shown (x == 10) (ended_by_lf start) (lines_from [] bytes ended)
+    (lines_from (start ++ x ∷ []) bytes ended)
+    (shown_lf (nat_lt max_line (length start)) (ends_with_byte 13 start) start are)
+    (lines_shown [] bytes ended tt are'.1)
     (lines_shown (start ++ x ∷ []) bytes ended (bytes_push start x are are'.0) are'.1)
 
 -- the lines of bytes have bytes
-pub byte_lines : (bytes : List ℕ) (ended : Bool) → IsText bytes → AllByRecursion IsByteLine (lines bytes ended)
+pub byte_lines : (bytes : List ℕ) (ended : Bool) → IsText bytes
+    → AllByRecursion IsByteLine (lines bytes ended)
 byte_lines bytes ended is = lines_shown [] bytes ended tt (bytes_in bytes is)
 
 -- lines that are put together
-pub byte_lines-append : (shown more : List Shown) → AllByRecursion IsByteLine shown → AllByRecursion IsByteLine more
-    → AllByRecursion IsByteLine (shown ++ more)
+pub byte_lines-append : (shown more : List Shown) → AllByRecursion IsByteLine shown
+    → AllByRecursion IsByteLine more → AllByRecursion IsByteLine (shown ++ more)
 byte_lines-append [] more are are' = are'
 byte_lines-append (line ∷ shown) more are are' = (are.0, byte_lines-append shown more are.1 are')
 
@@ -92,12 +99,15 @@ item_word : (columns : List Column) (line : List ℕ) (read : Result (List Field
 item_word columns line (Ok item) is reads = (item_is_of columns line item is reads, tt)
 item_word columns line (Err why) is reads = tt
 
-line_word : (columns : List Column) (line : Shown) → IsByteLine line → IsWordOf columns (item_in (read_of columns line))
+line_word : (columns : List Column) (line : Shown) → IsByteLine line
+    → IsWordOf columns (item_in (read_of columns line))
 line_word columns (text []) is = tt
-line_word columns (text (b ∷ bytes)) is = item_word columns (b ∷ bytes) (item_of columns (b ∷ bytes)) is refl
+line_word columns (text (b ∷ bytes)) is =
+    item_word columns (b ∷ bytes) (item_of columns (b ∷ bytes)) is refl
 line_word columns long is = tt
 
-word_joined : (columns : List Column) (u v : Word) → IsWordOf columns u → IsWordOf columns v → IsWordOf columns (u ++ v)
+word_joined : (columns : List Column) (u v : Word) → IsWordOf columns u → IsWordOf columns v
+    → IsWordOf columns (u ++ v)
 word_joined columns [] v is others = others
 word_joined columns (item ∷ u) v is others = (is.0, word_joined columns u v is.1 others)
 
@@ -116,4 +126,5 @@ body_lines false shown are = are
 -- the items of lines of bytes are items of the columns
 pub items_word : (layout : Layout) (shown : List Shown) → AllByRecursion IsByteLine shown
     → IsWordOf layout.columns (items_of layout shown)
-items_word layout shown are = lines_word layout.columns (body_of layout.has_header shown) (body_lines layout.has_header shown are)
+items_word layout shown are = lines_word layout.columns (body_of layout.has_header shown)
+    (body_lines layout.has_header shown are)

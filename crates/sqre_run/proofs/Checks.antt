@@ -14,7 +14,8 @@ use Rattle.sqre_run.specs.Compiled.{judged}
 use Rattle.sqre_run.specs.Stops.{IsJudgmentAt}
 use Rattle.sqre_run.proofs.Drillable.{drillable_of_text}
 
-module _ (text : List ℕ) (program : Program) (file : IsFileOf text (program_terms program)) (within : IsWithin program.stream) where
+module _ (text : List ℕ) (program : Program) (file : IsFileOf text (program_terms program))
+    (within : IsWithin program.stream) where
   judgment_at : (judgment : Judgment) → IsJudgmentOf program judgment → IsJudgmentAt text judgment
   judgment_at (Accepted checked) is = (
     judged program (accepted (monitor_of checked.value)) file is,
@@ -24,6 +25,7 @@ module _ (text : List ℕ) (program : Program) (file : IsFileOf text (program_te
   judgment_at (Ambiguous blame) is = (program, is, file)
 
   -- a judgment, if there is one
-  pub judgment_of_text : (result : Result Judgment AllocError) → IfOk result (IsJudgmentOf program) → IfOk result (IsJudgmentAt text)
+  pub judgment_of_text : (result : Result Judgment AllocError) → IfOk result (IsJudgmentOf program)
+      → IfOk result (IsJudgmentAt text)
   judgment_of_text (Ok judgment) is = judgment_at judgment is
   judgment_of_text (Err error) is = tt

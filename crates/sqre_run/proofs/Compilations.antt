@@ -1,5 +1,7 @@
 -- What a text is compiled to is one thing, and what was read of a query determines the whole of it.
-use Rattle.std.proofs.Common.{◌≡◌, ◌<◌, ◌≤◌, ◌⊎◌, inl, inr, ℕ, zero, suc, List, ◌++◌, length, Option, Some, None, IfSome, sym, ap, subst, ◌∙◌, append-nil, length-append, arith}
+use Rattle.std.proofs.Common.{◌≡◌, ◌<◌, ◌≤◌, ◌⊎◌, inl, inr, ℕ, zero, suc, List, ◌++◌, length}
+use Rattle.std.proofs.Common.{Option, Some, None, IfSome, sym, ap, subst, ◌∙◌, append-nil}
+use Rattle.std.proofs.Common.{length-append, arith}
 use Rattle.std.specs.Io.KnownBytes.{Consumes, IsAtEnd}
 use Rattle.std.specs.Prelude.{Box}
 use Rattle.std.specs.declared.alloc.Global.{Global}
@@ -20,13 +22,18 @@ use Rattle.type_checker.specs.declared.blame.Blame.{Blame}
 use Rattle.type_checker.specs.declared.judgment.Judgment.TheVariants.{Ambiguous}
 
 -- a text is compiled to one verdict
-pub one_query : (text : List ℕ) (one other : Verdict) → Compiles text one → Compiles text other → other ≡ one
+pub one_query : (text : List ℕ) (one other : Verdict) → Compiles text one
+    → Compiles text other → other ≡ one
 one_query text _ _ (judged p v file is) (judged p' v' file' is') =
-    let same : p' ≡ p = one_program p' p (one_file text (program_terms p) (program_terms p') file file') in
+    let same : p' ≡ p =
+    one_program p' p (one_file text (program_terms p) (program_terms p') file file') in
     one_verdict p v v' is (subst (λ (q : Program). IsJudged q v') same is')
-one_query text _ _ (judged p v file is) (unread why refuses) = absurd (file_or_refused text (program_terms p) why file refuses)
-one_query text _ _ (unread why refuses) (judged p v file is) = absurd (file_or_refused text (program_terms p) why file refuses)
-one_query text _ _ (unread why refuses) (unread why' refuses') = ap refused (one_refusal text why why' refuses refuses')
+one_query text _ _ (judged p v file is) (unread why refuses) =
+    absurd (file_or_refused text (program_terms p) why file refuses)
+one_query text _ _ (unread why refuses) (judged p v file is) =
+    absurd (file_or_refused text (program_terms p) why file refuses)
+one_query text _ _ (unread why refuses) (unread why' refuses') =
+    ap refused (one_refusal text why why' refuses refuses')
 
 -- one number is at most the other, or above it
 one_more : (m n : ℕ) → (m ≤ n) ⊎ (n < m) → (suc m ≤ suc n) ⊎ (suc n < suc m)
@@ -43,11 +50,13 @@ file_short : (text : List ℕ) (terms : Terms) → IsFileOf text terms → lengt
 file_short text terms file = file.has.has.has.has.short
 
 -- a text that is too long is compiled to its refusal, and so is each that is too long
-too_long : (text bytes : List ℕ) (verdict : Verdict) → max_text < length text → max_text < length bytes → Compiles bytes verdict → Compiles text verdict
+too_long : (text bytes : List ℕ) (verdict : Verdict) → max_text < length text
+    → max_text < length bytes → Compiles bytes verdict → Compiles text verdict
 too_long text bytes _ beyond more (judged program verdict file is) =
     absurd (let short = file_short bytes (program_terms program) file in omega arith)
 too_long text bytes _ beyond more (unread why refuses) =
-    subst (λ (r : Refusal). Compiles text (refused r)) (sym (one_refusal bytes (refusal rule.Long 65536 65537) why (long more) refuses))
+    subst (λ (r : Refusal). Compiles text (refused r))
+    (sym (one_refusal bytes (refusal rule.Long 65536 65537) why (long more) refuses))
     (unread (refusal rule.Long 65536 65537) (long beyond))
 
 -- the whole text is compiled to what the bytes read are, if these are all of it or too many
@@ -56,19 +65,23 @@ pub reported_query : (left left' : Option (List ℕ)) (bytes : List ℕ) (verdic
     → IfSome left (λ text. Compiles text verdict)
 reported_query None left' bytes verdict read whole compiles = tt
 reported_query (Some text) None bytes verdict read whole compiles = absurd read
-reported_query (Some text) (Some rest) bytes verdict read whole compiles = at (le_or_lt (length bytes) 65536)
+reported_query (Some text) (Some rest) bytes verdict read whole compiles =
+    at (le_or_lt (length bytes) 65536)
   where
     at : (length bytes ≤ max_text) ⊎ (max_text < length bytes) → Compiles text verdict
     at (inl h) =
-        let same : bytes ≡ text = sym (read ∙ ap (λ (l : List ℕ). bytes ++ l) (whole h) ∙ append-nil bytes) in
+        let same : bytes ≡ text =
+        sym (read ∙ ap (λ (l : List ℕ). bytes ++ l) (whole h) ∙ append-nil bytes) in
         subst (λ (t : List ℕ). Compiles t verdict) same compiles
     at (inr h) =
-        let longer : max_text < length text = omega (arith, ap length read, length-append bytes rest) in
+        let longer : max_text < length text =
+        omega (arith, ap length read, length-append bytes rest) in
         too_long text bytes verdict longer h compiles
 
 -- so by a refusal
 pub reported_refusal : (left left' : Option (List ℕ)) (bytes : List ℕ) (why : Refusal)
-    → Consumes left left' bytes → (length bytes ≤ max_text → IsAtEnd left') → IsRefusedBy why bytes → IfSome left (IsRefusedBy why)
+    → Consumes left left' bytes → (length bytes ≤ max_text → IsAtEnd left') → IsRefusedBy why bytes
+    → IfSome left (IsRefusedBy why)
 reported_refusal None left' bytes why read whole is = tt
 reported_refusal (Some text) left' bytes why read whole (compiles, no_word) =
     (reported_query (Some text) left' bytes (refused why) read whole compiles, no_word)
@@ -81,13 +94,14 @@ reported_file None left' bytes terms read whole file = tt
 reported_file (Some text) None bytes terms read whole file = absurd read
 reported_file (Some text) (Some rest) bytes terms read whole file =
     let same : bytes ≡ text =
-    sym (read ∙ ap (λ (l : List ℕ). bytes ++ l) (whole (file_short bytes terms file)) ∙ append-nil bytes)
+    sym (read ∙ ap (λ (l : List ℕ). bytes ++ l) (whole (file_short bytes terms file))
+    ∙ append-nil bytes)
     in
     subst (λ (t : List ℕ). IsFileOf t terms) same file
 
 -- so it is blamed as they are
 pub reported_blame : (left left' : Option (List ℕ)) (bytes : List ℕ) (blame : Box Blame Global)
-    → Consumes left left' bytes → (length bytes ≤ max_text → IsAtEnd left') → IsJudgmentAt bytes (Ambiguous blame)
-    → IsBlamedIn left blame.value
+    → Consumes left left' bytes → (length bytes ≤ max_text → IsAtEnd left')
+    → IsJudgmentAt bytes (Ambiguous blame) → IsBlamedIn left blame.value
 reported_blame left left' bytes blame read whole (program, is, file) =
     (program, is, reported_file left left' bytes (program_terms program) read whole file)

@@ -1,5 +1,6 @@
 -- From a run or a refusal to the outcome of a run.
-use Rattle.std.proofs.Common.{◌≡◌, ℕ, List, [], Option, Result, inl, inr, refl, sym, ap, subst, ◌∙◌, arith}
+use Rattle.std.proofs.Common.{◌≡◌, ℕ, List, [], Option, Result, inl, inr, refl, sym, ap, subst, ◌∙◌}
+use Rattle.std.proofs.Common.{arith}
 use Rattle.std.specs.declared.alloc.AllocError.{AllocError}
 use Rattle.std.specs.Io.KnownBytes.{Appends}
 use Rattle.std.proofs.KnownBytes.{Consumes-nil}
@@ -16,11 +17,13 @@ use Rattle.sqre_run.specs.Call.{Completes, Outcome}
 use Rattle.sqre_run.specs.Carried.{RefusalCarried}
 use Rattle.sqre_run.specs.Written.{Refuses}
 use Rattle.sqre_run.specs.declared.status.Status.{Status}
-use Rattle.sqre_run.specs.declared.status.Status.TheVariants.{Done, Refused, ItemFault, SinkFault, Memory, Limit}
+use Rattle.sqre_run.specs.declared.status.Status.TheVariants.{Done, Refused, ItemFault, SinkFault}
+use Rattle.sqre_run.specs.declared.status.Status.TheVariants.{Memory, Limit}
 
 -- how the run of a query ended is the outcome of its text
-pub Outcome-ended : (text : List ℕ) (monitor : Monitor) → Compiles text (accepted monitor) → KeepsRules monitor
-    → (status : Status) (old new : Outside) → Ended monitor status old new → Outcome text status old new
+pub Outcome-ended : (text : List ℕ) (monitor : Monitor) → Compiles text (accepted monitor)
+    → KeepsRules monitor → (status : Status) (old new : Outside) → Ended monitor status old new
+    → Outcome text status old new
 Outcome-ended text monitor compiles keeps Done old new (ends, ended) =
     (monitor, compiles, keeps, (omega (arith, ends), ended))
 Outcome-ended text monitor compiles keeps ItemFault old new (ends, got, wrote) =
@@ -53,15 +56,17 @@ Outcome-refused text refusal compiles SinkFault old taken (lines, are, some) =
     reported_some (answering meaning) means = absurd means
     reported_some (refusing other) same =
         let part : AppendsSome old.taken taken (refusal_text other) =
-        subst (λ (l : List ℕ). AppendsSome old.taken taken l) (are ∙ ap refusal_text (sym same)) some in
+        subst (λ (l : List ℕ). AppendsSome old.taken taken l)
+        (are ∙ ap refusal_text (sym same)) some in
         record { part = part; no_end = λ none. part }
 Outcome-refused text refusal compiles Memory old taken refuses =
     inl (ap (λ (t : Option (List ℕ)). record old { taken = t }) refuses)
 Outcome-refused text refusal compiles status old taken refuses = absurd refuses
 
 -- a run that met no fault is complete, and so is a refusal
-pub Completes-ended : (monitor : Monitor) (status : Status) (old new : Outside) → Ended monitor status old new
-    → (status ≡ ItemFault → ⊥) → (status ≡ SinkFault → ⊥) → Completes (accepted monitor) status
+pub Completes-ended : (monitor : Monitor) (status : Status) (old new : Outside)
+    → Ended monitor status old new → (status ≡ ItemFault → ⊥) → (status ≡ SinkFault → ⊥)
+    → Completes (accepted monitor) status
 Completes-ended monitor Done old new ended no_items no_sink = tt
 Completes-ended monitor ItemFault old new ended no_items no_sink = absurd (no_items refl)
 Completes-ended monitor SinkFault old new ended no_items no_sink = absurd (no_sink refl)
@@ -70,7 +75,8 @@ Completes-ended monitor Limit old new ended no_items no_sink = tt
 Completes-ended monitor status old new ended no_items no_sink = absurd ended
 
 pub Completes-refused : (refusal : Refusal) (status : Status) (lines : Result (List ℕ) AllocError)
-    (old new : Option (List ℕ)) → Refuses status lines old new → (status ≡ SinkFault → ⊥) → Completes (refused refusal) status
+    (old new : Option (List ℕ)) → Refuses status lines old new → (status ≡ SinkFault → ⊥)
+    → Completes (refused refusal) status
 Completes-refused refusal Refused lines old new refuses no_sink = tt
 Completes-refused refusal SinkFault lines old new refuses no_sink = absurd (no_sink refl)
 Completes-refused refusal Memory lines old new refuses no_sink = tt

@@ -1,5 +1,6 @@
 -- The lines that a run has shown, from one reading to the next.
-use Rattle.std.proofs.Common.{◌≡◌, ◌⊎◌, inl, inr, ℕ, Bool, true, false, List, [], ◌∷◌, ◌++◌, length, refl, sym, ap, ◌∙◌, append_assoc, append-nil, length-append, arith}
+use Rattle.std.proofs.Common.{◌≡◌, ◌⊎◌, inl, inr, ℕ, Bool, true, false, List, [], ◌∷◌, ◌++◌, length}
+use Rattle.std.proofs.Common.{refl, sym, ap, ◌∙◌, append_assoc, append-nil, length-append, arith}
 use Rattle.io_edge.specs.Lines.{Shown, lines, lines_from}
 use Rattle.io_edge.specs.Reading.{Reading, Shows, Ends, Waits, Answers, lines_after, count_of}
 use Rattle.sqre_run.specs.Running.{Showed}
@@ -48,7 +49,8 @@ pub Showed-split : (got : List ℕ) (shown : List Shown) (now : Reading) → Sho
     → (others : List Shown) × (lines got true ≡ shown ++ others)
 Showed-split got shown now showed = at (true_or_false now.met)
   where
-    at : (now.met ≡ true) ⊎ (now.met ≡ false) → (others : List Shown) × (lines got true ≡ shown ++ others)
+    at : (now.met ≡ true) ⊎ (now.met ≡ false)
+        → (others : List Shown) × (lines got true ≡ shown ++ others)
     at (inl met) = ([], showed.at_end met ∙ sym (append-nil shown))
     at (inr going) = (lines_after now [] true, Showed-lines got shown now true showed going)
 
@@ -86,7 +88,7 @@ pub Waits-lines : (got got' : List ℕ) (shown : List Shown) (old new : Reading)
 Waits-lines got got' shown old new showed going waits =
     let after = Showed-shows got got' shown [] old new showed going waits.shows in (
       Showed-lines (got ++ got') (shown ++ []) new false after waits.shows.not_met
-          ∙ ap (λ (l : List ℕ). (shown ++ []) ++ lines_from new.start (l ++ []) false) waits.none_waits
-          ∙ append-nil (shown ++ []) ∙ append-nil shown,
+          ∙ ap (λ (l : List ℕ). (shown ++ []) ++ lines_from new.start (l ++ []) false)
+          waits.none_waits ∙ append-nil (shown ++ []) ∙ append-nil shown,
       after.count,
     )

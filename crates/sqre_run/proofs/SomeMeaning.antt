@@ -1,5 +1,6 @@
 -- Some function gives the values of a query on words of items that are read from lines.
-use Rattle.std.proofs.Common.{◌≡◌, ◌&&◌, ℤ, Bool, true, false, List, [], ◌∷◌, Option, None, Some, Result, Ok, Err, ◌⊎◌, inl, inr, refl, sym, ◌∙◌, FitsSigned}
+use Rattle.std.proofs.Common.{◌≡◌, ◌&&◌, ℤ, Bool, true, false, List, [], ◌∷◌, Option, None, Some}
+use Rattle.std.proofs.Common.{Result, Ok, Err, ◌⊎◌, inl, inr, refl, sym, ◌∙◌, FitsSigned}
 use Rattle.std.specs.Int.{w64}
 use Rattle.std.specs.List.{list_all}
 use Rattle.value_ops.specs.Texts.{are_bytes}
@@ -44,7 +45,8 @@ number_or_not number = at (stored number) refl
   where
     at : (result : Result Field Cause) → stored number ≡ result → OrNot (FitsSigned w64 number)
     at (Ok kept) is = inl (stored_is number kept is).1
-    at (Err why) is = inr (λ fits. let same : Err why ≡ Ok (field.Int number) = sym is ∙ stored_fits number fits in absurd (cc))
+    at (Err why) is = inr (λ fits. let same : Err why ≡ Ok (field.Int number) =
+        sym is ∙ stored_fits number fits in absurd (cc))
 
 -- a field of a kind that is read
 field_or_not : (kind : Kind) (f : Field) → is_read kind ≡ true → OrNot (IsFieldOf kind f)
@@ -62,8 +64,8 @@ field_or_not Table f read = absurd (cc)
 
 module _ (monitor : Monitor) (keeps : KeepsRules monitor) where
   -- an item of columns that are read
-  item_or_not : (columns : List Column) (fields : List Field) → list_all (λ column. is_read column.kind) columns ≡ true
-      → OrNot (IsItemOf columns fields)
+  item_or_not : (columns : List Column) (fields : List Field)
+      → list_all (λ column. is_read column.kind) columns ≡ true → OrNot (IsItemOf columns fields)
   item_or_not [] [] read = inl tt
   item_or_not [] (f ∷ fields) read = inr (λ h. h)
   item_or_not (column ∷ columns) [] read = inr (λ h. h)
@@ -74,7 +76,8 @@ module _ (monitor : Monitor) (keeps : KeepsRules monitor) where
   -- and a word of such items
   word_or_not : (word : Word) → OrNot (IsWordOf monitor.layout.columns word)
   word_or_not [] = inl tt
-  word_or_not (item ∷ word) = both_or_not (item_or_not monitor.layout.columns item keeps.read) (word_or_not word)
+  word_or_not (item ∷ word) =
+      both_or_not (item_or_not monitor.layout.columns item keeps.read) (word_or_not word)
 
   -- the value, if there is one
   abbrev value_in : (word : Word) → ValueOrNone monitor.query word → Option Value
@@ -88,12 +91,15 @@ module _ (monitor : Monitor) (keeps : KeepsRules monitor) where
 
   -- the same of a word that may be none of the columns
   abbrev value_on : (word : Word) → OrNot (IsWordOf monitor.layout.columns word) → Option Value
-  value_on word (inl is) = value_in word (value_or_none free monitor.layout.columns monitor.query word keeps.clear is)
+  value_on word (inl is) =
+      value_in word (value_or_none free monitor.layout.columns monitor.query word keeps.clear is)
   value_on word (inr other) = None
 
-  value_on-answers : (word : Word) (is : IsWordOf monitor.layout.columns word) (decided : OrNot (IsWordOf monitor.layout.columns word))
+  value_on-answers : (word : Word) (is : IsWordOf monitor.layout.columns word)
+      (decided : OrNot (IsWordOf monitor.layout.columns word))
       → IsAnswer monitor.query word (value_on word decided)
-  value_on-answers word is (inl is') = value_in-answers word (value_or_none free monitor.layout.columns monitor.query word keeps.clear is')
+  value_on-answers word is (inl is') = value_in-answers word
+      (value_or_none free monitor.layout.columns monitor.query word keeps.clear is')
   value_on-answers word is (inr other) = absurd (other is)
 
   pub some_meaning : (meaning : Meaning) × IsMeaning monitor meaning

@@ -1,5 +1,6 @@
 -- The line that a call of `Lines::next` reported.
-use Rattle.std.proofs.Common.{◌≡◌, ◌≢◌, ◌⊎◌, inl, inr, ℕ, true, false, List, Option, Result, Ok, sym, subst, ◌∙◌}
+use Rattle.std.proofs.Common.{◌≡◌, ◌≢◌, ◌⊎◌, inl, inr, ℕ, true, false, List, Option, Result, Ok}
+use Rattle.std.proofs.Common.{sym, subst, ◌∙◌}
 use Rattle.std.specs.Io.KnownBytes.{Consumes}
 use Rattle.io_edge.specs.Ended.{MeetsEnd}
 use Rattle.io_edge.specs.Lines.{Shown, text, long}
@@ -11,7 +12,8 @@ use Rattle.io_edge.specs.declared.lines.LineStop.{LineStop}
 use Rattle.sqre_run.proofs.Showing.{true_or_false}
 
 -- Bytes were taken from the source and a line of them was answered.
-pub record TakesLine (left left' : Option (List ℕ)) (ends ends' : ℕ) (old new : Reading) (line : Shown)
+pub record TakesLine (left left' : Option (List ℕ)) (ends ends' : ℕ)
+    (old new : Reading) (line : Shown)
     : Type 0 where
   pub got : List ℕ
   pub consumed : Consumes left left' got
@@ -19,17 +21,20 @@ pub record TakesLine (left left' : Option (List ℕ)) (ends ends' : ℕ) (old ne
   pub going : old.met ≡ false
   pub end : MeetsEnd ends ends' left' ((old.met ≡ false) × (new.met ≡ true))
 
-module _ {left left' : Option (List ℕ)} {ends ends' : ℕ} {old new : Reading} {result : Result Line LineStop} where
+module _ {left left' : Option (List ℕ)} {ends ends' : ℕ} {old new : Reading}
+    {result : Result Line LineStop} where
   -- what a call reported, at the answer that it gave
   pub Reported-gives : Reported left left' ends ends' old new result
       → (answer : Result Line LineStop) → result ≡ answer
       → (got : List ℕ) × Consumes left left' got × Gives old got answer new
   Reported-gives reported answer is =
-      subst (λ (r : Result Line LineStop). (got : List ℕ) × Consumes left left' got × Gives old got r new) is
-      reported.line
+      subst
+      (λ (r : Result Line LineStop). (got : List ℕ) × Consumes left left' got × Gives old got r new)
+      is reported.line
 
   -- each answer but the end comes only while no end was met
-  pub Reported-going : Reported left left' ends ends' old new result → (result ≢ Ok End) → old.met ≡ false
+  pub Reported-going : Reported left left' ends ends' old new result → (result ≢ Ok End)
+      → old.met ≡ false
   Reported-going reported other = at (true_or_false old.met)
     where
       at : (old.met ≡ true) ⊎ (old.met ≡ false) → old.met ≡ false
@@ -37,7 +42,8 @@ module _ {left left' : Option (List ℕ)} {ends ends' : ℕ} {old new : Reading}
       at (inr going) = going
 
   -- a call that reported a line took it
-  TakesLine-reported : Reported left left' ends ends' old new result → (line : Shown) (answer : Result Line LineStop) → result ≡ answer → answer ≢ Ok End
+  TakesLine-reported : Reported left left' ends ends' old new result
+      → (line : Shown) (answer : Result Line LineStop) → result ≡ answer → answer ≢ Ok End
       → ((got : List ℕ) → Gives old got answer new → Answers old got line new)
       → TakesLine left left' ends ends' old new line
   TakesLine-reported reported line answer is other gives =
@@ -52,7 +58,8 @@ module _ {left left' : Option (List ℕ)} {ends ends' : ℕ} {old new : Reading}
       }
 
   -- a line that was reported whole
-  pub TakesLine-whole : Reported left left' ends ends' old new result → (line : _) → result ≡ Ok (Whole line) → TakesLine left left' ends ends' old new (text line.now)
+  pub TakesLine-whole : Reported left left' ends ends' old new result → (line : _)
+      → result ≡ Ok (Whole line) → TakesLine left left' ends ends' old new (text line.now)
   TakesLine-whole reported line is =
       TakesLine-reported reported (text line.now) (Ok (Whole line)) is (λ e. cc) (λ got h. h)
 

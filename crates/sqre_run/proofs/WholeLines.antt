@@ -1,7 +1,9 @@
 -- The lines that an LF ends come first among all lines, and so do the answers to them.
-use Rattle.std.proofs.Common.{◌≡◌, ℕ, Bool, true, false, cond, List, [], ◌∷◌, ◌++◌, refl, sym, ap, ◌∙◌, append-nil, ◌==◌}
+use Rattle.std.proofs.Common.{◌≡◌, ℕ, Bool, true, false, cond, List, [], ◌∷◌, ◌++◌, refl, sym, ap}
+use Rattle.std.proofs.Common.{◌∙◌, append-nil, ◌==◌}
 use Rattle.io_edge.specs.Lines.{Shown, ended_by_lf, last_line, lines_from}
-use Rattle.sqre_run.specs.Output.{Spoken, answering, answers, answers_after, output, output_lines, refusing, whole_output}
+use Rattle.sqre_run.specs.Output.{Spoken, answering, answers, answers_after, output, output_lines}
+use Rattle.sqre_run.specs.Output.{refusing, whole_output}
 use Rattle.sqre_run.proofs.Answering.{answers_after-append}
 
 -- the one list is the front of the other
@@ -26,8 +28,10 @@ lines_from-front start (x ∷ bytes) =
 -- what is written for them is the front of what is written
 output_lines-front : (query : Spoken) (whole all : List Shown) → IsFront whole all
     → (rest : List ℕ) × (output_lines query all ≡ output_lines query whole ++ rest)
-output_lines-front (answering meaning) whole all (more, is) =
-    (answers_after meaning whole more, ap (answers meaning) is ∙ answers_after-append meaning [] whole more)
+output_lines-front (answering meaning) whole all (more, is) = (
+  answers_after meaning whole more,
+  ap (answers meaning) is ∙ answers_after-append meaning [] whole more,
+)
 output_lines-front (refusing refusal) whole all front = ([], sym (append-nil _))
 
 -- the bytes for the lines that an LF ends are the front of all

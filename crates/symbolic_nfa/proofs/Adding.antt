@@ -1,5 +1,7 @@
 -- Positions that the masks of some cells get.
-use Rattle.std.proofs.Common.{◌≡◌, ◌≢◌, ◌⊎◌, inl, inr, ℕ, ◌+◌, ◌<◌, ◌≤◌, ◌↔◌, List, length, get_or, set, refl, ◌∙◌, bit_or, slice_index, arith, get_or-set_other, get_or-set_same}
+use Rattle.std.proofs.Common.{◌≡◌, ◌≢◌, ◌⊎◌, inl, inr, ℕ, ◌+◌, ◌<◌, ◌≤◌, ◌↔◌, List, length, get_or}
+use Rattle.std.proofs.Common.{set, refl, ◌∙◌, bit_or, slice_index, arith, get_or-set_other}
+use Rattle.std.proofs.Common.{get_or-set_same}
 use Rattle.std.proofs.lemmas.List.{length-set}
 use Rattle.std.specs.List.{Contains}
 use Rattle.rate_expr.specs.Sets.{Has}
@@ -7,7 +9,8 @@ use Rattle.symbolic_nfa.specs.Tables.{AddsPositions}
 use Rattle.rate_expr.proofs.MaskMembers.{has_or, has_first, has_second}
 use Rattle.rate_expr.proofs.MaskSets.{below-more}
 
--- the masks of the cells of the set below a bound have got the positions, and the others are as they were
+-- the masks of the cells of the set below a bound have got the positions, and the others
+-- are as they were
 pub record AreAdded (old new : List ℕ) (bound positions : ℕ) (cells : List ℕ) : Type 0 where
   pub same : length new ≡ length old
   pub done : (cell other : ℕ) → cell < bound → Has (slice_index new cell) other
@@ -50,7 +53,8 @@ added-here old new at positions cells so_far within is_in =
       same = length-set new at (bit_or (get_or new at 0) positions) ∙ so_far.same;
       done = λ cell other below. elim (below-more cell at below) [
         | inr less ↦
-            let kept = get_or-set_other new at cell (bit_or (get_or new at 0) positions) 0 (less_not less) in
+            let kept = get_or-set_other new at cell (bit_or (get_or new at 0) positions) 0
+            (less_not less) in
             rw kept (so_far.done cell other less)
         | inl same ↦ rw same (at_here other)
       ];
@@ -83,8 +87,9 @@ added-passed old new at positions cells so_far is_out = record {
 
 -- all of them
 pub added-all :
-    (old new : List ℕ) (bound positions : ℕ) (cells : List ℕ) → AreAdded old new bound positions cells
-    → length old ≤ bound → AddsPositions old new positions cells
+    (old new : List ℕ) (bound positions : ℕ) (cells : List ℕ)
+    → AreAdded old new bound positions cells → length old ≤ bound
+    → AddsPositions old new positions cells
 added-all old new bound positions cells all enough = record {
   same = all.same;
   has = λ cell other below. all.done cell other (omega arith);

@@ -1,11 +1,13 @@
 -- The positions that lead to an end.
-use Rattle.std.proofs.Common.{◌≡◌, inl, inr, ℕ, zero, suc, ◌+◌, ◌^◌, ◌<◌, ◌≤◌, ◌↔◌, Some, length, refl, sym, subst, bit_and, bit_or, slice_get, arith}
+use Rattle.std.proofs.Common.{◌≡◌, inl, inr, ℕ, zero, suc, ◌+◌, ◌^◌, ◌<◌, ◌≤◌, ◌↔◌, Some, length}
+use Rattle.std.proofs.Common.{refl, sym, subst, bit_and, bit_or, slice_get, arith}
 use Rattle.std.proofs.Math.Nat.{lt_of_lt_of_le}
 use Rattle.std.proofs.lemmas.Nat.{le_or_l}
 use Rattle.std.proofs.lemmas.Option.{slice_get_within}
 use Rattle.rate_expr.specs.Sets.{Sets, AreSets, Has}
 use Rattle.symbolic_nfa.specs.Ends.{ComesBefore, LeadsThrough, EndsThrough}
-use Rattle.rate_expr.proofs.MaskMembers.{has_added, has_added_same, has_first, has_or, has_second, has_zero}
+use Rattle.rate_expr.proofs.MaskMembers.{has_added, has_added_same, has_first, has_or, has_second}
+use Rattle.rate_expr.proofs.MaskMembers.{has_zero}
 use Rattle.symbolic_nfa.proofs.Lists.{one-at}
 use Rattle.rate_expr.proofs.MaskSets.{AreMeeting, below-has, below-more, has-and, has-and_both}
 
@@ -14,13 +16,15 @@ comes-below :
     (sets : Sets) (targets position : ℕ) → AreSets sets → ComesBefore sets targets position
     → position < length sets.preds
 comes-below sets targets position are (next, (follow, read, has), also) =
-    let within : position < length sets.follow = slice_get_within sets.follow position follow read in
+    let within : position < length sets.follow =
+    slice_get_within sets.follow position follow read in
     subst (λ (n : ℕ). position < n) are.each within
 
 -- of the positions below a bound, those after which one of the targets comes
 pub record AreBefore (sets : Sets) (targets bound found : ℕ) : Type 0 where
   pub sound : (position : ℕ) → Has found position → ComesBefore sets targets position
-  pub whole : (position : ℕ) → position < bound → ComesBefore sets targets position → Has found position
+  pub whole : (position : ℕ) → position < bound → ComesBefore sets targets position
+      → Has found position
 
 -- none below 0
 pub before-none : (sets : Sets) (targets : ℕ) → AreBefore sets targets 0 0
@@ -78,7 +82,8 @@ pub before-all :
     → (position : ℕ) → Has found position ↔ ComesBefore sets targets position
 before-all sets targets bound found are all enough position = (
   all.sound position,
-  λ comes. all.whole position (lt_of_lt_of_le (comes-below sets targets position are comes) enough) comes,
+  λ comes. all.whole position
+      (lt_of_lt_of_le (comes-below sets targets position are comes) enough) comes,
 )
 
 -- and none beyond
@@ -95,7 +100,8 @@ pub record AreEnding (sets : Sets) (mask ending found : ℕ) : Type 0 where
   pub more : ending ≤ found
   pub sound : (position : ℕ) → Has found position → EndsThrough sets mask position
   pub ends : (position : ℕ) → Has mask position → Has sets.last position → Has found position
-  pub back : (position : ℕ) → Has mask position → ComesBefore sets ending position → Has found position
+  pub back : (position : ℕ) → Has mask position → ComesBefore sets ending position
+      → Has found position
 
 -- where paths end at once
 pub ending-begin : (sets : Sets) (mask : ℕ) → AreEnding sets mask 0 (bit_and mask sets.last)

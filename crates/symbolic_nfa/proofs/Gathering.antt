@@ -1,5 +1,6 @@
 -- The positions after those of a mask, gathered from the lowest on.
-use Rattle.std.proofs.Common.{◌≡◌, ◌⊎◌, inl, inr, ℕ, ◌^◌, ◌<◌, ◌≤◌, ◌↔◌, Some, length, sym, subst, bit_or, arith}
+use Rattle.std.proofs.Common.{◌≡◌, ◌⊎◌, inl, inr, ℕ, ◌^◌, ◌<◌, ◌≤◌, ◌↔◌, Some, length, sym, subst}
+use Rattle.std.proofs.Common.{bit_or, arith}
 use Rattle.std.specs.Prelude.{slice_get}
 use Rattle.std.proofs.lemmas.Nat.{or_lt, pow_pos}
 use Rattle.std.proofs.lemmas.Bool.Decides.{eqb_tells}
@@ -16,7 +17,8 @@ pub record AreGathered (sets : Sets) (mask rest found : ℕ) : Type 0 where
   pub left : rest ≤ mask
   pub kept : (from : ℕ) → Has rest from → Has mask from
   pub sound : (next : ℕ) → Has found next → Continues sets (At mask) next
-  pub whole : (from next : ℕ) → Has mask from → Follows sets from next → Has rest from ⊎ Has found next
+  pub whole : (from next : ℕ) → Has mask from → Follows sets from next
+      → Has rest from ⊎ Has found next
   pub within : found < 2 ^ length sets.preds
 
 -- nothing yet
@@ -59,7 +61,8 @@ gathered-step sets mask rest found low after follow are so_far is exact less rea
     | inr before ↦ inr (has_first found follow next before)
     | inl waits ↦ elim (eqb_tells from low) [
       | inl here ↦ inr (has_second found follow next (follow_at from next (sym here.1) follows))
-      | inr other ↦ inl ((exact from).1 (waits, λ lowest. other.1 (one_lowest rest low from is lowest)))
+      | inr other ↦
+          inl ((exact from).1 (waits, λ lowest. other.1 (one_lowest rest low from is lowest)))
     ]
   ];
   within = or_lt (length sets.preds) found follow so_far.within

@@ -1,5 +1,6 @@
 -- Facts of each element of a list.
-use Rattle.std.proofs.Common.{◌≡◌, ℕ, zero, suc, List, [], ◌∷◌, Some, inl, inr, ◌+◌, ◌<◌, ◌≤◌, length, ◌∙◌, arith, refl, subst, sym}
+use Rattle.std.proofs.Common.{◌≡◌, ℕ, zero, suc, List, [], ◌∷◌, Some, inl, inr, ◌+◌, ◌<◌, ◌≤◌}
+use Rattle.std.proofs.Common.{length, ◌∙◌, arith, refl, subst, sym}
 use Rattle.std.specs.Prelude.{slice_get}
 use Rattle.std.proofs.Math.Nat.{lt_of_lt_of_le}
 use Rattle.std.proofs.lemmas.Option.{slice_get_within}
@@ -51,7 +52,8 @@ all-more P xs bound x all read here i below y found = elim (below-more i bound b
 
 -- and of all, where none is left
 pub all-below :
-    {X : Type 0} (P : X → Type 0) (xs : List X) (bound : ℕ) → AllBelow P xs bound → length xs ≤ bound
-    → AllByRecursion P xs
+    {X : Type 0} (P : X → Type 0) (xs : List X) (bound : ℕ) → AllBelow P xs bound
+    → length xs ≤ bound → AllByRecursion P xs
 all-below P xs bound all enough =
-    all-each P xs (λ i x found. all i (lt_of_lt_of_le (slice_get_within xs i x found) enough) x found)
+    all-each P xs
+    (λ i x found. all i (lt_of_lt_of_le (slice_get_within xs i x found) enough) x found)

@@ -1,5 +1,6 @@
 -- What masks say of states.
-use Rattle.std.proofs.Common.{◌≡◌, ℕ, Bool, List, ◌↔◌, ◌^◌, get_or, length, sym, subst, ◌<◌, IsTrue, bit_and, arith}
+use Rattle.std.proofs.Common.{◌≡◌, ℕ, Bool, List, ◌↔◌, ◌^◌, get_or, length, sym, subst, ◌<◌, IsTrue}
+use Rattle.std.proofs.Common.{bit_and, arith}
 use Rattle.std.proofs.lemmas.Nat.{and_le_r}
 use Rattle.std.proofs.lemmas.Option.{slice_get_read}
 use Rattle.value_ops.specs.declared.field.Field.{Field}
@@ -23,7 +24,8 @@ steps_to-and sets cells state cell ways met item are is_met is_in = record {
       let both = has-and ways met next has in
       ((are.exact next).0 both.0, is_met.sound next item is_in both.1);
   whole = λ next continues meets.
-      has-and_both ways met next ((are.exact next).1 continues) (is_met.whole next item is_in meets);
+      has-and_both ways met next ((are.exact next).1 continues)
+      (is_met.whole next item is_in meets);
 }
 
 -- the table has the mask of each cell
@@ -53,7 +55,8 @@ module _ (nfa seen : Automaton) (met : List ℕ) (growing : ℕ) (begins : Bool)
 
   pub step_along-at :
       (state : State) → AreWaysOn seen.sets state ways
-      → (item : List Field) → IsIn seen.cells cell item → StepsTo seen.sets state item (bit_and ways mask)
+      → (item : List Field) → IsIn seen.cells cell item
+      → StepsTo seen.sets state item (bit_and ways mask)
   step_along-at state are item is_in =
       steps_to-and seen.sets seen.cells state cell ways mask item are is_met is_in
 
@@ -90,8 +93,8 @@ extends-useful nfa state = (
 
 -- the tables say it of the initial state
 pub extends-begins :
-    (nfa : Automaton) (met : List ℕ) (growing : ℕ) (begins : Bool) → AreTables nfa met growing begins
-    → IsTrue begins ↔ Extends nfa Initial
+    (nfa : Automaton) (met : List ℕ) (growing : ℕ) (begins : Bool)
+    → AreTables nfa met growing begins → IsTrue begins ↔ Extends nfa Initial
 extends-begins nfa met growing begins tables =
     let useful = extends-useful nfa Initial in
     let is = tables.begins_is in

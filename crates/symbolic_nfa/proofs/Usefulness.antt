@@ -1,5 +1,7 @@
 -- The positions that are useful, found by masks alone.
-use Rattle.std.proofs.Common.{◌≡◌, ◌⊎◌, inl, inr, ℕ, zero, suc, ◌<◌, ◌^◌, ◌↔◌, List, [], ◌∷◌, Some, length, fold, refl, sym, subst, slice_get, get_or, Bool, IsTrue, bit_or}
+use Rattle.std.proofs.Common.{◌≡◌, ◌⊎◌, inl, inr, ℕ, zero, suc, ◌<◌, ◌^◌, ◌↔◌, List, [], ◌∷◌, Some}
+use Rattle.std.proofs.Common.{length, fold, refl, sym, subst, slice_get, get_or, Bool, IsTrue}
+use Rattle.std.proofs.Common.{bit_or}
 use Rattle.std.proofs.lemmas.Option.{slice_get-get_or, slice_get_within}
 use Rattle.value_ops.specs.declared.field.Field.{Field}
 use Rattle.item_schema.specs.Items.{IsItemOf}
@@ -42,7 +44,8 @@ has-union (mask ∷ masks) start position =
         | inl before ↦ inl (has_first start mask position before)
         | inr (zero, other, found, there) ↦
             let same : mask ≡ other = cc (found) in
-            inl (has_second start mask position (subst (λ (m : ℕ). Has m position) (sym same) there))
+            inl (has_second start mask position
+            (subst (λ (m : ℕ). Has m position) (sym same) there))
         | inr (suc at, other, found, there) ↦ inr (at, other, found, there)
       ]),
     )
@@ -84,7 +87,8 @@ through_met :
     (nfa : Automaton) (mask : ℕ) → ((position : ℕ) → Has mask position ↔ CanBeMet nfa position)
     → (word : Word) (item : List Field) (position end : ℕ)
     → IsWordOf nfa.cells.layout.columns (item ∷ word) → Meets nfa.sets position item
-    → LeadsOn nfa.sets position word end → Has nfa.sets.last end → EndsThrough nfa.sets mask position
+    → LeadsOn nfa.sets position word end → Has nfa.sets.last end
+    → EndsThrough nfa.sets mask position
 through_met nfa mask exact [] item position end items met here last = (
   0,
   (
@@ -92,7 +96,8 @@ through_met nfa mask exact [] item position end items met here last = (
     subst (λ (p : ℕ). Has nfa.sets.last p) (sym here) last,
   ),
 )
-through_met nfa mask exact (second ∷ word) item position end items met (next, follows, meets, path) last =
+through_met nfa mask exact (second ∷ word) item position end items met
+    (next, follows, meets, path) last =
     let rest = through_met nfa mask exact word second next end items.1 meets path last in
     (suc rest.0, ((exact position).1 (item, items.0, met), next, follows, rest.1))
 
@@ -153,7 +158,8 @@ before-grows :
     → ((position : ℕ) → Has growing position ↔ ComesBefore nfa.sets useful position)
     → (position : ℕ) → Has growing position ↔ Grows nfa position
 before-grows nfa useful growing exact before position = (
-  λ has. let (next, follows, there) = (before position).0 has in (next, follows, (exact next).0 there),
+  λ has. let (next, follows, there) = (before position).0 has in
+      (next, follows, (exact next).0 there),
   λ (next, follows, is). (before position).1 (next, follows, (exact next).1 is),
 )
 
@@ -199,7 +205,9 @@ pub tables-shared :
     → AreTables (record { sets = mine; cells = kept }) met growing begins
 tables-shared mine sets kept read cells met useful growing begins
     is_mine is_kept is_read are decided are_met ending within before meeting =
-    subst (λ (s : Sets). AreTables (record { sets = s; cells = kept }) met growing begins) (sym is_mine)
-    (subst (λ (k : Partition). AreTables (record { sets = sets; cells = k }) met growing begins) (sym is_kept)
+    subst (λ (s : Sets). AreTables (record { sets = s; cells = kept }) met growing begins)
+    (sym is_mine)
+    (subst (λ (k : Partition). AreTables (record { sets = sets; cells = k }) met growing begins)
+    (sym is_kept)
     (tables-made (record { sets = sets; cells = cells }) met useful growing begins are decided
     (subst (λ (k : Partition). AreMet sets k met) is_read are_met) ending within before meeting))

@@ -73,8 +73,8 @@ is_accepted-in sets rate word state are holds_after =
 
 -- a way on from the state after a word is spelled by what comes after it in a word to an end
 pub leads_to_end-spells :
-    (sets : Sets) (u : Word) (state : State) (item : List Field) (word : Word) → IsAfter sets u state
-    → LeadsToEnd sets state (item ∷ word) ↔ Spells sets (u ++ item ∷ word)
+    (sets : Sets) (u : Word) (state : State) (item : List Field) (word : Word)
+    → IsAfter sets u state → LeadsToEnd sets state (item ∷ word) ↔ Spells sets (u ++ item ∷ word)
 leads_to_end-spells sets [] Initial item word holds_after = (
   λ (next, end, first, meets, path, last). (end, (next, first, meets, path), last),
   λ (end, (begin, first, meets, path), last). (begin, end, first, meets, path, last),

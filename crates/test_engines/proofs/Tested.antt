@@ -1,5 +1,6 @@
 -- The query of the tests keeps the rules.
-use Rattle.std.proofs.Common.{◌≡◌, ◌<◌, ℕ, ◌+◌, ◌^◌, ◌∙◌, List, [], ◌∷◌, ◌++◌, Option, None, ap, arith, refl, rules, sym, subst}
+use Rattle.std.proofs.Common.{◌≡◌, ◌<◌, ℕ, ◌+◌, ◌^◌, ◌∙◌, List, [], ◌∷◌, ◌++◌, Option, None, ap}
+use Rattle.std.proofs.Common.{arith, refl, rules, sym, subst}
 use Rattle.std.specs.Prelude.{IsTrue, ℤ, codes, pos, FitsSigned}
 use Rattle.std.specs.Int.{w64}
 use Rattle.std.specs.List.{list_all}
@@ -39,8 +40,10 @@ met = record { fit = refl; item = field.Int (pos 5) ∷ []; is_item = (five, tt)
 -- each part is one item
 one_split : HaveOneSplit numbers (one any) (one any)
 one_split u v u' v' is a b a' b' same =
-    let first : u ++ v ≡ a.0 ∷ b.0 ∷ [] = ap (λ (w : Word). w ++ v) a.1 ∙ ap (λ (w : Word). a.0 ∷ w) b.1 in
-    let second : u' ++ v' ≡ a'.0 ∷ b'.0 ∷ [] = ap (λ (w : Word). w ++ v') a'.1 ∙ ap (λ (w : Word). a'.0 ∷ w) b'.1 in
+    let first : u ++ v ≡ a.0 ∷ b.0 ∷ [] =
+    ap (λ (w : Word). w ++ v) a.1 ∙ ap (λ (w : Word). a.0 ∷ w) b.1 in
+    let second : u' ++ v' ≡ a'.0 ∷ b'.0 ∷ [] =
+    ap (λ (w : Word). w ++ v') a'.1 ∙ ap (λ (w : Word). a'.0 ∷ w) b'.1 in
     let both : a.0 ∷ b.0 ∷ [] ≡ a'.0 ∷ b'.0 ∷ [] = sym first ∙ same ∙ second in
     let here = a.1 in
     let there = a'.1 in
@@ -61,15 +64,16 @@ small = record {
 pub checked_as : (q : Qre) → IsClear free numbers q → IsSmall numbers q → (on : OnStream)
     → on.layout.columns ≡ numbers → plain_of on.main.shape ≡ q → IsChecked on
 checked_as q is_clear is_small on columns query = record {
-  read = subst (λ (cs : List Column). IsTrue (list_all (λ (c : Column). is_read c.kind) cs)) (sym columns)
-      (search rules);
+  read = subst (λ (cs : List Column). IsTrue (list_all (λ (c : Column). is_read c.kind) cs))
+      (sym columns) (search rules);
   clear = subst (λ (cs : List Column). IsClear free cs (plain_of on.main.shape)) (sym columns)
       (subst (IsClear free numbers) (sym query) is_clear);
   small = subst (λ (cs : List Column). IsSmall cs (plain_of on.main.shape)) (sym columns)
       (subst (IsSmall numbers) (sym query) is_small);
 }
 
-pub checked : (on : OnStream) → on.layout.columns ≡ numbers → plain_of on.main.shape ≡ difference → IsChecked on
+pub checked : (on : OnStream) → on.layout.columns ≡ numbers
+    → plain_of on.main.shape ≡ difference → IsChecked on
 checked on columns query = checked_as difference (clear free) small on columns query
 
 pub can_be_made : (q : Qre) → q ≡ difference → CanBeMade None q
@@ -106,8 +110,8 @@ module _ (q : Qre) (is : q ≡ difference) where
       room = subst (λ (x : Qre). now + composes_of x < 2 ^ 64) (sym is) (omega (arith, few));
     }
 
-    pub stepped : (h k : Holding Progress) (hit : Option Hit) (now position : ℕ) → now ≡ position + 1
-        → IsSound seen_of numbers q position h → StepsSoundly seen_of q h now item k hit
-        → IsSound seen_of numbers q now k
+    pub stepped : (h k : Holding Progress) (hit : Option Hit) (now position : ℕ)
+        → now ≡ position + 1 → IsSound seen_of numbers q position h
+        → StepsSoundly seen_of q h now item k hit → IsSound seen_of numbers q now k
     stepped h k hit now position is_next sound steps =
         let x = steps bound numbers position is_next clear_as is_item sound in x.node

@@ -50,10 +50,11 @@ small = record {
   derived = tt;
 }
 
-pub by_key_checked : (on : OnStream) → on.layout.columns ≡ keyed → plain_of on.main.shape ≡ totals_by_key → IsChecked on
+pub by_key_checked : (on : OnStream) → on.layout.columns ≡ keyed
+    → plain_of on.main.shape ≡ totals_by_key → IsChecked on
 by_key_checked on columns query = record {
-  read = subst (λ (cs : List Column). IsTrue (list_all (λ (c : Column). is_read c.kind) cs)) (sym columns)
-      (search rules);
+  read = subst (λ (cs : List Column). IsTrue (list_all (λ (c : Column). is_read c.kind) cs))
+      (sym columns) (search rules);
   clear = subst (λ (cs : List Column). IsClear free cs (plain_of on.main.shape)) (sym columns)
       (subst (IsClear free keyed) (sym query) clear);
   small = subst (λ (cs : List Column). IsSmall cs (plain_of on.main.shape)) (sym columns)

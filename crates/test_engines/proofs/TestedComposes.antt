@@ -46,5 +46,6 @@ small = record {
   derived = (tt, omega arith, tt);
 }
 
-pub totals_checked : (on : OnStream) → on.layout.columns ≡ numbers → plain_of on.main.shape ≡ total_of_totals → IsChecked on
+pub totals_checked : (on : OnStream) → on.layout.columns ≡ numbers
+    → plain_of on.main.shape ≡ total_of_totals → IsChecked on
 totals_checked on columns query = checked_as total_of_totals clear small on columns query

@@ -27,20 +27,22 @@ one_fits : FitsSigned w64 (pos 1)
 one_fits = search rules
 
 -- each piece is one item
-same_pieces : (us vs : List Word) → AllByRecursion (In (one any)) us → AllByRecursion (In (one any)) vs
-    → join us ≡ join vs → us ≡ vs
+same_pieces : (us vs : List Word) → AllByRecursion (In (one any)) us
+    → AllByRecursion (In (one any)) vs → join us ≡ join vs → us ≡ vs
 same_pieces [] [] all others same = refl
 same_pieces [] (v ∷ vs) all ((y, is, meets), others) same =
     let wrong : ◌≡◌ {A = Word} [] (y ∷ join vs) = same ∙ ap (λ (w : Word). w ++ join vs) is in cc
 same_pieces (u ∷ us) [] ((x, is, meets), all) others same =
-    let wrong : ◌≡◌ {A = Word} (x ∷ join us) [] = sym (ap (λ (w : Word). w ++ join us) is) ∙ same in cc
+    let wrong : ◌≡◌ {A = Word} (x ∷ join us) [] =
+    sym (ap (λ (w : Word). w ++ join us) is) ∙ same in cc
 same_pieces (u ∷ us) (v ∷ vs) ((x, is, meets), all) ((y, is', meets'), others) same =
     let both : x ∷ join us ≡ y ∷ join vs =
     sym (ap (λ (w : Word). w ++ join us) is) ∙ same ∙ ap (λ (w : Word). w ++ join vs) is' in
     let heads : x ≡ y = cc in
     let tails : join us ≡ join vs = cc in
     let firsts : u ≡ v = is ∙ ap (λ (item : List Field). item ∷ []) heads ∙ sym is' in
-    ap (λ (w : Word). w ∷ us) firsts ∙ ap (λ (ws : List Word). v ∷ ws) (same_pieces us vs all others tails)
+    ap (λ (w : Word). w ∷ us) firsts
+    ∙ ap (λ (ws : List Word). v ∷ ws) (same_pieces us vs all others tails)
 
 pub one_factoring : (columns : List Column) → HasOneFactoring columns (one any)
 one_factoring columns us vs is all others same = same_pieces us vs all others same
@@ -62,5 +64,6 @@ small = record {
   derived = (tt, tt);
 }
 
-pub excess_checked : (on : OnStream) → on.layout.columns ≡ numbers → plain_of on.main.shape ≡ excess → IsChecked on
+pub excess_checked : (on : OnStream) → on.layout.columns ≡ numbers
+    → plain_of on.main.shape ≡ excess → IsChecked on
 excess_checked on columns query = checked_as excess (clear free) small on columns query

@@ -11,10 +11,12 @@ answered_false true P Q is holds = absurd (cc)
 answered_false false P Q is holds = holds
 
 -- what follows from what an answer gives
-pub answered_ok : {T E : Type 0} (r : Result T E) (P Q : T → Type 0) → IfOk r P → ((x : T) → P x → Q x) → IfOk r Q
+pub answered_ok : {T E : Type 0} (r : Result T E) (P Q : T → Type 0) → IfOk r P
+    → ((x : T) → P x → Q x) → IfOk r Q
 answered_ok (Ok x) P Q given then = then x given
 answered_ok (Err e) P Q given then = tt
 
-pub answered_err : {T E : Type 0} (r : Result T E) (P Q : E → Type 0) → IfErr r P → ((e : E) → P e → Q e) → IfErr r Q
+pub answered_err : {T E : Type 0} (r : Result T E) (P Q : E → Type 0) → IfErr r P
+    → ((e : E) → P e → Q e) → IfErr r Q
 answered_err (Ok x) P Q given then = tt
 answered_err (Err e) P Q given then = then e given

@@ -1,5 +1,6 @@
 -- What an atom is resolved to.
-use Rattle.std.proofs.Common.{◌≡◌, true, false, List, Option, Some, None, Ok, Err, refl, ◌∙◌, ap, subst}
+use Rattle.std.proofs.Common.{◌≡◌, true, false, List, Option, Some, None, Ok, Err, refl, ◌∙◌, ap}
+use Rattle.std.proofs.Common.{subst}
 use Rattle.item_schema.specs.declared.column.Column.{Column}
 use Rattle.language_base.specs.declared.rule.Rule.TheVariants.{Name, Mismatch}
 use Rattle.language_base.specs.declared.span.Span.{Span}
@@ -32,13 +33,17 @@ use Rattle.value_ops.specs.declared.value.ValueType.{ValueType}
 abbrev pub types_in : Items → Types
 types_in items = record { fields = items.types.now; left = None; right = None }
 
-pub are_columns : (items : Items) → HasTypes items → types_in items ≡ types.of_columns (columns_of items)
+pub are_columns : (items : Items) → HasTypes items
+    → types_in items ≡ types.of_columns (columns_of items)
 are_columns items is =
-    ap (λ (fs : List (Option ValueType)). let t : Types = record { fields = fs; left = None; right = None } in t) is
+    ap (λ (fs : List (Option ValueType)). let t : Types =
+    record { fields = fs; left = None; right = None } in t) is
 
-module _ (nesting : Nesting) (columns : List Column) (predicate : p.Predicate) (tree : e.Expression) (span : Span) where
+module _ (nesting : Nesting) (columns : List Column) (predicate : p.Predicate) (tree : e.Expression)
+    (span : Span) where
   -- a name in the predicate is no column's
-  pub test_refused : (stop : CheckStop) → IsUnresolved (found Name span (resolved_over columns predicate)) stop
+  pub test_refused : (stop : CheckStop)
+      → IsUnresolved (found Name span (resolved_over columns predicate)) stop
       → IsRefused nesting columns (q.atom predicate tree span) stop
   unfolding resolved
   test_refused (Refused why) is = rw is refl
@@ -53,7 +58,8 @@ module _ (nesting : Nesting) (columns : List Column) (predicate : p.Predicate) (
     value_refused (Refused why) is = rw (← tested, is) refl
     value_refused Memory is = tt
 
-    module _ (value : values.Expression) (named : Some value ≡ expression_over (of_item columns) tree) where
+    module _ (value : values.Expression)
+        (named : Some value ≡ expression_over (of_item columns) tree) where
       -- a test is of another kind than its column
       pub unfit : fits columns pred ≡ false
           → resolved nesting columns (q.atom predicate tree span) ≡ Err (refusal Mismatch span)
@@ -71,7 +77,8 @@ module _ (nesting : Nesting) (columns : List Column) (predicate : p.Predicate) (
         pub ill_typed : ((type : ValueType) → HasType names value type → ⊥)
             → resolved nesting columns (q.atom predicate tree span) ≡ Err (refusal Mismatch span)
         ill_typed none =
-            mistyped (subst (λ (t : Types). is_typed t value ≡ false) are (untyped names value numbers none))
+            mistyped (subst (λ (t : Types). is_typed t value ≡ false) are
+            (untyped names value numbers none))
 
         passes : is_typed (types.of_columns columns) value ≡ true
             → resolved nesting columns (q.atom predicate tree span) ≡ Ok (atom pred value)
@@ -79,11 +86,12 @@ module _ (nesting : Nesting) (columns : List Column) (predicate : p.Predicate) (
         passes is = rw (← tested, ← named, fit, is) refl
 
         pub atom_made : (ty : ValueType) (made : Typed) → HasType names value ty
-            → plain_of made.query.value.shape ≡ atom pred value → places_at made.query.value.shape ≡ alone
-            → made.query.value.span ≡ span → made.ty ≡ ty → IsMade nesting columns (q.atom predicate tree span) made
+            → plain_of made.query.value.shape ≡ atom pred value
+            → places_at made.query.value.shape ≡ alone → made.query.value.span ≡ span → made.ty ≡ ty
+            → IsMade nesting columns (q.atom predicate tree span) made
         atom_made ty made has is places at ty_is =
-            let has' : HasType (types.of_columns columns) value ty = subst (λ (t : Types). HasType t value ty) are
-            has in
+            let has' : HasType (types.of_columns columns) value ty =
+            subst (λ (t : Types). HasType t value ty) are has in
             made_of nesting columns (q.atom predicate tree span) made (atom pred value) is
             (passes (is_typed_true (types.of_columns columns) value ty has'))
             (ty_is ∙ type_is (types.of_columns columns) value ty has')

@@ -33,9 +33,11 @@ AsksOver ambiguity question cells = (of_it : Ask) → IsAskOf ambiguity of_it
     → Asks of_it question × ShareCells of_it × (columns_of of_it ≡ cells.layout.columns)
 
 -- the automata of two operands
-module _ (cells : Partition) (f g : Qre) (operands : Operands) (are : AreOperands cells f g operands)
-    (boxed : Box Operands Global) (same : boxed.value ≡ operands) where
-  module _ (first second : Automaton) (is : (first ≡ boxed.value.left) × (second ≡ boxed.value.right)) where
+module _ (cells : Partition) (f g : Qre) (operands : Operands)
+    (are : AreOperands cells f g operands) (boxed : Box Operands Global)
+    (same : boxed.value ≡ operands) where
+  module _ (first second : Automaton)
+      (is : (first ≡ boxed.value.left) × (second ≡ boxed.value.right)) where
     left : first ≡ operands.left
     left = is.0 ∙ ap (λ (o : Operands). o.left) same
 
@@ -70,8 +72,9 @@ module _ (cells : Partition) (f g : Qre) (operands : Operands) (are : AreOperand
   split_asks (ask.Iter nfa) is = absurd is
 
 -- the automaton of one
-iter_asks : (f : Qre) (operand : Automaton) → IsAutomatonOf f operand → (boxed : Box Automaton Global)
-    → boxed.value ≡ operand → AsksOver (Iter boxed) (shows.iter (rate_of f)) operand.cells
+iter_asks : (f : Qre) (operand : Automaton) → IsAutomatonOf f operand
+    → (boxed : Box Automaton Global) → boxed.value ≡ operand
+    → AsksOver (Iter boxed) (shows.iter (rate_of f)) operand.cells
 iter_asks f operand is_of boxed same (ask.Choice first second) is = absurd is
 iter_asks f operand is_of boxed same (ask.Split first second) is = absurd is
 iter_asks f operand is_of boxed same (ask.Iter nfa) is =
@@ -83,10 +86,12 @@ iter_asks f operand is_of boxed same (ask.Iter nfa) is =
 
 -- the refusal by the rule at the place, with the automata
 module _ (blame : Box Blame Global) (rule : Rule) (span : Span)
-    (refuses : refusal_of blame.value ≡ refusal rule span) (broken : Option Rule) (is : broken ≡ Some rule) where
+    (refuses : refusal_of blame.value ≡ refusal rule span) (broken : Option Rule)
+    (is : broken ≡ Some rule) where
   -- of any query that asks a question of readings
-  blamed : (cells : Partition) (query : Qre) (question : Question) → question_of query ≡ Some question
-      → (ambiguity : Ambiguity) → ambiguity_of blame.value ≡ ambiguity → AsksOver ambiguity question cells
+  blamed : (cells : Partition) (query : Qre) (question : Question)
+      → question_of query ≡ Some question → (ambiguity : Ambiguity)
+      → ambiguity_of blame.value ≡ ambiguity → AsksOver ambiguity question cells
       → ((standing : Standing) → BreaksAt cells.layout.columns standing query broken)
       → IsBrokenAt cells.layout.columns query span (Ambiguous blame)
   blamed cells query question asked ambiguity of_it asks breaks = (
@@ -102,8 +107,9 @@ module _ (blame : Box Blame Global) (rule : Rule) (span : Span)
     ),
   )
 
-  module _ (cells : Partition) (f g : Qre) (operands : Operands) (are : AreOperands cells f g operands)
-      (boxed : Box Operands Global) (same : boxed.value ≡ operands) where
+  module _ (cells : Partition) (f g : Qre) (operands : Operands)
+      (are : AreOperands cells f g operands) (boxed : Box Operands Global)
+      (same : boxed.value ≡ operands) where
     pub choice_blamed : ambiguity_of blame.value ≡ Choice boxed
         → ((standing : Standing) → BreaksAt cells.layout.columns standing (q.choice f g) broken)
         → IsBrokenAt cells.layout.columns (q.choice f g) span (Ambiguous blame)
@@ -112,15 +118,18 @@ module _ (blame : Box Blame Global) (rule : Rule) (span : Span)
         (choice_asks cells f g operands are boxed same) breaks
 
     pub split_blamed : (value : Expression) → ambiguity_of blame.value ≡ Split boxed
-        → ((standing : Standing) → BreaksAt cells.layout.columns standing (q.split f g value) broken)
+        → ((standing : Standing)
+        → BreaksAt cells.layout.columns standing (q.split f g value) broken)
         → IsBrokenAt cells.layout.columns (q.split f g value) span (Ambiguous blame)
     split_blamed value of_it breaks =
-        blamed cells (q.split f g value) (shows.split (rate_of f) (rate_of g)) refl (Split boxed) of_it
-        (split_asks cells f g operands are boxed same) breaks
+        blamed cells (q.split f g value) (shows.split (rate_of f) (rate_of g)) refl
+        (Split boxed) of_it (split_asks cells f g operands are boxed same) breaks
 
-  pub iter_blamed : (f : Qre) (number : ℤ) (step : Expression) (operand : Automaton) → IsAutomatonOf f operand
-      → (boxed : Box Automaton Global) → boxed.value ≡ operand → ambiguity_of blame.value ≡ Iter boxed
-      → ((standing : Standing) → BreaksAt operand.cells.layout.columns standing (q.iter f number step) broken)
+  pub iter_blamed : (f : Qre) (number : ℤ) (step : Expression) (operand : Automaton)
+      → IsAutomatonOf f operand → (boxed : Box Automaton Global) → boxed.value ≡ operand
+      → ambiguity_of blame.value ≡ Iter boxed
+      → ((standing : Standing)
+      → BreaksAt operand.cells.layout.columns standing (q.iter f number step) broken)
       → IsBrokenAt operand.cells.layout.columns (q.iter f number step) span (Ambiguous blame)
   iter_blamed f number step operand is_of boxed same of_it breaks =
       blamed operand.cells (q.iter f number step) (shows.iter (rate_of f)) refl (Iter boxed) of_it

@@ -5,7 +5,8 @@ use Rattle.value_ops.specs.Expressions.{Expression}
 
 -- both of two expressions, by what each node of them is
 parts_of : (left right : Option Expression) (one other : Expression)
-    → ((node : Expression → Expression → Expression) → Some (node one other) ≡ both_of node left right)
+    → ((node : Expression → Expression → Expression)
+    → Some (node one other) ≡ both_of node left right)
     → (left ≡ Some one) × (right ≡ Some other)
 parts_of (Some a) (Some b) one other is = (sym (is (λ l r. l)), sym (is (λ l r. r)))
 parts_of (Some a) None one other is = absurd (cc (is (λ l r. l)))

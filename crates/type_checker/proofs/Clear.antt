@@ -8,7 +8,8 @@ use Rattle.predicate_cells.specs.Fits.{fits}
 use Rattle.predicate_cells.specs.Met.{IsMet}
 use Rattle.predicate_cells.specs.Predicates.{Predicate}
 use Rattle.predicate_cells.proofs.AllMembers.{all_back, all_front}
-use Rattle.query_model.specs.Queries.{Qre, atom, eps, choice, split, iter, combine, apply, compose, collect}
+use Rattle.query_model.specs.Queries.{Qre, atom, eps, choice, split, iter, combine, apply, compose}
+use Rattle.query_model.specs.Queries.{collect}
 use Rattle.query_model.specs.QueryTypes.{derived_columns, type_of}
 use Rattle.query_model.specs.Rates.{rate_of}
 use Rattle.query_model.specs.Rules.{CanBeMet, IsClear, IsFedWell, Standing, bound, free}
@@ -27,7 +28,8 @@ all_kept [] kept = tt
 all_kept (node ∷ nodes) (inl (rule, broken, is)) = absurd (cc)
 all_kept (node ∷ nodes) (inr (here, rest)) = (here, all_kept nodes rest)
 
-module _ (nodes others : List Node) (node : Node) (kept : AllByRecursion IsKept (nodes ++ others ++ node ∷ [])) where
+module _ (nodes others : List Node) (node : Node)
+    (kept : AllByRecursion IsKept (nodes ++ others ++ node ∷ [])) where
   operands_kept : AllByRecursion IsKept (nodes ++ others)
   operands_kept = all_front IsKept (nodes ++ others) (node ∷ []) kept
 
@@ -48,8 +50,8 @@ module _ (nodes : List Node) (node : Node) (kept : AllByRecursion IsKept (nodes 
   last_kept = (all_back IsKept nodes (node ∷ []) kept).0
 
 -- a composition that breaks no rule is fed well
-fed_well : (standing : Standing) (columns : List Column) (g : Qre) → BreaksFed standing columns (rate_of g) None
-    → IsFedWell standing columns g
+fed_well : (standing : Standing) (columns : List Column) (g : Qre)
+    → BreaksFed standing columns (rate_of g) None → IsFedWell standing columns g
 fed_well free columns g kept = tt
 fed_well bound columns g kept = kept.1
 
@@ -58,11 +60,14 @@ all_met : (columns : List Column) (preds : List Predicate) → AllFit columns pr
     → AllByRecursion (IsMet columns) preds → AllByRecursion (CanBeMet columns) preds
 all_met columns [] fit met = tt
 all_met columns (pred ∷ preds) fit ((item, is, meets), rest) =
-    let both = and_parts (fits columns pred) (list_all (fits columns) preds) fit in
-    (record { fit = both.0; item = item; is_item = is; meets = meets }, all_met columns preds both.1 rest)
+    let both = and_parts (fits columns pred) (list_all (fits columns) preds) fit in (
+      record { fit = both.0; item = item; is_item = is; meets = meets },
+      all_met columns preds both.1 rest,
+    )
 
-clear_of : (columns : List Column) (standing : Standing) (query : Qre) (places : Places) → KeepsTypes columns query
-    → AllByRecursion IsKept (nodes_in columns standing query places) → IsClear standing columns query
+clear_of : (columns : List Column) (standing : Standing) (query : Qre) (places : Places)
+    → KeepsTypes columns query → AllByRecursion IsKept (nodes_in columns standing query places)
+    → IsClear standing columns query
 clear_of columns standing (atom pred e) places types ((item, is, meets), rest) =
     (record { fit = types.0; item = item; is_item = is; meets = meets }, types.1)
 clear_of columns standing (eps number) places types kept = types
@@ -115,7 +120,8 @@ clear_of columns standing (compose f g) places (left, right, single) kept =
       single,
       fed_well standing values g (root_kept fs gs last kept),
     )
-clear_of columns standing (collect column sync rate f) places (inner, number, single, texts, test, words) kept =
+clear_of columns standing (collect column sync rate f) places
+    (inner, number, single, texts, test, words) kept =
     let fs = nodes_in columns bound f (first_places places) in
     let last = root columns standing (collect column sync rate f) places in (
       clear_of columns bound f (first_places places) inner (operand_kept fs last kept),
@@ -130,4 +136,5 @@ pub clear_from : (columns : List Column) (standing : Standing) (query : Qre) (pl
     → KeepsTypes columns query → FirstBroken (nodes_in columns standing query places) None
     → IsClear standing columns query
 clear_from columns standing query places types kept =
-    clear_of columns standing query places types (all_kept (nodes_in columns standing query places) kept)
+    clear_of columns standing query places types
+    (all_kept (nodes_in columns standing query places) kept)

@@ -1,5 +1,6 @@
 -- What a collection is resolved to.
-use Rattle.std.proofs.Common.{◌≡◌, ◌&&◌, ℕ, Bool, true, false, List, Some, None, Result, Ok, Err, refl}
+use Rattle.std.proofs.Common.{◌≡◌, ◌&&◌, ℕ, Bool, true, false, List, Some, None, Result, Ok, Err}
+use Rattle.std.proofs.Common.{refl}
 use Rattle.std.specs.List.{list_all}
 use Rattle.std.specs.Result.{IfErr, IfOk}
 use Rattle.std.proofs.lemmas.Bool.{and_parts}
@@ -34,13 +35,13 @@ use Rattle.type_checker.proofs.WithoutTables.{gives_numbers, lines_no_table}
 use Rattle.value_ops.specs.declared.value.ValueType.TheVariants as type
 
 -- where a collection may stand the columns are read from lines
-read_there : (nesting : Nesting) (columns : List Column) → may_collect nesting ≡ true → MayStand nesting columns
-    → list_all (λ column. is_read column.kind) columns ≡ true
+read_there : (nesting : Nesting) (columns : List Column) → may_collect nesting ≡ true
+    → MayStand nesting columns → list_all (λ column. is_read column.kind) columns ≡ true
 read_there outside columns may stands = stands
 read_there inside columns may stands = absurd (cc)
 
-module _ (nesting : Nesting) (columns : List Column) (key : leaf.Name) (sync : p.Predicate) (rate : r.Rate)
-    (f : q.Query) (span : Span) where
+module _ (nesting : Nesting) (columns : List Column) (key : leaf.Name)
+    (sync : p.Predicate) (rate : r.Rate) (f : q.Query) (span : Span) where
   -- a collection is refused where its operand is
   pub collect_first : (stop : CheckStop) → IsRefused inside columns f stop
       → IsRefused nesting columns (q.collect key sync rate f span) stop
@@ -57,7 +58,8 @@ module _ (nesting : Nesting) (columns : List Column) (key : leaf.Name) (sync : p
 
     module _ (column : ℕ) (keyed : Some column ≡ column_named columns key.bytes) where
       -- or a name in the predicate is none
-      pub sync_refused : (stop : CheckStop) → IsUnresolved (found Name span (resolved_over columns sync)) stop
+      pub sync_refused : (stop : CheckStop)
+          → IsUnresolved (found Name span (resolved_over columns sync)) stop
           → IsRefused nesting columns (q.collect key sync rate f span) stop
       unfolding resolved
       sync_refused (Refused why) none = rw (is.resolved, ← keyed, none) refl
@@ -65,7 +67,8 @@ module _ (nesting : Nesting) (columns : List Column) (key : leaf.Name) (sync : p
 
       module _ (pred : plain.Predicate) (tested : Some pred ≡ resolved_over columns sync) where
         -- or one in the rate
-        pub rate_refused : (stop : CheckStop) → IsUnresolved (found Name span (rate_over columns rate)) stop
+        pub rate_refused : (stop : CheckStop)
+            → IsUnresolved (found Name span (rate_over columns rate)) stop
             → IsRefused nesting columns (q.collect key sync rate f span) stop
         unfolding resolved
         rate_refused (Refused why) none = rw (is.resolved, ← keyed, ← tested, none) refl
@@ -73,18 +76,21 @@ module _ (nesting : Nesting) (columns : List Column) (key : leaf.Name) (sync : p
 
         module _ (words : Regex) (rated : Some words ≡ rate_over columns rate) where
           abbrev parts_fit : Bool
-          parts_fit = has_texts columns column && (fits columns pred && list_all (fits columns) (preds_of words))
+          parts_fit = has_texts columns column
+              && (fits columns pred && list_all (fits columns) (preds_of words))
 
           -- no collection may stand there
           pub misplaced : may_collect nesting ≡ false
-              → resolved nesting columns (q.collect key sync rate f span) ≡ Err (refusal Nested span)
+              → resolved nesting columns (q.collect key sync rate f span)
+              ≡ Err (refusal Nested span)
           unfolding resolved
           misplaced never = rw (is.resolved, ← keyed, ← tested, ← rated, never) refl
 
           module _ (may : may_collect nesting ≡ true) where
             -- a column is of another kind than is asked of it
             pub unfit_parts : parts_fit ≡ false
-                → resolved nesting columns (q.collect key sync rate f span) ≡ Err (refusal Mismatch span)
+                → resolved nesting columns (q.collect key sync rate f span)
+                ≡ Err (refusal Mismatch span)
             unfolding resolved
             unfit_parts unfit = rw (is.resolved, ← keyed, ← tested, ← rated, may, unfit) refl
 
@@ -95,7 +101,8 @@ module _ (nesting : Nesting) (columns : List Column) (key : leaf.Name) (sync : p
               collect_step = rw (is.resolved, ← keyed, ← tested, ← rated, may, fit) refl
 
               pub collect_made : (made : Typed) → MayStand nesting columns
-                  → plain_of made.query.value.shape ≡ collect column pred words (plain_of operand.query.value.shape)
+                  → plain_of made.query.value.shape
+                  ≡ collect column pred words (plain_of operand.query.value.shape)
                   → places_at made.query.value.shape ≡ with_one (places_in operand.query.value)
                   → made.query.value.span ≡ span → made.ty ≡ type.Table
                   → IsMade nesting columns (q.collect key sync rate f span) made
@@ -104,11 +111,13 @@ module _ (nesting : Nesting) (columns : List Column) (key : leaf.Name) (sync : p
                   let single = made_inside columns f operand is in
                   let parts = and_parts (has_texts columns column)
                   (fits columns pred && list_all (fits columns) (preds_of words)) fit in
-                  let tests = and_parts (fits columns pred) (list_all (fits columns) (preds_of words)) parts.1 in
-                  made_of nesting columns (q.collect key sync rate f span) made (collect column pred words inner) shape
-                  collect_step ty (
+                  let tests = and_parts (fits columns pred)
+                  (list_all (fits columns) (preds_of words)) parts.1 in
+                  made_of nesting columns (q.collect key sync rate f span) made
+                  (collect column pred words inner) shape collect_step ty (
                     is.typed.keeps,
-                    gives_numbers columns (lines_no_table columns (read_there nesting columns may stands)) inner single,
+                    gives_numbers columns (lines_no_table columns
+                        (read_there nesting columns may stands)) inner single,
                     single,
                     parts.0,
                     tests.0,
@@ -118,15 +127,16 @@ module _ (nesting : Nesting) (columns : List Column) (key : leaf.Name) (sync : p
 
 -- what a collection is over its operand
 module _ (nesting : Nesting) (columns : List Column) (f : q.Query) (operand : Typed)
-    (is : IsMade inside columns f operand) (node : q.Query → q.Query) (result : Result Typed CheckStop) where
+    (is : IsMade inside columns f operand) (node : q.Query → q.Query)
+    (result : Result Typed CheckStop) where
   pub inner_made : IfOk result (IsMadeOfInner nesting columns node operand)
       → IfOk result (IsMade nesting columns (node f))
   inner_made of_it =
-      IfOk-weaker result (IsMadeOfInner nesting columns node operand) (IsMade nesting columns (node f))
-      (λ made over. over f is) of_it
+      IfOk-weaker result (IsMadeOfInner nesting columns node operand)
+      (IsMade nesting columns (node f)) (λ made over. over f is) of_it
 
   pub inner_refused : IfErr result (IsRefusedOverInner nesting columns node operand)
       → IfErr result (IsRefused nesting columns (node f))
   inner_refused of_it =
-      IfErr-weaker result (IsRefusedOverInner nesting columns node operand) (IsRefused nesting columns (node f))
-      (λ stop over. over f is) of_it
+      IfErr-weaker result (IsRefusedOverInner nesting columns node operand)
+      (IsRefused nesting columns (node f)) (λ stop over. over f is) of_it

@@ -1,5 +1,6 @@
 -- A composition: its second operand on the values of the first, and its root.
-use Rattle.std.proofs.Common.{◌≡◌, inr, List, ◌++◌, Some, None, Result, Ok, Err, IfErr, OnOk, refl, sym, subst, append_assoc}
+use Rattle.std.proofs.Common.{◌≡◌, inr, List, ◌++◌, Some, None, Result, Ok, Err, IfErr, OnOk, refl}
+use Rattle.std.proofs.Common.{sym, subst, append_assoc}
 use Rattle.item_schema.specs.Layout.{Layout, derived_layout}
 use Rattle.item_schema.specs.declared.column.Column.{Column}
 use Rattle.language_base.specs.declared.span.Span.{Span}
@@ -26,7 +27,12 @@ module _ (columns : List Column) (standing : Standing) (f : Qre) (second : Query
 
   -- the composition, and its nodes before it
   abbrev last : Node
-  last = record { columns = columns; standing = standing; query = compose f (plain_of second.shape); place = span }
+  last = record {
+    columns = columns;
+    standing = standing;
+    query = compose f (plain_of second.shape);
+    place = span;
+  }
 
   abbrev pub after : List Node
   after = nodes_after columns standing f (plain_of second.shape) (places_in second) span
@@ -41,22 +47,28 @@ module _ (columns : List Column) (standing : Standing) (f : Qre) (second : Query
   -- none does
   module _ (kept : FirstBroken (nodes_at layout.columns standing second) None) where
     kept_there : FirstBroken (nodes_at values standing second) None
-    kept_there = subst (λ (l : Layout). FirstBroken (nodes_at l.columns standing second) None) is kept
+    kept_there =
+        subst (λ (l : Layout). FirstBroken (nodes_at l.columns standing second) None) is kept
 
-    fed_by : BreaksFed standing layout.columns (rate_of (plain_of second.shape)) None → FirstBroken after None
+    fed_by : BreaksFed standing layout.columns (rate_of (plain_of second.shape)) None
+        → FirstBroken after None
     fed_by holds = broken_after (nodes_at values standing second) _ None kept_there (inr (
-      subst (λ (l : Layout). BreaksFed standing l.columns (rate_of (plain_of second.shape)) None) is holds,
+      subst (λ (l : Layout). BreaksFed standing l.columns (rate_of (plain_of second.shape)) None) is
+          holds,
       refl,
     ))
 
-    unfed_by : (stop : WordStop) → IsUnfed standing layout.columns (rate_of (plain_of second.shape)) span stop
+    unfed_by : (stop : WordStop)
+        → IsUnfed standing layout.columns (rate_of (plain_of second.shape)) span stop
         → IsBrokenBy after stop
     unfed_by (Broken why) (rule, same, breaks) =
         let here : Breaks last (Some rule) =
-        subst (λ (l : Layout). BreaksFed standing l.columns (rate_of (plain_of second.shape)) (Some rule)) is breaks in (
+        subst (λ (l : Layout). BreaksFed standing l.columns (rate_of (plain_of second.shape))
+        (Some rule)) is breaks in (
           last,
           rule,
-          first_after_kept last rule (nodes_at values standing second) _ kept_there (first_alone last rule here),
+          first_after_kept last rule (nodes_at values standing second) _ kept_there
+              (first_alone last rule here),
           (same, fed_plain standing values (rate_of (plain_of second.shape)) rule here),
         )
     unfed_by (Ambiguous blame) broken = absurd broken
@@ -83,7 +95,8 @@ module _ (columns : List Column) (standing : Standing) (first second : Query) (s
       (with_two (places_in first) (places_in second) span)
 
   abbrev others : List Node
-  others = nodes_after columns standing (plain_of first.shape) (plain_of second.shape) (places_in second) span
+  others = nodes_after columns standing (plain_of first.shape) (plain_of second.shape)
+      (places_in second) span
 
   nodes_are : all ≡ nodes_at columns standing first ++ others
   nodes_are =
@@ -91,7 +104,8 @@ module _ (columns : List Column) (standing : Standing) (first second : Query) (s
       (nodes_at (derived_columns (type_of columns (plain_of first.shape))) standing second) _
 
   -- a node of the first operand breaks a rule
-  pub composed_first : (stop : WordStop) → IsBrokenBy (nodes_at columns standing first) stop → IsBrokenBy all stop
+  pub composed_first : (stop : WordStop) → IsBrokenBy (nodes_at columns standing first) stop
+      → IsBrokenBy all stop
   composed_first stop broken =
       subst (λ (nodes : List Node). IsBrokenBy nodes stop) (sym nodes_are)
       (stops_before (nodes_at columns standing first) others stop broken)

@@ -1,5 +1,6 @@
 -- The first node that breaks a rule of words, among nodes with others before or after them.
-use Rattle.std.proofs.Common.{inl, inr, List, [], ◌∷◌, ◌++◌, Some, None, refl, sym, ap, subst, ◌∙◌, append_assoc}
+use Rattle.std.proofs.Common.{inl, inr, List, [], ◌∷◌, ◌++◌, Some, None, refl, sym, ap, subst, ◌∙◌}
+use Rattle.std.proofs.Common.{append_assoc}
 use Rattle.std.specs.List.{AllByRecursion}
 use Rattle.language_base.specs.declared.rule.Rule.{Rule}
 use Rattle.type_checker.specs.Blames.{IsFirstBroken}
@@ -10,7 +11,8 @@ use Rattle.type_checker.specs.WordRules.{Breaks, FirstBroken}
 module _ (node : Node) (rule : Rule) where
   -- it decides
   decides : (before after : List Node) → AllByRecursion (λ earlier. Breaks earlier None) before
-      → Breaks node (Some rule) → FirstBroken (before ++ node ∷ after) (Some (refusal rule node.place))
+      → Breaks node (Some rule)
+      → FirstBroken (before ++ node ∷ after) (Some (refusal rule node.place))
   decides [] after kept breaks = inl (rule, breaks, refl)
   decides (earlier ∷ before) after kept breaks = inr (kept.0, decides before after kept.1 breaks)
 
@@ -30,14 +32,15 @@ module _ (node : Node) (rule : Rule) where
   first_with_more nodes others first = record {
     before = first.before;
     after = first.after ++ others;
-    whole = ap (λ (l : List Node). l ++ others) first.whole ∙ append_assoc first.before (node ∷ first.after) others;
+    whole = ap (λ (l : List Node). l ++ others) first.whole
+        ∙ append_assoc first.before (node ∷ first.after) others;
     kept = first.kept;
     breaks = first.breaks;
   }
 
   -- after others that break no rule
-  pub first_after_kept : (nodes others : List Node) → FirstBroken nodes None → IsFirstBroken others node rule
-      → IsFirstBroken (nodes ++ others) node rule
+  pub first_after_kept : (nodes others : List Node) → FirstBroken nodes None
+      → IsFirstBroken others node rule → IsFirstBroken (nodes ++ others) node rule
   first_after_kept [] others kept first = first
   first_after_kept (other ∷ nodes) others (inl (one, breaks, is)) first = absurd (cc)
   first_after_kept (other ∷ nodes) others (inr (here, kept)) first =

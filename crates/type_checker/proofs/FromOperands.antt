@@ -15,7 +15,8 @@ use Rattle.query_syntax.specs.declared.leaf.Number.{Number}
 use Rattle.type_checker.specs.Findings.{KeepsTypes, places_at, places_in}
 use Rattle.type_checker.specs.Joints.{joint_node}
 use Rattle.type_checker.specs.Nodes.{Places, alone, places_of, with_one, with_two}
-use Rattle.type_checker.specs.Resolutions.{IsMade, IsMadeOfOne, IsMadeOfTwo, IsRefused, IsRefusedOfTwo, IsRefusedOverOne, IsRefusedOverTwo}
+use Rattle.type_checker.specs.Resolutions.{IsMade, IsMadeOfOne, IsMadeOfTwo, IsRefused}
+use Rattle.type_checker.specs.Resolutions.{IsRefusedOfTwo, IsRefusedOverOne, IsRefusedOverTwo}
 use Rattle.type_checker.specs.Resolved.{Nesting, resolved}
 use Rattle.type_checker.specs.Steps.{◌>>=◌}
 use Rattle.type_checker.specs.declared.query_types.Typed.{Typed}
@@ -29,10 +30,12 @@ use Rattle.std.proofs.lemmas.Result.{IfErr-weaker, IfOk-weaker}
 -- the place of a node with no operand
 pub no_place : (made : Query) (span : Span) → places_at made.shape ≡ alone → made.span ≡ span
     → places_in made ≡ alone span
-no_place made span places at = ap (λ (placed : Span → Places). placed made.span) places ∙ ap alone at
+no_place made span places at =
+    ap (λ (placed : Span → Places). placed made.span) places ∙ ap alone at
 
 -- the places of a node with one operand
-pub one_place : (f : q.Query) (inner : Typed) (made : Query) (span : Span) → places_in inner.query.value ≡ places_of f
+pub one_place : (f : q.Query) (inner : Typed) (made : Query) (span : Span)
+    → places_in inner.query.value ≡ places_of f
     → places_at made.shape ≡ with_one (places_in inner.query.value) → made.span ≡ span
     → places_in made ≡ with_one (places_of f) span
 one_place f inner made span same places at =
@@ -45,7 +48,8 @@ pub two_places : (f g : q.Query) (left right : Typed) (made : Query) (span : Spa
     → made.span ≡ span → places_in made ≡ with_two (places_of f) (places_of g) span
 two_places f g left right made span first second places at =
     ap (λ (placed : Span → Places). placed made.span) places
-    ∙ ap₂ (λ (one two : Places). with_two one two made.span) first second ∙ ap (with_two (places_of f) (places_of g)) at
+    ∙ ap₂ (λ (one two : Places). with_two one two made.span) first second
+    ∙ ap (with_two (places_of f) (places_of g)) at
 
 -- why a step stops
 abbrev why_of : {A : Type 0} → Refusal → Result A Refusal → Refusal
@@ -68,8 +72,9 @@ name_itself scope root name is =
 
 module _ (nesting : Nesting) (columns : List Column) where
   -- a query that is resolved to a query in memory
-  pub made_of : (tree : q.Query) (made : Typed) (query : Qre) → plain_of made.query.value.shape ≡ query
-      → resolved nesting columns tree ≡ Ok query → made.ty ≡ type_of columns query → KeepsTypes columns query
+  pub made_of : (tree : q.Query) (made : Typed) (query : Qre)
+      → plain_of made.query.value.shape ≡ query → resolved nesting columns tree ≡ Ok query
+      → made.ty ≡ type_of columns query → KeepsTypes columns query
       → places_in made.query.value ≡ places_of tree → IsMade nesting columns tree made
   made_of tree made query is named ty keeps places = record {
     resolved = named ∙ ap Ok (sym is);
@@ -85,8 +90,8 @@ module _ (nesting : Nesting) (columns : List Column) where
     pub made_there : IfOk result (λ made. (there : Nesting) → IsMade there columns tree made)
         → IfOk result (IsMade nesting columns tree)
     made_there is =
-        IfOk-weaker result (λ made. (there : Nesting) → IsMade there columns tree made) (IsMade nesting columns tree)
-        (λ made everywhere. everywhere nesting) is
+        IfOk-weaker result (λ made. (there : Nesting) → IsMade there columns tree made)
+        (IsMade nesting columns tree) (λ made everywhere. everywhere nesting) is
 
     pub refused_there : IfErr result (λ stop. (there : Nesting) → IsRefused there columns tree stop)
         → IfErr result (IsRefused nesting columns tree)
@@ -97,20 +102,22 @@ module _ (nesting : Nesting) (columns : List Column) where
   -- a node is refused where its first operand is
   module _ (f : q.Query) where
     pub iter_first : (value : e.Expression) (first : Number) (span : Span) (stop : CheckStop)
-        → IsRefused nesting columns f stop → IsRefused nesting columns (q.iter f first value span) stop
+        → IsRefused nesting columns f stop
+        → IsRefused nesting columns (q.iter f first value span) stop
     unfolding resolved
     iter_first value first span (Refused why) left = rw left refl
     iter_first value first span Memory left = tt
 
-    pub apply_first : (value : e.Expression) (span : Span) (stop : CheckStop) → IsRefused nesting columns f stop
-        → IsRefused nesting columns (q.apply f value span) stop
+    pub apply_first : (value : e.Expression) (span : Span) (stop : CheckStop)
+        → IsRefused nesting columns f stop → IsRefused nesting columns (q.apply f value span) stop
     unfolding resolved
     apply_first value span (Refused why) left = rw left refl
     apply_first value span Memory left = tt
 
     -- where one of its two operands is
     module _ (g : q.Query) where
-      pub joint_operands : (joint : Joint) (span : Span) (stop : CheckStop) → IsRefusedOfTwo nesting columns f g stop
+      pub joint_operands : (joint : Joint) (span : Span) (stop : CheckStop)
+          → IsRefusedOfTwo nesting columns f g stop
           → IsRefused nesting columns (joint_node joint span f g) stop
       unfolding resolved
       joint_operands joint span Memory is = tt
@@ -133,14 +140,16 @@ module _ (nesting : Nesting) (columns : List Column) where
       second_of_two made is Memory right = tt
 
   -- a node of one operand that is resolved, and of two
-  module _ (f : q.Query) (inner : Typed) (is_inner : IsMade nesting columns f inner) (node : q.Query → q.Query)
-      (result : Result Typed CheckStop) where
-    pub one_made : IfOk result (IsMadeOfOne node inner) → IfOk result (IsMade nesting columns (node f))
+  module _ (f : q.Query) (inner : Typed) (is_inner : IsMade nesting columns f inner)
+      (node : q.Query → q.Query) (result : Result Typed CheckStop) where
+    pub one_made : IfOk result (IsMadeOfOne node inner)
+        → IfOk result (IsMade nesting columns (node f))
     one_made is =
         IfOk-weaker result (IsMadeOfOne node inner) (IsMade nesting columns (node f))
         (λ made of_it. of_it nesting columns f is_inner) is
 
-    pub one_refused : IfErr result (IsRefusedOverOne node inner) → IfErr result (IsRefused nesting columns (node f))
+    pub one_refused : IfErr result (IsRefusedOverOne node inner)
+        → IfErr result (IsRefused nesting columns (node f))
     one_refused is =
         IfErr-weaker result (IsRefusedOverOne node inner) (IsRefused nesting columns (node f))
         (λ stop over. over nesting columns f is_inner) is
@@ -148,7 +157,8 @@ module _ (nesting : Nesting) (columns : List Column) where
   module _ (f g : q.Query) (left right : Typed) (is_left : IsMade nesting columns f left)
       (is_right : IsMade nesting columns g right) (node : q.Query → q.Query → q.Query)
       (result : Result Typed CheckStop) where
-    pub two_made : IfOk result (IsMadeOfTwo node left right) → IfOk result (IsMade nesting columns (node f g))
+    pub two_made : IfOk result (IsMadeOfTwo node left right)
+        → IfOk result (IsMade nesting columns (node f g))
     two_made is =
         IfOk-weaker result (IsMadeOfTwo node left right) (IsMade nesting columns (node f g))
         (λ made of_them. of_them nesting columns f g is_left is_right) is
@@ -156,5 +166,6 @@ module _ (nesting : Nesting) (columns : List Column) where
     pub two_refused : IfErr result (IsRefusedOverTwo node left right)
         → IfErr result (IsRefused nesting columns (node f g))
     two_refused is =
-        IfErr-weaker result (IsRefusedOverTwo node left right) (IsRefused nesting columns (node f g))
+        IfErr-weaker result (IsRefusedOverTwo node left right)
+        (IsRefused nesting columns (node f g))
         (λ stop over. over nesting columns f g is_left is_right) is

@@ -10,7 +10,8 @@ use Rattle.query_model.specs.Rules.{IsClear, free}
 use Rattle.query_syntax.specs.Programs.{Program}
 use Rattle.type_checker.specs.Blames.{IsBlameOf, IsFirstBroken, refusal_of}
 use Rattle.type_checker.specs.Findings.{IsBrokenBy, places_in}
-use Rattle.type_checker.specs.Judged.{BreaksFirst, IsJudged, accepted, ambiguous, measured, refused, sound, unmeasured}
+use Rattle.type_checker.specs.Judged.{BreaksFirst, IsJudged, accepted, ambiguous, measured, refused}
+use Rattle.type_checker.specs.Judged.{sound, unmeasured}
 use Rattle.type_checker.specs.Layouts.{layout_of}
 use Rattle.type_checker.specs.Nodes.{Node, Places, nodes_in, places_of}
 use Rattle.type_checker.specs.Passes.{IsMeasured}
@@ -26,20 +27,23 @@ use Rattle.type_checker.proofs.PlainRules.{IsPlain, StopsPlainly, measured_plain
 -- a program of which no query was made is refused for it
 pub unmeasured_refused : (program : Program) (why : Refusal) → measured program ≡ Err why
     → IsJudged program (refused why) × IsPlain why.rule
-unmeasured_refused program why is =
-    (unmeasured why is, subst (λ (made : Result Qre Refusal). StopsPlainly made) is (measured_plain program))
+unmeasured_refused program why is = (
+  unmeasured why is,
+  subst (λ (made : Result Qre Refusal). StopsPlainly made) is (measured_plain program),
+)
 
 -- the nodes of a program's query
 abbrev nodes_of : Program → Qre → List Node
-nodes_of program query = nodes_in (layout_of program.stream).columns free query (places_of (unfolded program))
+nodes_of program query =
+    nodes_in (layout_of program.stream).columns free query (places_of (unfolded program))
 
 -- one with a blame is refused so
 pub blame_refused : (program : Program) (blame : Blame) → IsBlameOf program blame
     → IsJudged program (refused (refusal_of blame))
 blame_refused program blame is =
     ambiguous is.query (refusal_of blame) is.measured
-    (subst (λ (why : Refusal). FirstBroken (nodes_of program is.query) (Some why)) (sym is.at.refusal)
-    (first_refused is.node is.broken (nodes_of program is.query) is.first))
+    (subst (λ (why : Refusal). FirstBroken (nodes_of program is.query) (Some why))
+    (sym is.at.refusal) (first_refused is.node is.broken (nodes_of program is.query) is.first))
 
 module _ (program : Program) (made : Measured) (is : IsMeasured program made) where
   -- the query, and its nodes
@@ -51,8 +55,10 @@ module _ (program : Program) (made : Measured) (is : IsMeasured program made) wh
 
   nodes_are : nodes ≡ nodes_of program query
   nodes_are =
-      ap (λ (layout : Layout). nodes_in layout.columns free query (places_in made.query.value)) is.cells
-      ∙ ap (λ (places : Places). nodes_in (layout_of program.stream).columns free query places) is.places
+      ap (λ (layout : Layout). nodes_in layout.columns free query (places_in made.query.value))
+      is.cells
+      ∙ ap (λ (places : Places). nodes_in (layout_of program.stream).columns free query places)
+      is.places
 
   -- a rule of words is broken
   first_there : (node : Node) (rule : Rule) → IsFirstBroken nodes node rule
@@ -76,14 +82,16 @@ module _ (program : Program) (made : Measured) (is : IsMeasured program made) wh
 
     pub judged_sound : IsJudged program (accepted (record { layout = made.schema; query = query }))
     judged_sound =
-        subst (λ (layout : Layout). IsJudged program (accepted (record { layout = layout; query = query })))
+        subst (λ (layout : Layout). IsJudged program
+        (accepted (record { layout = layout; query = query })))
         (sym is.layout) (sound query is.measured kept_there)
 
     clear : IsClear free (layout_of program.stream).columns query
-    clear = clear_from (layout_of program.stream).columns free query (places_of (unfolded program)) is.types
-        kept_there
+    clear = clear_from (layout_of program.stream).columns free query
+        (places_of (unfolded program)) is.types kept_there
 
     pub checked : IsChecked (record { layout = made.schema; main = made.query.value })
     checked =
-        subst (λ (layout : Layout). IsChecked (record { layout = layout; main = made.query.value })) (sym is.layout)
+        subst (λ (layout : Layout). IsChecked (record { layout = layout; main = made.query.value }))
+        (sym is.layout)
         (record { read = columns_read program.stream.columns; clear = clear; small = is.small })

@@ -1,5 +1,6 @@
 -- Nodes whose rates have too many positions.
-use Rattle.std.proofs.Common.{◌≡◌, ◌≤◌, ◌<◌, ℕ, Bool, true, false, cond, List, Some, None, Result, Ok, Err, ap, ◌∙◌, not, nat_le, arith}
+use Rattle.std.proofs.Common.{◌≡◌, ◌≤◌, ◌<◌, ℕ, Bool, true, false, cond, List, Some, None, Result}
+use Rattle.std.proofs.Common.{Ok, Err, ap, ◌∙◌, not, nat_le, arith}
 use Rattle.std.specs.Result.{OnOk}
 use Rattle.std.proofs.lemmas.Bool.Decides.{nat_tests}
 use Rattle.item_schema.specs.declared.column.Column.{Column}
@@ -20,8 +21,8 @@ are_many : (count : ℕ) → max_positions < count → not (nat_le count max_pos
 are_many count many = grind (arith, nat_tests, many)
 
 -- what follows from two facts where there is a value
-pub on_ok_both : {A E P Q R : Type 0} (result : Result A E) → (P → Q → R) → OnOk result P → OnOk result Q
-    → OnOk result R
+pub on_ok_both : {A E P Q R : Type 0} (result : Result A E) → (P → Q → R)
+    → OnOk result P → OnOk result Q → OnOk result R
 on_ok_both (Ok value) both one other = both one other
 on_ok_both (Err stop) both one other = tt
 
@@ -32,14 +33,16 @@ module _ (node : Node) (columns : List Column) (standing : Standing) (f : Query)
       → first_over has_many_positions node columns standing f ≡ None
   few_over few =
       none_inside has_many_positions node columns standing f none
-      ∙ ap (λ (b : Bool). cond b (Some node.place) None) (are_few (size_of (rate_of node.query)) few)
+      ∙ ap (λ (b : Bool). cond b (Some node.place) None)
+      (are_few (size_of (rate_of node.query)) few)
 
   -- and one with many
   pub many_over : max_positions < size_of (rate_of node.query)
       → first_over has_many_positions node columns standing f ≡ Some node.place
   many_over many =
       none_inside has_many_positions node columns standing f none
-      ∙ ap (λ (b : Bool). cond b (Some node.place) None) (are_many (size_of (rate_of node.query)) many)
+      ∙ ap (λ (b : Bool). cond b (Some node.place) None)
+      (are_many (size_of (rate_of node.query)) many)
 
   module _ (others : List Column) (other : Standing) (g : Query)
       (neither : first_in has_many_positions others other g ≡ None) where
@@ -48,10 +51,12 @@ module _ (node : Node) (columns : List Column) (standing : Standing) (f : Query)
         → first_over_two has_many_positions node columns standing f others other g ≡ None
     few_over_both few =
         none_inside_both has_many_positions node columns standing f others other g none neither
-        ∙ ap (λ (b : Bool). cond b (Some node.place) None) (are_few (size_of (rate_of node.query)) few)
+        ∙ ap (λ (b : Bool). cond b (Some node.place) None)
+        (are_few (size_of (rate_of node.query)) few)
 
     pub many_over_both : max_positions < size_of (rate_of node.query)
         → first_over_two has_many_positions node columns standing f others other g ≡ Some node.place
     many_over_both many =
         none_inside_both has_many_positions node columns standing f others other g none neither
-        ∙ ap (λ (b : Bool). cond b (Some node.place) None) (are_many (size_of (rate_of node.query)) many)
+        ∙ ap (λ (b : Bool). cond b (Some node.place) None)
+        (are_many (size_of (rate_of node.query)) many)

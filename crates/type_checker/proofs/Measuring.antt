@@ -1,5 +1,7 @@
 -- What the passes before the rules of words make of a program, from what each of them finds.
-use Rattle.std.proofs.Common.{◌≡◌, ◌≤◌, ◌<◌, Bool, true, false, cond, List, [], ◌∷◌, ◌++◌, map, Option, None, Some, Result, Ok, Err, refl, sym, ap, subst, ◌∙◌, ⊎_elim, arith}
+use Rattle.std.proofs.Common.{◌≡◌, ◌≤◌, ◌<◌, Bool, true, false, cond, List, [], ◌∷◌, ◌++◌, map}
+use Rattle.std.proofs.Common.{Option, None, Some, Result, Ok, Err, refl, sym, ap, subst, ◌∙◌}
+use Rattle.std.proofs.Common.{⊎_elim, arith}
 use Rattle.std.proofs.lemmas.Bool.Decides.{nat_tests}
 use Rattle.std.specs.List.{Contains, list_all}
 use Rattle.language_base.specs.Limits.{max_nodes}
@@ -12,7 +14,8 @@ use Rattle.item_schema.specs.declared.column.Column as schema
 use Rattle.predicate_cells.specs.Predicates.{Predicate}
 use Rattle.query_lets.specs.Sizes as trees
 use Rattle.query_lets.specs.Unfolded.{unfolded}
-use Rattle.query_lets.specs.Words.{Word, column_words, first_wrong, is_wrong, let_words, word_span, wrong_name}
+use Rattle.query_lets.specs.Words.{Word, column_words, first_wrong, is_wrong, let_words, word_span}
+use Rattle.query_lets.specs.Words.{wrong_name}
 use Rattle.query_model.specs.Bounds.{nodes_of, slots_of}
 use Rattle.query_model.specs.Queries.{Qre, plain_of}
 use Rattle.query_model.specs.Rules.{free}
@@ -28,10 +31,12 @@ use Rattle.type_checker.specs.Findings.{IsUnresolved, KeepsTypes, derives_many, 
 use Rattle.type_checker.specs.Judged.{limited, measured, parted}
 use Rattle.type_checker.specs.Layouts.{column_of, kind_of, layout_of}
 use Rattle.type_checker.specs.Nodes.{Places, first_where, nodes_in, places_of}
-use Rattle.type_checker.specs.Passes.{IsBeyond, IsCounted, IsLimited, IsMeasured, IsNamed, counted, distinguished, values_apart}
+use Rattle.type_checker.specs.Passes.{IsBeyond, IsCounted, IsLimited, IsMeasured, IsNamed, counted}
+use Rattle.type_checker.specs.Passes.{distinguished, values_apart}
 use Rattle.type_checker.specs.Resolved.{outside, resolved}
 use Rattle.query_model.specs.Few.{has_few_cells}
-use Rattle.type_checker.specs.Sizes.{derives_many_cells, first_node, has_few_nodes, has_few_slots, has_many_positions}
+use Rattle.type_checker.specs.Sizes.{derives_many_cells, first_node, has_few_nodes, has_few_slots}
+use Rattle.type_checker.specs.Sizes.{has_many_positions}
 use Rattle.type_checker.specs.Steps.{◌>>=◌, because, provided, refusal, unless}
 use Rattle.type_checker.specs.declared.measurement.Measured.{Measured}
 use Rattle.type_checker.specs.declared.stop.CheckStop.{CheckStop}
@@ -40,8 +45,8 @@ use Rattle.type_checker.proofs.Parted.{few_values}
 use Rattle.type_checker.proofs.Counted.{count_made, count_of, count_written}
 
 -- a step with a value
-continues : {A B E : Type 0} (first : Result A E) (next : A → Result B E) (value : A) → first ≡ Ok value
-    → (first >>= next) ≡ next value
+continues : {A B E : Type 0} (first : Result A E) (next : A → Result B E) (value : A)
+    → first ≡ Ok value → (first >>= next) ≡ next value
 continues first next value is = rw is refl
 
 -- a step that stops
@@ -51,13 +56,14 @@ stops first next why is = rw is refl
 
 -- what refuses in one pass refuses in all of them
 pub unresolved_as : {A B : Type 0} (found : Result A Refusal) (made : Result B Refusal)
-    → ((why : Refusal) → found ≡ Err why → made ≡ Err why) → (stop : CheckStop) → IsUnresolved found stop
-    → IsUnresolved made stop
+    → ((why : Refusal) → found ≡ Err why → made ≡ Err why) → (stop : CheckStop)
+    → IsUnresolved found stop → IsUnresolved made stop
 unresolved_as found made each (Refused why) is = each why is
 unresolved_as found made each Memory is = tt
 
 -- nothing was found where nothing stops
-none_found : (rule : Rule) (found : Option Span) → because rule (unless found) ≡ Ok tt → found ≡ None
+none_found : (rule : Rule) (found : Option Span)
+    → because rule (unless found) ≡ Ok tt → found ≡ None
 none_found rule None is = refl
 none_found rule (Some span) is = absurd (cc)
 
@@ -74,49 +80,56 @@ regrouped (Err why) next last = refl
 
 module _ (layout : Layout) (tree : Query) (query : Qre) where
   -- the node that has too many positions
-  pub many_positions : (span : Span) → first_node has_many_positions layout.columns query (places_of tree) ≡ Some span
+  pub many_positions : (span : Span)
+      → first_node has_many_positions layout.columns query (places_of tree) ≡ Some span
       → limited layout tree query ≡ Err (refusal Size span)
   unfolding limited
   many_positions span is = rw is refl
 
   -- no such node, but much that is kept
   pub many_slots : first_node has_many_positions layout.columns query (places_of tree) ≡ None
-      → max_slots < slots_of query → limited layout tree query ≡ Err (refusal Size (query_span tree))
+      → max_slots < slots_of query
+      → limited layout tree query ≡ Err (refusal Size (query_span tree))
   unfolding limited
   many_slots none many =
-      let much : has_few_slots query ≡ false = grind (arith, nat_tests, many) in rw (none, much) refl
+      let much : has_few_slots query ≡ false = grind (arith, nat_tests, many) in
+      rw (none, much) refl
 
   -- no such node, and little that is kept
   pub within_limits : first_node has_many_positions layout.columns query (places_of tree) ≡ None
       → slots_of query ≤ max_slots → limited layout tree query ≡ Ok tt
   unfolding limited
   within_limits none few =
-      let few_slots : has_few_slots query ≡ true = grind (arith, nat_tests, few) in rw (none, few_slots) refl
+      let few_slots : has_few_slots query ≡ true = grind (arith, nat_tests, few) in
+      rw (none, few_slots) refl
 
 module _ (stream : Stream) (tree : Query) (query : Qre) where
   -- few cells, and none of the values inside
   pub few_cells : has_few_cells (layout_of stream).columns query ≡ true
-      → first_node (λ node. derives_many_cells node.columns node.query) (layout_of stream).columns query
-      (places_of tree) ≡ None → parted stream tree query ≡ Ok tt
+      → first_node (λ node. derives_many_cells node.columns node.query)
+      (layout_of stream).columns query (places_of tree) ≡ None → parted stream tree query ≡ Ok tt
   unfolding parted
   few_cells few none = rw (few, none) refl
 
   -- few cells, and too many of the values inside
   pub many_values : (why : Refusal) → has_few_cells (layout_of stream).columns query ≡ true
       → because Cells (unless (first_node (λ node. derives_many_cells node.columns node.query)
-      (layout_of stream).columns query (places_of tree))) ≡ Err why → parted stream tree query ≡ Err why
+      (layout_of stream).columns query (places_of tree))) ≡ Err why
+      → parted stream tree query ≡ Err why
   unfolding parted
   many_values why few is = rw few is
 
   -- too many
-  pub many_cells : (why : Refusal) → distinguished (layout_of stream).columns stream.span query ≡ Err why
+  pub many_cells : (why : Refusal)
+      → distinguished (layout_of stream).columns stream.span query ≡ Err why
       → parted stream tree query ≡ Err why
   unfolding parted
   many_cells why is = stops (distinguished (layout_of stream).columns stream.span query) _ why is
 
 module _ (program : Program) where
   -- a wrong name of a column or of a let
-  pub wrong_count : (span : Span) → wrong_name program ≡ Some span → counted program ≡ Err (refusal Name span)
+  pub wrong_count : (span : Span) → wrong_name program ≡ Some span
+      → counted program ≡ Err (refusal Name span)
   wrong_count span is = rw is refl
 
   -- right names, and few nodes
@@ -135,7 +148,8 @@ module _ (program : Program) where
   measured_as : measured program ≡ (counted program >>= (λ few. named))
   unfolding measured
   measured_as = sym (regrouped (because Name (unless (wrong_name program)))
-      (λ right. provided Size (query_span (unfolded program)) (has_few_nodes (unfolded program))) (λ few. named))
+      (λ right. provided Size (query_span (unfolded program)) (has_few_nodes (unfolded program)))
+      (λ few. named))
 
   -- wrong names or too many nodes
   pub count_stop : (why : Refusal) → counted program ≡ Err why → measured program ≡ Err why
@@ -146,37 +160,49 @@ module _ (program : Program) where
     count_goes = measured_as ∙ continues (counted program) (λ few. named) tt counts
 
     -- names and types
-    pub names_stop : (why : Refusal) → resolved outside (layout_of program.stream).columns (unfolded program) ≡ Err why
+    pub names_stop : (why : Refusal)
+        → resolved outside (layout_of program.stream).columns (unfolded program) ≡ Err why
         → measured program ≡ Err why
     names_stop why is =
-        count_goes ∙ stops (resolved outside (layout_of program.stream).columns (unfolded program)) sized why is
+        count_goes ∙ stops (resolved outside (layout_of program.stream).columns (unfolded program))
+        sized why is
 
     module _ (query : Qre)
-        (is : resolved outside (layout_of program.stream).columns (unfolded program) ≡ Ok query) where
+        (is : resolved outside (layout_of program.stream).columns (unfolded program)
+        ≡ Ok query) where
       named_goes : measured program ≡ sized query
       named_goes = count_goes
-          ∙ continues (resolved outside (layout_of program.stream).columns (unfolded program)) sized query is
+          ∙ continues (resolved outside (layout_of program.stream).columns (unfolded program)) sized
+          query is
 
       -- too many positions
-      pub limits_stop : (why : Refusal) → limited (layout_of program.stream) (unfolded program) query ≡ Err why
+      pub limits_stop : (why : Refusal)
+          → limited (layout_of program.stream) (unfolded program) query ≡ Err why
           → measured program ≡ Err why
-      limits_stop why is = named_goes ∙ stops (limited (layout_of program.stream) (unfolded program) query) _ why is
+      limits_stop why is =
+          named_goes ∙ stops (limited (layout_of program.stream) (unfolded program) query) _ why is
 
       module _ (small : limited (layout_of program.stream) (unfolded program) query ≡ Ok tt) where
-        small_goes : measured program ≡ (parted program.stream (unfolded program) query >>= (λ cells. Ok query))
-        small_goes = named_goes ∙ continues (limited (layout_of program.stream) (unfolded program) query) _ tt small
+        small_goes : measured program
+            ≡ (parted program.stream (unfolded program) query >>= (λ cells. Ok query))
+        small_goes = named_goes
+            ∙ continues (limited (layout_of program.stream) (unfolded program) query) _ tt small
 
         -- too many cells
         pub cells_stop : (why : Refusal) → parted program.stream (unfolded program) query ≡ Err why
             → measured program ≡ Err why
-        cells_stop why is = small_goes ∙ stops (parted program.stream (unfolded program) query) _ why is
+        cells_stop why is =
+            small_goes ∙ stops (parted program.stream (unfolded program) query) _ why is
 
         -- nothing is refused
-        pub all_measured : parted program.stream (unfolded program) query ≡ Ok tt → measured program ≡ Ok query
-        all_measured is = small_goes ∙ continues (parted program.stream (unfolded program) query) _ tt is
+        pub all_measured : parted program.stream (unfolded program) query ≡ Ok tt
+            → measured program ≡ Ok query
+        all_measured is =
+            small_goes ∙ continues (parted program.stream (unfolded program) query) _ tt is
 
 -- the columns of a stream are read from lines
-pub columns_read : (columns : List Column) → list_all (λ column. is_read column.kind) (map column_of columns) ≡ true
+pub columns_read : (columns : List Column)
+    → list_all (λ column. is_read column.kind) (map column_of columns) ≡ true
 columns_read [] = refl
 columns_read (column ∷ columns) = rw (read_kind column.kind) (columns_read columns)
   where
@@ -189,9 +215,11 @@ columns_read (column ∷ columns) = rw (read_kind column.kind) (columns_read col
 pub columns_right : (program : Program) → wrong_name program ≡ None
     → first_wrong (column_words [] program.stream.columns) ≡ None
 columns_right program right =
-    first_right (column_words [] program.stream.columns) (let_words [] program.lets program.main.query) right
+    first_right (column_words [] program.stream.columns)
+    (let_words [] program.lets program.main.query) right
   where
-    first_right : (words others : List Word) → first_wrong (words ++ others) ≡ None → first_wrong words ≡ None
+    first_right : (words others : List Word) → first_wrong (words ++ others) ≡ None
+        → first_wrong words ≡ None
     first_right [] others none = refl
     first_right (word ∷ words) others none =
         by (is_wrong word) (word_span word) (first_wrong (words ++ others)) (first_wrong words)
@@ -212,19 +240,26 @@ module _ (program : Program) (count : IsCounted program) (schema : Layout)
   counts : counted program ≡ Ok tt
   counts = few_count program count
 
-  pub names_refused : (stop : CheckStop) → IsUnresolved (resolved outside schema.columns (unfolded program)) stop
+  pub names_refused : (stop : CheckStop)
+      → IsUnresolved (resolved outside schema.columns (unfolded program)) stop
       → IsUnresolved (measured program) stop
-  names_refused = unresolved_as (resolved outside schema.columns (unfolded program)) (measured program)
+  names_refused =
+      unresolved_as (resolved outside schema.columns (unfolded program)) (measured program)
       (λ (why : Refusal). λ is. names_stop program counts why
-      (subst (λ (layout : Layout). resolved outside layout.columns (unfolded program) ≡ Err why) same is))
+      (subst (λ (layout : Layout). resolved outside layout.columns (unfolded program) ≡ Err why)
+      same is))
 
   module _ (query : memory.Query) (named : IsNamed schema.columns (unfolded program) query) where
-    over : resolved outside (layout_of program.stream).columns (unfolded program) ≡ Ok (plain_of query.shape)
-    over = subst (λ (layout : Layout). resolved outside layout.columns (unfolded program) ≡ Ok (plain_of query.shape))
+    over : resolved outside (layout_of program.stream).columns (unfolded program)
+        ≡ Ok (plain_of query.shape)
+    over = subst (λ (layout : Layout). resolved outside layout.columns (unfolded program)
+        ≡ Ok (plain_of query.shape))
         same named.named
 
-    pub limits_refused : (stop : CheckStop) → ((layout : Layout) (t : Query) → places_of t ≡ places_in query
-        → IsUnresolved (limited layout t (plain_of query.shape)) stop) → IsUnresolved (measured program) stop
+    pub limits_refused : (stop : CheckStop)
+        → ((layout : Layout) (t : Query) → places_of t ≡ places_in query
+        → IsUnresolved (limited layout t (plain_of query.shape)) stop)
+        → IsUnresolved (measured program) stop
     limits_refused stop refuses =
         unresolved_as (limited (layout_of program.stream) (unfolded program) (plain_of query.shape))
         (measured program) (limits_stop program counts (plain_of query.shape) over) stop
@@ -235,29 +270,36 @@ module _ (program : Program) (count : IsCounted program) (schema : Layout)
       small = limits.limited (layout_of program.stream) (unfolded program) (sym named.places)
 
       pub cells_refused : (stop : CheckStop)
-          → IsUnresolved (distinguished schema.columns program.stream.span (plain_of query.shape)) stop
-          → IsUnresolved (measured program) stop
-      cells_refused = unresolved_as (distinguished schema.columns program.stream.span (plain_of query.shape))
+          → IsUnresolved (distinguished schema.columns program.stream.span (plain_of query.shape))
+          stop → IsUnresolved (measured program) stop
+      cells_refused =
+          unresolved_as (distinguished schema.columns program.stream.span (plain_of query.shape))
           (measured program) (λ (why : Refusal). λ is.
           cells_stop program counts (plain_of query.shape) over small why
           (many_cells program.stream (unfolded program) (plain_of query.shape) why
-          (subst (λ (layout : Layout). distinguished layout.columns program.stream.span (plain_of query.shape) ≡ Err why)
+          (subst (λ (layout : Layout).
+          distinguished layout.columns program.stream.span (plain_of query.shape) ≡ Err why)
           same is)))
 
-      module _ (few : distinguished schema.columns program.stream.span (plain_of query.shape) ≡ Ok tt) where
+      module _ (few : distinguished schema.columns program.stream.span (plain_of query.shape)
+          ≡ Ok tt) where
         few_there : has_few_cells (layout_of program.stream).columns (plain_of query.shape) ≡ true
         few_there = passed Cells program.stream.span
             (has_few_cells (layout_of program.stream).columns (plain_of query.shape))
             (subst (λ (layout : Layout).
-            distinguished layout.columns program.stream.span (plain_of query.shape) ≡ Ok tt) same few)
+            distinguished layout.columns program.stream.span (plain_of query.shape)
+            ≡ Ok tt) same few)
 
-        pub values_refused : (stop : CheckStop) → IsUnresolved (values_apart schema.columns query) stop
+        pub values_refused : (stop : CheckStop)
+            → IsUnresolved (values_apart schema.columns query) stop
             → IsUnresolved (measured program) stop
         values_refused = unresolved_as (values_apart schema.columns query) (measured program)
-            (λ (why : Refusal). λ is. cells_stop program counts (plain_of query.shape) over small why
+            (λ (why : Refusal).
+            λ is. cells_stop program counts (plain_of query.shape) over small why
             (many_values program.stream (unfolded program) (plain_of query.shape) why few_there
             (subst (λ (places : Places). because Cells (unless (first_where derives_many
-            (nodes_in (layout_of program.stream).columns free (plain_of query.shape) places))) ≡ Err why) named.places
+            (nodes_in (layout_of program.stream).columns free (plain_of query.shape) places)))
+            ≡ Err why) named.places
             (subst (λ (layout : Layout). values_apart layout.columns query ≡ Err why) same is))))
 
     -- what is beyond the limits is refused
@@ -268,35 +310,45 @@ module _ (program : Program) (count : IsCounted program) (schema : Layout)
         (λ (few, values). values_refused limits few stop values) cells)
 
 -- the nodes of a query are those of the tree that it was made of
-few_nodes : (program : Program) (query : memory.Query) → places_in query ≡ places_of (unfolded program)
-    → has_few_nodes (unfolded program) ≡ true → nodes_of (plain_of query.shape) ≤ max_nodes
+few_nodes : (program : Program) (query : memory.Query)
+    → places_in query ≡ places_of (unfolded program) → has_few_nodes (unfolded program) ≡ true
+    → nodes_of (plain_of query.shape) ≤ max_nodes
 few_nodes program query there few =
     let nodes = count_made query.shape query.span in
-    let same : count_of (places_in query) ≡ count_of (places_of (unfolded program)) = ap count_of there in
+    let same : count_of (places_in query) ≡ count_of (places_of (unfolded program)) =
+    ap count_of there in
     let whole = count_written (unfolded program) in
-    let little : trees.nodes_of (unfolded program) ≤ max_nodes = grind (arith, nat_tests, few) in omega arith
+    let little : trees.nodes_of (unfolded program) ≤ max_nodes =
+    grind (arith, nat_tests, few) in omega arith
 
 -- all that the passes found
 pub measured_by : (program : Program) (made : Measured) → IsCounted program
-    → made.schema ≡ layout_of program.stream → IsNamed made.schema.columns (unfolded program) made.query.value
+    → made.schema ≡ layout_of program.stream
+    → IsNamed made.schema.columns (unfolded program) made.query.value
     → IsLimited made.query.value → made.cells.layout ≡ made.schema
-    → distinguished made.schema.columns program.stream.span (plain_of made.query.value.shape) ≡ Ok tt
-    → ((pred : Predicate) → Contains (predicates_of (plain_of made.query.value.shape)) pred → Contains made.cells.preds pred)
+    → distinguished made.schema.columns program.stream.span (plain_of made.query.value.shape)
+    ≡ Ok tt
+    → ((pred : Predicate) → Contains (predicates_of (plain_of made.query.value.shape)) pred
+    → Contains made.cells.preds pred)
     → values_apart made.schema.columns made.query.value ≡ Ok tt → IsMeasured program made
 measured_by program made count layout named limits cells few members values =
     let query : Qre = plain_of made.query.value.shape in
     let columns : List schema.Column = (layout_of program.stream).columns in
     let same : made.schema.columns ≡ columns = ap (λ (l : Layout). l.columns) layout in
     let over : resolved outside columns (unfolded program) ≡ Ok query =
-    subst (λ (c : List schema.Column). resolved outside c (unfolded program) ≡ Ok query) same named.named in
+    subst (λ (c : List schema.Column). resolved outside c (unfolded program) ≡ Ok query)
+    same named.named in
     let there : places_in made.query.value ≡ places_of (unfolded program) = named.places in
     let nodes : nodes_of query ≤ max_nodes = few_nodes program made.query.value there count.few in
     let little : has_few_cells columns query ≡ true =
     passed Cells program.stream.span (has_few_cells columns query)
-    (subst (λ (c : List schema.Column). distinguished c program.stream.span query ≡ Ok tt) same few) in
-    let none : first_where derives_many (nodes_in columns free query (places_of (unfolded program))) ≡ None =
-    subst (λ (places : Places). first_where derives_many (nodes_in columns free query places) ≡ None) there
-    (none_found Cells (first_in derives_many columns free made.query.value)
+    (subst (λ (c : List schema.Column). distinguished c program.stream.span query ≡ Ok tt) same
+    few) in
+    let none : first_where derives_many (nodes_in columns free query (places_of (unfolded program)))
+    ≡ None =
+    subst
+    (λ (places : Places). first_where derives_many (nodes_in columns free query places) ≡ None)
+    there (none_found Cells (first_in derives_many columns free made.query.value)
     (subst (λ (c : List schema.Column). values_apart c made.query.value ≡ Ok tt) same values)) in
     let derived : HaveFewCells columns query =
     few_values columns free query (places_of (unfolded program)) none in record {
@@ -317,7 +369,8 @@ measured_by program made count layout named limits cells few members values =
       asked = record {
         types = subst (λ (l : Layout). KeepsTypes l.columns query) (sym cells) named.types;
         few = limits.positions;
-        derived = subst (λ (l : Layout). HaveFewCells l.columns query) (sym (cells ∙ layout)) derived;
+        derived =
+            subst (λ (l : Layout). HaveFewCells l.columns query) (sym (cells ∙ layout)) derived;
         members = members;
       };
     }

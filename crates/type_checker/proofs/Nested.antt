@@ -9,7 +9,8 @@ use Rattle.query_model.specs.QueryTypes.{derived_columns, type_of}
 use Rattle.query_model.specs.Rules.{HasNoCollect}
 use Rattle.query_syntax.specs.Queries as q
 use Rattle.query_syntax.specs.Queries.{Query}
-use Rattle.type_checker.specs.Expressions.{expression_over, is_number, is_typed, of_item, of_one, of_two}
+use Rattle.type_checker.specs.Expressions.{expression_over, is_number, is_typed, of_item, of_one}
+use Rattle.type_checker.specs.Expressions.{of_two}
 use Rattle.type_checker.specs.Names.{column_named}
 use Rattle.type_checker.specs.Rates.{rate_over}
 use Rattle.type_checker.specs.Resolved.{inside, resolved, same_type}
@@ -18,43 +19,51 @@ use Rattle.type_checker.specs.Tests.{resolved_over}
 use Rattle.type_checker.proofs.After.{after, after_any}
 
 -- no collection inside
-pub none_inside : (columns : List Column) (tree : Query) → IfOk (resolved inside columns tree) HasNoCollect
+pub none_inside : (columns : List Column) (tree : Query)
+    → IfOk (resolved inside columns tree) HasNoCollect
 unfolding resolved
 none_inside columns (q.name name) = tt
 none_inside columns (q.atom predicate value span) =
     after_any HasNoCollect (found Name span (resolved_over columns predicate)) _ (λ pred.
-    after_any HasNoCollect (found Name span (expression_over (of_item columns) value)) _ (λ expression.
+    after_any HasNoCollect (found Name span (expression_over (of_item columns) value))
+    _ (λ expression.
     after_any HasNoCollect (provided Mismatch span (fits columns pred)) _ (λ tests.
-    after_any HasNoCollect (provided Mismatch span (is_typed (types.of_columns columns) expression)) _ (λ typed. tt))))
+    after_any HasNoCollect (provided Mismatch span (is_typed (types.of_columns columns) expression))
+    _ (λ typed. tt))))
 none_inside columns (q.eps number span) = tt
 none_inside columns (q.or left right span) =
     after HasNoCollect (resolved inside columns left) _ (none_inside columns left) (λ f in_f.
     after HasNoCollect (resolved inside columns right) _ (none_inside columns right) (λ g in_g.
-    after_any HasNoCollect (provided Mismatch span (same_type (type_of columns g) (type_of columns f))) _ (λ typed.
+    after_any HasNoCollect
+    (provided Mismatch span (same_type (type_of columns g) (type_of columns f))) _ (λ typed.
     (in_f, in_g))))
 none_inside columns (q.split left right value span) =
     after HasNoCollect (resolved inside columns left) _ (none_inside columns left) (λ f in_f.
     after HasNoCollect (resolved inside columns right) _ (none_inside columns right) (λ g in_g.
     after_any HasNoCollect (found Name span (expression_over of_two value)) _ (λ expression.
     after_any HasNoCollect
-    (provided Mismatch span (is_typed (types.of_two (type_of columns f) (type_of columns g)) expression)) _ (λ typed.
+    (provided Mismatch span
+    (is_typed (types.of_two (type_of columns f) (type_of columns g)) expression)) _ (λ typed.
     (in_f, in_g)))))
 none_inside columns (q.iter operand first step span) =
     after HasNoCollect (resolved inside columns operand) _ (none_inside columns operand) (λ f in_f.
     after_any HasNoCollect (found Name span (expression_over of_two step)) _ (λ expression.
-    after_any HasNoCollect (provided Mismatch span (is_number (types.of_two Number (type_of columns f)) expression)) _
+    after_any HasNoCollect
+    (provided Mismatch span (is_number (types.of_two Number (type_of columns f)) expression)) _
     (λ typed. in_f)))
 none_inside columns (q.combine left right value span) =
     after HasNoCollect (resolved inside columns left) _ (none_inside columns left) (λ f in_f.
     after HasNoCollect (resolved inside columns right) _ (none_inside columns right) (λ g in_g.
     after_any HasNoCollect (found Name span (expression_over of_two value)) _ (λ expression.
     after_any HasNoCollect
-    (provided Mismatch span (is_typed (types.of_two (type_of columns f) (type_of columns g)) expression)) _ (λ typed.
+    (provided Mismatch span
+    (is_typed (types.of_two (type_of columns f) (type_of columns g)) expression)) _ (λ typed.
     (in_f, in_g)))))
 none_inside columns (q.apply operand value span) =
     after HasNoCollect (resolved inside columns operand) _ (none_inside columns operand) (λ f in_f.
     after_any HasNoCollect (found Name span (expression_over of_one value)) _ (λ expression.
-    after_any HasNoCollect (provided Mismatch span (is_typed (types.of_one (type_of columns f)) expression)) _
+    after_any HasNoCollect
+    (provided Mismatch span (is_typed (types.of_one (type_of columns f)) expression)) _
     (λ typed. in_f)))
 none_inside columns (q.compose left right span) =
     after HasNoCollect (resolved inside columns left) _ (none_inside columns left) (λ f in_f.

@@ -1,5 +1,6 @@
 -- The first node of a query that is so, by those of its operands.
-use Rattle.std.proofs.Common.{◌≡◌, Bool, cond, List, [], ◌∷◌, ◌++◌, Option, Some, None, refl, ap, ◌∙◌}
+use Rattle.std.proofs.Common.{◌≡◌, Bool, cond, List, [], ◌∷◌, ◌++◌, Option, Some, None, refl, ap}
+use Rattle.std.proofs.Common.{◌∙◌}
 use Rattle.std.specs.Option.{option_or}
 use Rattle.item_schema.specs.declared.column.Column.{Column}
 use Rattle.language_base.specs.declared.span.Span.{Span}
@@ -10,17 +11,20 @@ use Rattle.type_checker.specs.Nodes.{Node}
 use Rattle.type_checker.proofs.Placed.{first_before, first_after}
 use Rattle.type_checker.proofs.Walked.{nodes_at}
 
-module _ (is_so : Node → Bool) (node : Node) (columns : List Column) (standing : Standing) (f : Query) where
+module _ (is_so : Node → Bool) (node : Node) (columns : List Column) (standing : Standing)
+    (f : Query) where
   -- the place of the first of its nodes, and of a node after them
   abbrev all : Option Span
   all = first_over is_so node columns standing f
 
   -- none of the operand's nodes is so
-  pub none_inside : first_in is_so columns standing f ≡ None → all ≡ cond (is_so node) (Some node.place) None
+  pub none_inside : first_in is_so columns standing f ≡ None
+      → all ≡ cond (is_so node) (Some node.place) None
   none_inside none = first_after is_so (nodes_at columns standing f) (node ∷ []) none
 
   -- one is
-  pub one_inside : (found : Span) → first_in is_so columns standing f ≡ Some found → all ≡ Some found
+  pub one_inside : (found : Span) → first_in is_so columns standing f ≡ Some found
+      → all ≡ Some found
   one_inside found some = first_before is_so (nodes_at columns standing f) (node ∷ []) found some
 
   -- either
@@ -38,7 +42,8 @@ module _ (is_so : Node → Bool) (node : Node) (columns : List Column) (standing
     all_of_both = first_over_two is_so node columns standing f others other g
 
     -- none of the nodes of the operands is so
-    pub none_inside_both : first_in is_so columns standing f ≡ None → first_in is_so others other g ≡ None
+    pub none_inside_both : first_in is_so columns standing f ≡ None
+        → first_in is_so others other g ≡ None
         → all_of_both ≡ cond (is_so node) (Some node.place) None
     none_inside_both none neither =
         first_after is_so both (node ∷ [])
@@ -72,7 +77,8 @@ module _ (is_so : Node → Bool) (node : Node) (columns : List Column) (standing
         → all_of_both ≡ Some found
     one_inside_both found some =
         first_of_two _ _ refl refl
-        ∙ ap (λ (place : Option Span). option_or place (cond (is_so node) (Some node.place) None)) some
+        ∙ ap (λ (place : Option Span). option_or place (cond (is_so node) (Some node.place) None))
+        some
 
 -- what was found is found where the node itself is not so
 pub or_none : {A : Type 0} (found : Option A) → option_or found None ≡ found

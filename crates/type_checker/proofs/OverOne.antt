@@ -11,20 +11,25 @@ use Rattle.type_checker.specs.declared.word_stop.WordStop.{WordStop}
 use Rattle.type_checker.proofs.Answered.{answered_err, answered_ok}
 
 module _ (cells : Partition) (operand : Automaton) (same : operand.cells ≡ cells) (f : Qre)
-    (are : IsAutomatonOf f operand) (number : ℤ) (step : Expression) (result : Result Sets WordStop) where
+    (are : IsAutomatonOf f operand) (number : ℤ) (step : Expression)
+    (result : Result Sets WordStop) where
   -- where there are sets
   pub iter_kept : IfOk result (λ sets. (a : Qre) (n : ℤ) (e : Expression) → IsAutomatonOf a operand
       → IsKept operand.cells.layout.columns (iter a n e) sets)
       → IfOk result (IsKept cells.layout.columns (iter f number step))
   iter_kept answered =
-      answered_ok result _ (IsKept cells.layout.columns (iter f number step)) answered (λ sets given.
-      subst (λ (c : Partition). IsKept c.layout.columns (iter f number step) sets) same (given f number step are))
+      answered_ok result _ (IsKept cells.layout.columns (iter f number step))
+      answered (λ sets given.
+      subst (λ (c : Partition). IsKept c.layout.columns (iter f number step) sets) same
+      (given f number step are))
 
   -- and where it is refused
-  pub iter_refused : (span : Span) → IfErr result (λ stop. (a : Qre) (n : ℤ) (e : Expression) → IsAutomatonOf a operand
+  pub iter_refused : (span : Span)
+      → IfErr result (λ stop. (a : Qre) (n : ℤ) (e : Expression) → IsAutomatonOf a operand
       → IsBrokenAt operand.cells.layout.columns (iter a n e) span stop)
       → IfErr result (IsBrokenAt cells.layout.columns (iter f number step) span)
   iter_refused span answered =
-      answered_err result _ (IsBrokenAt cells.layout.columns (iter f number step) span) answered (λ stop given.
+      answered_err result _ (IsBrokenAt cells.layout.columns (iter f number step) span)
+      answered (λ stop given.
       subst (λ (c : Partition). IsBrokenAt c.layout.columns (iter f number step) span stop) same
       (given f number step are))

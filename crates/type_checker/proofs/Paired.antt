@@ -9,7 +9,8 @@ use Rattle.query_lets.specs.Unfolded.{Binding, bindings_of, replaced}
 use Rattle.query_lets.specs.declared.scope.Scope.{Scope}
 use Rattle.query_syntax.specs.Plain.{plain_query}
 use Rattle.query_syntax.specs.Queries as q
-use Rattle.type_checker.proofs.FromOperands.{first_of_two, joint_operands, second_of_two, two_made, two_refused}
+use Rattle.type_checker.proofs.FromOperands.{first_of_two, joint_operands, second_of_two, two_made}
+use Rattle.type_checker.proofs.FromOperands.{two_refused}
 use Rattle.type_checker.specs.Joints.{joint_node, pair_node}
 use Rattle.type_checker.specs.Resolutions.{IsMade, IsMadeOfTwo, IsRefused, IsRefusedOverTwo}
 use Rattle.type_checker.specs.Resolved.{Nesting}
@@ -48,10 +49,11 @@ module _ (scope : Scope) (pair : Pair) (is : query_of scope ≡ pair_node pair) 
   pair_nodes = ap nodes_of is
       ∙ joint_nodes pair.joint pair.span (plain_query pair.left.now) (plain_query pair.right.now)
 
-  unfolded_pair : unfolded_of scope ≡ joint_node pair.joint pair.span (first_of scope pair) (second_of scope pair)
+  unfolded_pair : unfolded_of scope
+      ≡ joint_node pair.joint pair.span (first_of scope pair) (second_of scope pair)
   unfolded_pair = ap (unfolded_at scope) is
-      ∙ joint_replaced (bindings_of (lets_of scope)) pair.joint pair.span (plain_query pair.left.now)
-      (plain_query pair.right.now)
+      ∙ joint_replaced (bindings_of (lets_of scope)) pair.joint pair.span
+      (plain_query pair.left.now) (plain_query pair.right.now)
 
   module _ (nesting : Nesting) (columns : List Column) where
     -- it is refused where its first operand is
@@ -78,10 +80,13 @@ module _ (scope : Scope) (pair : Pair) (is : query_of scope ≡ pair_node pair) 
           (result : Result Typed CheckStop) where
         pub pair_made : IfOk result (IsMadeOfTwo (joint_node pair.joint pair.span) one other)
             → IfOk result (IsMade nesting columns (unfolded_of scope))
-        pair_made made = rw unfolded_pair (two_made nesting columns (first_of scope pair) (second_of scope pair)
+        pair_made made =
+            rw unfolded_pair (two_made nesting columns (first_of scope pair) (second_of scope pair)
             one other is_one is_other (joint_node pair.joint pair.span) result made)
 
-        pub pair_refused : IfErr result (IsRefusedOverTwo (joint_node pair.joint pair.span) one other)
+        pub pair_refused : IfErr result
+            (IsRefusedOverTwo (joint_node pair.joint pair.span) one other)
             → IfErr result (IsRefused nesting columns (unfolded_of scope))
         pair_refused refused = rw unfolded_pair (two_refused nesting columns (first_of scope pair)
-            (second_of scope pair) one other is_one is_other (joint_node pair.joint pair.span) result refused)
+            (second_of scope pair) one other is_one is_other
+            (joint_node pair.joint pair.span) result refused)

@@ -1,15 +1,18 @@
 -- Where no composition distinguishes too many values, all of them distinguish few.
-use Rattle.std.proofs.Common.{◌≡◌, Bool, true, false, not, cond, List, [], ◌∷◌, ◌++◌, Some, None, refl, arith}
+use Rattle.std.proofs.Common.{◌≡◌, Bool, true, false, not, cond, List, [], ◌∷◌, ◌++◌, Some, None}
+use Rattle.std.proofs.Common.{refl, arith}
 use Rattle.std.specs.List.{AllByRecursion}
 use Rattle.std.proofs.lemmas.Bool.Decides.{nat_tests}
 use Rattle.item_schema.specs.declared.column.Column.{Column}
 use Rattle.predicate_cells.proofs.AllMembers.{all_back, all_front}
-use Rattle.query_model.specs.Queries.{Qre, atom, eps, choice, split, iter, combine, apply, compose, collect}
+use Rattle.query_model.specs.Queries.{Qre, atom, eps, choice, split, iter, combine, apply, compose}
+use Rattle.query_model.specs.Queries.{collect}
 use Rattle.query_model.specs.QueryTypes.{derived_columns, type_of}
 use Rattle.query_model.specs.Rules.{Standing, bound}
 use Rattle.query_model.specs.Sizes.{HasFewCells, HaveFewCells}
 use Rattle.type_checker.specs.Findings.{derives_many}
-use Rattle.type_checker.specs.Nodes.{Node, Places, first_places, first_where, nodes_in, root, second_places}
+use Rattle.type_checker.specs.Nodes.{Node, Places, first_places, first_where, nodes_in, root}
+use Rattle.type_checker.specs.Nodes.{second_places}
 use Rattle.query_model.specs.Few.{has_few_cells}
 
 -- the node is no composition that distinguishes too many
@@ -17,21 +20,25 @@ abbrev DerivesFew : Node → Type 0
 DerivesFew node = derives_many node ≡ false
 
 -- where there is no first that does, none does
-none_derives : (nodes : List Node) → first_where derives_many nodes ≡ None → AllByRecursion DerivesFew nodes
+none_derives : (nodes : List Node) → first_where derives_many nodes ≡ None
+    → AllByRecursion DerivesFew nodes
 none_derives [] none = tt
 none_derives (node ∷ nodes) none = by (derives_many node) refl (none_derives nodes) none
   where
     by : (b : Bool) → derives_many node ≡ b
         → (first_where derives_many nodes ≡ None → AllByRecursion DerivesFew nodes)
-        → cond b (Some node.place) (first_where derives_many nodes) ≡ None → AllByRecursion DerivesFew (node ∷ nodes)
+        → cond b (Some node.place) (first_where derives_many nodes) ≡ None
+        → AllByRecursion DerivesFew (node ∷ nodes)
     by true is later none = absurd (cc)
     by false is later none = (is, later none)
 
 -- a test that says that they are few
-few_decided : (columns : List Column) (query : Qre) → not (has_few_cells columns query) ≡ false → HasFewCells columns query
+few_decided : (columns : List Column) (query : Qre) → not (has_few_cells columns query) ≡ false
+    → HasFewCells columns query
 few_decided columns query few = grind (arith, nat_tests, few)
 
-module _ (nodes others : List Node) (node : Node) (few : AllByRecursion DerivesFew (nodes ++ others ++ node ∷ [])) where
+module _ (nodes others : List Node) (node : Node)
+    (few : AllByRecursion DerivesFew (nodes ++ others ++ node ∷ [])) where
   operands_few : AllByRecursion DerivesFew (nodes ++ others)
   operands_few = all_front DerivesFew (nodes ++ others) (node ∷ []) few
 
@@ -45,7 +52,8 @@ module _ (nodes others : List Node) (node : Node) (few : AllByRecursion DerivesF
   root_few = (all_back DerivesFew (nodes ++ others) (node ∷ []) few).0
 
 few_inside : (columns : List Column) (standing : Standing) (query : Qre) (places : Places)
-    → AllByRecursion DerivesFew (nodes_in columns standing query places) → HaveFewCells columns query
+    → AllByRecursion DerivesFew (nodes_in columns standing query places)
+    → HaveFewCells columns query
 few_inside columns standing (atom pred e) places few = tt
 few_inside columns standing (eps number) places few = tt
 few_inside columns standing (choice f g) places few =
@@ -90,6 +98,8 @@ few_inside columns standing (collect column sync rate f) places few =
 
 -- the same of a query that has these places
 pub few_values : (columns : List Column) (standing : Standing) (query : Qre) (places : Places)
-    → first_where derives_many (nodes_in columns standing query places) ≡ None → HaveFewCells columns query
+    → first_where derives_many (nodes_in columns standing query places) ≡ None
+    → HaveFewCells columns query
 few_values columns standing query places none =
-    few_inside columns standing query places (none_derives (nodes_in columns standing query places) none)
+    few_inside columns standing query places
+    (none_derives (nodes_in columns standing query places) none)

@@ -1,5 +1,6 @@
 -- The first of some nodes where something holds, by those before it and those after it.
-use Rattle.std.proofs.Common.{◌≡◌, inl, inr, Bool, true, false, cond, List, [], ◌∷◌, ◌++◌, Option, Some, None, refl}
+use Rattle.std.proofs.Common.{◌≡◌, inl, inr, Bool, true, false, cond, List, [], ◌∷◌, ◌++◌, Option}
+use Rattle.std.proofs.Common.{Some, None, refl}
 use Rattle.language_base.specs.declared.refusal.Refusal.{Refusal}
 use Rattle.language_base.specs.declared.span.Span.{Span}
 use Rattle.type_checker.specs.Nodes.{Node, first_where}
@@ -15,17 +16,20 @@ module _ (is_so : Node → Bool) where
       by : (b : Bool) → (first_where is_so nodes ≡ None
           → first_where is_so (nodes ++ others) ≡ first_where is_so others)
           → cond b (Some node.place) (first_where is_so nodes) ≡ None
-          → cond b (Some node.place) (first_where is_so (nodes ++ others)) ≡ first_where is_so others
+          → cond b (Some node.place) (first_where is_so (nodes ++ others))
+          ≡ first_where is_so others
       by true later none = absurd (cc)
       by false later none = later none
 
   -- one of the first nodes is so
-  pub first_before : (nodes others : List Node) (found : Span) → first_where is_so nodes ≡ Some found
-      → first_where is_so (nodes ++ others) ≡ Some found
+  pub first_before : (nodes others : List Node) (found : Span)
+      → first_where is_so nodes ≡ Some found → first_where is_so (nodes ++ others) ≡ Some found
   first_before [] others found some = absurd (cc)
-  first_before (node ∷ nodes) others found some = by (is_so node) (first_before nodes others found) some
+  first_before (node ∷ nodes) others found some =
+      by (is_so node) (first_before nodes others found) some
     where
-      by : (b : Bool) → (first_where is_so nodes ≡ Some found → first_where is_so (nodes ++ others) ≡ Some found)
+      by : (b : Bool) → (first_where is_so nodes ≡ Some found
+          → first_where is_so (nodes ++ others) ≡ Some found)
           → cond b (Some node.place) (first_where is_so nodes) ≡ Some found
           → cond b (Some node.place) (first_where is_so (nodes ++ others)) ≡ Some found
       by true later some = some

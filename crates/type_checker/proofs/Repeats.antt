@@ -1,5 +1,6 @@
 -- Columns whose names are right are those of a schema.
-use Rattle.std.proofs.Common.{◌≡◌, ℕ, Bool, true, false, ◌&&◌, cond, List, [], ◌∷◌, length, map, Option, Some, None, refl, sym, ap, ◌∙◌, arith}
+use Rattle.std.proofs.Common.{◌≡◌, ℕ, Bool, true, false, ◌&&◌, cond, List, [], ◌∷◌, length, map}
+use Rattle.std.proofs.Common.{Option, Some, None, refl, sym, ap, ◌∙◌, arith}
 use Rattle.std.proofs.lemmas.Bool.{false_from_ne_true, false≢true}
 use Rattle.std.proofs.lemmas.Bool.Decides.{nat_tests}
 use Rattle.std.proofs.lemmas.List.{length-map}
@@ -39,8 +40,8 @@ module _ (known : List (List ℕ)) (first : Column) (columns : List Column)
       false≢true (sym new ∙ sym again ∙ seen))
 
 -- no column has a known name
-unlike : (known : List (List ℕ)) (columns : List Column) → first_wrong (column_words known columns) ≡ None
-    → (name : List ℕ) → is_known known name ≡ true
+unlike : (known : List (List ℕ)) (columns : List Column)
+    → first_wrong (column_words known columns) ≡ None → (name : List ℕ) → is_known known name ≡ true
     → list_any (λ c. bytes_eq name c.name) (map column_of columns) ≡ false
 unlike known [] right name seen = refl
 unlike known (first ∷ columns) right name seen =
@@ -50,8 +51,8 @@ unlike known (first ∷ columns) right name seen =
     (unlike (first.name.bytes ∷ known) columns (new_first known first columns right).1 name others)
 
 -- where no name is wrong, they are distinct
-distinct_from : (known : List (List ℕ)) (columns : List Column) → first_wrong (column_words known columns) ≡ None
-    → are_distinct (map column_of columns) ≡ true
+distinct_from : (known : List (List ℕ)) (columns : List Column)
+    → first_wrong (column_words known columns) ≡ None → are_distinct (map column_of columns) ≡ true
 distinct_from known [] right = refl
 distinct_from known (first ∷ columns) right =
     let rest = (new_first known first columns right).1 in
@@ -73,17 +74,20 @@ digits_kind (Int span) has = refl
 digits_kind (Text span) has = refl
 digits_kind (Fixed digits span) (some, few) = grind (arith, nat_tests, some, few)
 
-kinds_from : (columns : List Column) → AllByRecursion (λ (column : Column). HasDigits column.kind) columns
+kinds_from : (columns : List Column)
+    → AllByRecursion (λ (column : Column). HasDigits column.kind) columns
     → list_all (λ c. has_digits c.kind && is_read c.kind) (map column_of columns) ≡ true
 kinds_from [] digits = refl
 kinds_from (first ∷ columns) (here, others) =
     rw (digits_kind first.kind here, read_kind first.kind) (kinds_from columns others)
 
 -- the columns of a stream are those of a schema
-pub are_columns_of : (stream : Stream) → IsWithin stream → first_wrong (column_words [] stream.columns) ≡ None
+pub are_columns_of : (stream : Stream) → IsWithin stream
+    → first_wrong (column_words [] stream.columns) ≡ None
     → are_columns (map column_of stream.columns) ≡ true
 are_columns_of stream within distinct =
-    let long : length (map column_of stream.columns) ≡ length stream.columns = length-map stream.columns column_of in
+    let long : length (map column_of stream.columns) ≡ length stream.columns =
+    length-map stream.columns column_of in
     let some = within.some in
     let few = within.few in
     let apart = distinct_from [] stream.columns distinct in

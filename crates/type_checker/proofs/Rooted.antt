@@ -3,7 +3,8 @@ use Rattle.std.proofs.Common.{◌≡◌, refl, sym, ap, ◌∙◌}
 use Rattle.language_base.specs.declared.span.Span.{Span}
 use Rattle.query_model.specs.declared.query.Query as memory
 use Rattle.query_model.specs.declared.query.Shape.{Shape}
-use Rattle.query_model.specs.declared.query.Shape.TheVariants.{Atom, Eps, Or', Split', Iter', Combine', Apply', Compose', Collect'}
+use Rattle.query_model.specs.declared.query.Shape.TheVariants.{Atom, Eps, Or', Split', Iter'}
+use Rattle.query_model.specs.declared.query.Shape.TheVariants.{Combine', Apply', Compose', Collect'}
 use Rattle.query_syntax.specs.Queries as q
 use Rattle.query_syntax.specs.Queries.{Query}
 use Rattle.query_syntax.specs.Spans.{query_span}
@@ -34,6 +35,7 @@ root_made (Compose' p first a q second b) span = refl
 root_made (Collect' key sync rate p inner a) span = refl
 
 -- one that was made of the other has its place
-pub root_span : (tree : Query) (query : memory.Query) → places_of tree ≡ places_in query → query_span tree ≡ query.span
+pub root_span : (tree : Query) (query : memory.Query) → places_of tree ≡ places_in query
+    → query_span tree ≡ query.span
 root_span tree query same =
     sym (root_written tree) ∙ ap own_place same ∙ root_made query.shape query.span

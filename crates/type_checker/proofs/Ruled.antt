@@ -24,9 +24,13 @@ use Rattle.type_checker.proofs.PlainRules.{plain_at}
 module _ (columns : List Column) (query : Qre) (broken : Option Rule)
     (breaks : (standing : Standing) → BreaksAt columns standing query broken) where
   -- no rule is broken
-  pub kept_by : (sets : Sets) → broken ≡ None → AreSetsOf sets (rate_of query) → IsKept columns query sets
+  pub kept_by : (sets : Sets) → broken ≡ None → AreSetsOf sets (rate_of query)
+      → IsKept columns query sets
   kept_by sets none are =
-      record { rule = λ standing. subst (BreaksAt columns standing query) none (breaks standing); sets = are }
+      record {
+        rule = λ standing. subst (BreaksAt columns standing query) none (breaks standing);
+        sets = are;
+      }
 
   -- a rule is broken, and refused where the query asks nothing of readings
   pub broken_by : question_of query ≡ None → (span : Span) (stop : WordStop)
@@ -35,19 +39,23 @@ module _ (columns : List Column) (query : Qre) (broken : Option Rule)
   broken_by none span stop (rule, is, stops) =
       let here : (standing : Standing) → BreaksAt columns standing query (Some rule) =
       λ standing. subst (BreaksAt columns standing query) is (breaks standing) in
-      subst (IsBrokenAt columns query span) (sym stops)
-      (rule, λ standing. (here standing, (refl, plain_at columns standing query rule none (here standing))))
+      subst (IsBrokenAt columns query span) (sym stops) (
+        rule,
+        λ standing.
+            (here standing, (refl, plain_at columns standing query rule none (here standing))),
+      )
 
 -- what is found on some cells is found on the same
 pub on_same : (cells other : Partition) (query : Qre) (broken : Option Rule) → cells ≡ other
     → ((standing : Standing) → BreaksAt cells.layout.columns standing query broken)
     → (standing : Standing) → BreaksAt other.layout.columns standing query broken
 on_same cells other query broken same breaks standing =
-    subst (λ (c : Partition). BreaksAt c.layout.columns standing query broken) same (breaks standing)
+    subst (λ (c : Partition). BreaksAt c.layout.columns standing query broken) same
+    (breaks standing)
 
 -- what is found on the cells of the first automaton is found on those of both
-pub on_cells : (cells : Partition) (f g : Qre) (operands : Operands) (query : Qre) (broken : Option Rule)
-    → AreOperands cells f g operands
+pub on_cells : (cells : Partition) (f g : Qre) (operands : Operands) (query : Qre)
+    (broken : Option Rule) → AreOperands cells f g operands
     → ((standing : Standing) → BreaksAt operands.left.cells.layout.columns standing query broken)
     → (standing : Standing) → BreaksAt cells.layout.columns standing query broken
 on_cells cells f g operands query broken are breaks =
@@ -55,9 +63,11 @@ on_cells cells f g operands query broken are breaks =
 
 -- the automaton of the sets of a query's rate
 pub automaton_of : (cells : Partition) (query : Qre) (sets : Sets) (nfa : Automaton)
-    → nfa ≡ record { sets = sets; cells = cells } → AreSetsOf sets (rate_of query) → IsAutomatonOf query nfa
+    → nfa ≡ record { sets = sets; cells = cells } → AreSetsOf sets (rate_of query)
+    → IsAutomatonOf query nfa
 automaton_of cells query sets nfa is are =
-    subst (IsAutomatonOf query) (sym is) (record { sets = are; spells = sets_spell sets (rate_of query) are })
+    subst (IsAutomatonOf query) (sym is)
+    (record { sets = are; spells = sets_spell sets (rate_of query) are })
 
 -- what is found of the values of another query
 module _ (standing : Standing) (columns : List Column) (r : Regex) (broken : Option Rule)
@@ -73,8 +83,8 @@ module _ (standing : Standing) (columns : List Column) (r : Regex) (broken : Opt
       (rule, refl, subst (BreaksFed standing columns r) is breaks)
 
 -- what an automaton shows of a rate, on its cells
-pub on_values : (sets : Sets) (cells : Partition) (nfa : Automaton) → nfa ≡ record { sets = sets; cells = cells }
-    → (broken : Option Rule)
+pub on_values : (sets : Sets) (cells : Partition) (nfa : Automaton)
+    → nfa ≡ record { sets = sets; cells = cells } → (broken : Option Rule)
     → ((r : Regex) → AreSetsOf nfa.sets r → BreaksFed bound nfa.cells.layout.columns r broken)
     → (r : Regex) → AreSetsOf sets r → BreaksFed bound cells.layout.columns r broken
 on_values sets cells nfa is broken answered r are =

@@ -1,4 +1,5 @@
--- All sets of one rate have the same paths, so that words lead to as many of their states, and pairs of them.
+-- All sets of one rate have the same paths, so that words lead to as many of their states, and
+-- pairs of them.
 use Rattle.std.proofs.Common.{◌≡◌, ◌+◌, ◌∙◌, ℕ, List, [], ◌∷◌, Some, slice_get, sym, subst}
 use Rattle.item_schema.specs.declared.column.Column.{Column}
 use Rattle.value_ops.specs.declared.field.Field.{Field}
@@ -19,17 +20,27 @@ module _ (r : Regex) (one other : Sets) (ones : AreSetsOf one r) (others : AreSe
   begins_too position has = (others.first position).1 ((ones.first position).0 has)
 
   follows_too : (before next : ℕ) → Follows one before next → Follows other before next
-  follows_too before next follows = (others.follow before next).1 ((ones.follow before next).0 follows)
+  follows_too before next follows =
+      (others.follow before next).1 ((ones.follow before next).0 follows)
 
-  meets_too : (position : ℕ) (item : List Field) → Meets one position item → Meets other position item
+  meets_too : (position : ℕ) (item : List Field) → Meets one position item
+      → Meets other position item
   meets_too position item (pred, is, holds) =
-      let same = ones.preds ∙ sym others.preds in
-      (pred, subst (λ (preds : List Predicate). slice_get preds position ≡ Some pred) same is, holds)
+      let same = ones.preds ∙ sym others.preds in (
+        pred,
+        subst (λ (preds : List Predicate). slice_get preds position ≡ Some pred) same is,
+        holds,
+      )
 
-  leads_on_too : (from : ℕ) (word : Word) (to : ℕ) → LeadsOn one from word to → LeadsOn other from word to
+  leads_on_too : (from : ℕ) (word : Word) (to : ℕ) → LeadsOn one from word to
+      → LeadsOn other from word to
   leads_on_too from [] to path = path
-  leads_on_too from (item ∷ word) to (next, follows, meets, path) =
-      (next, follows_too from next follows, meets_too next item meets, leads_on_too next word to path)
+  leads_on_too from (item ∷ word) to (next, follows, meets, path) = (
+    next,
+    follows_too from next follows,
+    meets_too next item meets,
+    leads_on_too next word to path,
+  )
 
   -- a path of the one is a path of the other
   leads_too : (word : Word) (to : ℕ) → Leads one word to → Leads other word to
@@ -55,8 +66,10 @@ module _ (columns : List Column) (r s : Regex) (first second : Sets) (firsts : A
       → LeadToApart first' second' u v → LeadToApart first second u v
   apart_too first' second' firsts' seconds' u v apart = λ s1 s2 t1 t2 a b c d.
       apart s1 s2 t1 t2
-      (after_too r first first' firsts firsts' u s1 a) (after_too r first first' firsts firsts' v s2 b)
-      (after_too s second second' seconds seconds' u t1 c) (after_too s second second' seconds seconds' v t2 d)
+      (after_too r first first' firsts firsts' u s1 a)
+      (after_too r first first' firsts firsts' v s2 b)
+      (after_too s second second' seconds seconds' u t1 c)
+      (after_too s second second' seconds seconds' v t2 d)
 
   -- many pairs of some sets of the rates are many of these
   pub many_here : ReachManyPairs columns r s → ReachPairs columns first second (max_reach + 1)

@@ -1,5 +1,6 @@
 -- Some item meets a predicate where it has a cell, and none where it has none.
-use Rattle.std.proofs.Common.{◌≡◌, ◌≢◌, ◌<◌, ℕ, Bool, true, false, List, [], ◌∷◌, refl, sym, subst, arith}
+use Rattle.std.proofs.Common.{◌≡◌, ◌≢◌, ◌<◌, ℕ, Bool, true, false, List, [], ◌∷◌, refl, sym, subst}
+use Rattle.std.proofs.Common.{arith}
 use Rattle.std.proofs.lemmas.List.Elements.{All-contains}
 use Rattle.std.specs.List.{All, Contains}
 use Rattle.predicate_cells.specs.Cells.{Partition, cell_count, cell_of}
@@ -20,14 +21,15 @@ not_true false never = refl
 
 module _ (cells : Partition) (pred : Predicate) where
   -- the first of these cells has an item
-  pub some_item : (set : List ℕ) → All (λ cell. cell < cell_count cells) set → Marks cells pred set → set ≢ []
-      → IsMet cells.layout.columns pred
+  pub some_item : (set : List ℕ) → All (λ cell. cell < cell_count cells) set
+      → Marks cells pred set → set ≢ [] → IsMet cells.layout.columns pred
   some_item [] below met some = absurd (some refl)
   some_item (cell ∷ rest) below met some =
       let first = first_in cell rest in
       let within = All-contains (λ c. c < cell_count cells) (cell ∷ rest) cell below first in
       let (item, lies) = cells_have_items cells cell within in
-      let here : Contains (cell ∷ rest) (cell_of cells item) = subst (Contains (cell ∷ rest)) (sym lies.1) first in
+      let here : Contains (cell ∷ rest) (cell_of cells item) =
+      subst (Contains (cell ∷ rest)) (sym lies.1) first in
       (item, lies.0, (met item lies.0).0 here)
 
   -- no item has its cell among none

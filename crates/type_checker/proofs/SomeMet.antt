@@ -20,14 +20,15 @@ one_met columns pred value (Some Empty) unmet = (pred, (0, omega arith, refl), u
 one_met columns pred value (Some _) breaks = absurd breaks
 one_met columns pred value None met = (met, tt)
 
-all_joined : {A : Type 0} (P : A → Type 0) (xs ys : List A) → AllByRecursion P xs → AllByRecursion P ys
-    → AllByRecursion P (xs ++ ys)
+all_joined : {A : Type 0} (P : A → Type 0) (xs ys : List A) → AllByRecursion P xs
+    → AllByRecursion P ys → AllByRecursion P (xs ++ ys)
 all_joined P [] ys all also = also
 all_joined P (x ∷ xs) ys (here, all) also = (here, all_joined P xs ys all also)
 
 -- those of two parts
 pub both_met : (columns : List Column) (xs ys : List Predicate) (one other : Option Rule)
-    → BreaksMet columns xs one → BreaksMet columns ys other → BreaksMet columns (xs ++ ys) (option_or one other)
+    → BreaksMet columns xs one → BreaksMet columns ys other
+    → BreaksMet columns (xs ++ ys) (option_or one other)
 both_met columns xs ys (Some Empty) other (pred, contains, unmet) later =
     (pred, Contains-append_left xs ys pred contains, unmet)
 both_met columns xs ys (Some _) other breaks later = absurd breaks

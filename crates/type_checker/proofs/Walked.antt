@@ -27,8 +27,8 @@ stops_before nodes others (Ambiguous blame) (node, rule, first, is) =
 stops_before nodes others Memory broken = tt
 
 -- what stops after nodes that break no rule
-pub stops_after : (nodes others : List Node) (stop : WordStop) → FirstBroken nodes None → IsBrokenBy others stop
-    → IsBrokenBy (nodes ++ others) stop
+pub stops_after : (nodes others : List Node) (stop : WordStop) → FirstBroken nodes None
+    → IsBrokenBy others stop → IsBrokenBy (nodes ++ others) stop
 stops_after nodes others (Broken why) kept (node, rule, first, is) =
     (node, rule, first_after_kept node rule nodes others kept first, is)
 stops_after nodes others (Ambiguous blame) kept (node, rule, first, is) =
@@ -57,19 +57,22 @@ module _ (columns : List Column) (standing : Standing) (query : Qre) (places : P
   -- a node of an operand breaks a rule
   pub stopped_in : (stop : WordStop) → IsBrokenBy (operand_nodes columns standing query places) stop
       → IsBrokenBy (nodes_in columns standing query places) stop
-  stopped_in stop broken = subst (λ nodes. IsBrokenBy nodes stop) (root_last columns standing query places)
+  stopped_in stop broken =
+      subst (λ nodes. IsBrokenBy nodes stop) (root_last columns standing query places)
       (stops_before _ _ stop broken)
 
   -- none does
   module _ (none : FirstBroken (operand_nodes columns standing query places) None) where
     -- it breaks no rule
-    pub kept_at : BreaksAt columns standing query None → FirstBroken (nodes_in columns standing query places) None
+    pub kept_at : BreaksAt columns standing query None
+        → FirstBroken (nodes_in columns standing query places) None
     kept_at here = subst (λ nodes. FirstBroken nodes None) (root_last columns standing query places)
         (broken_after _ _ None none (inr (here, refl)))
 
     -- it breaks this rule, and is the first that breaks one
     first_at_root : (rule : Rule) → BreaksAt columns standing query (Some rule)
-        → IsFirstBroken (nodes_in columns standing query places) (root columns standing query places) rule
+        → IsFirstBroken (nodes_in columns standing query places)
+        (root columns standing query places) rule
     first_at_root rule breaks =
         let here = root columns standing query places in
         subst (λ nodes. IsFirstBroken nodes here rule) (root_last columns standing query places)
@@ -82,7 +85,8 @@ module _ (columns : List Column) (standing : Standing) (query : Qre) (places : P
     root_kept (Ok sets) kept = kept_at (kept.rule standing)
     root_kept (Err stop) kept = tt
 
-    pub root_refused : (result : Result Sets WordStop) → IfErr result (IsBrokenAt columns query (own_place places))
+    pub root_refused : (result : Result Sets WordStop)
+        → IfErr result (IsBrokenAt columns query (own_place places))
         → IfErr result (IsBrokenBy (nodes_in columns standing query places))
     root_refused (Ok sets) broken = tt
     root_refused (Err (Broken why)) (rule, each) = let (breaks, is) = each standing in

@@ -1,7 +1,10 @@
--- The tests of types decide the relation of an expression to its type, where its numbers are of 64 bits.
-use Rattle.std.proofs.Common.{◌≡◌, Bool, true, false, ◌&&◌, ◌||◌, Option, Some, None, refl, sym, ap, subst, ◌↔◌}
+-- The tests of types decide the relation of an expression to its type, where its numbers
+-- are of 64 bits.
+use Rattle.std.proofs.Common.{◌≡◌, Bool, true, false, ◌&&◌, ◌||◌, Option, Some, None, refl, sym, ap}
+use Rattle.std.proofs.Common.{subst, ◌↔◌}
 use Rattle.std.proofs.lemmas.Bool.{and_from, and_parts}
-use Rattle.value_ops.specs.Expressions.{Expression, literal, read, unary, binary, choice, sum, count, most, least, entry}
+use Rattle.value_ops.specs.Expressions.{Expression, literal, read, unary, binary, choice, sum}
+use Rattle.value_ops.specs.Expressions.{count, most, least, entry}
 use Rattle.value_ops.specs.Typing.{HasType, IsNumber, Types, type_named}
 use Rattle.value_ops.specs.declared.value.ValueType.{ValueType}
 use Rattle.value_ops.specs.declared.value.ValueType.TheVariants.{Number, Table}
@@ -11,7 +14,8 @@ use Rattle.type_checker.specs.Expressions.{is_number, is_of, is_table, is_typed}
 use Rattle.type_checker.specs.Scopes.{HasFittingNumbers}
 
 -- a name of the type
-named_so : (wanted : ValueType) (found : Option ValueType) → is_of wanted found ≡ true → found ≡ Some wanted
+named_so : (wanted : ValueType) (found : Option ValueType) → is_of wanted found ≡ true
+    → found ≡ Some wanted
 named_so Number None is = cc
 named_so Number (Some Number) is = refl
 named_so Number (Some Table) is = cc
@@ -19,12 +23,14 @@ named_so Table None is = cc
 named_so Table (Some Number) is = cc
 named_so Table (Some Table) is = refl
 
-so_named : (wanted : ValueType) (found : Option ValueType) → found ≡ Some wanted → is_of wanted found ≡ true
+so_named : (wanted : ValueType) (found : Option ValueType) → found ≡ Some wanted
+    → is_of wanted found ≡ true
 so_named Number found is = rw is refl
 so_named Table found is = rw is refl
 
 -- what the test of a number says
-pub number_is : (types : Types) (e : Expression) → HasFittingNumbers e → is_number types e ≡ true → IsNumber types e
+pub number_is : (types : Types) (e : Expression) → HasFittingNumbers e → is_number types e ≡ true
+    → IsNumber types e
 number_is types (literal number) fits is = fits
 number_is types (read name) fits is = named_so Number (type_named types name) is
 number_is types (unary operator inner) fits is = number_is types inner fits is
@@ -61,7 +67,8 @@ is_number_true types (binary operator left right) is =
     and_from (is_number types left) (is_number types right) (is_number_true types left is.0)
     (is_number_true types right is.1)
 is_number_true types (choice compare left right met other) is =
-    and_from (is_number types left && is_number types right) (is_number types met && is_number types other)
+    and_from (is_number types left && is_number types right)
+    (is_number types met && is_number types other)
     (and_from (is_number types left) (is_number types right) (is_number_true types left is.0)
     (is_number_true types right is.1))
     (and_from (is_number types met) (is_number types other) (is_number_true types met is.2)
@@ -101,40 +108,47 @@ or_right true b is = refl
 or_right false b is = is
 
 -- a name that is well typed has the type that it gives
-name_typed : (types : Types) (found : Option ValueType) → (is_of Number found || is_of Table found) ≡ true
-    → found ≡ Some (table_or_number found)
+name_typed : (types : Types) (found : Option ValueType)
+    → (is_of Number found || is_of Table found) ≡ true → found ≡ Some (table_or_number found)
 name_typed types None is = cc
 name_typed types (Some Number) is = refl
 name_typed types (Some Table) is = refl
 
 -- what the relation says of a name
-has_named : (types : Types) (e : Expression) (name : _) (type : ValueType) → type_named types name ≡ Some type
-    → HasType types (read name) type
+has_named : (types : Types) (e : Expression) (name : _) (type : ValueType)
+    → type_named types name ≡ Some type → HasType types (read name) type
 has_named types e name Number is = is
 has_named types e name Table is = is
 
 -- an expression that passes the test is well typed
-pub typed_is : (types : Types) (e : Expression) → HasFittingNumbers e → is_typed types e ≡ true → IsTyped types e
+pub typed_is : (types : Types) (e : Expression) → HasFittingNumbers e → is_typed types e ≡ true
+    → IsTyped types e
 typed_is types (read name) fits is =
     has_named types (read name) name (table_or_number (type_named types name))
     (name_typed types (type_named types name) is)
 typed_is types (literal number) fits is = fits
-typed_is types (unary operator inner) fits is = number_is types (unary operator inner) fits (or_none _ is)
-typed_is types (binary operator left right) fits is = number_is types (binary operator left right) fits (or_none _ is)
+typed_is types (unary operator inner) fits is =
+    number_is types (unary operator inner) fits (or_none _ is)
+typed_is types (binary operator left right) fits is =
+    number_is types (binary operator left right) fits (or_none _ is)
 typed_is types (choice compare left right met other) fits is =
     number_is types (choice compare left right met other) fits (or_none _ is)
 typed_is types (sum table) fits is = number_is types (sum table) fits (or_none _ is)
 typed_is types (count table) fits is = number_is types (count table) fits (or_none _ is)
 typed_is types (most table first) fits is = number_is types (most table first) fits (or_none _ is)
 typed_is types (least table first) fits is = number_is types (least table first) fits (or_none _ is)
-typed_is types (entry table key other) fits is = number_is types (entry table key other) fits (or_none _ is)
+typed_is types (entry table key other) fits is =
+    number_is types (entry table key other) fits (or_none _ is)
 
 -- a well-typed expression passes it
-pub is_typed_true : (types : Types) (e : Expression) (type : ValueType) → HasType types e type → is_typed types e ≡
+pub is_typed_true : (types : Types) (e : Expression) (type : ValueType) → HasType types e type
+    → is_typed types e ≡
     true
-is_typed_true types e Number is = or_left (is_number types e) (is_table types e) (is_number_true types e is)
+is_typed_true types e Number is =
+    or_left (is_number types e) (is_table types e) (is_number_true types e is)
 is_typed_true types (read name) Table is =
-    or_right (is_number types (read name)) (is_table types (read name)) (so_named Table (type_named types name) is)
+    or_right (is_number types (read name)) (is_table types (read name))
+    (so_named Table (type_named types name) is)
 is_typed_true types _ Table is = absurd is
 
 -- and has the type that it gives
@@ -146,7 +160,8 @@ type_is types _ Number is = refl
 type_is types _ Table is = absurd is
 
 -- so it is well typed
-pub well_typed : (types : Types) (e : Expression) (type : ValueType) → HasType types e type → IsTyped types e
+pub well_typed : (types : Types) (e : Expression) (type : ValueType) → HasType types e type
+    → IsTyped types e
 well_typed types e type is = subst (HasType types e) (type_is types e type is) is
 
 not_true : (b : Bool) → (b ≡ true → ⊥) → b ≡ false
@@ -154,16 +169,17 @@ not_true true never = absurd (never refl)
 not_true false never = refl
 
 -- what has no type does not pass
-pub untyped : (types : Types) (e : Expression) → HasFittingNumbers e → ((type : ValueType) → HasType types e type → ⊥)
-    → is_typed types e ≡ false
+pub untyped : (types : Types) (e : Expression) → HasFittingNumbers e
+    → ((type : ValueType) → HasType types e type → ⊥) → is_typed types e ≡ false
 untyped types e fits none = not_true (is_typed types e)
     (λ is. none (type_of_expression types e) (typed_is types e fits is))
 
-pub no_number : (types : Types) (e : Expression) → HasFittingNumbers e → (IsNumber types e → ⊥) → is_number types e
-    ≡ false
+pub no_number : (types : Types) (e : Expression) → HasFittingNumbers e → (IsNumber types e → ⊥)
+    → is_number types e ≡ false
 no_number types e fits none = not_true (is_number types e) (λ is. none (number_is types e fits is))
 
 -- a table is no number
-pub table_is_no_number : (types : Types) (e : Expression) → HasType types e Table → IsNumber types e → ⊥
+pub table_is_no_number : (types : Types) (e : Expression) → HasType types e Table
+    → IsNumber types e → ⊥
 table_is_no_number types (read name) table number = cc
 table_is_no_number types _ table number = absurd table

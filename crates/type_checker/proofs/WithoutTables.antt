@@ -7,8 +7,10 @@ use Rattle.item_schema.specs.Layout.{is_read}
 use Rattle.item_schema.specs.declared.column.Column.{Column}
 use Rattle.item_schema.specs.declared.column.Kind.{Kind}
 use Rattle.item_schema.specs.declared.column.Kind.TheVariants as kind
-use Rattle.query_model.specs.Queries.{Qre, atom, eps, choice, split, iter, combine, apply, compose, collect}
-use Rattle.query_model.specs.QueryTypes.{derived_columns, of_columns, of_one, of_two, table_or_number, type_of, type_of_expression, type_of_kind}
+use Rattle.query_model.specs.Queries.{Qre, atom, eps, choice, split, iter, combine, apply, compose}
+use Rattle.query_model.specs.Queries.{collect}
+use Rattle.query_model.specs.QueryTypes.{derived_columns, of_columns, of_one, of_two}
+use Rattle.query_model.specs.QueryTypes.{table_or_number, type_of, type_of_expression, type_of_kind}
 use Rattle.query_model.specs.Rules.{HasNoCollect}
 use Rattle.value_ops.specs.Expressions.{Expression, read}
 use Rattle.value_ops.specs.Typing.{Types, type_named}
@@ -36,8 +38,8 @@ read_no_table kind.Text is = refl
 read_no_table kind.Number is = refl
 read_no_table kind.Table is = is
 
-pub lines_no_table : (columns : List Column) → list_all (λ column. is_read column.kind) columns ≡ true
-    → HasNoTable columns
+pub lines_no_table : (columns : List Column)
+    → list_all (λ column. is_read column.kind) columns ≡ true → HasNoTable columns
 lines_no_table [] lines = refl
 lines_no_table (column ∷ columns) lines =
     let both = and_parts (is_read column.kind) (list_all (λ c. is_read c.kind) columns) lines in
@@ -61,12 +63,15 @@ kind_number kind.Number is = refl
 kind_number kind.Table is = absurd (cc)
 
 field_number : (columns : List Column) → HasNoTable columns → (i : ℕ)
-    → table_or_number (option_and_then (λ found. found) (slice_get (map (λ c. type_of_kind c.kind) columns) i)) ≡ Number
+    → table_or_number (option_and_then (λ found. found)
+    (slice_get (map (λ c. type_of_kind c.kind) columns) i)) ≡ Number
 field_number [] none i = refl
 field_number (column ∷ columns) none zero =
-    kind_number column.kind (and_parts (no_table column.kind) (list_all (λ c. no_table c.kind) columns) none).0
+    kind_number column.kind
+    (and_parts (no_table column.kind) (list_all (λ c. no_table c.kind) columns) none).0
 field_number (column ∷ columns) none (suc i) =
-    field_number columns (and_parts (no_table column.kind) (list_all (λ c. no_table c.kind) columns) none).1 i
+    field_number columns
+    (and_parts (no_table column.kind) (list_all (λ c. no_table c.kind) columns) none).1 i
 
 fields_no_table : (columns : List Column) → HasNoTable columns → NamesNoTable (of_columns columns)
 fields_no_table columns none (Field i) = field_number columns none i
@@ -79,7 +84,8 @@ one_no_table Number is Left = refl
 one_no_table Number is Right = refl
 one_no_table Table is name = absurd (cc)
 
-two_no_table : (left right : ValueType) → left ≡ Number → right ≡ Number → NamesNoTable (of_two left right)
+two_no_table : (left right : ValueType) → left ≡ Number → right ≡ Number
+    → NamesNoTable (of_two left right)
 two_no_table Number Number is is' (Field i) = refl
 two_no_table Number Number is is' Left = refl
 two_no_table Number Number is is' Right = refl
@@ -87,13 +93,14 @@ two_no_table Number Table is is' name = absurd (cc)
 two_no_table Table right is is' name = absurd (cc)
 
 -- nor is an expression a table
-expression_number : (types : Types) → NamesNoTable types → (e : Expression) → type_of_expression types e ≡ Number
+expression_number : (types : Types) → NamesNoTable types → (e : Expression)
+    → type_of_expression types e ≡ Number
 expression_number types none (read name) = none name
 expression_number types none _ = refl
 
 -- nor a query
-pub gives_numbers : (columns : List Column) → HasNoTable columns → (query : Qre) → HasNoCollect query
-    → type_of columns query ≡ Number
+pub gives_numbers : (columns : List Column) → HasNoTable columns → (query : Qre)
+    → HasNoCollect query → type_of columns query ≡ Number
 gives_numbers columns none (atom pred e) single =
     expression_number (of_columns columns) (fields_no_table columns none) e
 gives_numbers columns none (eps number) single = refl

@@ -1,5 +1,6 @@
 -- How the entries of a table are found, and how they grow.
-use Rattle.std.proofs.Common.{◌≡◌, ℕ, Bool, true, false, cond, ◌||◌, List, [], ◌∷◌, ◌++◌, Option, None, Some, refl, ◌∙◌, ap, arith, sym, subst}
+use Rattle.std.proofs.Common.{◌≡◌, ℕ, Bool, true, false, cond, ◌||◌, List, [], ◌∷◌, ◌++◌, Option}
+use Rattle.std.proofs.Common.{None, Some, refl, ◌∙◌, ap, arith, sym, subst}
 use Rattle.std.specs.List.{IsDistinct, list_any, Contains}
 use Rattle.std.specs.Str.{bytes_eq}
 use Rattle.std.proofs.lemmas.Cmp.{nat_list_eq_equiv}
@@ -16,7 +17,8 @@ use Rattle.value_ops.specs.Types.{IsScalar, IsTable}
 
 -- where nothing is found, the first key is another one, and so are the others
 neither_from_none : (first others : Bool) (value : Scalar) (rest : Option Scalar)
-    → cond first (Some value) rest ≡ None → (rest ≡ None → others ≡ false) → (first || others) ≡ false
+    → cond first (Some value) rest ≡ None → (rest ≡ None → others ≡ false)
+    → (first || others) ≡ false
 neither_from_none true others value rest none other_keys = cc
 neither_from_none false others value rest none other_keys = other_keys none
 
@@ -30,8 +32,8 @@ no_key_from_none key (entry ∷ entries) none =
     (no_key_from_none key entries)
 
 -- and no entry has it
-pub absent_from_none : (key : List ℕ) (entries : List (List ℕ × Scalar)) → value_at key entries ≡ None
-    → ¬ Contains (keys_of entries) key
+pub absent_from_none : (key : List ℕ) (entries : List (List ℕ × Scalar))
+    → value_at key entries ≡ None → ¬ Contains (keys_of entries) key
 absent_from_none key entries none contained =
     false≢true (sym (no_key_from_none key entries none)
     ∙ list_any-from_Contains nat_list_eq_equiv key (keys_of entries) contained)
@@ -61,9 +63,10 @@ none_unless : (found : Option Scalar) (Has : Type 0) → ((value : Scalar) → f
 none_unless None Has has lacks = refl
 none_unless (Some value) Has has lacks = absurd (lacks (has value refl))
 
-pub none_from_absent : (key : List ℕ) (entries : List (List ℕ × Scalar)) → ¬ Contains (keys_of entries) key
-    → value_at key entries ≡ None
-none_from_absent key entries = none_unless (value_at key entries) (Contains (keys_of entries) key) (key_from_some key entries)
+pub none_from_absent : (key : List ℕ) (entries : List (List ℕ × Scalar))
+    → ¬ Contains (keys_of entries) key → value_at key entries ≡ None
+none_from_absent key entries =
+    none_unless (value_at key entries) (Contains (keys_of entries) key) (key_from_some key entries)
 
 -- the keys stay distinct where another one is added
 HasDistinctKeys-push : (entries : List (List ℕ × Scalar)) (key : List ℕ) (value : Scalar)
@@ -89,7 +92,9 @@ pub IsTable-push : (entries : List (List ℕ × Scalar)) (key : List ℕ) (value
     → IsTable entries → value_at key entries ≡ None → IsText key → IsScalar value
     → IsTable (entries ++ (key, value) ∷ [])
 IsTable-push entries key value table none text scalar = record {
-  keys = rw (map_push (λ (e : List ℕ × Scalar). e.0) entries (key, value)) (All-push IsText (keys_of entries) key table.keys text);
+  keys = rw (map_push (λ (e : List ℕ × Scalar). e.0) entries (key, value))
+      (All-push IsText (keys_of entries) key table.keys text);
   distinct = HasDistinctKeys-push entries key value table.distinct none;
-  scalars = rw (map_push (λ (e : List ℕ × Scalar). e.1) entries (key, value)) (All-push IsScalar (values_of entries) value table.scalars scalar);
+  scalars = rw (map_push (λ (e : List ℕ × Scalar). e.1) entries (key, value))
+      (All-push IsScalar (values_of entries) value table.scalars scalar);
 }

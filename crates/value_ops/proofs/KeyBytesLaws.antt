@@ -1,10 +1,13 @@
 -- What is read of the entries of a table, and what becomes of them where one is pushed.
-use Rattle.std.proofs.Common.{◌≡◌, ◌<◌, ◌≤◌, ◌↔◌, ◌==◌, ◌+◌, ◌-◌, ℕ, zero, suc, Bool, false, List, [], ◌∷◌, ◌++◌, length, get_or, take, drop, map, Some, refl, ◌∙◌, ap, arith, sym, subst}
+use Rattle.std.proofs.Common.{◌≡◌, ◌<◌, ◌≤◌, ◌↔◌, ◌==◌, ◌+◌, ◌-◌, ℕ, zero, suc, Bool, false, List}
+use Rattle.std.proofs.Common.{[], ◌∷◌, ◌++◌, length, get_or, take, drop, map, Some, refl, ◌∙◌, ap}
+use Rattle.std.proofs.Common.{arith, sym, subst}
 use Rattle.std.specs.Prelude.{IsTrue}
 use Rattle.std.specs.List.{between, slice_get}
 use Rattle.std.specs.Option.{option_map}
 use Rattle.std.proofs.lemmas.Bool.{eq-eqb, false≢true, ne_eqb}
-use Rattle.std.proofs.lemmas.List.{drop-append-le, drop_at, drop_more, length-append, length-drop, take-append-le, take_all}
+use Rattle.std.proofs.lemmas.List.{drop-append-le, drop_at, drop_more, length-append, length-drop}
+use Rattle.std.proofs.lemmas.List.{take-append-le, take_all}
 use Rattle.std.proofs.lemmas.Option.{slice_get-get_or, slice_get-map, slice_get_read}
 use Rattle.value_ops.specs.declared.scalar.Scalar.{Scalar}
 use Rattle.value_ops.specs.declared.entries.Entry.{Entry}
@@ -15,7 +18,8 @@ use Rattle.value_ops.specs.KeyBytes.{ends_of, entries_from, KeysFill}
 pub length-entries_from : (start : ℕ) (entries : List Entry) (bytes : List ℕ)
     → length (entries_from start entries bytes) ≡ length entries
 length-entries_from start [] bytes = refl
-length-entries_from start (entry ∷ entries) bytes = ap suc (length-entries_from entry.end entries bytes)
+length-entries_from start (entry ∷ entries) bytes =
+    ap suc (length-entries_from entry.end entries bytes)
 
 -- what is an entry of the table is one that is kept
 pub kept_within : (entries : List Entry) (bytes : List ℕ) (pairs : List (List ℕ × Scalar)) (i : ℕ)
@@ -28,11 +32,13 @@ pub is_none_kept : (start : ℕ) (entries : List Entry) (bytes : List ℕ) (none
     → none ≡ (length entries == 0) → IsTrue none ↔ (entries_from start entries bytes ≡ [])
 is_none_kept start [] bytes none is = (λ yes. refl, λ same. is ∙ eq-eqb 0 0 refl)
 is_none_kept start (entry ∷ entries) bytes none is =
-    let some : (length (entry ∷ entries) == 0) ≡ false = ne_eqb (length (entry ∷ entries)) 0 (λ z. omega (arith, z)) in
+    let some : (length (entry ∷ entries) == 0) ≡ false =
+    ne_eqb (length (entry ∷ entries)) 0 (λ z. omega (arith, z)) in
     (λ yes. absurd (false≢true (sym (is ∙ some) ∙ yes)), λ same. cc)
 
 -- the first key begins within the bytes
-first_within : (start : ℕ) (entries : List Entry) (size : ℕ) → KeysFill start entries size → start ≤ size
+first_within : (start : ℕ) (entries : List Entry) (size : ℕ)
+    → KeysFill start entries size → start ≤ size
 first_within start [] size fill = omega (arith, fill)
 first_within start (entry ∷ entries) size fill =
     omega (arith, fill.0, first_within entry.end entries size fill.1)
@@ -74,7 +80,8 @@ end_at : (entries : List Entry) (i : ℕ) (entry : Entry) → i < length entries
     → entry ≡ get_or entries i entry → slice_get (ends_of entries) i ≡ Some entry.end
 end_at entries i entry within is =
     slice_get-map (λ (e : Entry). e.end) entries i
-    ∙ ap (option_map (λ (e : Entry). e.end)) (slice_get_read entries (length entries) i entry refl within is)
+    ∙ ap (option_map (λ (e : Entry). e.end))
+    (slice_get_read entries (length entries) i entry refl within is)
 
 -- and where a key begins that is not the first
 pub start_at : (entries : List Entry) (i : ℕ) (d : Entry) → 0 < i → i < length entries
@@ -86,18 +93,21 @@ start_at entries (suc i) d after within =
     ∙ ap (option_map (λ (e : Entry). e.end)) (slice_get-get_or entries i d (omega arith)))
 
 -- so it is with an entry that was read, and with the start that was found for it
-pub read_within : (entries found : List Entry) (size i start : ℕ) (entry : Entry) → KeysFill 0 entries size
-    → i < length entries → found ≡ entries → slice_get (0 ∷ ends_of found) i ≡ Some start
-    → entry ≡ get_or entries i entry → (start ≤ entry.end) × (entry.end ≤ size)
+pub read_within : (entries found : List Entry) (size i start : ℕ) (entry : Entry)
+    → KeysFill 0 entries size → i < length entries → found ≡ entries
+    → slice_get (0 ∷ ends_of found) i ≡ Some start → entry ≡ get_or entries i entry
+    → (start ≤ entry.end) × (entry.end ≤ size)
 read_within entries found size i start entry fill within same begins is =
-    key_within 0 entries size i start entry.end fill (rw same at begins) (end_at entries i entry within is)
+    key_within 0 entries size i start entry.end fill (rw same at begins)
+    (end_at entries i entry within is)
 
 pub key_at : (entries found : List Entry) (bytes : List ℕ) (i start : ℕ) (entry : Entry)
     → i < length entries → found ≡ entries → slice_get (0 ∷ ends_of found) i ≡ Some start
     → entry ≡ get_or entries i entry
     → slice_get (keys_of (entries_from 0 entries bytes)) i ≡ Some (between start entry.end bytes)
 key_at entries found bytes i start entry within same begins is =
-    key_between 0 entries bytes i start entry.end (rw same at begins) (end_at entries i entry within is)
+    key_between 0 entries bytes i start entry.end (rw same at begins)
+    (end_at entries i entry within is)
 
 -- the scalars are those that are kept
 values_of-entries_from : (start : ℕ) (entries : List Entry) (bytes : List ℕ)
@@ -110,8 +120,10 @@ pub scalar_at : (start : ℕ) (entries : List Entry) (bytes : List ℕ) (i : ℕ
     → i < length entries → entry ≡ get_or entries i entry
     → slice_get (values_of (entries_from start entries bytes)) i ≡ Some entry.value
 scalar_at start entries bytes i entry within is =
-    rw (values_of-entries_from start entries bytes) (slice_get-map (λ (e : Entry). e.value) entries i
-    ∙ ap (option_map (λ (e : Entry). e.value)) (slice_get_read entries (length entries) i entry refl within is))
+    rw (values_of-entries_from start entries bytes)
+    (slice_get-map (λ (e : Entry). e.value) entries i
+    ∙ ap (option_map (λ (e : Entry). e.value))
+    (slice_get_read entries (length entries) i entry refl within is))
 
 -- bytes after a key do not change it
 between-append : (start end : ℕ) (bytes more : List ℕ) → start ≤ end → end ≤ length bytes
@@ -120,7 +132,8 @@ between-append start end bytes more up within =
     let below : start ≤ length bytes = omega arith in
     let size = length-drop start bytes in
     let fits : end - start ≤ length (drop start bytes) = omega arith in
-    rw (drop-append-le start bytes more below) (take-append-le (end - start) (drop start bytes) more fits)
+    rw (drop-append-le start bytes more below)
+    (take-append-le (end - start) (drop start bytes) more fits)
 
 -- a key after the bytes of the others becomes the last one
 pub entries_from-push : (start : ℕ) (entries : List Entry) (bytes key : List ℕ) (entry : Entry)
@@ -130,7 +143,8 @@ pub entries_from-push : (start : ℕ) (entries : List Entry) (bytes key : List �
 entries_from-push start [] bytes key entry fill ends =
     let size = length-append bytes key in
     let after : drop start (bytes ++ key) ≡ key = drop_at bytes key start (sym fill) in
-    let whole : take (entry.end - start) key ≡ key = take_all (entry.end - start) key (omega arith) in
+    let whole : take (entry.end - start) key ≡ key =
+    take_all (entry.end - start) key (omega arith) in
     rw (after, whole) refl
 entries_from-push start (first ∷ entries) bytes key entry fill ends =
     let within = first_within first.end entries (length bytes) fill.1 in

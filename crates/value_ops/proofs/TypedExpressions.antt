@@ -1,5 +1,6 @@
 -- Well-typed expressions give values of their types, in range where what their names stand for is.
-use Rattle.std.proofs.Common.{◌≡◌, ◌^◌, ℕ, ℤ, pos, negsuc, nat_lt, Bool, true, false, cond, List, [], ◌∷◌, length, Option, None, Some, refl, ◌∙◌, ap, sym, subst, arith}
+use Rattle.std.proofs.Common.{◌≡◌, ◌^◌, ℕ, ℤ, pos, negsuc, nat_lt, Bool, true, false, cond, List}
+use Rattle.std.proofs.Common.{[], ◌∷◌, length, Option, None, Some, refl, ◌∙◌, ap, sym, subst, arith}
 use Rattle.std.specs.Prelude.{FitsSigned, fold, All, unwrap_or}
 use Rattle.std.specs.Int.{w64}
 use Rattle.std.specs.Str.{bytes_eq}
@@ -23,17 +24,22 @@ use Rattle.value_ops.specs.declared.value.Value.TheVariants as value
 use Rattle.value_ops.specs.declared.value.ValueType.{ValueType}
 use Rattle.value_ops.specs.declared.value.ValueType.TheVariants as type
 use Rattle.value_ops.specs.Entries.{value_at, values_of}
-use Rattle.value_ops.specs.Evaluation.{Inputs, value_of_field, value_named, scalar_in, table_in, chosen, or_else, scalar_of, value_of, most_of, least_of, sum_of}
-use Rattle.value_ops.specs.Expressions.{Expression, literal, read, unary, binary, choice, sum, count, most, least, entry}
+use Rattle.value_ops.specs.Evaluation.{Inputs, value_of_field, value_named, scalar_in, table_in}
+use Rattle.value_ops.specs.Evaluation.{chosen, or_else, scalar_of, value_of, most_of, least_of}
+use Rattle.value_ops.specs.Evaluation.{sum_of}
+use Rattle.value_ops.specs.Expressions.{Expression, literal, read, unary, binary, choice, sum}
+use Rattle.value_ops.specs.Expressions.{count, most, least, entry}
 use Rattle.language_base.specs.Comparisons.{compares}
 use Rattle.value_ops.specs.Operators.{unary_of, binary_of, exact, exact_of, kept}
 use Rattle.value_ops.specs.Scalar.{in_range}
 use Rattle.value_ops.specs.Types.{type_of, IsScalar, IsTable, IsValueOf}
-use Rattle.value_ops.specs.Typing.{type_of_field, types_of, type_named, IsNumber, IsTableName, HasType, AreValues}
+use Rattle.value_ops.specs.Typing.{type_of_field, types_of, type_named, IsNumber, IsTableName}
+use Rattle.value_ops.specs.Typing.{HasType, AreValues}
 
 -- the type of a field is that of its value
 field_type : (found : Option Field)
-    → option_and_then (λ type. type) (option_map type_of_field found) ≡ option_map type_of (value_of_field found)
+    → option_and_then (λ type. type) (option_map type_of_field found)
+    ≡ option_map type_of (value_of_field found)
 field_type None = refl
 field_type (Some (field.Int number)) = refl
 field_type (Some (field.Text bytes)) = refl
@@ -64,11 +70,13 @@ table_from (Some (value.Table entries)) typed = (entries, refl)
 
 table_there : (inputs : Inputs) (name : Var) → type_named (types_of inputs) name ≡ Some type.Table
     → (entries : List (List ℕ × Scalar)) × (value_named inputs name ≡ Some (value.Table entries))
-table_there inputs name typed = table_from (value_named inputs name) (sym (named inputs name) ∙ typed)
+table_there inputs name typed =
+    table_from (value_named inputs name) (sym (named inputs name) ∙ typed)
 
 scalar_named : (inputs : Inputs) (name : Var) → type_named (types_of inputs) name ≡ Some type.Number
     → (scalar : Scalar) × (value_named inputs name ≡ Some (value.Scalar scalar))
-scalar_named inputs name typed = scalar_from (value_named inputs name) (sym (named inputs name) ∙ typed)
+scalar_named inputs name typed =
+    scalar_from (value_named inputs name) (sym (named inputs name) ∙ typed)
 
 -- what is inside is the same
 same_inside : {A : Type 0} (a b : A) → Some a ≡ Some b → a ≡ b
@@ -80,20 +88,23 @@ record Holds (P : Scalar → Type 0) (inputs : Inputs) : Type 0 where
   results : (number : ℤ) → P (in_range number)
   overflow : P Overflow
   divzero : P DivZero
-  scalars : (name : Var) (scalar : Scalar) → value_named inputs name ≡ Some (value.Scalar scalar) → P scalar
+  scalars : (name : Var) (scalar : Scalar)
+      → value_named inputs name ≡ Some (value.Scalar scalar) → P scalar
   entries : (name : Var) (entries : List (List ℕ × Scalar)) (key : List ℕ) (scalar : Scalar)
-      → value_named inputs name ≡ Some (value.Table entries) → value_at key entries ≡ Some scalar → P scalar
+      → value_named inputs name ≡ Some (value.Table entries)
+      → value_at key entries ≡ Some scalar → P scalar
 
 -- a scalar that is there, and of which it holds
 abbrev Gives : (Scalar → Type 0) → Option Scalar → Type 0
 Gives P option = (scalar : Scalar) × (option ≡ Some scalar) × P scalar
 
-kept_holds : {P : Scalar → Type 0} {inputs : Inputs} → Holds P inputs → (result : Option ℤ) → P (kept result)
+kept_holds : {P : Scalar → Type 0} {inputs : Inputs} → Holds P inputs → (result : Option ℤ)
+    → P (kept result)
 kept_holds holds None = holds.divzero
 kept_holds holds (Some number) = holds.results number
 
-binary_holds : {P : Scalar → Type 0} {inputs : Inputs} → Holds P inputs → (op : BinaryOp) (a b : Scalar)
-    → P (binary_of op a b)
+binary_holds : {P : Scalar → Type 0} {inputs : Inputs} → Holds P inputs
+    → (op : BinaryOp) (a b : Scalar) → P (binary_of op a b)
 binary_holds holds op (Number x) (Number y) = kept_holds holds (exact op x y)
 binary_holds holds op (Number x) Overflow = holds.overflow
 binary_holds holds op (Number x) DivZero = holds.divzero
@@ -106,20 +117,23 @@ unary_holds holds op (Number x) = holds.results (exact_of op x)
 unary_holds holds op Overflow = holds.overflow
 unary_holds holds op DivZero = holds.divzero
 
-fold_holds : {P : Scalar → Type 0} {inputs : Inputs} → Holds P inputs → (op : BinaryOp) (first : Scalar)
-    (scalars : List Scalar) → P first → P (fold (binary_of op) first scalars)
+fold_holds : {P : Scalar → Type 0} {inputs : Inputs} → Holds P inputs
+    → (op : BinaryOp) (first : Scalar) (scalars : List Scalar) → P first
+    → P (fold (binary_of op) first scalars)
 fold_holds holds op first [] begins = begins
 fold_holds holds op first (x ∷ xs) begins =
     fold_holds holds op (binary_of op first x) xs (binary_holds holds op first x)
 
-picked : (P : Scalar → Type 0) (test : Bool) (met other : Option Scalar) → Gives P met → Gives P other
-    → Gives P (cond test met other)
+picked : (P : Scalar → Type 0) (test : Bool) (met other : Option Scalar)
+    → Gives P met → Gives P other → Gives P (cond test met other)
 picked P true met other a b = a
 picked P false met other a b = b
 
-chosen_gives : (P : Scalar → Type 0) {inputs : Inputs} → Holds P inputs → (test : Compare) (first second : Scalar)
-    (met other : Option Scalar) → Gives P met → Gives P other → Gives P (chosen test first second met other)
-chosen_gives P holds test (Number x) (Number y) met other a b = picked P (compares test x y) met other a b
+chosen_gives : (P : Scalar → Type 0) {inputs : Inputs} → Holds P inputs
+    → (test : Compare) (first second : Scalar) (met other : Option Scalar) → Gives P met
+    → Gives P other → Gives P (chosen test first second met other)
+chosen_gives P holds test (Number x) (Number y) met other a b =
+    picked P (compares test x y) met other a b
 chosen_gives P holds test (Number x) Overflow met other a b = (Overflow, refl, holds.overflow)
 chosen_gives P holds test (Number x) DivZero met other a b = (DivZero, refl, holds.divzero)
 chosen_gives P holds test Overflow second met other a b = (Overflow, refl, holds.overflow)
@@ -133,7 +147,8 @@ entry_gives P None other each b = b
 -- a number expression gives a scalar of which it holds
 scalar_gives : (P : Scalar → Type 0) (inputs : Inputs) → Holds P inputs → (expression : Expression)
     → IsNumber (types_of inputs) expression → Gives P (scalar_of inputs expression)
-scalar_gives P inputs holds (literal number) typed = (Number number, refl, holds.literals number typed)
+scalar_gives P inputs holds (literal number) typed =
+    (Number number, refl, holds.literals number typed)
 scalar_gives P inputs holds (read name) typed =
     let found = scalar_named inputs name typed in
     (found.0, ap scalar_in found.1, holds.scalars name found.0 found.1)
@@ -158,7 +173,8 @@ scalar_gives P inputs holds (sum name) typed =
 scalar_gives P inputs holds (count name) typed =
     let table = table_there inputs name typed in (
       in_range (pos (length table.0)),
-      ap (λ found. option_map (λ entries. in_range (pos (length entries))) (table_in found)) table.1,
+      ap (λ found. option_map (λ entries. in_range (pos (length entries))) (table_in found))
+          table.1,
       holds.results (pos (length table.0)),
     )
 scalar_gives P inputs holds (most name first) typed =
@@ -187,17 +203,24 @@ as_value P option a = (a.0, ap (option_map value.Scalar) a.1, a.2)
 number_gives : (P : Scalar → Type 0) (inputs : Inputs) → Holds P inputs → (expression : Expression)
     → IsNumber (types_of inputs) expression → GivesNumber P (value_of inputs expression)
 number_gives P inputs holds (read name) typed =
-    let found = scalar_named inputs name typed in (found.0, found.1, holds.scalars name found.0 found.1)
-number_gives P inputs holds (literal number) typed = as_value P _ (scalar_gives P inputs holds (literal number) typed)
-number_gives P inputs holds (unary op inner) typed = as_value P _ (scalar_gives P inputs holds (unary op inner) typed)
+    let found = scalar_named inputs name typed in
+    (found.0, found.1, holds.scalars name found.0 found.1)
+number_gives P inputs holds (literal number) typed =
+    as_value P _ (scalar_gives P inputs holds (literal number) typed)
+number_gives P inputs holds (unary op inner) typed =
+    as_value P _ (scalar_gives P inputs holds (unary op inner) typed)
 number_gives P inputs holds (binary op first second) typed =
     as_value P _ (scalar_gives P inputs holds (binary op first second) typed)
 number_gives P inputs holds (choice test first second met other) typed =
     as_value P _ (scalar_gives P inputs holds (choice test first second met other) typed)
-number_gives P inputs holds (sum name) typed = as_value P _ (scalar_gives P inputs holds (sum name) typed)
-number_gives P inputs holds (count name) typed = as_value P _ (scalar_gives P inputs holds (count name) typed)
-number_gives P inputs holds (most name first) typed = as_value P _ (scalar_gives P inputs holds (most name first) typed)
-number_gives P inputs holds (least name first) typed = as_value P _ (scalar_gives P inputs holds (least name first) typed)
+number_gives P inputs holds (sum name) typed =
+    as_value P _ (scalar_gives P inputs holds (sum name) typed)
+number_gives P inputs holds (count name) typed =
+    as_value P _ (scalar_gives P inputs holds (count name) typed)
+number_gives P inputs holds (most name first) typed =
+    as_value P _ (scalar_gives P inputs holds (most name first) typed)
+number_gives P inputs holds (least name first) typed =
+    as_value P _ (scalar_gives P inputs holds (least name first) typed)
 number_gives P inputs holds (entry name key other) typed =
     as_value P _ (scalar_gives P inputs holds (entry name key other) typed)
 
@@ -234,16 +257,20 @@ typed_value inputs expression type.Table typed =
 -- a number that is kept is one of 64 bits
 in_range_fits : (number : ℤ) → IsScalar (in_range number)
 in_range_fits (pos n) =
-    elim (nat_lt n (2 ^ 63)) as (λ b. nat_lt n (2 ^ 63) ≡ b → IsScalar (cond b (Number (pos n)) Overflow))
+    elim (nat_lt n
+    (2 ^ 63)) as (λ b. nat_lt n (2 ^ 63) ≡ b → IsScalar (cond b (Number (pos n)) Overflow))
     [ true ↦ λ below. grind (arith, nat_tests, below) | false ↦ λ above. tt ] refl
 in_range_fits (negsuc n) =
-    elim (nat_lt n (2 ^ 63)) as (λ b. nat_lt n (2 ^ 63) ≡ b → IsScalar (cond b (Number (negsuc n)) Overflow))
+    elim (nat_lt n
+    (2 ^ 63)) as (λ b. nat_lt n (2 ^ 63) ≡ b → IsScalar (cond b (Number (negsuc n)) Overflow))
     [ true ↦ λ below. grind (arith, nat_tests, below) | false ↦ λ above. tt ] refl
 
 -- a scalar under a key is one of a table's
-entry_or_rest : (is_first : Bool) (first : Scalar) (rest : Option Scalar) (scalar : Scalar) → IsScalar first
-    → (rest ≡ Some scalar → IsScalar scalar) → cond is_first (Some first) rest ≡ Some scalar → IsScalar scalar
-entry_or_rest true first rest scalar fits others found = subst IsScalar (same_inside first scalar found) fits
+entry_or_rest : (is_first : Bool) (first : Scalar) (rest : Option Scalar) (scalar : Scalar)
+    → IsScalar first → (rest ≡ Some scalar → IsScalar scalar)
+    → cond is_first (Some first) rest ≡ Some scalar → IsScalar scalar
+entry_or_rest true first rest scalar fits others found =
+    subst IsScalar (same_inside first scalar found) fits
 entry_or_rest false first rest scalar fits others found = others found
 
 entry_fits : (key : List ℕ) (entries : List (List ℕ × Scalar)) (scalar : Scalar)

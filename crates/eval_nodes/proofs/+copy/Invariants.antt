@@ -11,30 +11,32 @@ abbrev pub invariant-copies::copied_live-live : goal.invariant-copies::copied_li
 invariant-copies::copied_live-live l =
     (l.copy.room ≡ l.runners.room) × (l.copy.idle ≡ [])
     × (outers_of l.copy.live ≡ take l.i (outers_of l.runners.live))
-    × AreAlike (IsCopyOf seen_of (IsCopy seen_of (plain_of l.query.shape))) (take l.i (followers_of l.runners.live))
-    (followers_of l.copy.live) × (l.i-end ≡ length l.runners.live)
+    × AreAlike (IsCopyOf seen_of (IsCopy seen_of (plain_of l.query.shape)))
+    (take l.i (followers_of l.runners.live)) (followers_of l.copy.live)
+    × (l.i-end ≡ length l.runners.live)
 
 abbrev pub invariant-copies::copied_runners-idle : goal.invariant-copies::copied_runners-idle
 invariant-copies::copied_runners-idle l =
     (l.copy.room ≡ l.runners.room) × (outers_of l.copy.live ≡ outers_of l.runners.live)
-    × AreAlike (IsCopyOf seen_of (IsCopy seen_of (plain_of l.query.shape))) (followers_of l.runners.live)
-    (followers_of l.copy.live)
-    × AreAlike (IsCopyOf seen_of (IsCopy seen_of (plain_of l.query.shape))) (take l.i l.runners.idle) l.copy.idle
+    × AreAlike (IsCopyOf seen_of (IsCopy seen_of (plain_of l.query.shape)))
+    (followers_of l.runners.live) (followers_of l.copy.live)
+    × AreAlike (IsCopyOf seen_of (IsCopy seen_of (plain_of l.query.shape)))
+    (take l.i l.runners.idle) l.copy.idle
     × (length l.copy.live + length l.runners.idle ≤ l.copy.room) × (l.i-end ≡ length l.runners.idle)
 
 abbrev pub invariant-copies::copy_followers-keys : goal.invariant-copies::copy_followers-keys
 invariant-copies::copy_followers-keys l =
     (fallback_of l.copy ≡ fallback_of l.fn.copy)
     × (names_of l.copy ≡ take l.i (names_of l.keys))
-    × AreAlike (IsCopyOf seen_of (IsCopy seen_of (plain_of l.query.shape))) (take l.i (keyed_followers l.keys))
-    (keyed_followers l.copy)
+    × AreAlike (IsCopyOf seen_of (IsCopy seen_of (plain_of l.query.shape)))
+    (take l.i (keyed_followers l.keys)) (keyed_followers l.copy)
     × (l.i-end ≡ length (names_of l.keys))
 
 abbrev pub invariant-copies::copied_tracks-starts : goal.invariant-copies::copied_tracks-starts
 invariant-copies::copied_tracks-starts l =
     (l.copy.nfa ≡ l.tracks.nfa)
-    × AreAlike (IsCopiedTrack seen_of (IsCopy seen_of (plain_of l.query.shape))) (take l.i l.tracks.tracks) l.copy.tracks
-    × (l.i-end ≡ length l.tracks.tracks)
+    × AreAlike (IsCopiedTrack seen_of (IsCopy seen_of (plain_of l.query.shape)))
+    (take l.i l.tracks.tracks) l.copy.tracks × (l.i-end ≡ length l.tracks.tracks)
 
 -- how deep the query is; at one query those that call others stand above them
 abbrev pub decreases-copies::copy_of_node : goal.decreases-copies::copy_of_node
@@ -62,16 +64,20 @@ abbrev pub decreases-copies::copied_tracks : goal.decreases-copies::copied_track
 decreases-copies::copied_tracks l = 6 * size-Query l.query.now + 4
 
 abbrev pub decreases-node_copies::copy_of_choice : goal.decreases-node_copies::copy_of_choice
-decreases-node_copies::copy_of_choice l = 6 * max (size-Query l.left.now) (size-Query l.right.now) + 5
+decreases-node_copies::copy_of_choice l =
+    6 * max (size-Query l.left.now) (size-Query l.right.now) + 5
 
 abbrev pub decreases-node_copies::copy_of_combine : goal.decreases-node_copies::copy_of_combine
-decreases-node_copies::copy_of_combine l = 6 * max (size-Query l.left.now) (size-Query l.right.now) + 5
+decreases-node_copies::copy_of_combine l =
+    6 * max (size-Query l.left.now) (size-Query l.right.now) + 5
 
 abbrev pub decreases-node_copies::copy_of_split : goal.decreases-node_copies::copy_of_split
-decreases-node_copies::copy_of_split l = 6 * max (size-Query l.left.now) (size-Query l.right.now) + 5
+decreases-node_copies::copy_of_split l =
+    6 * max (size-Query l.left.now) (size-Query l.right.now) + 5
 
 abbrev pub decreases-node_copies::copy_of_compose : goal.decreases-node_copies::copy_of_compose
-decreases-node_copies::copy_of_compose l = 6 * max (size-Query l.left.now) (size-Query l.right.now) + 5
+decreases-node_copies::copy_of_compose l =
+    6 * max (size-Query l.left.now) (size-Query l.right.now) + 5
 
 abbrev pub decreases-node_copies::copy_of_apply : goal.decreases-node_copies::copy_of_apply
 decreases-node_copies::copy_of_apply l = 6 * size-Query l.inner.now + 5

@@ -17,9 +17,11 @@ use Rattle.eval_nodes.specs.Plain.{holding_of, seen_of}
 use Rattle.eval_nodes.specs.Represents.{KeepsFew}
 use Rattle.eval_nodes.proofs.Same.{same_query}
 use Rattle.eval_nodes.proofs.HeldRunners.{fed_is}
-use Rattle.eval_nodes.proofs.MadeFed.{fresh_few, made_soundly_as, new_compose, new_compose_sound, runners_fit}
+use Rattle.eval_nodes.proofs.MadeFed.{fresh_few, made_soundly_as, new_compose, new_compose_sound}
+use Rattle.eval_nodes.proofs.MadeFed.{runners_fit}
 use Rattle.eval_nodes.proofs.Instances.{all_joined}
-use Rattle.eval_nodes.proofs.Made.{all_places, made_as, new_chain, new_chain_sound, new_split, new_split_sound}
+use Rattle.eval_nodes.proofs.Made.{all_places, made_as, new_chain, new_chain_sound, new_split}
+use Rattle.eval_nodes.proofs.Made.{new_split_sound}
 use Rattle.eval_nodes.proofs.Members.{no_member}
 use Rattle.eval_nodes.proofs.+make.Goals as goal
 use Rattle.eval_nodes.proofs.NewParts.{new_sound, new_word, of_both}
@@ -33,14 +35,16 @@ pub node::Node::new-returns-in-Or-clause-word : goal.node::Node::new-returns-in-
 node::Node::new-returns-in-Or-clause-word t c =
     new_word _ _ _ _ (λ node is. is)
     (ap plain_of c.in-Or.is
-    ∙ of_both choice _ _ _ _ (same_query _ _ c.deref.ensures) (same_query _ _ c.deref-in-Or.ensures))
+    ∙ of_both choice _ _ _ _ (same_query _ _ c.deref.ensures)
+    (same_query _ _ c.deref-in-Or.ensures))
     c.new_choice.result c.new_choice.ensures
 
 pub node::Node::new-returns-in-Or-clause-sound : goal.node::Node::new-returns-in-Or-clause-sound
 node::Node::new-returns-in-Or-clause-sound t c =
     new_sound _ _ _ _ (λ node is. is)
     (ap plain_of c.in-Or.is
-    ∙ of_both choice _ _ _ _ (same_query _ _ c.deref.ensures) (same_query _ _ c.deref-in-Or.ensures))
+    ∙ of_both choice _ _ _ _ (same_query _ _ c.deref.ensures)
+    (same_query _ _ c.deref-in-Or.ensures))
     c.new_choice.result c.new_choice.ensures
 
 pub node::Node::new-returns-in-Apply-clause-word : goal.node::Node::new-returns-in-Apply-clause-word
@@ -50,7 +54,8 @@ node::Node::new-returns-in-Apply-clause-word t c =
     (ap plain_of c.in-Apply.is ∙ ap (λ f. apply f e) (same_query _ _ c.deref-in-Apply.ensures))
     c.new_apply.result c.new_apply.ensures
 
-pub node::Node::new-returns-in-Apply-clause-sound : goal.node::Node::new-returns-in-Apply-clause-sound
+pub node::Node::new-returns-in-Apply-clause-sound :
+    goal.node::Node::new-returns-in-Apply-clause-sound
 node::Node::new-returns-in-Apply-clause-sound t c =
     let e = values.plain_of c.in-Apply.field-1 in
     new_sound _ _ _ _ (λ node is. is e)
@@ -66,7 +71,8 @@ node::Node::new-returns-in-Split-clause-word t c =
     (same_query _ _ c.deref-in-Split-2.ensures))
     c.new_split.result c.new_split.ensures
 
-pub node::Node::new-returns-in-Split-clause-sound : goal.node::Node::new-returns-in-Split-clause-sound
+pub node::Node::new-returns-in-Split-clause-sound :
+    goal.node::Node::new-returns-in-Split-clause-sound
 node::Node::new-returns-in-Split-clause-sound t c =
     let e = values.plain_of c.in-Split.field-2 in
     new_sound _ _ _ _ (λ node is. is e)
@@ -75,7 +81,8 @@ node::Node::new-returns-in-Split-clause-sound t c =
     (same_query _ _ c.deref-in-Split-2.ensures))
     c.new_split.result c.new_split.ensures
 
-pub node::Node::new-returns-in-Combine-clause-word : goal.node::Node::new-returns-in-Combine-clause-word
+pub node::Node::new-returns-in-Combine-clause-word :
+    goal.node::Node::new-returns-in-Combine-clause-word
 node::Node::new-returns-in-Combine-clause-word t c =
     let e = values.plain_of c.in-Combine.field-2 in
     new_word _ _ _ _ (λ node is. is e)
@@ -84,7 +91,8 @@ node::Node::new-returns-in-Combine-clause-word t c =
     (same_query _ _ c.deref-in-Combine-2.ensures))
     c.new_combine.result c.new_combine.ensures
 
-pub node::Node::new-returns-in-Combine-clause-sound : goal.node::Node::new-returns-in-Combine-clause-sound
+pub node::Node::new-returns-in-Combine-clause-sound :
+    goal.node::Node::new-returns-in-Combine-clause-sound
 node::Node::new-returns-in-Combine-clause-sound t c =
     let e = values.plain_of c.in-Combine.field-2 in
     new_sound _ _ _ _ (λ node is. is e)
@@ -97,40 +105,50 @@ pub node::Node::new-returns-in-Iter-clause-word : goal.node::Node::new-returns-i
 node::Node::new-returns-in-Iter-clause-word t c =
     let e = values.plain_of c.in-Iter.field-2 in
     new_word _ _ _ _ (λ node is. is c.in-Iter.field-1 e)
-    (ap plain_of c.in-Iter.is ∙ ap (λ f. iter f c.in-Iter.field-1 e) (same_query _ _ c.deref-in-Iter.ensures))
+    (ap plain_of c.in-Iter.is
+    ∙ ap (λ f. iter f c.in-Iter.field-1 e) (same_query _ _ c.deref-in-Iter.ensures))
     c.new_iter.result c.new_iter.ensures
 
 pub node::Node::new-returns-in-Iter-clause-sound : goal.node::Node::new-returns-in-Iter-clause-sound
 node::Node::new-returns-in-Iter-clause-sound t c =
     let e = values.plain_of c.in-Iter.field-2 in
     new_sound _ _ _ _ (λ node is. is c.in-Iter.field-1 e)
-    (ap plain_of c.in-Iter.is ∙ ap (λ f. iter f c.in-Iter.field-1 e) (same_query _ _ c.deref-in-Iter.ensures))
+    (ap plain_of c.in-Iter.is
+    ∙ ap (λ f. iter f c.in-Iter.field-1 e) (same_query _ _ c.deref-in-Iter.ensures))
     c.new_iter.result c.new_iter.ensures
 
-pub node::Node::new-returns-in-Compose-clause-word : goal.node::Node::new-returns-in-Compose-clause-word
+pub node::Node::new-returns-in-Compose-clause-word :
+    goal.node::Node::new-returns-in-Compose-clause-word
 node::Node::new-returns-in-Compose-clause-word t c =
     new_word _ _ _ _ (λ node is. is)
     (ap plain_of c.in-Compose.is
-    ∙ of_both compose _ _ _ _ (same_query _ _ c.deref-in-Compose.ensures) (same_query _ _ c.deref-in-Compose-2.ensures))
+    ∙ of_both compose _ _ _ _ (same_query _ _ c.deref-in-Compose.ensures)
+    (same_query _ _ c.deref-in-Compose-2.ensures))
     c.new_compose.result c.new_compose.ensures
 
-pub node::Node::new-returns-in-Compose-clause-sound : goal.node::Node::new-returns-in-Compose-clause-sound
+pub node::Node::new-returns-in-Compose-clause-sound :
+    goal.node::Node::new-returns-in-Compose-clause-sound
 node::Node::new-returns-in-Compose-clause-sound t c =
     new_sound _ _ _ _ (λ node is. is)
     (ap plain_of c.in-Compose.is
-    ∙ of_both compose _ _ _ _ (same_query _ _ c.deref-in-Compose.ensures) (same_query _ _ c.deref-in-Compose-2.ensures))
+    ∙ of_both compose _ _ _ _ (same_query _ _ c.deref-in-Compose.ensures)
+    (same_query _ _ c.deref-in-Compose-2.ensures))
     c.new_compose.result c.new_compose.ensures
 
-pub node::Node::new-returns-in-Collect-clause-word : goal.node::Node::new-returns-in-Collect-clause-word
+pub node::Node::new-returns-in-Collect-clause-word :
+    goal.node::Node::new-returns-in-Collect-clause-word
 node::Node::new-returns-in-Collect-clause-word t c =
     new_word _ _ _ _ (λ node is. is _ _ _
-    (subst (λ (shape : Shape). slots_of (plain_of shape) ≤ max_slots) c.in-Collect.is c.requires.small))
+    (subst (λ (shape : Shape). slots_of (plain_of shape) ≤ max_slots) c.in-Collect.is
+    c.requires.small))
     (ap plain_of c.in-Collect.is) c.new_collect.result c.new_collect.ensures
 
-pub node::Node::new-returns-in-Collect-clause-sound : goal.node::Node::new-returns-in-Collect-clause-sound
+pub node::Node::new-returns-in-Collect-clause-sound :
+    goal.node::Node::new-returns-in-Collect-clause-sound
 node::Node::new-returns-in-Collect-clause-sound t c =
     new_sound _ _ _ _ (λ node is. is _ _ _
-    (subst (λ (shape : Shape). slots_of (plain_of shape) ≤ max_slots) c.in-Collect.is c.requires.small))
+    (subst (λ (shape : Shape). slots_of (plain_of shape) ≤ max_slots) c.in-Collect.is
+    c.requires.small))
     (ap plain_of c.in-Collect.is) c.new_collect.result c.new_collect.ensures
 
 pub construction::idle_runners-rest-requires : goal.construction::idle_runners-rest-requires
@@ -154,11 +172,12 @@ construction::idle_runners-idle-preserved t c =
       omega (arith, more, count),
       c.rest.ensures.room ∙ before.2,
       λ columns. subst (AllByRecursion (IsSoundOf seen_of columns q)) (sym pushed)
-          (all_joined (IsSoundOf seen_of columns q) c.idle.runners.idle (one ∷ []) (before.3 columns)
+          (all_joined (IsSoundOf seen_of columns q) c.idle.runners.idle (one ∷ [])
+          (before.3 columns)
           (record { node = c.in_ok-node.ensures.sound columns tt; answer = tt }, tt)),
       subst (AllByRecursion (KeepsFew seen_of (stored_in seen_of q) (slots_of q))) (sym pushed)
-          (all_joined (KeepsFew seen_of (stored_in seen_of q) (slots_of q)) c.idle.runners.idle (one ∷ []) before.4
-          (fresh_few q one (c.in_ok-node.ensures.word [] tt) refl, tt)),
+          (all_joined (KeepsFew seen_of (stored_in seen_of q) (slots_of q)) c.idle.runners.idle
+          (one ∷ []) before.4 (fresh_few q one (c.in_ok-node.ensures.word [] tt) refl, tt)),
     )
 
 pub new_nodes::new_split-returns : goal.new_nodes::new_split-returns
@@ -175,8 +194,8 @@ new_nodes::new_split-returns t c = λ expression.
           (new_split seen_of columns f g a b c.places.result (c.in_ok-a.ensures.word columns on)
           (c.in_ok-b.ensures.word columns on) room);
       sound = λ columns on. made_soundly_as seen_of columns q q _ _ refl held
-          (new_split_sound seen_of columns f g expression a b c.places.result (c.in_ok-a.ensures.sound columns on)
-          (c.in_ok-b.ensures.sound columns on) room);
+          (new_split_sound seen_of columns f g expression a b c.places.result
+          (c.in_ok-a.ensures.sound columns on) (c.in_ok-b.ensures.sound columns on) room);
     }
 
 pub new_nodes::new_iter-returns : goal.new_nodes::new_iter-returns
@@ -188,7 +207,8 @@ new_nodes::new_iter-returns t c = λ number expression.
     let so_far = ap (λ (so_far : Contents Value). iter_held a so_far) c.in_ok-so_far.ensures in
     record {
       word = λ columns on. made_as seen_of columns q q _ _ refl so_far
-          (new_chain seen_of columns f number expression a c.places.result (c.in_ok-a.ensures.word columns on) room);
+          (new_chain seen_of columns f number expression a c.places.result
+          (c.in_ok-a.ensures.word columns on) room);
       sound = λ columns on. made_soundly_as seen_of columns q q _ _ refl so_far
           (new_chain_sound seen_of columns f number expression a c.places.result
           (c.in_ok-a.ensures.sound columns on) room);
@@ -207,9 +227,11 @@ new_nodes::new_compose-returns t c =
     c.saturating_add.ensures in
     record {
       word = λ columns on. made_as seen_of columns q q _ _ refl (fed_is a runners)
-          (new_compose seen_of columns f g (holding_of a.value.state) runners (c.in_ok-a.ensures.word columns on)
-          c.in_ok-runners.ensures.live count c.in_ok-runners.ensures.few);
+          (new_compose seen_of columns f g (holding_of a.value.state) runners
+          (c.in_ok-a.ensures.word columns on) c.in_ok-runners.ensures.live count
+          c.in_ok-runners.ensures.few);
       sound = λ columns on. made_soundly_as seen_of columns q q _ _ refl (fed_is a runners)
-          (new_compose_sound seen_of columns f g (holding_of a.value.state) runners (c.in_ok-a.ensures.sound columns on)
-          c.in_ok-runners.ensures.live count c.in_ok-runners.ensures.sound);
+          (new_compose_sound seen_of columns f g (holding_of a.value.state) runners
+          (c.in_ok-a.ensures.sound columns on) c.in_ok-runners.ensures.live count
+          c.in_ok-runners.ensures.sound);
     }

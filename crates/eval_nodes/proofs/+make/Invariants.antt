@@ -11,15 +11,18 @@ use Rattle.eval_nodes.specs.Plain.{seen_of}
 use Rattle.eval_nodes.proofs.+make.Given as goal
 
 -- this many have been made
-abbrev pub invariant-construction::idle_runners-idle : goal.invariant-construction::idle_runners-idle
+abbrev pub invariant-construction::idle_runners-idle :
+    goal.invariant-construction::idle_runners-idle
 invariant-construction::idle_runners-idle l =
     (l.runners.live ≡ []) × (length l.runners.idle ≡ l.counter) × (l.runners.room ≡ l.count)
-    × ((columns : List Column) → AllByRecursion (IsSoundOf seen_of columns (plain_of l.query.shape)) l.runners.idle)
-    × AllByRecursion (KeepsFew seen_of (stored_in seen_of (plain_of l.query.shape)) (slots_of (plain_of l.query.shape)))
+    × ((columns : List Column)
+    → AllByRecursion (IsSoundOf seen_of columns (plain_of l.query.shape)) l.runners.idle)
+    × AllByRecursion (KeepsFew seen_of (stored_in seen_of (plain_of l.query.shape))
+    (slots_of (plain_of l.query.shape)))
     l.runners.idle
 
--- how deep the query is: a call for the whole calls those for the operands, and each of these makes a
--- box first and then the node in it
+-- how deep the query is: a call for the whole calls those for the operands, and each of these makes
+-- a box first and then the node in it
 abbrev pub decreases-node::Node::new : goal.decreases-node::Node::new
 decreases-node::Node::new l = 3 * size-Query l.query.now
 

@@ -65,32 +65,38 @@ pub choice::start_choice-returns : goal.choice::start_choice-returns
 choice::start_choice-returns = Choice.choice::start_choice-returns
 
 pub choice::start_choice-returns-in_err-start_into-in-Or : goal.choice::start_choice-returns-in_err-start_into-in-Or
-choice::start_choice-returns-in_err-start_into-in-Or = Choice.choice::start_choice-returns-in_err-start_into-in-Or
+choice::start_choice-returns-in_err-start_into-in-Or =
+    Choice.choice::start_choice-returns-in_err-start_into-in-Or
 
 pub choice::start_choice-returns-in_err-start_into-in-Or-2 : goal.choice::start_choice-returns-in_err-start_into-in-Or-2
-choice::start_choice-returns-in_err-start_into-in-Or-2 = Choice.choice::start_choice-returns-in_err-start_into-in-Or-2
+choice::start_choice-returns-in_err-start_into-in-Or-2 =
+    Choice.choice::start_choice-returns-in_err-start_into-in-Or-2
 
 pub choice::step_choice-returns : goal.choice::step_choice-returns
 choice::step_choice-returns = Choice.choice::step_choice-returns
 
 pub choice::step_choice-returns-in_err-step_into-in-Or : goal.choice::step_choice-returns-in_err-step_into-in-Or
-choice::step_choice-returns-in_err-step_into-in-Or = Choice.choice::step_choice-returns-in_err-step_into-in-Or
+choice::step_choice-returns-in_err-step_into-in-Or =
+    Choice.choice::step_choice-returns-in_err-step_into-in-Or
 
 pub choice::step_choice-returns-in_err-step_into-in-Or-2 : goal.choice::step_choice-returns-in_err-step_into-in-Or-2
-choice::step_choice-returns-in_err-step_into-in-Or-2 = Choice.choice::step_choice-returns-in_err-step_into-in-Or-2
+choice::step_choice-returns-in_err-step_into-in-Or-2 =
+    Choice.choice::step_choice-returns-in_err-step_into-in-Or-2
 
 -- an expression on a value
 pub apply::start_apply-returns : goal.apply::start_apply-returns
 apply::start_apply-returns = Apply.apply::start_apply-returns
 
 pub apply::start_apply-returns-in_err-start_into-in-Apply : goal.apply::start_apply-returns-in_err-start_into-in-Apply
-apply::start_apply-returns-in_err-start_into-in-Apply = Apply.apply::start_apply-returns-in_err-start_into-in-Apply
+apply::start_apply-returns-in_err-start_into-in-Apply =
+    Apply.apply::start_apply-returns-in_err-start_into-in-Apply
 
 pub apply::step_apply-returns : goal.apply::step_apply-returns
 apply::step_apply-returns = Apply.apply::step_apply-returns
 
 pub apply::step_apply-returns-in_err-step_into-in-Apply : goal.apply::step_apply-returns-in_err-step_into-in-Apply
-apply::step_apply-returns-in_err-step_into-in-Apply = Apply.apply::step_apply-returns-in_err-step_into-in-Apply
+apply::step_apply-returns-in_err-step_into-in-Apply =
+    Apply.apply::step_apply-returns-in_err-step_into-in-Apply
 
 -- a combine
 pub combine::start_combine-combine_with-requires : goal.combine::start_combine-combine_with-requires
@@ -100,10 +106,12 @@ pub combine::start_combine-returns : goal.combine::start_combine-returns
 combine::start_combine-returns = Combine.combine::start_combine-returns
 
 pub combine::start_combine-returns-in_err-start_into-in-Combine : goal.combine::start_combine-returns-in_err-start_into-in-Combine
-combine::start_combine-returns-in_err-start_into-in-Combine = Combine.combine::start_combine-returns-in_err-start_into-in-Combine
+combine::start_combine-returns-in_err-start_into-in-Combine =
+    Combine.combine::start_combine-returns-in_err-start_into-in-Combine
 
 pub combine::start_combine-returns-in_err-start_into-in-Combine-2 : goal.combine::start_combine-returns-in_err-start_into-in-Combine-2
-combine::start_combine-returns-in_err-start_into-in-Combine-2 = Combine.combine::start_combine-returns-in_err-start_into-in-Combine-2
+combine::start_combine-returns-in_err-start_into-in-Combine-2 =
+    Combine.combine::start_combine-returns-in_err-start_into-in-Combine-2
 
 pub combine::step_combine-combine_with-requires : goal.combine::step_combine-combine_with-requires
 combine::step_combine-combine_with-requires = Combine.combine::step_combine-combine_with-requires
@@ -112,10 +120,12 @@ pub combine::step_combine-returns : goal.combine::step_combine-returns
 combine::step_combine-returns = Combine.combine::step_combine-returns
 
 pub combine::step_combine-returns-in_err-step_into-in-Combine : goal.combine::step_combine-returns-in_err-step_into-in-Combine
-combine::step_combine-returns-in_err-step_into-in-Combine = Combine.combine::step_combine-returns-in_err-step_into-in-Combine
+combine::step_combine-returns-in_err-step_into-in-Combine =
+    Combine.combine::step_combine-returns-in_err-step_into-in-Combine
 
 pub combine::step_combine-returns-in_err-step_into-in-Combine-2 : goal.combine::step_combine-returns-in_err-step_into-in-Combine-2
-combine::step_combine-returns-in_err-step_into-in-Combine-2 = Combine.combine::step_combine-returns-in_err-step_into-in-Combine-2
+combine::step_combine-returns-in_err-step_into-in-Combine-2 =
+    Combine.combine::step_combine-returns-in_err-step_into-in-Combine-2
 
 -- an operand whose value is joined with a left value
 pub operands::step_and_end-step_into-requires : goal.operands::step_and_end-step_into-requires
@@ -128,7 +138,8 @@ pub operands::step_and_end-returns : goal.operands::step_and_end-returns
 operands::step_and_end-returns = Operands.operands::step_and_end-returns
 
 pub operands::step_and_end-returns-in_err-step_into-clause-no_memory : goal.operands::step_and_end-returns-in_err-step_into-clause-no_memory
-operands::step_and_end-returns-in_err-step_into-clause-no_memory = Operands.operands::step_and_end-returns-in_err-step_into-clause-no_memory
+operands::step_and_end-returns-in_err-step_into-clause-no_memory =
+    Operands.operands::step_and_end-returns-in_err-step_into-clause-no_memory
 
 pub operands::start_and_join-start_into-requires : goal.operands::start_and_join-start_into-requires
 operands::start_and_join-start_into-requires = Operands.operands::start_and_join-start_into-requires
@@ -140,23 +151,27 @@ pub operands::start_and_join-returns : goal.operands::start_and_join-returns
 operands::start_and_join-returns = Operands.operands::start_and_join-returns
 
 pub operands::start_and_join-returns-in_err-start_into-clause-no_memory : goal.operands::start_and_join-returns-in_err-start_into-clause-no_memory
-operands::start_and_join-returns-in_err-start_into-clause-no_memory = Operands.operands::start_and_join-returns-in_err-start_into-clause-no_memory
+operands::start_and_join-returns-in_err-start_into-clause-no_memory =
+    Operands.operands::start_and_join-returns-in_err-start_into-clause-no_memory
 
 -- a split
 pub split::start_split-start_and_join-requires : goal.split::start_split-start_and_join-requires
 split::start_split-start_and_join-requires = Split.split::start_split-start_and_join-requires
 
 pub split::start_split-returns-in_ok-start_and_join-in-Some : goal.split::start_split-returns-in_ok-start_and_join-in-Some
-split::start_split-returns-in_ok-start_and_join-in-Some = Split.split::start_split-returns-in_ok-start_and_join-in-Some
+split::start_split-returns-in_ok-start_and_join-in-Some =
+    Split.split::start_split-returns-in_ok-start_and_join-in-Some
 
 pub split::start_split-returns-in-None : goal.split::start_split-returns-in-None
 split::start_split-returns-in-None = Split.split::start_split-returns-in-None
 
 pub split::start_split-returns-in_err-start_into-in-Split : goal.split::start_split-returns-in_err-start_into-in-Split
-split::start_split-returns-in_err-start_into-in-Split = Split.split::start_split-returns-in_err-start_into-in-Split
+split::start_split-returns-in_err-start_into-in-Split =
+    Split.split::start_split-returns-in_err-start_into-in-Split
 
 pub split::start_split-returns-in_err-start_and_join-in-Some : goal.split::start_split-returns-in_err-start_and_join-in-Some
-split::start_split-returns-in_err-start_and_join-in-Some = Split.split::start_split-returns-in_err-start_and_join-in-Some
+split::start_split-returns-in_err-start_and_join-in-Some =
+    Split.split::start_split-returns-in_err-start_and_join-in-Some
 
 pub split::step_split-end_right-requires : goal.split::step_split-end_right-requires
 split::step_split-end_right-requires = Split.split::step_split-end_right-requires
@@ -171,10 +186,12 @@ pub split::step_split-returns-in-None : goal.split::step_split-returns-in-None
 split::step_split-returns-in-None = Split.split::step_split-returns-in-None
 
 pub split::step_split-returns-in_err-step_into-in-Split : goal.split::step_split-returns-in_err-step_into-in-Split
-split::step_split-returns-in_err-step_into-in-Split = Split.split::step_split-returns-in_err-step_into-in-Split
+split::step_split-returns-in_err-step_into-in-Split =
+    Split.split::step_split-returns-in_err-step_into-in-Split
 
 pub split::step_split-returns-in_err-end_right-in-Split : goal.split::step_split-returns-in_err-end_right-in-Split
-split::step_split-returns-in_err-end_right-in-Split = Split.split::step_split-returns-in_err-end_right-in-Split
+split::step_split-returns-in_err-end_right-in-Split =
+    Split.split::step_split-returns-in_err-end_right-in-Split
 
 pub split::end_right-step_and_end-requires : goal.split::end_right-step_and_end-requires
 split::end_right-step_and_end-requires = Split.split::end_right-step_and_end-requires
@@ -196,10 +213,12 @@ pub iter::start_iter-returns : goal.iter::start_iter-returns
 iter::start_iter-returns = Iter.iter::start_iter-returns
 
 pub iter::start_iter-returns-in_err-start_only-in-Iter : goal.iter::start_iter-returns-in_err-start_only-in-Iter
-iter::start_iter-returns-in_err-start_only-in-Iter = Iter.iter::start_iter-returns-in_err-start_only-in-Iter
+iter::start_iter-returns-in_err-start_only-in-Iter =
+    Iter.iter::start_iter-returns-in_err-start_only-in-Iter
 
 pub iter::start_iter-returns-in_err-continue_if_new-in-Iter : goal.iter::start_iter-returns-in_err-continue_if_new-in-Iter
-iter::start_iter-returns-in_err-continue_if_new-in-Iter = Iter.iter::start_iter-returns-in_err-continue_if_new-in-Iter
+iter::start_iter-returns-in_err-continue_if_new-in-Iter =
+    Iter.iter::start_iter-returns-in_err-continue_if_new-in-Iter
 
 pub iter::step_iter-step_and_end-requires : goal.iter::step_iter-step_and_end-requires
 iter::step_iter-step_and_end-requires = Iter.iter::step_iter-step_and_end-requires
@@ -214,7 +233,8 @@ pub iter::step_iter-returns-in-None : goal.iter::step_iter-returns-in-None
 iter::step_iter-returns-in-None = Iter.iter::step_iter-returns-in-None
 
 pub iter::step_iter-returns-in_err-step_and_end-in-Iter : goal.iter::step_iter-returns-in_err-step_and_end-in-Iter
-iter::step_iter-returns-in_err-step_and_end-in-Iter = Iter.iter::step_iter-returns-in_err-step_and_end-in-Iter
+iter::step_iter-returns-in_err-step_and_end-in-Iter =
+    Iter.iter::step_iter-returns-in_err-step_and_end-in-Iter
 
 pub iter::next_piece-start_only-requires : goal.iter::next_piece-start_only-requires
 iter::next_piece-start_only-requires = Iter.iter::next_piece-start_only-requires
@@ -223,7 +243,8 @@ pub iter::next_piece-returns-clause-continues : goal.iter::next_piece-returns-cl
 iter::next_piece-returns-clause-continues = Iter.iter::next_piece-returns-clause-continues
 
 pub iter::next_piece-returns-in_err-start_only-clause-no_memory : goal.iter::next_piece-returns-in_err-start_only-clause-no_memory
-iter::next_piece-returns-in_err-start_only-clause-no_memory = Iter.iter::next_piece-returns-in_err-start_only-clause-no_memory
+iter::next_piece-returns-in_err-start_only-clause-no_memory =
+    Iter.iter::next_piece-returns-in_err-start_only-clause-no_memory
 
 -- a compose
 pub compose::start_compose-start_into-requires : goal.compose::start_compose-start_into-requires
@@ -236,7 +257,8 @@ pub compose::start_compose-returns : goal.compose::start_compose-returns
 compose::start_compose-returns = Compose.compose::start_compose-returns
 
 pub compose::start_compose-returns-in_err-start_into-in-Compose : goal.compose::start_compose-returns-in_err-start_into-in-Compose
-compose::start_compose-returns-in_err-start_into-in-Compose = Compose.compose::start_compose-returns-in_err-start_into-in-Compose
+compose::start_compose-returns-in_err-start_into-in-Compose =
+    Compose.compose::start_compose-returns-in_err-start_into-in-Compose
 
 pub compose::step_compose-step_into-requires : goal.compose::step_compose-step_into-requires
 compose::step_compose-step_into-requires = Compose.compose::step_compose-step_into-requires
@@ -248,10 +270,12 @@ pub compose::step_compose-returns : goal.compose::step_compose-returns
 compose::step_compose-returns = Compose.compose::step_compose-returns
 
 pub compose::step_compose-returns-in_err-step_into-in-Compose : goal.compose::step_compose-returns-in_err-step_into-in-Compose
-compose::step_compose-returns-in_err-step_into-in-Compose = Compose.compose::step_compose-returns-in_err-step_into-in-Compose
+compose::step_compose-returns-in_err-step_into-in-Compose =
+    Compose.compose::step_compose-returns-in_err-step_into-in-Compose
 
 pub compose::step_compose-returns-in_err-pass_on-in-Compose : goal.compose::step_compose-returns-in_err-pass_on-in-Compose
-compose::step_compose-returns-in_err-pass_on-in-Compose = Compose.compose::step_compose-returns-in_err-pass_on-in-Compose
+compose::step_compose-returns-in_err-pass_on-in-Compose =
+    Compose.compose::step_compose-returns-in_err-pass_on-in-Compose
 
 -- the runners of its right operand
 pub right_runners::renew-start_into-requires : goal.right_runners::renew-start_into-requires
@@ -270,10 +294,12 @@ pub right_runners::deliver-carry-requires : goal.right_runners::deliver-carry-re
 right_runners::deliver-carry-requires = Runner.right_runners::deliver-carry-requires
 
 pub right_runners::deliver-returns-in_ok-value-in-Some-clause-delivered : goal.right_runners::deliver-returns-in_ok-value-in-Some-clause-delivered
-right_runners::deliver-returns-in_ok-value-in-Some-clause-delivered = Runner.right_runners::deliver-returns-in_ok-value-in-Some-clause-delivered
+right_runners::deliver-returns-in_ok-value-in-Some-clause-delivered =
+    Runner.right_runners::deliver-returns-in_ok-value-in-Some-clause-delivered
 
 pub right_runners::deliver-returns-in-None-clause-delivered : goal.right_runners::deliver-returns-in-None-clause-delivered
-right_runners::deliver-returns-in-None-clause-delivered = Runner.right_runners::deliver-returns-in-None-clause-delivered
+right_runners::deliver-returns-in-None-clause-delivered =
+    Runner.right_runners::deliver-returns-in-None-clause-delivered
 
 pub right_runners::begin-renew-requires : goal.right_runners::begin-renew-requires
 right_runners::begin-renew-requires = Runner.right_runners::begin-renew-requires
@@ -285,7 +311,8 @@ pub right_runners::begin-returns-in-Some : goal.right_runners::begin-returns-in-
 right_runners::begin-returns-in-Some = Runner.right_runners::begin-returns-in-Some
 
 pub right_runners::begin-returns-in-None-clause-begun : goal.right_runners::begin-returns-in-None-clause-begun
-right_runners::begin-returns-in-None-clause-begun = Runner.right_runners::begin-returns-in-None-clause-begun
+right_runners::begin-returns-in-None-clause-begun =
+    Runner.right_runners::begin-returns-in-None-clause-begun
 
 pub right_runners::pass_on-deliver-requires : goal.right_runners::pass_on-deliver-requires
 right_runners::pass_on-deliver-requires = Runner.right_runners::pass_on-deliver-requires
@@ -297,31 +324,40 @@ pub right_runners::feed-begin-requires : goal.right_runners::feed-begin-requires
 right_runners::feed-begin-requires = Runner.right_runners::feed-begin-requires
 
 pub right_runners::feed-returns-then-idle-eq0-clause-fed : goal.right_runners::feed-returns-then-idle-eq0-clause-fed
-right_runners::feed-returns-then-idle-eq0-clause-fed = Runner.right_runners::feed-returns-then-idle-eq0-clause-fed
+right_runners::feed-returns-then-idle-eq0-clause-fed =
+    Runner.right_runners::feed-returns-then-idle-eq0-clause-fed
 
 pub right_runners::feed-returns-then-live-clause-fed : goal.right_runners::feed-returns-then-live-clause-fed
-right_runners::feed-returns-then-live-clause-fed = Runner.right_runners::feed-returns-then-live-clause-fed
+right_runners::feed-returns-then-live-clause-fed =
+    Runner.right_runners::feed-returns-then-live-clause-fed
 
 pub right_runners::feed-returns-else-live-clause-fed : goal.right_runners::feed-returns-else-live-clause-fed
-right_runners::feed-returns-else-live-clause-fed = Runner.right_runners::feed-returns-else-live-clause-fed
+right_runners::feed-returns-else-live-clause-fed =
+    Runner.right_runners::feed-returns-else-live-clause-fed
 
 pub right_runners::renew-returns-in_err-start_into-clause-no_memory : goal.right_runners::renew-returns-in_err-start_into-clause-no_memory
-right_runners::renew-returns-in_err-start_into-clause-no_memory = Runner.right_runners::renew-returns-in_err-start_into-clause-no_memory
+right_runners::renew-returns-in_err-start_into-clause-no_memory =
+    Runner.right_runners::renew-returns-in_err-start_into-clause-no_memory
 
 pub right_runners::carry-returns-in_err-step_into-clause-no_memory : goal.right_runners::carry-returns-in_err-step_into-clause-no_memory
-right_runners::carry-returns-in_err-step_into-clause-no_memory = Runner.right_runners::carry-returns-in_err-step_into-clause-no_memory
+right_runners::carry-returns-in_err-step_into-clause-no_memory =
+    Runner.right_runners::carry-returns-in_err-step_into-clause-no_memory
 
 pub right_runners::deliver-returns-in_err-carry-clause-no_memory : goal.right_runners::deliver-returns-in_err-carry-clause-no_memory
-right_runners::deliver-returns-in_err-carry-clause-no_memory = Runner.right_runners::deliver-returns-in_err-carry-clause-no_memory
+right_runners::deliver-returns-in_err-carry-clause-no_memory =
+    Runner.right_runners::deliver-returns-in_err-carry-clause-no_memory
 
 pub right_runners::deliver-returns-in_err-value-in-Some-clause-no_memory : goal.right_runners::deliver-returns-in_err-value-in-Some-clause-no_memory
-right_runners::deliver-returns-in_err-value-in-Some-clause-no_memory = Runner.right_runners::deliver-returns-in_err-value-in-Some-clause-no_memory
+right_runners::deliver-returns-in_err-value-in-Some-clause-no_memory =
+    Runner.right_runners::deliver-returns-in_err-value-in-Some-clause-no_memory
 
 pub right_runners::begin-returns-in_err-renew-clause-no_memory : goal.right_runners::begin-returns-in_err-renew-clause-no_memory
-right_runners::begin-returns-in_err-renew-clause-no_memory = Runner.right_runners::begin-returns-in_err-renew-clause-no_memory
+right_runners::begin-returns-in_err-renew-clause-no_memory =
+    Runner.right_runners::begin-returns-in_err-renew-clause-no_memory
 
 pub right_runners::feed-returns-in_err-begin-clause-no_memory : goal.right_runners::feed-returns-in_err-begin-clause-no_memory
-right_runners::feed-returns-in_err-begin-clause-no_memory = Runner.right_runners::feed-returns-in_err-begin-clause-no_memory
+right_runners::feed-returns-in_err-begin-clause-no_memory =
+    Runner.right_runners::feed-returns-in_err-begin-clause-no_memory
 
 -- a collect
 pub collect::start_collect-begin_at-requires : goal.collect::start_collect-begin_at-requires
@@ -340,7 +376,8 @@ pub collect::track-returns : goal.collect::track-returns
 collect::track-returns = Collect.collect::track-returns
 
 pub collect::new_runner-new-requires-clause-cells : goal.collect::new_runner-new-requires-clause-cells
-collect::new_runner-new-requires-clause-cells = Collect.collect::new_runner-new-requires-clause-cells
+collect::new_runner-new-requires-clause-cells =
+    Collect.collect::new_runner-new-requires-clause-cells
 
 pub collect::new_runner-start_into-requires : goal.collect::new_runner-start_into-requires
 collect::new_runner-start_into-requires = Collect.collect::new_runner-start_into-requires
@@ -374,10 +411,12 @@ collect::pass_by-advance-requires = Collect.collect::pass_by-advance-requires
 
 -- its runners for keys
 pub keys::keys_push-returns-then-holds-clause-pushed : goal.keys::keys_push-returns-then-holds-clause-pushed
-keys::keys_push-returns-then-holds-clause-pushed = Keys.keys::keys_push-returns-then-holds-clause-pushed
+keys::keys_push-returns-then-holds-clause-pushed =
+    Keys.keys::keys_push-returns-then-holds-clause-pushed
 
 pub keys::keys_push-returns-else-holds-clause-pushed : goal.keys::keys_push-returns-else-holds-clause-pushed
-keys::keys_push-returns-else-holds-clause-pushed = Keys.keys::keys_push-returns-else-holds-clause-pushed
+keys::keys_push-returns-else-holds-clause-pushed =
+    Keys.keys::keys_push-returns-else-holds-clause-pushed
 
 pub keys::push_to_key-follower_mut-requires : goal.keys::push_to_key-follower_mut-requires
 keys::push_to_key-follower_mut-requires = Keys.keys::push_to_key-follower_mut-requires

@@ -10,10 +10,12 @@ abbrev pub decreases-query::Query::boxed_rate : goal.decreases-query::Query::box
 decreases-query::Query::boxed_rate l = 3 * size-Query l.self.now + 1
 
 abbrev pub decreases-query_rates::rate_of_choice : goal.decreases-query_rates::rate_of_choice
-decreases-query_rates::rate_of_choice l = 3 * max (size-Query l.left.now) (size-Query l.right.now) + 2
+decreases-query_rates::rate_of_choice l =
+    3 * max (size-Query l.left.now) (size-Query l.right.now) + 2
 
 abbrev pub decreases-query_rates::rate_of_split : goal.decreases-query_rates::rate_of_split
-decreases-query_rates::rate_of_split l = 3 * max (size-Query l.left.now) (size-Query l.right.now) + 2
+decreases-query_rates::rate_of_split l =
+    3 * max (size-Query l.left.now) (size-Query l.right.now) + 2
 
 abbrev pub decreases-query_rates::rate_of_iter : goal.decreases-query_rates::rate_of_iter
 decreases-query_rates::rate_of_iter l = 3 * size-Query l.inner.now + 2

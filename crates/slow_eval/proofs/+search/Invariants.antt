@@ -10,15 +10,19 @@ use Rattle.slow_eval.proofs.+search.Given as goal
 
 abbrev pub invariant-pieces::iter_answers-places : goal.invariant-pieces::iter_answers-places
 invariant-pieces::iter_answers-places l =
-    IsIterated (plain_of l.inner.shape) l.fn.number (values.plain_of l.expression) l.word l.place l.row.items
+    IsIterated (plain_of l.inner.shape) l.fn.number (values.plain_of l.expression) l.word
+    l.place l.row.items
 
 abbrev pub invariant-pieces::split_answers-places : goal.invariant-pieces::split_answers-places
 invariant-pieces::split_answers-places l =
-    IsSplit (plain_of l.left.shape) (plain_of l.right.shape) (values.plain_of l.expression) l.word l.place l.row.items
+    IsSplit (plain_of l.left.shape) (plain_of l.right.shape) (values.plain_of l.expression) l.word
+    l.place l.row.items
 
-abbrev pub invariant-collection::answers_for_keys-keys : goal.invariant-collection::answers_for_keys-keys
+abbrev pub invariant-collection::answers_for_keys-keys :
+    goal.invariant-collection::answers_for_keys-keys
 invariant-collection::answers_for_keys-keys l =
-    AreKeyed (plain_of l.inner.shape) l.column (predicates.plain_of l.sync) l.word l.keys l.key-index l.all.items
+    AreKeyed (plain_of l.inner.shape) l.column (predicates.plain_of l.sync) l.word l.keys
+    l.key-index l.all.items
 
 -- how deep the query is; at one query those that call others stand above them
 abbrev pub decreases-search::answers_on_fronts : goal.decreases-search::answers_on_fronts

@@ -17,7 +17,8 @@ decreases-copies::copy_of_binary l = 3 * max (size-Expr l.left.now) (size-Expr l
 
 abbrev pub decreases-copies::copy_of_choice : goal.decreases-copies::copy_of_choice
 decreases-copies::copy_of_choice l =
-    3 * max (max (size-Expr l.left.now) (size-Expr l.right.now)) (max (size-Expr l.met.now) (size-Expr l.other.now)) + 2
+    3 * max (max (size-Expr l.left.now) (size-Expr l.right.now))
+    (max (size-Expr l.met.now) (size-Expr l.other.now)) + 2
 
 abbrev pub decreases-copies::copy_of_most : goal.decreases-copies::copy_of_most
 decreases-copies::copy_of_most l = 3 * size-Expr l.first.now + 2

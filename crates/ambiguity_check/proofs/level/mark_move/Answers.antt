@@ -19,4 +19,5 @@ lefts-preserved g c =
     c.without_lowest-rest.ensures.exact c.lefts.invariant
     (found_row _ _ _ _ _ _ _ (fresh_row c.args.step (g.G.Graph.meet c.args.graph.now)
     c.args.seen.now c.args.next.now c.lefts.rest _ _ _ _ c.lefts.next
-    c.meets.type_inv c.row.type_inv c.row.ensures c.meets.ensures) c.add.ensures c.add-in-lefts.ensures)
+    c.meets.type_inv c.row.type_inv c.row.ensures c.meets.ensures) c.add.ensures
+    c.add-in-lefts.ensures)

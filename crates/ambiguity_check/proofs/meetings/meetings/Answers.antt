@@ -5,7 +5,8 @@ use Rattle.predicate_cells.proofs.CellsBelow.{cell_below}
 use Rattle.predicate_cells.proofs.CellsFilled.{cells_have_items}
 use Rattle.rate_expr.specs.Sets.{Has}
 use Rattle.rate_expr.proofs.MaskMembers.{has_zero}
-use Rattle.ambiguity_check.proofs.Filling.{filled_none, filled_next, filled_all, rows_cover, joined_already, same_masks}
+use Rattle.ambiguity_check.proofs.Filling.{filled_none, filled_next, filled_all, rows_cover}
+use Rattle.ambiguity_check.proofs.Filling.{joined_already, same_masks}
 use Rattle.ambiguity_check.proofs.meetings.meetings.Goals as goal
 use Rattle.ambiguity_check.proofs.meetings.meetings.Goals.{then-ne, else-ne}
 
@@ -18,7 +19,8 @@ cells-init c = (
 )
 
 pub join-requires : goal.join-requires
-join-requires c = rows_cover c.args.first.now.cells c.args.first.now.sets c.args.second.now.sets _ _ _
+join-requires c =
+    rows_cover c.args.first.now.cells c.args.first.now.sets c.args.second.now.sets _ _ _
     c.met_by.ensures
     (ap length c.deref_mut.ensures.value ∙ c.cells.invariant.0.same)
 
@@ -34,8 +36,8 @@ cells-preserved c =
           rw (w.rows-is, w.before-is, whole) (
             filled_next c.args.first.now.cells c.args.first.now.sets c.args.second.now.sets have
                 c.cells.cell _ _ _ _
-                (omega (arith, count)) c.met_by.ensures (rw (← c.requires) at c.met_by-in-cells.ensures)
-                c.cells.invariant.0
+                (omega (arith, count)) c.met_by.ensures
+                (rw (← c.requires) at c.met_by-in-cells.ensures) c.cells.invariant.0
                 (rw w.deref_mut.ensures.value at w.join.ensures),
             w.join.ensures.joined,
           )
@@ -45,12 +47,13 @@ cells-preserved c =
           let already = joined_already c.args.first.now.cells c.args.first.now.sets
           c.args.second.now.sets c.met_by.result c.met_by-in-cells.result c.cells.rows.items
           (λ left right has has'. c.cells.invariant.1 left right
-          (subst (λ (m : ℕ). Has m left) same.0 has) (subst (λ (m : ℕ). Has m right) same.1 has')) in
+          (subst (λ (m : ℕ). Has m left) same.0 has)
+          (subst (λ (m : ℕ). Has m right) same.1 has')) in
           rw (w.rows-is, w.before-is) (
             filled_next c.args.first.now.cells c.args.first.now.sets c.args.second.now.sets have
                 c.cells.cell _ _ _ _
-                (omega (arith, count)) c.met_by.ensures (rw (← c.requires) at c.met_by-in-cells.ensures)
-                c.cells.invariant.0 already,
+                (omega (arith, count)) c.met_by.ensures
+                (rw (← c.requires) at c.met_by-in-cells.ensures) c.cells.invariant.0 already,
             c.cells.invariant.1,
           )
     ]

@@ -18,7 +18,8 @@ returns-then-overlap c = λ next.
 pub returns-else-overlap : goal.returns-else-overlap
 returns-else-overlap c = λ next.
     let none = rw c.last.ensures at c.if-overlap.ensures in (
-      (λ has. let some = (c.all_after-followers.ensures next).0 has in (some.0, some.1, inl some.2)),
+      (λ has. let some = (c.all_after-followers.ensures next).0 has in
+          (some.0, some.1, inl some.2)),
       (λ goes. ⊎_elim (λ follows. (c.all_after-followers.ensures next).1 (goes.0, goes.1, follows))
           (λ again. absurd (none goes.0 goes.1 again.0)) goes.2),
     )

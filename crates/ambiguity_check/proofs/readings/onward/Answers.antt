@@ -11,6 +11,7 @@ returns-then-has c = λ next.
           (has_or c.after-within.result c.first.result next has)),
       (λ goes. ⊎_elim (λ follows. has_first c.after-within.result c.first.result next
           ((c.after-within.ensures next).1 follows))
-          (λ again. has_second c.after-within.result c.first.result next (rw c.first.ensures again.1))
+          (λ again. has_second c.after-within.result c.first.result next
+          (rw c.first.ensures again.1))
           goes),
     )

@@ -8,6 +8,7 @@ returns c = λ r s of_r of_s.
     let second = c.args.second.now.sets in
     let reached = rw (c.in_ok-splits.ensures.first, c.in_ok-splits.ensures.second) at
     c.in_ok-marks.ensures in
-    let found = rw (c.in_ok-splits.ensures.first, c.in_ok-splits.ensures.second) at c.end_in.ensures in
+    let found = rw (c.in_ok-splits.ensures.first, c.in_ok-splits.ensures.second) at
+    c.end_in.ensures in
     one_split_says columns first second _ _ _ c.in_ok-splits.ensures.rows r s of_r of_s _ _ reached
     found

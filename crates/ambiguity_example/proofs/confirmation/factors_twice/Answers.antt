@@ -17,7 +17,8 @@ returns-then-parts_into c = λ r of_r.
     elim c.if-ne.branch [
       | then-ne w ↦
           let yes : w.parts_into.result ≡ true = sym w.value-is ∙ c.if-parts_into.true in
-          let one = rw yes at (rw (c.items-items.ensures, c.as_slice-first.ensures, c.first.ensures) at
+          let one = rw yes at
+          (rw (c.items-items.ensures, c.as_slice-first.ensures, c.first.ensures) at
           (w.parts_into.ensures r of_r)) in
           decides_too _ _ (ShowsFactorings r c.args.example.now) last
           (λ other. record {

@@ -6,4 +6,5 @@ use Rattle.ambiguity_example.proofs.level_ends.node_in.Given as goal
 
 -- none of the nodes with a lower place on the left is in the level
 abbrev pub invariant-lefts : goal.invariant-lefts
-invariant-lefts l = (node : Node) → IsMarked l.level node → IsOf l.nodes node → node.left < l.left → ⊥
+invariant-lefts l =
+    (node : Node) → IsMarked l.level node → IsOf l.nodes node → node.left < l.left → ⊥

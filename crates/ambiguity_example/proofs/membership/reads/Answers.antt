@@ -5,7 +5,8 @@ use Rattle.ambiguity_example.proofs.membership.reads.Goals as goal
 
 pub items-preserved : goal.items-preserved
 items-preserved c = record {
-  after = read_on c.args.nfa.now c.args.items.now c.items.item-index c.item-item.result _ _ _ c.requires
+  after =
+      read_on c.args.nfa.now c.args.items.now c.items.item-index c.item-item.result _ _ _ c.requires
       c.items-test.true c.item-item.is
       (c.of.ensures.cell ∙ ap (λ cells. cell_of cells c.item-item.result) c.cells.ensures)
       c.items.invariant.after c.step-state.ensures.steps;

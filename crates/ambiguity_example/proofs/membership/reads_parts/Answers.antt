@@ -12,8 +12,8 @@ cuts-preserved c =
     let at = c.cuts.cut-index in
     let here : drop at cuts ≡ get_or cuts at 0 ∷ drop (at + 1) cuts =
     rw add-one (drop-cons cuts at 0 c.cuts-test.true) in record {
-      on = λ rate are parts. piece_on rate _ _ _ _ _ _ c.split_at.ensures.front c.split_at.ensures.back
-          (subst (PartsFrom rate c.cuts.begin c.cuts.rest.now) here
+      on = λ rate are parts. piece_on rate _ _ _ _ _ _ c.split_at.ensures.front
+          c.split_at.ensures.back (subst (PartsFrom rate c.cuts.begin c.cuts.rest.now) here
           (c.cuts.invariant.on rate are parts));
       back = λ rate are parts. c.cuts.invariant.back rate are
           (subst (PartsFrom rate c.cuts.begin c.cuts.rest.now) (sym here)

@@ -10,7 +10,7 @@ abbrev pub invariant-cuts : goal.invariant-cuts
 invariant-cuts l = record {
   on : (rate : Regex) → AreOf l.nfa.sets rate → PartsFrom rate 0 l.items l.cuts
       → PartsFrom rate l.begin l.rest (drop l.cut-index l.cuts);
-  back : (rate : Regex) → AreOf l.nfa.sets rate → PartsFrom rate l.begin l.rest (drop l.cut-index l.cuts)
-      → PartsFrom rate 0 l.items l.cuts;
+  back : (rate : Regex) → AreOf l.nfa.sets rate
+      → PartsFrom rate l.begin l.rest (drop l.cut-index l.cuts) → PartsFrom rate 0 l.items l.cuts;
   word : IsWordOf l.nfa.cells.layout.columns l.rest;
 }

@@ -10,7 +10,8 @@ lefts-preserved c = left_added c.args.level.now c.args.phase c.args.items _ c.le
 
 pub returns : goal.returns
 returns c = adds_as
-    (λ node. (node.phase ≡ c.args.phase) × IsMarked c.args.level.now node × (node.left < c.lefts.left))
+    (λ node. (node.phase ≡ c.args.phase) × IsMarked c.args.level.now node
+    × (node.left < c.lefts.left))
     (λ node. (node.phase ≡ c.args.phase) × IsMarked c.args.level.now node) _ _ _
     (λ node is. (is.0, is.1))
     (λ node is. (is.0, is.1, (let below = c.end-left-end.ensures.below node is.1 in omega arith)))

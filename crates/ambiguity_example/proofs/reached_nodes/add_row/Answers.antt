@@ -7,9 +7,10 @@ use Rattle.ambiguity_example.proofs.reached_nodes.add_row.Goals.{then-has+in_ok-
 
 pub rights-preserved : goal.rights-preserved
 rights-preserved c = elim c.if-has.branch [
-  | then-has+in_ok-push w ↦ rw w.reached-is (row_added c.args.phase c.args.left c.args.rights c.args.items
-      c.args.reached.now.items c.rights.right c.rights.reached.items _ (c.has.ensures.0 w.if-has.true)
-      (omega arith) w.in_ok-push.ensures.items c.rights.invariant)
+  | then-has+in_ok-push w ↦ rw w.reached-is
+      (row_added c.args.phase c.args.left c.args.rights c.args.items
+      c.args.reached.now.items c.rights.right c.rights.reached.items _
+      (c.has.ensures.0 w.if-has.true) (omega arith) w.in_ok-push.ensures.items c.rights.invariant)
   | else-has w ↦ rw w.reached-is (row_kept c.args.phase c.args.left c.args.rights c.args.items
       c.args.reached.now.items c.rights.right c.rights.reached.items
       (λ is. not_both c.has.result (c.has.ensures.1 is) w.if-has.false) c.rights.invariant)

@@ -14,7 +14,8 @@ in_one_piece-requires c =
     omega (arith, few, long)
 
 pub returns : goal.returns
-returns c = ok_as c.in_one_piece.result (λ (shown : Shown). shown ≡ twice_whole c.in_ok-items.items.items)
+returns c =
+    ok_as c.in_one_piece.result (λ (shown : Shown). shown ≡ twice_whole c.in_ok-items.items.items)
     (λ (shown : Shown). (word : Word) × AllMeet c.args.first.now.cells.layout.columns
     (λ _. c.args.first.now.sets) (λ _. c.args.second.now.sets) c.args.walk.now word
     × (shown ≡ twice_whole word))

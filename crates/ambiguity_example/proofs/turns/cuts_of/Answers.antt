@@ -4,7 +4,8 @@ use Rattle.ambiguity_check.specs.declared.graph.Phase.TheVariants.{Together}
 use Rattle.ambiguity_example.proofs.Deciding.{not_both}
 use Rattle.ambiguity_example.proofs.Turned.{turns_stay, turns_end, turns_over}
 use Rattle.ambiguity_example.proofs.turns.cuts_of.Goals as goal
-use Rattle.ambiguity_example.proofs.turns.cuts_of.Goals.{then-not-stays+in_ok-push-2, else-not-stays}
+use Rattle.ambiguity_example.proofs.turns.cuts_of.Goals.{then-not-stays+in_ok-push-2}
+use Rattle.ambiguity_example.proofs.turns.cuts_of.Goals.{else-not-stays}
 
 pub nodes-preserved : goal.nodes-preserved
 nodes-preserved c =
@@ -13,12 +14,13 @@ nodes-preserved c =
     let node : Node = get_or c.args.walk.now c.nodes.at none in
     elim c.if-not-stays.branch [
       | then-not-stays+in_ok-push-2 w ↦ rw w.cuts-is (turns_end c.args.positions.now c.args.side
-          c.args.walk.now c.nodes.at c.nodes.cuts.items _ before node none none c.nodes-test.true refl refl
+          c.args.walk.now c.nodes.at c.nodes.cuts.items _ before node none none
+          c.nodes-test.true refl refl
           (λ stays. not_both c.stays.result (c.stays.ensures.1 stays) w.if-not-stays.true)
           w.in_ok-push-2.ensures.items c.nodes.invariant)
       | else-not-stays w ↦ rw w.cuts-is (turns_stay c.args.positions.now c.args.side
-          c.args.walk.now c.nodes.at c.nodes.cuts.items before node none none c.nodes-test.true refl refl
-          (c.stays.ensures.0 w.if-not-stays.false) c.nodes.invariant)
+          c.args.walk.now c.nodes.at c.nodes.cuts.items before node none none
+          c.nodes-test.true refl refl (c.stays.ensures.0 w.if-not-stays.false) c.nodes.invariant)
     ]
 
 pub returns : goal.returns

@@ -23,27 +23,32 @@ returns-in_default c = λ r of_r.
     none_factored c.args.nfa.now.cells.layout.columns c.args.nfa.now.sets _ (IsIn c.ends_of.result)
     ended r of_r c.in_ok-factorings.ensures.rows
     (λ empty. not_both c.nullable.result (c.nullable.ensures
-    ∙ ap (λ (sets : Sets). sets.nullable) c.positions-positions.ensures ∙ empty) c.if-nullable.false)
+    ∙ ap (λ (sets : Sets). sets.nullable) c.positions-positions.ensures
+    ∙ empty) c.if-nullable.false)
     none
 
 pub example_of-requires-clause-meet : goal.example_of-requires-clause-meet
 example_of-requires-clause-meet c =
-    let shortest = rw c.in_ok-factorings.ensures.sets at (rw c.in-Some.is at c.in_ok-walk.ensures) in
+    let shortest = rw c.in_ok-factorings.ensures.sets at
+    (rw c.in-Some.is at c.in_ok-walk.ensures) in
     rw c.deref.ensures.value (walk_meet (BeginsFactors c.args.nfa.now.sets)
     (Factors c.args.nfa.now.sets) (IsInRows c.in_ok-factorings.factorings.rows.items)
     (IsIn c.ends_of.result)
-    (HasItem c.args.nfa.now.cells.layout.columns (λ _. c.args.nfa.now.sets) (λ _. c.args.nfa.now.sets))
+    (HasItem c.args.nfa.now.cells.layout.columns (λ _. c.args.nfa.now.sets)
+    (λ _. c.args.nfa.now.sets))
     (λ node met. (c.in_ok-factorings.ensures.rows node.left node.right).0 met) c.in-Some.walk.items
     shortest.walk)
 
 pub returns : goal.returns
 returns c = λ r of_r.
     let ended = rw c.positions-positions.ensures at c.ends_of.ensures in
-    let shortest = rw c.in_ok-factorings.ensures.sets at (rw c.in-Some.is at c.in_ok-walk.ensures) in
+    let shortest = rw c.in_ok-factorings.ensures.sets at
+    (rw c.in-Some.is at c.in_ok-walk.ensures) in
     walk_factored c.args.nfa.now.cells.layout.columns c.args.nfa.now.sets _
     (IsIn c.ends_of.result) ended r of_r c.in_ok-factorings.ensures.rows
     (λ empty. not_both c.nullable.result (c.nullable.ensures
-    ∙ ap (λ (sets : Sets). sets.nullable) c.positions-positions.ensures ∙ empty) c.if-nullable.false)
+    ∙ ap (λ (sets : Sets). sets.nullable) c.positions-positions.ensures
+    ∙ empty) c.if-nullable.false)
     c.in-Some.walk.items _ shortest (rw c.deref.ensures.value at c.in_ok-example_of.ensures.meet)
     (rw c.deref.ensures.value at c.in_ok-example_of.ensures.first)
     (rw c.deref.ensures.value at c.in_ok-example_of.ensures.second)

@@ -12,14 +12,16 @@ nodes-preserved c =
     elim c.if-eq.branch [
       | then-eq w ↦
           let same : node.phase ≡ c.args.phase = search rules in
-          let more = counted c.args.phase c.args.nodes.now c.nodes.node-index node none c.nodes.count 1
-          c.nodes-test.true refl c.nodes.invariant.0 (same_phase c.args.phase node.phase same) in
+          let more = counted c.args.phase c.args.nodes.now c.nodes.node-index node
+          none c.nodes.count 1 c.nodes-test.true refl c.nodes.invariant.0
+          (same_phase c.args.phase node.phase same) in
           let few = c.nodes.invariant.1 in
           (w.count-is ∙ more, omega (arith, w.count-is))
       | else-eq w ↦
           let other : node.phase ≡ c.args.phase → ⊥ = search rules in
-          let more = counted c.args.phase c.args.nodes.now c.nodes.node-index node none c.nodes.count 0
-          c.nodes-test.true refl c.nodes.invariant.0 (other_phase c.args.phase node.phase other) in
+          let more = counted c.args.phase c.args.nodes.now c.nodes.node-index node
+          none c.nodes.count 0 c.nodes-test.true refl c.nodes.invariant.0
+          (other_phase c.args.phase node.phase other) in
           let few = c.nodes.invariant.1 in
           let kept : c.nodes.count ≡ c.nodes.count + 0 = omega arith in
           (w.count-is ∙ kept ∙ more, omega (arith, w.count-is))

@@ -13,8 +13,9 @@ returns-in_default c = λ r s of_r of_s.
     let ended = rw (c.positions.ensures, c.positions-2.ensures) at c.ends_of-ends.ensures in
     let none = rw (c.in_ok-splits.ensures.first, c.in_ok-splits.ensures.second) at
     (rw c.in_default.is at c.in_ok-walk.ensures) in
-    none_halved c.args.first.now.cells.layout.columns c.args.first.now.sets c.args.second.now.sets _ _ _
-    (IsIn c.ends_of-ends.result) ended r s of_r of_s c.in_ok-splits.ensures.rows none
+    none_halved c.args.first.now.cells.layout.columns c.args.first.now.sets
+    c.args.second.now.sets _ _ _ (IsIn c.ends_of-ends.result) ended r s of_r of_s
+    c.in_ok-splits.ensures.rows none
 
 pub example_of-requires-clause-meet : goal.example_of-requires-clause-meet
 example_of-requires-clause-meet c =
@@ -25,7 +26,8 @@ example_of-requires-clause-meet c =
     (Continues c.args.first.now.sets c.args.second.now.sets)
     (MeetIn c.in_ok-splits.splits.together.items c.in_ok-splits.splits.parted.items
     c.in_ok-splits.splits.rejoined.items) (IsIn c.ends_of-ends.result)
-    (HasItem c.args.first.now.cells.layout.columns (left_of c.args.first.now.sets c.args.second.now.sets)
+    (HasItem c.args.first.now.cells.layout.columns
+    (left_of c.args.first.now.sets c.args.second.now.sets)
     (right_of c.args.first.now.sets c.args.second.now.sets))
     (λ node met. (c.in_ok-splits.ensures.rows node.phase node.left node.right).0 met)
     c.in-Some.walk.items shortest.walk)

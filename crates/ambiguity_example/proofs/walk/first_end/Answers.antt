@@ -17,7 +17,8 @@ levels-init g c =
       known = subst (λ (xs : List Reached). AreKnown begins continues meet 1 xs) (sym c.requires)
           (known_none begins continues meet);
       none = λ fewer less after.
-          let some = walk_some begins continues meet fewer after.0 after.1 in absurd (omega (arith, less));
+          let some = walk_some begins continues meet fewer after.0 after.1 in
+          absurd (omega (arith, less));
     }
 
 pub returns-in-Some : goal.returns-in-Some
@@ -43,8 +44,10 @@ levels-preserved g c =
     let next = c.in_ok-items.ensures.next in record {
       level = subst (λ (n : ℕ). IsLevel begins continues meet n c.advance.new.self) (sym next)
           (c.advance.ensures.level c.levels.items
-          (subst (λ (s : Searched). IsLevel begins continues meet c.levels.items s) (sym before) level));
-      known = subst (λ (n : ℕ). AreKnown begins continues meet n c.add_level.new.reached.items) (sym next)
+          (subst (λ (s : Searched). IsLevel begins continues meet c.levels.items s)
+          (sym before) level));
+      known = subst (λ (n : ℕ). AreKnown begins continues meet n c.add_level.new.reached.items)
+          (sym next)
           (known_next begins continues meet c.levels.items search _ _ level c.levels.invariant.known
           (subst (λ (marks : List ℕ). Adds (IsMarked marks) c.levels.items c.levels.reached.items
           c.add_level.new.reached.items) also c.in_ok-items.ensures.adds));

@@ -2,7 +2,8 @@ use Rattle.ambiguity_example.proofs.Leading.{stays_there, turns_there, leads_now
 use Rattle.ambiguity_example.proofs.walk.leads.Goals as goal
 
 pub returns-then-is_of : goal.returns-then-is_of
-returns-then-is_of g c = stays_there (g.G.Graph.continues c.args.graph.now) c.args.before c.args.node
+returns-then-is_of g c =
+    stays_there (g.G.Graph.continues c.args.graph.now) c.args.before c.args.node
     c.moves-moves.result _ c.only.ensures (c.moves-moves.ensures c.args.node) c.is_of.result
     c.is_of.ensures c.if-is_of.true
 

@@ -9,10 +9,12 @@ use Rattle.eval_nodes.proofs.automaton.automaton.Goals as goal
 
 pub new-requires : goal.new-requires
 new-requires c =
-    subst (λ (preds : List Predicate). AllByRecursion (λ (pred : Predicate). Contains c.args.cells.now.value.preds pred) preds)
+    subst (λ (preds : List Predicate).
+    AllByRecursion (λ (pred : Predicate). Contains c.args.cells.now.value.preds pred) preds)
     (sym c.in_ok-positions.ensures.sets.preds) c.requires.decided
 
 pub returns-clause-rate : goal.returns-clause-rate
 returns-clause-rate c =
-    where_ok c.new.result _ _ (λ nfa is. subst (λ (a : Automaton). AreSetsOf a.sets (plain_of c.args.rate.now)) (sym is)
+    where_ok c.new.result _ _
+    (λ nfa is. subst (λ (a : Automaton). AreSetsOf a.sets (plain_of c.args.rate.now)) (sym is)
     c.in_ok-positions.ensures.sets) c.new.ensures

@@ -13,14 +13,17 @@ use Rattle.eval_nodes.proofs.cells.stream_cells.Goals as goal
 pub returns-then-has_no_collect-clause-made : goal.returns-then-has_no_collect-clause-made
 returns-then-has_no_collect-clause-made c =
     subst (λ (q : Query). CanBeMade None (plain_of q.shape)) c.main-query.ensures.main
-    (without_collect (plain_of c.main-query.result.now.shape) (c.has_no_collect.ensures.0 c.if-has_no_collect.true))
+    (without_collect (plain_of c.main-query.result.now.shape)
+    (c.has_no_collect.ensures.0 c.if-has_no_collect.true))
 
 pub cells_of-requires : goal.cells_of-requires
 cells_of-requires c =
     let on = c.args.checked.now in
-    subst (λ (layout : Layout). AllFit layout.columns (predicates_of (plain_of c.main-query.result.now.shape)))
+    subst (λ (layout : Layout). AllFit layout.columns
+    (predicates_of (plain_of c.main-query.result.now.shape)))
     (sym c.schema.ensures.schema)
-    (subst (λ (q : Query). AllFit on.layout.columns (predicates_of (plain_of q.shape))) (sym c.main-query.ensures.main)
+    (subst (λ (q : Query). AllFit on.layout.columns (predicates_of (plain_of q.shape)))
+    (sym c.main-query.ensures.main)
     (all_fit free on.layout.columns (plain_of on.main.shape) c.main-query.ensures.checked.clear))
 
 pub returns-in_ok-new-in-Ok-clause-made : goal.returns-in_ok-new-in-Ok-clause-made
@@ -28,7 +31,8 @@ returns-in_ok-new-in-Ok-clause-made c =
     let on = c.args.checked.now in
     let q = plain_of on.main.shape in
     let members : HaveSameMembers c.in-Ok.cells.preds (predicates_of q) =
-    subst (λ (query : Query). HaveSameMembers c.in-Ok.cells.preds (predicates_of (plain_of query.shape)))
+    subst
+    (λ (query : Query). HaveSameMembers c.in-Ok.cells.preds (predicates_of (plain_of query.shape)))
     c.main-query.ensures.main c.in-Ok.ensures.members in
     subst (λ (cells : Partition). CanBeMade (Some cells) q) (sym c.in_ok-new-in-Ok.ensures.ok)
     (served free on.layout.columns c.in-Ok.cells q c.main-query.ensures.checked.clear

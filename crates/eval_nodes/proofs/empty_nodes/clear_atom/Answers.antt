@@ -11,5 +11,5 @@ pub returns-in-Atom : goal.returns-in-Atom
 unfolding roll-State out-State denote.Hole.Carrier.roll denote.Hole.Carrier.out
 returns-in-Atom c = λ pred e.
     let s = c.in-Atom in
-    cleared_as (atom pred e) _ (atom_held s.found) _ (atom_held None) _ refl (ap holding_of s.is) (rw s.is refl)
-    (clear_atom seen_of pred e s.found)
+    cleared_as (atom pred e) _ (atom_held s.found) _ (atom_held None) _ refl
+    (ap holding_of s.is) (rw s.is refl) (clear_atom seen_of pred e s.found)

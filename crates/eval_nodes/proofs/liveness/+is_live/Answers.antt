@@ -12,7 +12,8 @@ use Rattle.eval_nodes.proofs.liveness.+is_live.Goals as goal
 pub is_live-returns-in-Atom : goal.is_live-returns-in-Atom
 is_live-returns-in-Atom t c =
     let s = c.in-Atom in
-    let read = read_as _ _ c.args.node.now.state c.args.start c.is_live_in_atom.result (ap plain_of s.is)
+    let read = read_as _ _ c.args.node.now.state c.args.start c.is_live_in_atom.result
+    (ap plain_of s.is)
     (c.is_live_in_atom.ensures (predicates.plain_of s.field-0) (values.plain_of s.field-1)) in
     record { lives = lives_read _ c.args.node.now.state c.args.start _ read; read = read }
 
@@ -26,7 +27,8 @@ pub is_live-returns-in-Or : goal.is_live-returns-in-Or
 is_live-returns-in-Or t c =
     let read = read_as _ _ c.args.node.now.state c.args.start c.is_live_in_choice.result
     (ap plain_of c.in-Or.is
-    ∙ of_both choice _ _ _ _ (same_query _ _ c.deref.ensures) (same_query _ _ c.deref-in-Or.ensures))
+    ∙ of_both choice _ _ _ _ (same_query _ _ c.deref.ensures)
+    (same_query _ _ c.deref-in-Or.ensures))
     c.is_live_in_choice.ensures in
     record { lives = lives_read _ c.args.node.now.state c.args.start _ read; read = read }
 
@@ -61,22 +63,26 @@ is_live-returns-in-Combine t c =
 pub is_live-returns-in-Iter : goal.is_live-returns-in-Iter
 is_live-returns-in-Iter t c =
     let s = c.in-Iter in
-    let read = read_as _ _ c.args.node.now.state c.args.start c.is_live_in_iter.result (ap plain_of s.is)
-    (c.is_live_in_iter.ensures (plain_of s.field-0.value.shape) s.field-1 (values.plain_of s.field-2)) in
+    let read = read_as _ _ c.args.node.now.state c.args.start c.is_live_in_iter.result
+    (ap plain_of s.is)
+    (c.is_live_in_iter.ensures (plain_of s.field-0.value.shape) s.field-1
+    (values.plain_of s.field-2)) in
     record { lives = lives_read _ c.args.node.now.state c.args.start _ read; read = read }
 
 pub is_live-returns-in-Compose : goal.is_live-returns-in-Compose
 is_live-returns-in-Compose t c =
     let g = plain_of c.in-Compose.field-1.value.shape in
     let read = read_as _ _ c.args.node.now.state c.args.start c.is_live_in_compose.result
-    (ap plain_of c.in-Compose.is ∙ ap (λ f. compose f g) (same_query _ _ c.deref-in-Compose.ensures))
+    (ap plain_of c.in-Compose.is
+    ∙ ap (λ f. compose f g) (same_query _ _ c.deref-in-Compose.ensures))
     (c.is_live_in_compose.ensures g) in
     record { lives = lives_read _ c.args.node.now.state c.args.start _ read; read = read }
 
 pub is_live-returns-in-Collect : goal.is_live-returns-in-Collect
 is_live-returns-in-Collect t c =
     let s = c.in-Collect in
-    let read = read_as _ _ c.args.node.now.state c.args.start c.is_live_in_collect.result (ap plain_of s.is)
-    (c.is_live_in_collect.ensures s.field-0 (predicates.plain_of s.field-1) (rates.plain_of s.field-2)
-    (plain_of s.field-3.value.shape)) in
+    let read = read_as _ _ c.args.node.now.state c.args.start c.is_live_in_collect.result
+    (ap plain_of s.is)
+    (c.is_live_in_collect.ensures s.field-0 (predicates.plain_of s.field-1)
+    (rates.plain_of s.field-2) (plain_of s.field-3.value.shape)) in
     record { lives = lives_read _ c.args.node.now.state c.args.start _ read; read = read }

@@ -17,39 +17,43 @@ start-requires c =
     let on = c.args.checked.now in
     let query = c.main-query.result.now in
     let small : IsSmall on.layout.columns (plain_of query.shape) =
-    subst (λ (q : Query). IsSmall on.layout.columns (plain_of q.shape)) (sym c.main-query.ensures.main)
-    c.main-query.ensures.checked.small in
+    subst (λ (q : Query). IsSmall on.layout.columns (plain_of q.shape))
+    (sym c.main-query.ensures.main) c.main-query.ensures.checked.small in
     let few = composes_few (plain_of query.shape) in
     let nodes = small.nodes in
     record {
       standing = free;
       columns = on.layout.columns;
-      clear = subst (λ (q : Query). IsClear free on.layout.columns (plain_of q.shape)) (sym c.main-query.ensures.main)
-          c.main-query.ensures.checked.clear;
+      clear = subst (λ (q : Query). IsClear free on.layout.columns (plain_of q.shape))
+          (sym c.main-query.ensures.main) c.main-query.ensures.checked.clear;
       sound = c.in_ok-node.ensures.sound on.layout.columns (seen_cells rc_value
-          (λ cells. AreColumnsOf cells on.layout.columns) (option_copied c.as_ref.result) c.in_ok-cells.cells
-          c.as_ref.ensures.value c.in_ok-cells.ensures.columns);
+          (λ cells. AreColumnsOf cells on.layout.columns) (option_copied c.as_ref.result)
+          c.in_ok-cells.cells c.as_ref.ensures.value c.in_ok-cells.ensures.columns);
       room = omega (arith, few, nodes);
     }
 
 pub returns-in-Ok : goal.returns-in-Ok
 returns-in-Ok c =
     let on = c.args.checked.now in
-    let columns = seen_cells rc_value (λ cells. AreColumnsOf cells on.layout.columns) (option_copied c.as_ref.result)
-    c.in_ok-cells.cells c.as_ref.ensures.value c.in_ok-cells.ensures.columns in
+    let columns = seen_cells rc_value (λ cells. AreColumnsOf cells on.layout.columns)
+    (option_copied c.as_ref.result) c.in_ok-cells.cells c.as_ref.ensures.value
+    c.in_ok-cells.ensures.columns in
     subst (λ (q : Query). IsAt on.layout.columns (plain_of q.shape) []
-    (record { node = c.start.new.node; position = 0; answer = c.value_of.result })) c.main-query.ensures.main
-    (begun free on.layout.columns (plain_of c.main-query.result.now.shape) (holding_of c.in_ok-node.node.state)
+    (record { node = c.start.new.node; position = 0; answer = c.value_of.result }))
+    c.main-query.ensures.main
+    (begun free on.layout.columns (plain_of c.main-query.result.now.shape)
+    (holding_of c.in_ok-node.node.state)
     (record { node = c.start.new.node; position = 0; answer = c.value_of.result }) c.in-Ok.hit
-    (subst (λ (q : Query). IsClear free on.layout.columns (plain_of q.shape)) (sym c.main-query.ensures.main)
-    c.main-query.ensures.checked.clear)
-    (c.in_ok-node.ensures.word on.layout.columns columns) (c.in_ok-node.ensures.sound on.layout.columns columns)
+    (subst (λ (q : Query). IsClear free on.layout.columns (plain_of q.shape))
+    (sym c.main-query.ensures.main) c.main-query.ensures.checked.clear)
+    (c.in_ok-node.ensures.word on.layout.columns columns)
+    (c.in_ok-node.ensures.sound on.layout.columns columns)
     c.in-Ok.ensures.word c.in-Ok.ensures.sound refl c.value_of.ensures)
 
 pub new-requires-clause-cells : goal.new-requires-clause-cells
 new-requires-clause-cells c =
     let query = c.main-query.result.now in
-    seen_cells rc_value (λ cells. CanBeMade cells (plain_of query.shape)) (option_copied c.as_ref.result) c.in_ok-cells.cells
-    c.as_ref.ensures.value
+    seen_cells rc_value (λ cells. CanBeMade cells (plain_of query.shape))
+    (option_copied c.as_ref.result) c.in_ok-cells.cells c.as_ref.ensures.value
     (subst (λ (q : Query). CanBeMade (option_map rc_value c.in_ok-cells.cells) (plain_of q.shape))
     (sym c.main-query.ensures.main) c.in_ok-cells.ensures.made)

@@ -10,5 +10,5 @@ pub returns : goal.returns
 unfolding roll-State out-State denote.Hole.Carrier.roll denote.Hole.Carrier.out
 returns c =
     let s = c.in-Atom in
-    λ pred e. started_as _ _ _ _ (atom_held (Some c.args.at)) _ c.args.at _ _ refl (ap holding_of s.is) (rw s.is refl) refl
-    (atom_starts pred e _ c.args.at)
+    λ pred e. started_as _ _ _ _ (atom_held (Some c.args.at)) _ c.args.at _ _ refl
+    (ap holding_of s.is) (rw s.is refl) refl (atom_starts pred e _ c.args.at)

@@ -13,13 +13,16 @@ returns-in-Some-clause-has c = record { there = c.in-Some.ensures.there; made = 
 
 pub returns-in_ok-add-in-None-clause-has : goal.returns-in_ok-add-in-None-clause-has
 returns-in_ok-add-in-None-clause-has c = record {
-  there = subst (λ (keyed : Followers Progress). slice_get keyed.names c.len-place.result ≡ Some c.args.key.now)
+  there = subst (λ (keyed : Followers Progress). slice_get keyed.names c.len-place.result
+      ≡ Some c.args.key.now)
       (sym c.in_ok-add-in-None.ensures.ok)
-      (last_read (names_of c.args.keys.now) c.args.key.now c.len-place.result c.len-place.ensures.count);
+      (last_read (names_of c.args.keys.now) c.args.key.now c.len-place.result
+      c.len-place.ensures.count);
   made = inr (
     c.in-None.ensures.none,
     c.in_ok-runner-in-None.runner,
-    subst (λ (runner : Progress). IsCopyOf seen_of (IsCopy seen_of (plain_of c.args.query.now.shape)) runner
+    subst (λ (runner : Progress). IsCopyOf seen_of
+        (IsCopy seen_of (plain_of c.args.query.now.shape)) runner
         c.in_ok-runner-in-None.runner) c.fallback.ensures c.in_ok-runner-in-None.ensures,
     c.add.ensures.fallback,
     c.in_ok-add-in-None.ensures.ok,

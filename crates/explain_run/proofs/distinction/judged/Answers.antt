@@ -10,5 +10,5 @@ check-requires c = stream_within _ (plain_program c.args.program.now) c.requires
 
 pub returns-in-Ok : goal.returns-in-Ok
 returns-in-Ok c =
-    compiled.judged (plain_program c.args.program.now) (accepted (monitor_of c.in-Ok.checked)) c.requires
-    c.in-Ok.ensures.accepted
+    compiled.judged (plain_program c.args.program.now)
+    (accepted (monitor_of c.in-Ok.checked)) c.requires c.in-Ok.ensures.accepted

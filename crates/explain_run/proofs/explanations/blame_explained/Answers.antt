@@ -14,9 +14,10 @@ returns c =
     let program = plain_program c.args.program.now in
     let blame = c.args.blame.now in
     let drawn = c.in_ok-drawn_readings.field-0 in
-    let draws = draws_why c.args.text.now drawn program blame c.requires.file c.requires.blamed c.in_ok-drawn_readings.ensures
+    let draws = draws_why c.args.text.now drawn program blame c.requires.file c.requires.blamed
+    c.in_ok-drawn_readings.ensures
     in
     IfOk-weaker c.explained.result _ _
-    (λ shown same. explains_found c.args.name.now c.args.text.now shown program (refusal_of blame) c.refusal.result
-    (Readings drawn) draws c.refusal.ensures same)
+    (λ shown same. explains_found c.args.name.now c.args.text.now shown program (refusal_of blame)
+    c.refusal.result (Readings drawn) draws c.refusal.ensures same)
     c.explained.ensures

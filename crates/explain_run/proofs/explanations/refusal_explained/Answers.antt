@@ -8,6 +8,7 @@ pub returns : goal.returns
 returns c =
     let refusal = c.args.refusal in
     IfOk-weaker c.explained.result _ _
-    (λ shown same. explains_found c.args.name.now c.args.text.now shown (plain_program c.args.program.now) refusal
-    refusal c.in_ok-found.found c.in_ok-found.ensures refl same)
+    (λ shown same. explains_found c.args.name.now c.args.text.now shown
+    (plain_program c.args.program.now) refusal refusal c.in_ok-found.found
+    c.in_ok-found.ensures refl same)
     c.explained.ensures

@@ -11,7 +11,11 @@ returns-in_err-done-clause-written g c =
 
 pub pieces-preserved : goal.pieces-preserved
 pieces-preserved g c = record {
-  in_range = grind (arith, length-drop, rw (take_rest c.args.bytes.now c.pieces.done) at c.in_ok-done.ensures.bound);
+  in_range = grind (
+    arith,
+    length-drop,
+    rw (take_rest c.args.bytes.now c.pieces.done) at c.in_ok-done.ensures.bound,
+  );
   written = Appends-take _ _ _ _ _ _ c.pieces.invariant.written
       (rw (take_rest c.args.bytes.now c.pieces.done) at c.in_ok-done.ensures.bytes);
   held = omega (arith, c.pieces.invariant.held, c.in_ok-done.ensures.held);

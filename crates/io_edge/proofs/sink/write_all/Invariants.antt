@@ -2,8 +2,8 @@ use Rattle.std.proofs.Common.{length, ◌+◌, ◌-◌, ◌≡◌, ◌≤◌, ta
 use Rattle.std.specs.Io.KnownBytes.{Appends}
 use Rattle.io_edge.proofs.sink.write_all.Given as goal
 
--- what was taken so far is the front of the bytes, no more than that is held back, and there was no fault on
--- the way
+-- what was taken so far is the front of the bytes, no more than that is held back, and there was no
+-- fault on the way
 abbrev pub invariant-pieces : goal.invariant-pieces
 invariant-pieces g l = record {
   in_range : l.done ≤ length l.bytes;

@@ -18,7 +18,7 @@ fields-preserved c =
     in
     record {
       text = after_row _ _ _ _ _ _ _ _ c.fields.invariant.text c.in_ok-push_comma.ensures pushed
-          (row_of-fields c.args.columns.now c.fields.place column c.args.draws.state c.fields-test.true
-          c.index-columns-place.is);
+          (row_of-fields c.args.columns.now c.fields.place column c.args.draws.state
+          c.fields-test.true c.index-columns-place.is);
       state = after ∙ state_after-more c.fields.place c.args.draws.state;
     }

@@ -6,7 +6,11 @@ use Rattle.item_lines.proofs.plain_lines.is_plain.Goals as goal
 pub returns-in-Ok : goal.returns-in-Ok
 returns-in-Ok c =
     let line = c.args.line.now in
-    rw (c.has_control.ensures, c.in-Ok.ensures.cases.0, is_utf8-from_IsUtf8 line c.in-Ok.ensures.cases.1) refl
+    rw (
+      c.has_control.ensures,
+      c.in-Ok.ensures.cases.0,
+      is_utf8-from_IsUtf8 line c.in-Ok.ensures.cases.1,
+    ) refl
 
 pub returns-in-Err : goal.returns-in-Err
 returns-in-Err c =

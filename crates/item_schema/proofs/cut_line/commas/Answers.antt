@@ -11,12 +11,24 @@ loop-byte-preserved c =
     let place = c.loop-byte.place in
     elim c.if-ends_field.branch [
       | then-ends_field w ↦ record {
-        counted = rw c.after-place.ensures (omega (arith, w.commas-is, c.loop-byte.invariant.counted, count_at place line i true c.loop-byte-test.true (sym c.ends_field.ensures ∙ w.if-ends_field.true)));
+        counted = rw c.after-place.ensures (omega (
+          arith,
+          w.commas-is,
+          c.loop-byte.invariant.counted,
+          count_at place line i true c.loop-byte-test.true
+              (sym c.ends_field.ensures ∙ w.if-ends_field.true),
+        ));
         few = omega (arith, w.commas-is, c.loop-byte.invariant.few);
         none = grind (arith, common_steps);
       }
       | else-ends_field w ↦ record {
-        counted = rw c.after-place.ensures (omega (arith, w.commas-is, c.loop-byte.invariant.counted, count_at place line i false c.loop-byte-test.true (sym c.ends_field.ensures ∙ w.if-ends_field.false)));
+        counted = rw c.after-place.ensures (omega (
+          arith,
+          w.commas-is,
+          c.loop-byte.invariant.counted,
+          count_at place line i false c.loop-byte-test.true
+              (sym c.ends_field.ensures ∙ w.if-ends_field.false),
+        ));
         few = omega (arith, w.commas-is, c.loop-byte.invariant.few);
         none = grind (arith, common_steps);
       }
@@ -27,5 +39,9 @@ returns c =
     let line = c.args.line.now in
     let i = c.loop-byte.byte-index in (
       rw (take_all i line c.loop-byte-test.false) at c.loop-byte.invariant.none,
-      omega (arith, rw (none_at c.loop-byte.place [] line i c.loop-byte-test.false) at c.loop-byte.invariant.counted),
+      omega (
+        arith,
+        rw (none_at c.loop-byte.place [] line i c.loop-byte-test.false) at
+            c.loop-byte.invariant.counted,
+      ),
     )

@@ -6,7 +6,8 @@ use Rattle.item_schema.proofs.cut_line.commas.Given as goal
 -- the commas so far and the texts that are left, and no line break
 abbrev pub invariant-loop-byte : goal.invariant-loop-byte
 invariant-loop-byte l = record {
-  counted : l.commas + length (texts_at l.place [] (drop l.byte-index l.line)) ≡ length (texts_in l.line);
+  counted : l.commas + length (texts_at l.place [] (drop l.byte-index l.line))
+      ≡ length (texts_in l.line);
   few : l.commas ≤ l.byte-index;
   none : list_any is_break (take l.byte-index l.line) ≡ false;
 }

@@ -6,7 +6,8 @@ use Rattle.item_schema.proofs.cut_line.cut_fields.Goals as goal
 
 pub returns-in_err-push_field-clause-stopped : goal.returns-in_err-push_field-clause-stopped
 returns-in_err-push_field-clause-stopped c =
-    let p = err_from_is_err_and c.from_residual-in_err-push_field.result c.from_residual-in_err-push_field.ensures.1 in
+    let p = err_from_is_err_and c.from_residual-in_err-push_field.result
+    c.from_residual-in_err-push_field.ensures.1 in
     rw (p.1, p.2) (stop-same _ _ _
     (rw (c.in-Some.is, c.in_ok-text.ensures, ← c.as_slice.ensures) at c.texts.invariant.read)
     (c.in_err-push_field.ensures.stopped (texts_of (option_copied c.in_ok-text.tail))))

@@ -7,7 +7,8 @@ use Rattle.item_schema.proofs.cut_line.cut_fields.Given as goal
 -- the fields so far, and the texts that are left
 abbrev pub invariant-texts : goal.invariant-texts
 invariant-texts l = record {
-  read : fields_of 1 l.schema.columns (texts_in l.line) ≡ read_on l.schema.columns l.fields.items (texts_of (option_copied l.rest));
+  read : fields_of 1 l.schema.columns (texts_in l.line)
+      ≡ read_on l.schema.columns l.fields.items (texts_of (option_copied l.rest));
   left : vec_len l.fields + length (texts_of (option_copied l.rest)) ≡ length l.schema.columns;
 }
 

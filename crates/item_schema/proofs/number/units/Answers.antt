@@ -5,5 +5,12 @@ use Rattle.item_schema.proofs.number.units.Goals as goal
 
 pub returns : goal.returns
 returns c text keeps =
-    rw (c.saturating_mul.ensures, keeps.size, c.saturating_pow.ensures, c.from.ensures, keeps.places)
-    (units_kept (2 ^ 64 - 1) c.args.places (whole_of text) (fraction_of text) (omega arith) (omega (arith, c.requires, keeps.places)))
+    rw (
+      c.saturating_mul.ensures,
+      keeps.size,
+      c.saturating_pow.ensures,
+      c.from.ensures,
+      keeps.places,
+    )
+    (units_kept (2 ^ 64 - 1) c.args.places (whole_of text) (fraction_of text) (omega arith)
+    (omega (arith, c.requires, keeps.places)))

@@ -9,4 +9,5 @@ returns-in-Int c =
 pub returns-in-Fixed : goal.returns-in-Fixed
 returns-in-Fixed c =
     rw (c.ok-in-Fixed.ensures.value, c.fixed_field.ensures)
-    (if_read _ _ (λ field. decimal_item c.args.column.now c.in-Fixed.places c.args.line.now field c.in-Fixed.is))
+    (if_read _ _
+    (λ field. decimal_item c.args.column.now c.in-Fixed.places c.args.line.now field c.in-Fixed.is))

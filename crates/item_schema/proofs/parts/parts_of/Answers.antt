@@ -9,5 +9,9 @@ returns-in-Some c =
     let line = c.args.line.now in
     let texts = plain_texts_in line c.in-Some.ensures.0 in (
       no_break line c.in-Some.ensures.0,
-      (texts, ap (λ commas. commas + 1) c.in-Some.ensures.1 ∙ sym (ap length texts ∙ length-slice_split is_comma line)),
+      (
+        texts,
+        ap (λ commas. commas + 1) c.in-Some.ensures.1
+            ∙ sym (ap length texts ∙ length-slice_split is_comma line),
+      ),
     )

@@ -7,7 +7,8 @@ use Rattle.item_schema.proofs.plain_line.plain_fields.Goals as goal
 
 pub returns-in_err-push_field-clause-stopped : goal.returns-in_err-push_field-clause-stopped
 returns-in_err-push_field-clause-stopped c =
-    let p = err_from_is_err_and c.from_residual-in_err-push_field.result c.from_residual-in_err-push_field.ensures.1 in
+    let p = err_from_is_err_and c.from_residual-in_err-push_field.result
+    c.from_residual-in_err-push_field.ensures.1 in
     rw (p.1, p.2) (stop-same _ _ _
     (rw (c.in-Some.is, c.plain_text.ensures) at c.texts.invariant.read)
     (c.in_err-push_field.ensures.stopped (split_of (option_copied c.plain_text.result.1))))
@@ -17,6 +18,11 @@ texts-smaller c = rw (c.in-Some.is, c.plain_text.ensures) (omega arith)
 
 pub texts-preserved : goal.texts-preserved
 texts-preserved c = record {
-  read = (rw (c.in-Some.is, c.plain_text.ensures) at c.texts.invariant.read) ∙ c.in_ok-push_field.ensures.pushed _;
-  left = omega (arith, rw (c.in-Some.is, c.plain_text.ensures) at c.texts.invariant.left, c.in_ok-push_field.ensures.count);
+  read = (rw (c.in-Some.is, c.plain_text.ensures) at c.texts.invariant.read)
+      ∙ c.in_ok-push_field.ensures.pushed _;
+  left = omega (
+    arith,
+    rw (c.in-Some.is, c.plain_text.ensures) at c.texts.invariant.left,
+    c.in_ok-push_field.ensures.count,
+  );
 }

@@ -9,7 +9,8 @@ use Rattle.item_schema.proofs.plain_line.plain_fields.Given as goal
 -- the fields so far, and the texts that are left
 abbrev pub invariant-texts : goal.invariant-texts
 invariant-texts l = record {
-  read : fields_of 1 l.schema.columns (slice_split is_comma l.line) ≡ read_on l.schema.columns l.fields.items (split_of (option_copied l.rest));
+  read : fields_of 1 l.schema.columns (slice_split is_comma l.line)
+      ≡ read_on l.schema.columns l.fields.items (split_of (option_copied l.rest));
   left : vec_len l.fields + length (split_of (option_copied l.rest)) ≡ length l.schema.columns;
 }
 

@@ -6,6 +6,7 @@ use Rattle.item_schema.proofs.row.row_fields.Given as goal
 -- the fields so far, and the texts that are left
 abbrev pub invariant-loop-index : goal.invariant-loop-index
 invariant-loop-index l = record {
-  read : fields_of 1 l.schema.columns (csv.fields_of l.row) ≡ read_on l.schema.columns l.fields.items (drop l.index (csv.fields_of l.row));
+  read : fields_of 1 l.schema.columns (csv.fields_of l.row)
+      ≡ read_on l.schema.columns l.fields.items (drop l.index (csv.fields_of l.row));
   count : vec_len l.fields ≡ l.index;
 }

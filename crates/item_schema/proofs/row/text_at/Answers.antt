@@ -4,7 +4,8 @@ use Rattle.item_schema.proofs.Fields.{drop-field_at, some_field}
 use Rattle.item_schema.proofs.row.text_at.Goals as goal
 
 pub unwrap-requires : goal.unwrap-requires
-unwrap-requires c = some_field (fields_of c.args.row.now) c.args.index c.get.result c.requires c.get.ensures.value
+unwrap-requires c =
+    some_field (fields_of c.args.row.now) c.args.index c.get.result c.requires c.get.ensures.value
 
 pub returns : goal.returns
 returns c =

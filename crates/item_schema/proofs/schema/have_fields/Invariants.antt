@@ -5,4 +5,5 @@ use Rattle.item_schema.proofs.schema.have_fields.Given as goal
 
 abbrev pub invariant-fields : goal.invariant-fields
 invariant-fields l =
-    IsItemOf (drop (length l.yielded) l.columns) (drop (length l.yielded) l.fields) ↔ IsItemOf l.columns l.fields
+    IsItemOf (drop (length l.yielded) l.columns) (drop (length l.yielded) l.fields)
+    ↔ IsItemOf l.columns l.fields

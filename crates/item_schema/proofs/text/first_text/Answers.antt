@@ -5,8 +5,10 @@ use Rattle.item_schema.proofs.text.first_text.Goals as goal
 
 pub returns-then-starts_with : goal.returns-then-starts_with
 returns-then-starts_with c =
-    let quoted = begin_quoted c.args.bytes.now (sym c.starts_with.ensures.value ∙ c.if-starts_with.true) in
-    IfOk-weaker c.quoted_text.result _ _ (λ cut is. quoted ∙ rw (drop_whole c.args.bytes.now 1) at is) c.quoted_text.ensures
+    let quoted = begin_quoted c.args.bytes.now
+    (sym c.starts_with.ensures.value ∙ c.if-starts_with.true) in
+    IfOk-weaker c.quoted_text.result _ _
+    (λ cut is. quoted ∙ rw (drop_whole c.args.bytes.now 1) at is) c.quoted_text.ensures
 
 pub returns : goal.returns
 returns c =

@@ -8,7 +8,8 @@ returns g c =
     let sets = c.args.nfa.now.sets in
     let tracks = c.args.tracks.now in
     let searched = IsFirst-from_position _ _ _ (Accepted sets) (Refused sets) c.position.ensures.ran
-    (YieldsList-from_slice tracks cc) (λ x q k. search (rules, tests)) (λ x q k. search (rules, tests)) in
+    (YieldsList-from_slice tracks cc) (λ x q k. search (rules, tests))
+    (λ x q k. search (rules, tests)) in
     record {
       there = found_accepted sets c.position.result tracks searched;
       none = no_accepted sets c.position.result tracks searched;

@@ -9,4 +9,5 @@ returns g c =
     let live = IsLiveAt c.args.nfa.now c.args.start in
     decided_live c.args.nfa.now c.any.result c.args.tracks.now c.args.start
     (cases_from_any _ _ _ live (λ track. live track → ⊥) c.any.ensures.ran
-    (YieldsList-from_slice c.args.tracks.now cc) (λ x q k. search (rules, tests)) (λ x q k. search (rules, tests)))
+    (YieldsList-from_slice c.args.tracks.now cc) (λ x q k. search (rules, tests))
+    (λ x q k. search (rules, tests)))

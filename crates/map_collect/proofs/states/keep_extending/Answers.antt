@@ -4,4 +4,5 @@ use Rattle.map_collect.proofs.states.keep_extending.Goals as goal
 
 pub returns : goal.returns
 returns g c =
-    kept_by c.args.nfa.now _ _ (λ track answer after called. search rules) _ _ c.retain.ensures.filtered
+    kept_by c.args.nfa.now _ _ (λ track answer after called. search rules) _ _
+    c.retain.ensures.filtered

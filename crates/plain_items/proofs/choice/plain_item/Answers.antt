@@ -12,6 +12,9 @@ columns-preserved c = record {
 
 pub returns-clause-plain : goal.returns-clause-plain
 returns-clause-plain c =
-    let columns = c.columns-column-end.ensures.columns ∙ ap (λ layout. layout.columns) c.schema.ensures in
-    let all : length c.args.cells.now.layout.columns ≤ c.columns.column = omega (arith, ap length columns) in
-    plain_all c.args.cells.now c.args.cell _ c.columns.column c.columns.invariant.cell all c.columns.invariant.plain
+    let columns = c.columns-column-end.ensures.columns
+    ∙ ap (λ layout. layout.columns) c.schema.ensures in
+    let all : length c.args.cells.now.layout.columns ≤ c.columns.column =
+    omega (arith, ap length columns) in
+    plain_all c.args.cells.now c.args.cell _ c.columns.column c.columns.invariant.cell all
+    c.columns.invariant.plain

@@ -14,18 +14,21 @@ halves-preserved-then-branch c =
     let is = to_z-of_z w64 c.args.number c.ranges.number in
     let near : SFits w64 c.with_sign_of-nearer.result = search rules in
     rw is (halves_nearer c.args.cells.now c.args.item.now c.args.column c.args.form c.args.number
-    c.requires.item c.requires.own c.halves.outside c.halves.inside _ (rw is at c.halves.invariant) _ _ _
-    (omega arith) (omega arith) (rw is at c.with_sign_of-nearer.ensures)
-    (rw (to_z-of_z w64 c.with_sign_of-nearer.result near, c.if-branch.true) at c.in_ok-put_number.ensures))
+    c.requires.item c.requires.own c.halves.outside c.halves.inside _
+    (rw is at c.halves.invariant) _ _ _ (omega arith) (omega arith)
+    (rw is at c.with_sign_of-nearer.ensures)
+    (rw (to_z-of_z w64 c.with_sign_of-nearer.result near, c.if-branch.true) at
+    c.in_ok-put_number.ensures))
 
 pub halves-preserved : goal.halves-preserved
 halves-preserved c =
     let is = to_z-of_z w64 c.args.number c.ranges.number in
     let near : SFits w64 c.with_sign_of-nearer.result = search rules in
     rw is (halves_farther c.args.cells.now c.args.item.now c.args.column c.args.form c.args.number
-    c.requires.item c.requires.own c.halves.outside c.halves.inside _ (rw is at c.halves.invariant) _ _ _
-    (omega arith) (rw is at c.with_sign_of-nearer.ensures)
-    (rw (to_z-of_z w64 c.with_sign_of-nearer.result near, c.if-branch.false) at c.in_ok-put_number.ensures))
+    c.requires.item c.requires.own c.halves.outside c.halves.inside _
+    (rw is at c.halves.invariant) _ _ _ (omega arith) (rw is at c.with_sign_of-nearer.ensures)
+    (rw (to_z-of_z w64 c.with_sign_of-nearer.result near, c.if-branch.false) at
+    c.in_ok-put_number.ensures))
 
 pub returns : goal.returns
 returns c =

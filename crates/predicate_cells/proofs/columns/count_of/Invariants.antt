@@ -6,4 +6,5 @@ use Rattle.predicate_cells.proofs.columns.count_of.Given as goal
 -- the product so far times that of the other columns is the product of all
 abbrev pub invariant-loop-classes : goal.invariant-loop-classes
 invariant-loop-classes l =
-    (l.count ≤ max_cells) × (l.count * cells_in (drop l.classes-index l.columns) ≡ cells_in l.columns)
+    (l.count ≤ max_cells)
+    × (l.count * cells_in (drop l.classes-index l.columns) ≡ cells_in l.columns)

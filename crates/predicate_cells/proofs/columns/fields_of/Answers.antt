@@ -6,16 +6,24 @@ use Rattle.predicate_cells.proofs.columns.fields_of.Goals as goal
 
 pub field-requires : goal.field-requires
 field-requires c =
-    let width = width_more c.args.columns.now c.loop-classes.classes-index c.classes-item.result c.loop-classes-test.true c.classes-item.is c.loop-classes.width c.loop-classes.invariant.width in
+    let width = width_more c.args.columns.now c.loop-classes.classes-index c.classes-item.result
+    c.loop-classes-test.true c.classes-item.is c.loop-classes.width
+    c.loop-classes.invariant.width in
     rw (c.count.ensures, width)
-    (digit_below c.args.columns.now c.loop-classes.classes-index c.classes-item.result c.loop-classes-test.true c.classes-item.is c.loop-classes.width c.loop-classes.rest c.loop-classes.invariant.width c.loop-classes.invariant.below)
+    (digit_below c.args.columns.now c.loop-classes.classes-index c.classes-item.result
+    c.loop-classes-test.true c.classes-item.is c.loop-classes.width c.loop-classes.rest
+    c.loop-classes.invariant.width c.loop-classes.invariant.below)
 
 pub loop-classes-preserved : goal.loop-classes-preserved
 loop-classes-preserved c =
-    let width = width_more c.args.columns.now c.loop-classes.classes-index c.classes-item.result c.loop-classes-test.true c.classes-item.is c.loop-classes.width c.loop-classes.invariant.width in
+    let width = width_more c.args.columns.now c.loop-classes.classes-index c.classes-item.result
+    c.loop-classes-test.true c.classes-item.is c.loop-classes.width
+    c.loop-classes.invariant.width in
     let field = rw (c.count.ensures, width) at c.in_ok-field.ensures in
     rw (c.count.ensures, width, c.in_ok-push.ensures.items, field) record {
       width = refl;
       below = mod_below c.loop-classes.rest _ (cells_positive _);
-      whole = sample_more c.args.columns.now c.loop-classes.classes-index c.classes-item.result c.loop-classes-test.true c.classes-item.is c.loop-classes.fields.items c.loop-classes.rest _ c.loop-classes.invariant.whole;
+      whole = sample_more c.args.columns.now c.loop-classes.classes-index c.classes-item.result
+          c.loop-classes-test.true c.classes-item.is c.loop-classes.fields.items
+          c.loop-classes.rest _ c.loop-classes.invariant.whole;
     }

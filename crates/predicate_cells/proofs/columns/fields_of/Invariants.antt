@@ -8,5 +8,6 @@ abbrev pub invariant-loop-classes : goal.invariant-loop-classes
 invariant-loop-classes l = record {
   width : l.width ≡ cells_in (drop l.classes-index l.columns);
   below : l.rest < l.width;
-  whole : l.fields.items ++ sample_of (drop l.classes-index l.columns) l.rest ≡ sample_of l.columns l.cell;
+  whole : l.fields.items ++ sample_of (drop l.classes-index l.columns) l.rest
+      ≡ sample_of l.columns l.cell;
 }

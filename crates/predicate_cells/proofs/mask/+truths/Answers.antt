@@ -8,13 +8,18 @@ use Rattle.predicate_cells.proofs.mask.+truths.Goals as goal
 
 pub truths_of-returns-in-Any : goal.truths_of-returns-in-Any
 truths_of-returns-in-Any t c =
-    rw (c.in-Any.is, map_constant true (samples c.args.columns.now), length_samples c.args.columns.now)
+    rw (
+      c.in-Any.is,
+      map_constant true (samples c.args.columns.now),
+      length_samples c.args.columns.now,
+    )
     (rw c.product_of.ensures at c.constant.ensures)
 
 pub truths_of-returns-in-Eq : goal.truths_of-returns-in-Eq
 truths_of-returns-in-Eq t c =
     let test = is_test c.in-Eq.column c.args.pred.now c.in-Eq.is in
-    rw (sym (map-same _ _ (test_of_row c.in-Eq.column (plain_of c.args.pred.now) test) (samples c.args.columns.now))) c.column_truths.ensures
+    rw (sym (map-same _ _ (test_of_row c.in-Eq.column (plain_of c.args.pred.now) test)
+    (samples c.args.columns.now))) c.column_truths.ensures
 
 pub truths_of-returns-in_ok-truths-in-Not : goal.truths_of-returns-in_ok-truths-in-Not
 truths_of-returns-in_ok-truths-in-Not t c =

@@ -10,4 +10,6 @@ pub loop-class-preserved : goal.loop-class-preserved
 loop-class-preserved c =
     c.in_ok-push.ensures.items
     ∙ ap₂ (λ truths truth. truths ++ truth ∷ []) c.loop-class.invariant c.holds_in.ensures
-    ∙ sym (map-range_with_len_more (λ class. holds (plain_of c.args.pred.now) (row_of c.args.column (Some (field_in c.args.classes.now class)))) 0 c.loop-class.class c.loop-class.class (omega arith))
+    ∙ sym (map-range_with_len_more (λ class. holds (plain_of c.args.pred.now)
+    (row_of c.args.column (Some (field_in c.args.classes.now class)))) 0 c.loop-class.class
+    c.loop-class.class (omega arith))

@@ -9,4 +9,6 @@ use Rattle.predicate_cells.proofs.mask.class_truths.Given as goal
 -- the truths of the classes so far stand there
 abbrev pub invariant-loop-class : goal.invariant-loop-class
 invariant-loop-class l =
-    l.truths.items ≡ map (λ class. holds (plain_of l.pred) (row_of l.column (Some (field_in l.classes class)))) (range_with_len 0 l.class)
+    l.truths.items
+    ≡ map (λ class. holds (plain_of l.pred) (row_of l.column (Some (field_in l.classes class))))
+    (range_with_len 0 l.class)

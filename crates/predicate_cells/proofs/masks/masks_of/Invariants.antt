@@ -5,4 +5,5 @@ use Rattle.predicate_cells.proofs.masks.masks_of.Given as goal
 
 -- the masks of the predicates so far stand there
 abbrev pub invariant-loop-pred : goal.invariant-loop-pred
-invariant-loop-pred l = l.masks.items ≡ map (mask_in l.columns) (map plain_of (take l.pred-index l.preds))
+invariant-loop-pred l =
+    l.masks.items ≡ map (mask_in l.columns) (map plain_of (take l.pred-index l.preds))

@@ -8,4 +8,5 @@ returns c =
     let all = take_all c.loop-pred.pred-index c.args.preds.now c.loop-pred-test.false in
     let starts = rw all at c.loop-pred.invariant in
     dedup_is _ _ _ c.dedup.ensures.filtered
-    ∙ dedup_of_numbers _ _ (rw (← starts) c.sort_unstable.ensures.permutation) c.sort_unstable.ensures.sorted
+    ∙ dedup_of_numbers _ _ (rw (← starts) c.sort_unstable.ensures.permutation)
+    c.sort_unstable.ensures.sorted

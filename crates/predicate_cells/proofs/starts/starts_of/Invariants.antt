@@ -7,4 +7,5 @@ use Rattle.predicate_cells.proofs.starts.starts_of.Given as goal
 -- the starts that the tests so far begin
 abbrev pub invariant-loop-pred : goal.invariant-loop-pred
 invariant-loop-pred l =
-    l.starts.items ≡ filter begins_class (flat_map (beginnings l.column) (map plain_of (take l.pred-index l.preds)))
+    l.starts.items ≡ filter begins_class
+    (flat_map (beginnings l.column) (map plain_of (take l.pred-index l.preds)))

@@ -10,6 +10,8 @@ returns c =
     let all = take_all c.loop-pred.pred-index c.args.preds.now c.loop-pred-test.false in
     let named = rw all at c.loop-pred.invariant in
     let now = λ (t : Bor (List ℕ)). t.now in
-    let sorted = dedup_of_texts c.loop-pred.named.items c.sort_unstable.new.self.items c.sort_unstable.ensures.permutation c.sort_unstable.ensures.sorted in
-    let is = ap (map now) (c.deref.ensures.value ∙ dedup_is _ _ _ c.dedup.ensures.filtered) ∙ sorted ∙ ap (rising (slice_cmp nat_cmp)) named in
+    let sorted = dedup_of_texts c.loop-pred.named.items c.sort_unstable.new.self.items
+    c.sort_unstable.ensures.permutation c.sort_unstable.ensures.sorted in
+    let is = ap (map now) (c.deref.ensures.value ∙ dedup_is _ _ _ c.dedup.ensures.filtered) ∙ sorted
+    ∙ ap (rising (slice_cmp nat_cmp)) named in
     rw is at c.copies_of.ensures

@@ -8,4 +8,5 @@ use Rattle.predicate_cells.proofs.texts.texts_of.Given as goal
 -- the texts that the tests so far name
 abbrev pub invariant-loop-pred : goal.invariant-loop-pred
 invariant-loop-pred l =
-    map (λ t. t.now) l.named.items ≡ filter are_bytes (flat_map (named_texts l.column) (map plain_of (take l.pred-index l.preds)))
+    map (λ t. t.now) l.named.items
+    ≡ filter are_bytes (flat_map (named_texts l.column) (map plain_of (take l.pred-index l.preds)))

@@ -5,4 +5,5 @@ use Rattle.predicate_cells.proofs.truths.block_of.Given as goal
 -- the truths so far stand there
 abbrev pub invariant-loop-truth : goal.invariant-loop-truth
 invariant-loop-truth l =
-    (l.block.items ≡ flat_map (λ truth. replicate l.width truth) (take l.truth-index l.truths)) × (vec_len l.block ≡ l.truth-index * l.width)
+    (l.block.items ≡ flat_map (λ truth. replicate l.width truth) (take l.truth-index l.truths))
+    × (vec_len l.block ≡ l.truth-index * l.width)

@@ -6,5 +6,6 @@ pub returns : goal.returns
 returns c =
     let n = c.args.count in
     let truth = c.args.truth in
-    IfOk-weaker c.vec.result (λ v. ((y : Bool) → y ≡ truth → y ≡ truth) → v.items ≡ replicate n truth) (λ v. v.items ≡ replicate n truth)
-    (λ v h. h (λ y e. e)) c.vec.ensures.items_if_clones_equal
+    IfOk-weaker c.vec.result
+    (λ v. ((y : Bool) → y ≡ truth → y ≡ truth) → v.items ≡ replicate n truth)
+    (λ v. v.items ≡ replicate n truth) (λ v h. h (λ y e. e)) c.vec.ensures.items_if_clones_equal

@@ -18,14 +18,21 @@ pub returns-then-is_call : goal.returns-then-is_call
 returns-then-is_call c =
     let left = rw c.in-Some.ensures.steps at c.tops.invariant.2 in
     let after_it = rw c.as_slice.ensures.value at c.first_place.ensures c.args.text.now in
-    Rest-main _ _ _ _ _ _ _ _ left (λ terms say. sym c.if-is_call.true ∙ c.is_call.ensures terms say) c.unfit_call-unfit.ensures after_it (c.or.ensures ∙ option_or_is c.unfit_call-unfit.result c.first_place.result)
+    Rest-main _ _ _ _ _ _ _ _ left
+    (λ terms say. sym c.if-is_call.true ∙ c.is_call.ensures terms say) c.unfit_call-unfit.ensures
+    after_it (c.or.ensures ∙ option_or_is c.unfit_call-unfit.result c.first_place.result)
 
 pub returns-in-Some-unfit_call : goal.returns-in-Some-unfit_call
 returns-in-Some-unfit_call c =
     let left = rw c.in-Some.ensures.steps at c.tops.invariant.2 in
-    Rest-found _ _ _ _ _ _ left (λ terms say. sym c.if-is_call.false ∙ c.is_call.ensures terms say) c.in-Some-unfit_call.ensures
+    Rest-found _ _ _ _ _ _ left (λ terms say. sym c.if-is_call.false ∙ c.is_call.ensures terms say)
+    c.in-Some-unfit_call.ensures
 
 pub tops-preserved : goal.tops-preserved
 tops-preserved c =
-    let left = rw c.in-Some.ensures.steps at c.tops.invariant.2 in
-    (tt, tt, Rest-next _ _ _ _ _ left (λ terms say. sym c.if-is_call.false ∙ c.is_call.ensures terms say) c.in_default-unfit_call.ensures)
+    let left = rw c.in-Some.ensures.steps at c.tops.invariant.2 in (
+      tt,
+      tt,
+      Rest-next _ _ _ _ _ left (λ terms say. sym c.if-is_call.false ∙ c.is_call.ensures terms say)
+          c.in_default-unfit_call.ensures,
+    )

@@ -8,4 +8,5 @@ pub returns-then-eq : goal.returns-then-eq
 returns-then-eq c terms say =
     let arguments = c.in-Call.arguments in
     let is = call_before _ c.in-Call.head arguments _ arguments.items none c.in-Call.is refl in
-    call_read _ c.in-Call.head arguments.items _ _ _ _ _ true c.bytes_at.ensures (c.len.ensures ∙ arguments.ok.0) (sym c.if-eq.true ∙ c.eq.ensures) terms (rw is at say)
+    call_read _ c.in-Call.head arguments.items _ _ _ _ _ true c.bytes_at.ensures
+    (c.len.ensures ∙ arguments.ok.0) (sym c.if-eq.true ∙ c.eq.ensures) terms (rw is at say)

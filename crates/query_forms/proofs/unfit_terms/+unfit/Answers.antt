@@ -25,17 +25,25 @@ first_unfit-terms-preserved t c =
 
 pub unfit-first_unfit-requires : goal.unfit-first_unfit-requires
 unfit-first_unfit-requires t c =
-    let is = call_before _ c.in-Call.head c.in-Call.arguments c.in-Call.span c.deref.result.now none c.in-Call.is c.deref.ensures.value in
+    let is = call_before _ c.in-Call.head c.in-Call.arguments c.in-Call.span c.deref.result.now none
+    c.in-Call.is c.deref.ensures.value in
     let of_text = rw is at c.requires in
-    let falls : weight (tree_before c.args.tree.now none) ≡ weight (call c.in-Call.head (trees_of c.deref.result.now) c.in-Call.span none) = ap weight is in
+    let falls : weight (tree_before c.args.tree.now none)
+    ≡ weight (call c.in-Call.head (trees_of c.deref.result.now) c.in-Call.span none) =
+    ap weight is in
     search rules
 
 pub unfit-returns-in-Some : goal.unfit-returns-in-Some
 unfit-returns-in-Some t c terms say =
-    let is = call_before _ c.in-Call.head c.in-Call.arguments c.in-Call.span c.deref.result.now none c.in-Call.is c.deref.ensures.value in
-    call_fits _ _ c.in-Call.head c.deref.result.now c.in-Call.span _ _ _ _ c.bytes_at.ensures (c.len.ensures ∙ c.in-Call.arguments.ok.0 ∙ ap length (sym c.deref.ensures.value)) c.in-Some.ensures c.first_unfit.ensures terms (rw is at say)
+    let is = call_before _ c.in-Call.head c.in-Call.arguments c.in-Call.span c.deref.result.now none
+    c.in-Call.is c.deref.ensures.value in
+    call_fits _ _ c.in-Call.head c.deref.result.now c.in-Call.span _ _ _ _ c.bytes_at.ensures
+    (c.len.ensures ∙ c.in-Call.arguments.ok.0 ∙ ap length (sym c.deref.ensures.value))
+    c.in-Some.ensures c.first_unfit.ensures terms (rw is at say)
 
 pub unfit-returns-in-None : goal.unfit-returns-in-None
 unfit-returns-in-None t c terms say =
-    let is = call_before _ c.in-Call.head c.in-Call.arguments c.in-Call.span c.in-Call.arguments.items none c.in-Call.is refl in
-    call_unfit _ _ c.in-Call.head c.in-Call.arguments.items c.in-Call.span _ _ c.bytes_at.ensures (c.len.ensures ∙ c.in-Call.arguments.ok.0) c.in-None.ensures terms (rw is at say)
+    let is = call_before _ c.in-Call.head c.in-Call.arguments c.in-Call.span
+    c.in-Call.arguments.items none c.in-Call.is refl in
+    call_unfit _ _ c.in-Call.head c.in-Call.arguments.items c.in-Call.span _ _ c.bytes_at.ensures
+    (c.len.ensures ∙ c.in-Call.arguments.ok.0) c.in-None.ensures terms (rw is at say)

@@ -6,4 +6,5 @@ use Rattle.query_lets.proofs.names.wrong_column.Given as goal
 -- the names so far are known, and none of them is wrong
 abbrev pub invariant-columns : goal.invariant-columns
 invariant-columns l = (names : List (List ℕ)) × Holds l.known names
-    × (first_wrong (column_words [] l.columns) ≡ first_wrong (column_words names (drop l.column-index l.columns)))
+    × (first_wrong (column_words [] l.columns)
+    ≡ first_wrong (column_words names (drop l.column-index l.columns)))

@@ -7,9 +7,10 @@ use Rattle.query_lets.proofs.scope.places_in.Goals as goal
 
 pub lets-preserved : goal.lets-preserved
 lets-preserved c =
-    built_step c.lets.places c.insert.new.self c.args.lets.now c.lets.place c.index-lets-place.result
-    c.index-lets-place.is
-    c.lets-test.true c.as_slice.result c.as_slice.ensures c.lets.invariant c.in_ok-insert.ensures.updates
+    built_step c.lets.places c.insert.new.self c.args.lets.now c.lets.place
+    c.index-lets-place.result c.index-lets-place.is
+    c.lets-test.true c.as_slice.result c.as_slice.ensures c.lets.invariant
+    c.in_ok-insert.ensures.updates
 
 pub returns : goal.returns
 returns c = subst (λ l. ArePlaces c.lets.places (map plain_let l))

@@ -20,7 +20,8 @@ returns-in_ok-add_those_in-in-Seq t c =
     let one = rw c.deref-in-Seq.ensures at c.in_ok-add_those_in-in-Seq.ensures in
     let two = rw c.deref-in-Seq-2.ensures at c.add_those_in-in-Seq-2.ensures in
     rw parts (on_ok_weaker c.add_those_in-in-Seq-2.result
-    (gathered_both c.args.preds.now c.add_those_in-in-Seq.new.preds c.add_those_in-in-Seq-2.new.preds _ _ one) two)
+    (gathered_both c.args.preds.now c.add_those_in-in-Seq.new.preds
+    c.add_those_in-in-Seq-2.new.preds _ _ one) two)
 
 pub returns-in-Star : goal.returns-in-Star
 returns-in-Star t c = rw c.in-Star.is (rw c.deref.ensures at c.add_those_in.ensures)

@@ -12,7 +12,8 @@ returns-in-Atom t c = rw c.in-Atom.is c.add_once.ensures
 pub returns-in_ok-add_those_of-in-Or : goal.returns-in_ok-add_those_of-in-Or
 returns-in_ok-add_those_of-in-Or t c =
     let parts : predicates_of (plain_of c.args.query.now.shape)
-    ≡ predicates_of (plain_of c.in-Or.left.value.shape) ++ predicates_of (plain_of c.in-Or.right.value.shape) =
+    ≡ predicates_of (plain_of c.in-Or.left.value.shape) ++ predicates_of
+    (plain_of c.in-Or.right.value.shape) =
     elim c.in-Or.is [
       | inl is ↦ ap (λ (shape : Shape). predicates_of (plain_of shape)) is
       | inr others ↦ elim others [
@@ -23,11 +24,13 @@ returns-in_ok-add_those_of-in-Or t c =
     let one = rw c.deref-in-Or.ensures at c.in_ok-add_those_of-in-Or.ensures in
     let two = rw c.deref-in-Or-2.ensures at c.add_those_of-in-Or-2.ensures in
     rw parts (on_ok_weaker c.add_those_of-in-Or-2.result
-    (gathered_both c.args.preds.now c.add_those_of-in-Or.new.preds c.add_those_of-in-Or-2.new.preds _ _ one) two)
+    (gathered_both c.args.preds.now c.add_those_of-in-Or.new.preds
+    c.add_those_of-in-Or-2.new.preds _ _ one) two)
 
 pub returns-in-Iter : goal.returns-in-Iter
 returns-in-Iter t c =
-    let parts : predicates_of (plain_of c.args.query.now.shape) ≡ predicates_of (plain_of c.in-Iter.inner.value.shape) =
+    let parts : predicates_of (plain_of c.args.query.now.shape)
+    ≡ predicates_of (plain_of c.in-Iter.inner.value.shape) =
     elim c.in-Iter.is [
       | inl (number, expression, is) ↦ ap (λ (shape : Shape). predicates_of (plain_of shape)) is
       | inr others ↦ elim others [

@@ -16,7 +16,8 @@ pub returns-clause-members : goal.returns-clause-members
 returns-clause-members c =
     let same = (rw c.new-preds.ensures at c.in_ok-add_those_of.ensures).members in
     let preds = predicates_of (plain_of c.args.query.now.shape) in
-    IfOk-weaker c.new.result _ _ (λ cells is. subst (λ (p : Partition). HaveSameMembers p.preds preds) (sym is) same)
+    IfOk-weaker c.new.result _ _
+    (λ cells is. subst (λ (p : Partition). HaveSameMembers p.preds preds) (sym is) same)
     c.new.ensures.ok
 
 pub returns-clause-few : goal.returns-clause-few
@@ -32,5 +33,5 @@ returns-clause-too_many c = λ many.
 pub returns-clause-once : goal.returns-clause-once
 returns-clause-once c =
     let once = (rw c.new-preds.ensures at c.in_ok-add_those_of.ensures).once none_stands in
-    IfOk-weaker c.new.result _ _ (λ cells is. subst (λ (p : Partition). StandOnce p.preds) (sym is) once)
-    c.new.ensures.ok
+    IfOk-weaker c.new.result _ _
+    (λ cells is. subst (λ (p : Partition). StandOnce p.preds) (sym is) once) c.new.ensures.ok

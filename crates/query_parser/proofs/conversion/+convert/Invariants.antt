@@ -5,4 +5,5 @@ use Rattle.query_parser.specs.Plain.{terms_of}
 use Rattle.query_parser.proofs.conversion.+convert.Given as goal
 
 abbrev pub invariant-terms_of-trees : goal.invariant-terms_of-trees
-invariant-terms_of-trees l = Say l.text (trees_of (take l.tree-index l.trees)) (terms_of l.terms.items)
+invariant-terms_of-trees l =
+    Say l.text (trees_of (take l.tree-index l.trees)) (terms_of l.terms.items)

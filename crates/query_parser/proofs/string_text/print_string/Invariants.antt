@@ -4,4 +4,5 @@ use Rattle.query_parser.specs.Printing.{byte_text}
 use Rattle.query_parser.proofs.string_text.print_string.Given as goal
 
 abbrev pub invariant-bytes : goal.invariant-bytes
-invariant-bytes l = l.text.items ≡ l.initial.text.items ++ flat_map byte_text (take l.byte-index l.bytes)
+invariant-bytes l =
+    l.text.items ≡ l.initial.text.items ++ flat_map byte_text (take l.byte-index l.bytes)

@@ -4,4 +4,5 @@ use Rattle.query_parser.proofs.term_text.print_terms.Goals as goal
 
 pub returns : goal.returns
 returns c =
-    c.terms.invariant ∙ ap (λ lines. c.args.text.now.items ++ lines) (whole_file c.args.terms.now c.terms.term-index c.terms-test.false)
+    c.terms.invariant ∙ ap (λ lines. c.args.text.now.items ++ lines)
+    (whole_file c.args.terms.now c.terms.term-index c.terms-test.false)

@@ -8,5 +8,6 @@ use Rattle.query_syntax.proofs.expression_head.comparison_head.Goals as goal
 
 pub returns-clause-places : goal.returns-clause-places
 returns-clause-places c =
-    (head_found _ compare_word compare_places Compare comparisons c.args.word.now c.args.arguments.now c.in-Some.compare comparisons_are refl
+    (head_found _ compare_word compare_places Compare comparisons c.args.word.now
+    c.args.arguments.now c.in-Some.compare comparisons_are refl
     c.requires (sym c.in-Some.is ∙ c.comparison_named.ensures)).1

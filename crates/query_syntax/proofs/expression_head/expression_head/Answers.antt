@@ -7,15 +7,17 @@ use Rattle.query_syntax.proofs.expression_head.expression_head.Goals as goal
 
 pub unreachable-requires : goal.unreachable-requires
 unreachable-requires c =
-    head_missing _ expression_word expression_places Expr expressions c.args.word.now c.args.arguments.now refl c.requires
-    (sym c.in-None.is ∙ c.expression_named.ensures)
+    head_missing _ expression_word expression_places Expr expressions c.args.word.now
+    c.args.arguments.now refl c.requires (sym c.in-None.is ∙ c.expression_named.ensures)
 
 pub returns-clause-word : goal.returns-clause-word
 returns-clause-word c =
-    (head_found _ expression_word expression_places Expr expressions c.args.word.now c.args.arguments.now c.in-Some.head expressions_are refl
+    (head_found _ expression_word expression_places Expr expressions c.args.word.now
+    c.args.arguments.now c.in-Some.head expressions_are refl
     c.requires (sym c.in-Some.is ∙ c.expression_named.ensures)).0
 
 pub returns-clause-places : goal.returns-clause-places
 returns-clause-places c =
-    (head_found _ expression_word expression_places Expr expressions c.args.word.now c.args.arguments.now c.in-Some.head expressions_are refl
+    (head_found _ expression_word expression_places Expr expressions c.args.word.now
+    c.args.arguments.now c.in-Some.head expressions_are refl
     c.requires (sym c.in-Some.is ∙ c.expression_named.ensures)).1

@@ -12,11 +12,13 @@ with_two word = simp (and-false) refl
 
 pub returns-in-Some : goal.returns-in-Some
 returns-in-Some c =
-    ap (λ found. option_or found (head_in extrema c.args.word.now 2)) (sym c.in-Some.is ∙ c.binary_named.ensures)
+    ap (λ found. option_or found (head_in extrema c.args.word.now 2))
+    (sym c.in-Some.is ∙ c.binary_named.ensures)
     ∙ sym (head_in_two binaries extrema c.args.word.now 2) ∙ with_two c.args.word.now
 
 pub returns-in-None : goal.returns-in-None
 returns-in-None c =
     c.extremum_named.ensures
-    ∙ ap (λ found. option_or found (head_in extrema c.args.word.now 2)) (sym c.in-None.is ∙ c.binary_named.ensures)
+    ∙ ap (λ found. option_or found (head_in extrema c.args.word.now 2))
+    (sym c.in-None.is ∙ c.binary_named.ensures)
     ∙ sym (head_in_two binaries extrema c.args.word.now 2) ∙ with_two c.args.word.now

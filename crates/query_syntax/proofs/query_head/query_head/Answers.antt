@@ -7,15 +7,15 @@ use Rattle.query_syntax.proofs.query_head.query_head.Goals as goal
 
 pub unreachable-requires : goal.unreachable-requires
 unreachable-requires c =
-    head_missing _ query_word query_places Query queries c.args.word.now c.args.arguments.now refl c.requires
-    (sym c.in-None.is ∙ c.query_named.ensures)
+    head_missing _ query_word query_places Query queries c.args.word.now
+    c.args.arguments.now refl c.requires (sym c.in-None.is ∙ c.query_named.ensures)
 
 pub returns-clause-word : goal.returns-clause-word
 returns-clause-word c =
-    (head_found _ query_word query_places Query queries c.args.word.now c.args.arguments.now c.in-Some.head queries_are refl
-    c.requires (sym c.in-Some.is ∙ c.query_named.ensures)).0
+    (head_found _ query_word query_places Query queries c.args.word.now c.args.arguments.now
+    c.in-Some.head queries_are refl c.requires (sym c.in-Some.is ∙ c.query_named.ensures)).0
 
 pub returns-clause-places : goal.returns-clause-places
 returns-clause-places c =
-    (head_found _ query_word query_places Query queries c.args.word.now c.args.arguments.now c.in-Some.head queries_are refl
-    c.requires (sym c.in-Some.is ∙ c.query_named.ensures)).1
+    (head_found _ query_word query_places Query queries c.args.word.now c.args.arguments.now
+    c.in-Some.head queries_are refl c.requires (sym c.in-Some.is ∙ c.query_named.ensures)).1

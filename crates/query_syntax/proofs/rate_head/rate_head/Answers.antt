@@ -7,10 +7,10 @@ use Rattle.query_syntax.proofs.rate_head.rate_head.Goals as goal
 
 pub returns-clause-word : goal.returns-clause-word
 returns-clause-word c =
-    (head_found _ rate_word rate_places Rate rates c.args.word.now c.args.arguments.now c.in-Some.head rates_are refl
-    c.requires (sym c.in-Some.is ∙ c.rate_named.ensures)).0
+    (head_found _ rate_word rate_places Rate rates c.args.word.now c.args.arguments.now
+    c.in-Some.head rates_are refl c.requires (sym c.in-Some.is ∙ c.rate_named.ensures)).0
 
 pub returns-clause-places : goal.returns-clause-places
 returns-clause-places c =
-    (head_found _ rate_word rate_places Rate rates c.args.word.now c.args.arguments.now c.in-Some.head rates_are refl
-    c.requires (sym c.in-Some.is ∙ c.rate_named.ensures)).1
+    (head_found _ rate_word rate_places Rate rates c.args.word.now c.args.arguments.now
+    c.in-Some.head rates_are refl c.requires (sym c.in-Some.is ∙ c.rate_named.ensures)).1

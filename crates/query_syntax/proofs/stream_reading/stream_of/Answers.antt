@@ -6,11 +6,13 @@ use Rattle.query_syntax.proofs.stream_reading.stream_of.Goals as goal
 
 pub mode_and_columns-requires-clause-some : goal.mode_and_columns-requires-clause-some
 mode_and_columns-requires-clause-some c =
-    rw c.as_slice.ensures (stream_call _ c.in-Call.field-0 c.in-Call.arguments c.in-Call.span c.requires c.in-Call.is).some
+    rw c.as_slice.ensures (stream_call _ c.in-Call.field-0 c.in-Call.arguments c.in-Call.span
+    c.requires c.in-Call.is).some
 
 pub mode_and_columns-requires-clause-fit : goal.mode_and_columns-requires-clause-fit
 mode_and_columns-requires-clause-fit c =
-    rw c.as_slice.ensures (stream_call _ c.in-Call.field-0 c.in-Call.arguments c.in-Call.span c.requires c.in-Call.is).fit
+    rw c.as_slice.ensures
+    (stream_call _ c.in-Call.field-0 c.in-Call.arguments c.in-Call.span c.requires c.in-Call.is).fit
 
 pub returns : goal.returns
 returns c =

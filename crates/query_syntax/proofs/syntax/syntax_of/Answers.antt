@@ -4,4 +4,5 @@ use Rattle.query_syntax.proofs.TopTerms.{tops}
 use Rattle.query_syntax.proofs.syntax.syntax_of.Goals as goal
 
 pub program_of-requires : goal.program_of-requires
-program_of-requires c = subst AreTops (sym c.terms.ensures.terms) (tops 0 _ c.terms.ensures.file.fit)
+program_of-requires c =
+    subst AreTops (sym c.terms.ensures.terms) (tops 0 _ c.terms.ensures.file.fit)

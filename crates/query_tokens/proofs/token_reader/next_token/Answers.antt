@@ -8,7 +8,11 @@ returns-in_default c =
     let bytes = drop c.args.place c.args.text.now in
     let blank = rw take_rest at c.blank_len.ensures in
     let less : c.blank_len.result < length bytes =
-    omega (arith, blank_within bytes c.blank_len.result blank, length-drop c.args.place c.args.text.now) in
+    omega (
+      arith,
+      blank_within bytes c.blank_len.result blank,
+      length-drop c.args.place c.args.text.now,
+    ) in
     let none = rw c.in_default.is at (rw take_rest at c.token_at.ensures) in
     fails_at c.args.place bytes c.blank_len.result blank less (rw drop-drop none)
 
@@ -17,6 +21,11 @@ returns c =
     let bytes = drop c.args.place c.args.text.now in
     let blank = rw take_rest at c.blank_len.ensures in
     let less : c.blank_len.result < length bytes =
-    omega (arith, blank_within bytes c.blank_len.result blank, length-drop c.args.place c.args.text.now) in
+    omega (
+      arith,
+      blank_within bytes c.blank_len.result blank,
+      length-drop c.args.place c.args.text.now,
+    ) in
     let first = rw c.in-Some.is at (rw take_rest at c.token_at.ensures) in
-    stands_at c.args.place bytes c.blank_len.result c.in-Some.kind c.in-Some.len blank less (rw drop-drop first)
+    stands_at c.args.place bytes c.blank_len.result c.in-Some.kind c.in-Some.len blank less
+    (rw drop-drop first)

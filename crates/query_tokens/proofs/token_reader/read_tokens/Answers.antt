@@ -17,9 +17,17 @@ returns-in-Fault-clause-stopped c =
 pub tokens-preserved : goal.tokens-preserved
 tokens-preserved c =
     let at = rw c.in-Token.is at c.next_token.ensures in
-    let pushed : c.push.new.self.items ≡ c.tokens.tokens.items ++ c.in-Token.token ∷ [] = grind (arith, common_steps) in
+    let pushed : c.push.new.self.items ≡ c.tokens.tokens.items ++ c.in-Token.token ∷ [] =
+    grind (arith, common_steps) in
     record {
-      within = omega (arith, at.within, c.tokens.invariant.within, length-drop c.tokens.place c.args.text.now);
-      tokens = rw pushed (tokens_more c.args.text.now c.tokens.place c.tokens.tokens.items c.in-Token.token at c.tokens.invariant.tokens);
-      fault = rw pushed (fault_more c.args.text.now c.tokens.place c.tokens.tokens.items c.in-Token.token at c.tokens.invariant.fault);
+      within = omega (
+        arith,
+        at.within,
+        c.tokens.invariant.within,
+        length-drop c.tokens.place c.args.text.now,
+      );
+      tokens = rw pushed (tokens_more c.args.text.now c.tokens.place c.tokens.tokens.items
+          c.in-Token.token at c.tokens.invariant.tokens);
+      fault = rw pushed (fault_more c.args.text.now c.tokens.place c.tokens.tokens.items
+          c.in-Token.token at c.tokens.invariant.fault);
     }

@@ -7,8 +7,10 @@ use Rattle.query_tokens.proofs.value.text_bytes.Goals as goal
 pub parts-preserved : goal.parts-preserved
 parts-preserved c =
     let found = sym (rw take_rest at c.part_at.ensures) ∙ c.in-Some.is in
-    let pushed : c.push.new.self.items ≡ c.parts.bytes.items ++ c.in-Some.byte ∷ [] = grind (arith, common_steps) in
-    rw pushed (Remains-more c.args.raw.now c.parts.at c.parts.bytes.items (c.in-Some.byte, c.in-Some.len) found c.parts.invariant)
+    let pushed : c.push.new.self.items ≡ c.parts.bytes.items ++ c.in-Some.byte ∷ [] =
+    grind (arith, common_steps) in
+    rw pushed (Remains-more c.args.raw.now c.parts.at c.parts.bytes.items
+    (c.in-Some.byte, c.in-Some.len) found c.parts.invariant)
 
 pub returns : goal.returns
 returns c =

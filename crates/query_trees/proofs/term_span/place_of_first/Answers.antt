@@ -8,5 +8,5 @@ returns-in_err-close-in-Open c = λ trees others is.
 
 pub returns-in_ok-close-in-Open : goal.returns-in_ok-close-in-Open
 returns-in_ok-close-in-Open c = λ trees others is.
-    place-found trees c.args.tokens.now others c.in_ok-close-in-Open.close is c.in-len2-up.len_at_least
-    c.in-Open.is c.in_ok-close-in-Open.ensures
+    place-found trees c.args.tokens.now others c.in_ok-close-in-Open.close is
+    c.in-len2-up.len_at_least c.in-Open.is c.in_ok-close-in-Open.ensures

@@ -15,6 +15,7 @@ returns-then-accepts c = (
 )
 
 pub pairs-preserved : goal.pairs-preserved
-pairs-preserved c = one_further (Agree c.args.first.now.sets c.args.second.now.sets) c.args.pairs.now
+pairs-preserved c =
+    one_further (Agree c.args.first.now.sets c.args.second.now.sets) c.args.pairs.now
     c.pairs.pair-index _ c.pairs.invariant c.pairs-test.true
     (both_or_neither _ _ c.accepts.ensures c.accepts-in-pairs.ensures c.if-accepts.false)

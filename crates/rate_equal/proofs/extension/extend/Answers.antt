@@ -12,9 +12,10 @@ returns-in_err-add-clause-too_many c =
     (rw c.target.ensures at (c.in_err-add.ensures.too_many is c.looks.invariant.added.few)))
 
 pub looks-preserved : goal.looks-preserved
-looks-preserved c = look_next _ _ _ _ _ _ _ c.in-Some.letter _ _ _ _ c.looks.invariant c.in-Some.ensures
-    (rw c.target.ensures at c.in_ok-add.ensures.added) (rw c.target.ensures at c.in_ok-add.ensures.there)
-    c.in_ok-pass.ensures
+looks-preserved c =
+    look_next _ _ _ _ _ _ _ c.in-Some.letter _ _ _ _ c.looks.invariant c.in-Some.ensures
+    (rw c.target.ensures at c.in_ok-add.ensures.added)
+    (rw c.target.ensures at c.in_ok-add.ensures.there) c.in_ok-pass.ensures
 
 pub returns-in_err-extend_each-clause-too_many : goal.returns-in_err-extend_each-clause-too_many
 returns-in_err-extend_each-clause-too_many c =

@@ -5,7 +5,8 @@ use Rattle.rate_equal.proofs.Added.{too_many_more}
 use Rattle.rate_equal.proofs.Coming.{is_target, letter_next, letter_none}
 use Rattle.rate_equal.proofs.Lettering.{letter_at, no_letter}
 use Rattle.rate_equal.proofs.extension.extend_block.Goals as goal
-use Rattle.rate_equal.proofs.extension.extend_block.Goals.{then-place-letters+in_ok-add, else-place-letters}
+use Rattle.rate_equal.proofs.extension.extend_block.Goals.{then-place-letters+in_ok-add}
+use Rattle.rate_equal.proofs.extension.extend_block.Goals.{else-place-letters}
 
 pub returns-in_err-add-clause-too_many : goal.returns-in_err-add-clause-too_many
 returns-in_err-add-clause-too_many c =
@@ -22,10 +23,12 @@ places-preserved c =
     elim c.if-place-letters.branch [
       | then-place-letters+in_ok-add w ↦
           let letter = get_or c.args.letters.now place no_letter in
-          rw (w.pairs-is, w.targets-is) (letter_next _ _ _ _ _ _ _ _ _ letter _ _ _ _ c.places.invariant
+          rw (w.pairs-is, w.targets-is)
+          (letter_next _ _ _ _ _ _ _ _ _ letter _ _ _ _ c.places.invariant
           c.lowest.ensures c.without_lowest-rest.ensures.exact
           (letter_at c.args.letters.now place (omega (arith, w.if-place-letters.true)))
-          (rw w.target.ensures at w.in_ok-add.ensures.added) (rw w.target.ensures at w.in_ok-add.ensures.there))
+          (rw w.target.ensures at w.in_ok-add.ensures.added)
+          (rw w.target.ensures at w.in_ok-add.ensures.there))
       | else-place-letters w ↦
           let none : slice_get c.args.letters.now place ≡ None =
           slice_get_past c.args.letters.now place (omega (arith, w.if-place-letters.false)) in

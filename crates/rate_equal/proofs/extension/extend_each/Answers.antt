@@ -19,4 +19,5 @@ parts-preserved c = letters_next _ _ _ _ _ _ _ _ _ _ _ c.parts.invariant c.block
 pub returns-clause-whole : goal.returns-clause-whole
 returns-clause-whole c = λ place letter at found.
     let within = slice_get_within c.args.letters.now place letter found in
-    way_ended _ _ _ _ _ _ _ _ c.parts.invariant place _ (letter, at, found, refl) (λ waits. omega arith)
+    way_ended _ _ _ _ _ _ _ _ c.parts.invariant place _ (letter, at, found, refl)
+    (λ waits. omega arith)

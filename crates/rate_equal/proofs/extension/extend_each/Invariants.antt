@@ -5,4 +5,5 @@ use Rattle.rate_equal.proofs.extension.extend_each.Given as goal
 
 abbrev pub invariant-parts : goal.invariant-parts
 invariant-parts l = IsAlong l.letters l.ways l.initial.pairs.keys l.initial.targets
-    (Comes l.letters l.ways (HasPlace l.left)) (λ place. l.block ≤ place / 128) l.pairs.keys l.targets
+    (Comes l.letters l.ways (HasPlace l.left)) (λ place. l.block ≤ place / 128)
+    l.pairs.keys l.targets

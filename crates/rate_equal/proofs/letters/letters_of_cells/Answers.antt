@@ -15,4 +15,5 @@ pub returns-clause-letters : goal.returns-clause-letters
 returns-clause-letters c =
     let count = c.count-cell-end.ensures.count ∙ ap cell_count c.cells-2.ensures in
     let all : c.cells.cell ≡ cell_count c.args.first.now.cells = omega (arith, count) in
-    gathered_all c.args.first.now c.args.second.now c.requires _ _ (rw all at c.cells.invariant.gathered)
+    gathered_all c.args.first.now c.args.second.now c.requires _ _
+    (rw all at c.cells.invariant.gathered)

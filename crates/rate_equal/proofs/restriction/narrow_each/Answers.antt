@@ -9,8 +9,8 @@ use Rattle.rate_equal.proofs.restriction.narrow_each.Goals as goal
 
 pub narrow_block-requires-clause-pairs : goal.narrow_block-requires-clause-pairs
 narrow_block-requires-clause-pairs c =
-    bit_within _ _ _ _ _ _ c.requires.known.within _ _ _ c.block-known.type_inv c.block-losing.type_inv
-    c.block-known.ensures _ _ c.parts.invariant
+    bit_within _ _ _ _ _ _ c.requires.known.within _ _ _ c.block-known.type_inv
+    c.block-losing.type_inv c.block-known.ensures _ _ c.parts.invariant
 
 pub returns-in_err-narrow_block-clause-too_many : goal.returns-in_err-narrow_block-clause-too_many
 returns-in_err-narrow_block-clause-too_many c =
@@ -20,8 +20,8 @@ returns-in_err-narrow_block-clause-too_many c =
 
 pub parts-preserved : goal.parts-preserved
 parts-preserved c =
-    narrow_next _ _ _ _ _ _ c.requires.known.within _ _ _ c.block-known.type_inv c.block-losing.type_inv
-    c.block-known.ensures _ _ c.parts.invariant
+    narrow_next _ _ _ _ _ _ c.requires.known.within _ _ _ c.block-known.type_inv
+    c.block-losing.type_inv c.block-known.ensures _ _ c.parts.invariant
     (kept_same _ _ _ _ c.args.near.now.ways c.args.ways c.args.lost _ _ _
     c.block-known.type_inv c.block-known.ensures c.requires.lost.0 c.requires.lost.1 c.requires.held
     c.requires.known.within c.block-losing.ensures.first c.block-losing.ensures.second)
@@ -30,5 +30,5 @@ parts-preserved c =
 pub returns-clause-whole : goal.returns-clause-whole
 returns-clause-whole c = λ pair there led.
     let within = slice_get_within c.args.pairs.now.keys there.place pair there.found in
-    way_ended _ _ _ _ _ _ _ _ c.parts.invariant there.place _ (pair, there.has, there.found, refl, led)
-    (λ waits. omega arith)
+    way_ended _ _ _ _ _ _ _ _ c.parts.invariant there.place _
+    (pair, there.has, there.found, refl, led) (λ waits. omega arith)

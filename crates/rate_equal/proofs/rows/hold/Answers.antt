@@ -20,6 +20,7 @@ pub positions-preserved : goal.positions-preserved
 positions-preserved c =
     let below = has-below c.args.mask 128 c.lowest.result c.ranges.mask.fits
     (c.positions.invariant.left c.lowest.result c.lowest.ensures.has) in
-    let within : c.lowest.result * block_count + c.args.place / 128 < length c.positions.rows = omega arith in
-    rw c.only.ensures (holding_next _ _ _ _ _ _ within refl _ _ c.requires.place c.positions.invariant c.lowest.ensures
-    c.without_lowest-rest.ensures.exact)
+    let within : c.lowest.result * block_count + c.args.place / 128 < length c.positions.rows =
+    omega arith in
+    rw c.only.ensures (holding_next _ _ _ _ _ _ within refl _ _ c.requires.place
+    c.positions.invariant c.lowest.ensures c.without_lowest-rest.ensures.exact)

@@ -12,7 +12,8 @@ parts-preserved c =
     filling_next _ _ _ _ _ _ c.parts.invariant c.insert_all.ensures (λ place here none.
     elim (in-or-not word (place % 128) fits (omega arith)) [
       | inl one ↦ absurd (none (record {
-        bit = subst (λ (b : ℕ). Has (get_or c.args.rows.now (c.args.position * block_count + b) 0) (place % 128))
+        bit = subst (λ (b : ℕ). Has (get_or c.args.rows.now (c.args.position * block_count + b) 0)
+            (place % 128))
             (sym here) one;
       }))
       | inr lacks ↦ lacks

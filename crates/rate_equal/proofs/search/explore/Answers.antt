@@ -27,7 +27,8 @@ returns-clause-all c =
 
 pub returns-in_err-go_along-clause-too_many : goal.returns-in_err-go_along-clause-too_many
 returns-in_err-go_along-clause-too_many c =
-    let err = err_from_is_err_and c.from_residual-in_err-go_along.result c.from_residual-in_err-go_along.ensures.1 in
+    let err = err_from_is_err_and c.from_residual-in_err-go_along.result
+    c.from_residual-in_err-go_along.ensures.1 in
     let from = reached_at _ _ _ _ c.in-Some.from c.pairs.invariant.searched
     (sym c.get_index.ensures.key ∙ sym c.copied.ensures ∙ c.in-Some.is) in
     rw (err.1, err.2) (λ is. too_many_reached _ _ _ c.pairs.invariant.letters _ _
@@ -47,8 +48,9 @@ pairs-preserved c =
     let found : slice_get c.pairs.pairs.keys c.pairs.next ≡ Some c.in-Some.from =
     sym c.get_index.ensures.key ∙ sym c.copied.ensures ∙ c.in-Some.is in
     let along = searched_along c.args.first.now c.args.second.now _ c.pairs.invariant.letters
-    c.pairs.pairs.keys _ _ _ c.in-Some.from _ c.pairs.invariant.gone c.pairs.invariant.searched found
-    (c.ways_on.ensures, c.ways_on-in-Some.ensures) c.in_ok-go_along.ensures.gone _ c.in_ok-go_along.ensures.along in
+    c.pairs.pairs.keys _ _ _ c.in-Some.from _ c.pairs.invariant.gone
+    c.pairs.invariant.searched found (c.ways_on.ensures, c.ways_on-in-Some.ensures)
+    c.in_ok-go_along.ensures.gone _ c.in_ok-go_along.ensures.along in
     record {
       searched = along.0;
       gone = along.1;

@@ -10,19 +10,21 @@ pub returns-in_err-add-clause-too_many : goal.returns-in_err-add-clause-too_many
 returns-in_err-add-clause-too_many t c =
     let err = err_from_is_err_and c.from_residual.result c.from_residual.ensures.1 in
     rw (err.1, err.2) (λ is. too_many_more _ (AreStatesWithin c.args.ways) _ _ _ _ _
-    (added_none (IsTarget c.args.alphabet.now.letters.items c.args.ways) (AreStatesWithin c.args.ways)
-    c.args.pairs.now.keys c.args.targets.now c.requires.few)
+    (added_none (IsTarget c.args.alphabet.now.letters.items c.args.ways)
+    (AreStatesWithin c.args.ways) c.args.pairs.now.keys c.args.targets.now c.requires.few)
     (λ pair same. (c.args.letter, c.requires.known.0, same))
     (rw c.target.ensures at (c.in_err-add.ensures.too_many is c.requires.few)))
 
 pub returns-in_default-clause-added : goal.returns-in_default-clause-added
-returns-in_default-clause-added t c = target_added c.args.alphabet.now.letters.items c.args.ways c.args.letter _ _ _ _
+returns-in_default-clause-added t c =
+    target_added c.args.alphabet.now.letters.items c.args.ways c.args.letter _ _ _ _
     c.requires.few c.requires.known.0 (rw c.target.ensures at c.in_ok-add.ensures.added)
 
 pub sift-requires : goal.sift-requires
 sift-requires t c =
     let is_rest = c.in-Some.ensures.some in
-    let falls : c.in-Some.rest.0 + c.in-Some.rest.1 < t = omega (arith, is_rest.smaller, c.decreases) in (
+    let falls : c.in-Some.rest.0 + c.in-Some.rest.1 < t =
+    omega (arith, is_rest.smaller, c.decreases) in (
       falls,
       (
         c.requires.few,
@@ -31,8 +33,9 @@ sift-requires t c =
             c.requires.known.0,
             (c.parted.ensures.like c.args.letter).1 (c.requires.known.1, (λ has. has, λ has. has)),
           ),
-          same_decides c.args.alphabet.now.letters.items c.args.ways c.args.pattern c.args.asked c.requires.decide
-              c.in-Some.position c.in-Some.rest is_rest c.args.letter c.parted.result.0 c.parted.ensures.like,
+          same_decides c.args.alphabet.now.letters.items c.args.ways c.args.pattern c.args.asked
+              c.requires.decide c.in-Some.position c.in-Some.rest is_rest c.args.letter
+              c.parted.result.0 c.parted.ensures.like,
         ),
       ),
     )
@@ -40,21 +43,24 @@ sift-requires t c =
 pub sift-requires-in-Some-first_like : goal.sift-requires-in-Some-first_like
 sift-requires-in-Some-first_like t c =
     let is_rest = c.in-Some.ensures.some in
-    let falls : c.in-Some.rest.0 + c.in-Some.rest.1 < t = omega (arith, is_rest.smaller, c.decreases) in (
+    let falls : c.in-Some.rest.0 + c.in-Some.rest.1 < t =
+    omega (arith, is_rest.smaller, c.decreases) in (
       falls,
       (
         c.in_ok-sift.ensures.added.few,
         (
           c.in-Some-first_like.ensures.some,
-          apart_decides c.args.alphabet.now.letters.items c.args.ways c.args.pattern c.args.asked c.requires.decide
-              c.in-Some.position c.in-Some.rest is_rest c.args.letter c.parted.result.1 c.parted.ensures.unlike,
+          apart_decides c.args.alphabet.now.letters.items c.args.ways c.args.pattern c.args.asked
+              c.requires.decide c.in-Some.position c.in-Some.rest is_rest c.args.letter
+              c.parted.result.1 c.parted.ensures.unlike,
         ),
       ),
     )
 
 pub returns-in_err-sift-2-clause-too_many : goal.returns-in_err-sift-2-clause-too_many
 returns-in_err-sift-2-clause-too_many t c =
-    let err = err_from_is_err_and c.from_residual-in_err-sift-2.result c.from_residual-in_err-sift-2.ensures.1 in
+    let err = err_from_is_err_and c.from_residual-in_err-sift-2.result
+    c.from_residual-in_err-sift-2.ensures.1 in
     rw (err.1, err.2) (λ is. too_many_more _ _ _ _ _ _ _ c.in_ok-sift.ensures.added (λ pair of. of)
     (c.in_err-sift-2.ensures.too_many is))
 
@@ -67,16 +73,18 @@ returns-in_ok-sift-2-clause-added t c =
 pub returns-in_ok-sift-2-clause-whole : goal.returns-in_ok-sift-2-clause-whole
 returns-in_ok-sift-2-clause-whole t c = λ other of like.
     elim (same_or_not c.in-Some.position c.args.letter other) [
-      | inl same ↦ pair_kept (IsTarget c.args.alphabet.now.letters.items c.args.ways) (AreStatesWithin c.args.ways)
-          _ _ _ _ _ c.in_ok-sift-2.ensures.added
+      | inl same ↦ pair_kept (IsTarget c.args.alphabet.now.letters.items c.args.ways)
+          (AreStatesWithin c.args.ways) _ _ _ _ _ c.in_ok-sift-2.ensures.added
           (c.in_ok-sift.ensures.whole other of ((c.parted.ensures.like other).1 (like, same)))
-      | inr apart ↦ c.in_ok-sift-2.ensures.whole other of ((c.parted.ensures.unlike other).1 (like, apart))
+      | inr apart ↦ c.in_ok-sift-2.ensures.whole other of
+          ((c.parted.ensures.unlike other).1 (like, apart))
     ]
 
 pub returns-in_default-first_like-clause-whole : goal.returns-in_default-first_like-clause-whole
 returns-in_default-first_like-clause-whole t c = λ other of like.
     elim (same_or_not c.in-Some.position c.args.letter other) [
-      | inl same ↦ c.in_ok-sift.ensures.whole other of ((c.parted.ensures.like other).1 (like, same))
+      | inl same ↦ c.in_ok-sift.ensures.whole other of
+          ((c.parted.ensures.like other).1 (like, same))
       | inr apart ↦ absurd (c.first_like.ensures.none c.in_default-first_like.is other of
           ((c.parted.ensures.unlike other).1 (like, apart)))
     ]

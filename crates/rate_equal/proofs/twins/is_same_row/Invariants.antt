@@ -4,4 +4,5 @@ use Rattle.rate_equal.proofs.twins.is_same_row.Given as goal
 
 abbrev pub invariant-parts : goal.invariant-parts
 invariant-parts l = (block : ℕ) → block < l.block
-    → get_or l.first (l.one * block_count + block) 0 ≡ get_or l.second (l.other * block_count + block) 0
+    → get_or l.first (l.one * block_count + block) 0
+    ≡ get_or l.second (l.other * block_count + block) 0

@@ -18,7 +18,8 @@ only-found-requires c = has-below c.args.second 128 c.lowest-position.result c.r
 
 pub positions-preserved : goal.positions-preserved
 positions-preserved c = elim c.if-not-overlap.branch [
-  | then-not-overlap w ↦ rw w.found-is (sorting_next _ _ _ _ _ c.positions.found _ c.lowest-position.result
+  | then-not-overlap w ↦ rw w.found-is
+      (sorting_next _ _ _ _ _ c.positions.found _ c.lowest-position.result
       c.positions.invariant c.lowest-position.ensures c.without_lowest-rest.ensures.exact
       (λ position has. has_first c.positions.found w.only-found.result position has)
       (inl (has_second c.positions.found w.only-found.result c.lowest-position.result
@@ -28,6 +29,6 @@ positions-preserved c = elim c.if-not-overlap.branch [
       let meets : IsTrue c.overlap.result = cc in
       let (twin, has, on) = (overlap_decides _ _ c.overlap.result c.overlap.ensures).0 meets in
       rw w.found-is (sorting_next _ _ _ _ _ c.positions.found _ c.lowest-position.result
-      c.positions.invariant c.lowest-position.ensures c.without_lowest-rest.ensures.exact (λ position has. has)
-      (inr (twin, on, has)))
+      c.positions.invariant c.lowest-position.ensures c.without_lowest-rest.ensures.exact
+      (λ position has. has) (inr (twin, on, has)))
 ]

@@ -7,4 +7,5 @@ use Rattle.report_writer.proofs.example.push_fields.Given as goal
 -- the first field and those after it so far, each with its comma
 abbrev pub invariant-others : goal.invariant-others
 invariant-others l =
-    l.text.items ≡ l.initial.text.items ++ flat_map (marked field_text (codes ",")) (take l.field-index l.others)
+    l.text.items
+    ≡ l.initial.text.items ++ flat_map (marked field_text (codes ",")) (take l.field-index l.others)

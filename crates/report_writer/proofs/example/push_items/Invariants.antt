@@ -5,4 +5,5 @@ use Rattle.report_writer.proofs.example.push_items.Given as goal
 
 -- the lines of the items so far
 abbrev pub invariant-items : goal.invariant-items
-invariant-items l = l.text.items ≡ l.initial.text.items ++ flat_map item_line (take l.item-index l.items)
+invariant-items l =
+    l.text.items ≡ l.initial.text.items ++ flat_map item_line (take l.item-index l.items)

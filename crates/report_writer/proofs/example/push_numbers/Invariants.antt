@@ -7,4 +7,5 @@ use Rattle.report_writer.proofs.example.push_numbers.Given as goal
 -- the first number and those after it so far, each with its space
 abbrev pub invariant-others : goal.invariant-others
 invariant-others l =
-    l.text.items ≡ l.initial.text.items ++ flat_map (marked decimal (codes " ")) (take l.number-index l.others)
+    l.text.items
+    ≡ l.initial.text.items ++ flat_map (marked decimal (codes " ")) (take l.number-index l.others)

@@ -8,5 +8,6 @@ returns-clause-put c = is_put _ _ _ _ c.in_ok-insert.ensures.unique (λ x y is. 
     c.in_ok-insert.ensures.keys
 
 pub returns-clause-old : goal.returns-clause-old
-returns-clause-old c = λ old. was_there _ _ _ _ c.in_ok-insert.ensures.unique (λ x y is. search rules)
+returns-clause-old c =
+    λ old. was_there _ _ _ _ c.in_ok-insert.ensures.unique (λ x y is. search rules)
     (not-false _ (sym c.in_ok-insert.ensures.added ∙ old))

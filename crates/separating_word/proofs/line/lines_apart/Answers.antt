@@ -9,6 +9,8 @@ use Rattle.separating_word.proofs.line.lines_apart.Goals as goal
 pub returns-in-Some-clause-shortest : goal.returns-in-Some-clause-shortest
 returns-in-Some-clause-shortest c = found_as c.lines_between.result
     (λ lines. AgreeBelow c.in-Some.automata (length lines.items))
-    (λ lines. ShareWordsBelow (monitor_of c.args.left.now) (monitor_of c.args.right.now) (length lines.items))
-    (λ lines agree. share_below c.args.left.now c.args.right.now c.in-Some.automata (length lines.items)
+    (λ lines. ShareWordsBelow (monitor_of c.args.left.now) (monitor_of c.args.right.now)
+    (length lines.items))
+    (λ lines agree. share_below c.args.left.now c.args.right.now c.in-Some.automata
+    (length lines.items)
     (rw c.in-Some.is at c.in_ok-automata.ensures) agree) c.lines_between.ensures.agree

@@ -11,5 +11,6 @@ returns-then-differ c = rw c.new.ensures.items record {
 }
 
 pub search_levels-requires-clause-searched : goal.search_levels-requires-clause-searched
-search_levels-requires-clause-searched c = searched_first c.args.automata.now _ c.new-known.ensures.empty _
+search_levels-requires-clause-searched c =
+    searched_first c.args.automata.now _ c.new-known.ensures.empty _
     (agree_if_not _ _ _ c.differ.ensures c.if-differ.false) c.in_ok-first.ensures.initial

@@ -11,7 +11,8 @@ invariant-letters l = record {
   reached : All (IsReachedIn l.automata) l.next.items;
   items : (items : ℕ) → length l.from.word.items + 1 ≡ items
       → HaveItems items l.initial.next.items → HaveItems items l.next.items;
-  grown : (first : List (ℕ × ℕ)) → IsGrown l.automata first l.initial.known.keys l.initial.next.items
+  grown : (first : List (ℕ × ℕ))
+      → IsGrown l.automata first l.initial.known.keys l.initial.next.items
       → IsGrown l.automata first l.known.keys l.next.items;
   led : (k : ℕ) (d : Letter) → k < l.letter-index
       → Contains l.known.keys (target l.ways (get_or l.letters k d));

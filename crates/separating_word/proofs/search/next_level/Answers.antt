@@ -11,14 +11,18 @@ pub level-preserved : goal.level-preserved
 level-preserved c =
     let automata = c.args.automata.now in
     let on = rw c.in_default.is at c.in_ok-word.ensures.expanded in
-    let same = on.grown c.level.known.keys (grown_none automata c.level.known.keys c.level.next.items) in
+    let same = on.grown c.level.known.keys
+    (grown_none automata c.level.known.keys c.level.next.items) in
     record {
       reached = c.in_ok-word.ensures.next;
       items = λ items have. c.in_ok-word.ensures.items (items + 1) (ap (λ (n : ℕ). n + 1)
-          (holds_at (λ (r : Reached). length r.word.items ≡ items) c.args.level.now c.level.from-index
-          c.from-item.result have c.level-test.true c.from-item.is)) (c.level.invariant.items items have);
+          (holds_at (λ (r : Reached). length r.word.items ≡ items) c.args.level.now
+          c.level.from-index
+          c.from-item.result have c.level-test.true c.from-item.is))
+          (c.level.invariant.items items have);
       grown = on.grown c.args.known.now.keys c.level.invariant.grown;
-      gone = one_further (λ (r : Reached). LeadIntoKnown automata c.expand.new.known.keys r.left r.right)
+      gone = one_further
+          (λ (r : Reached). LeadIntoKnown automata c.expand.new.known.keys r.left r.right)
           c.args.level.now c.level.from-index c.from-item.result
           (λ k d less. lead_more automata c.level.known.keys c.expand.new.known.keys same.kept _ _
           (c.level.invariant.gone k d less)) c.level-test.true c.from-item.is on.gone;
@@ -34,7 +38,8 @@ pub returns-clause-searched : goal.returns-clause-searched
 returns-clause-searched c = λ items have searched. (
   searched_next c.args.automata.now items _ _ _ _ searched c.level.invariant.grown
       (λ reached in'. All-contains
-      (λ (r : Reached). LeadIntoKnown c.args.automata.now c.level.known.keys r.left r.right) c.args.level.now
+      (λ (r : Reached). LeadIntoKnown c.args.automata.now c.level.known.keys r.left r.right)
+      c.args.level.now
       reached (λ k d lt. c.level.invariant.gone k d (omega (arith, lt, c.level-test.false))) in'),
   c.level.invariant.items items have,
 )

@@ -26,5 +26,6 @@ returns-in-Found c =
     (rw c.deref.ensures.value c.levels.invariant.searched)) in
     record {
       cells_of = rw c.in-Found.is at c.in_ok-word.ensures.level;
-      agree = searched_below c.args.automata.now c.levels.counter _ _ c.levels.invariant.searched _ long;
+      agree = searched_below c.args.automata.now c.levels.counter _ _
+          c.levels.invariant.searched _ long;
     }

@@ -10,8 +10,8 @@ bounds-seconds-items c =
     let at = c.answers.first-index in
     let read = read_answer firsts at c.first-item.result c.first-item.is (omega arith) in
     let inside =
-    items_inside firsts c.args.seconds.now c.answers.row.items at c.answers.items c.in-Some.field-0 c.answers.invariant
-    (omega arith) (read ∙ c.in-Some.is) in
+    items_inside firsts c.args.seconds.now c.answers.row.items at c.answers.items c.in-Some.field-0
+    c.answers.invariant (omega arith) (read ∙ c.in-Some.is) in
     omega (arith, c.requires, inside)
 
 pub overflow_add-items : goal.overflow_add-items
@@ -33,17 +33,19 @@ answers-preserved c =
       | in-Some+in_ok-copied-in-Some w ↦
           let answer = w.in_ok-copied-in-Some.field-0 in
           let inside =
-          items_inside firsts seconds row at items w.in-Some.field-0 so_far (omega arith) (read ∙ w.in-Some.is) in
+          items_inside firsts seconds row at items w.in-Some.field-0 so_far (omega arith)
+          (read ∙ w.in-Some.is) in
           let below : items + 1 < length seconds = omega (arith, c.requires, inside) in
-          subst (λ n. IsOnStreamSoFar firsts seconds c.push.new.self.items (at + 1) n) (sym w.items-is)
-          (subst (λ r. IsOnStreamSoFar firsts seconds r (at + 1) (items + 1))
+          subst (λ n. IsOnStreamSoFar firsts seconds c.push.new.self.items (at + 1) n)
+          (sym w.items-is) (subst (λ r. IsOnStreamSoFar firsts seconds r (at + 1) (items + 1))
           (sym (c.in_ok-push.ensures.items ∙ ap (λ a. row ++ a ∷ []) w.push-is))
-          (on_some firsts seconds row at items w.in-Some.field-0 answer so_far (omega arith) (read ∙ w.in-Some.is)
-          (w.in_ok-copied-in-Some.ensures
-          ∙ sym (read_answer seconds (items + 1) w.index-seconds-items.result w.index-seconds-items.is below))))
+          (on_some firsts seconds row at items w.in-Some.field-0 answer so_far (omega arith)
+          (read ∙ w.in-Some.is) (w.in_ok-copied-in-Some.ensures
+          ∙ sym (read_answer seconds (items + 1) w.index-seconds-items.result
+          w.index-seconds-items.is below))))
       | in-None w ↦
-          subst (λ n. IsOnStreamSoFar firsts seconds c.push.new.self.items (at + 1) n) (sym w.items-is)
-          (subst (λ r. IsOnStreamSoFar firsts seconds r (at + 1) items)
+          subst (λ n. IsOnStreamSoFar firsts seconds c.push.new.self.items (at + 1) n)
+          (sym w.items-is) (subst (λ r. IsOnStreamSoFar firsts seconds r (at + 1) items)
           (sym (c.in_ok-push.ensures.items ∙ ap (λ a. row ++ a ∷ []) w.push-is))
           (on_none firsts seconds row at items so_far (omega arith) (read ∙ w.in-None.is)))
     ]

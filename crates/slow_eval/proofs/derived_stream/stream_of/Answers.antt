@@ -3,7 +3,8 @@ use Rattle.slow_eval.specs.Streams.{stream_of}
 use Rattle.slow_eval.proofs.Joining.{read_answer}
 use Rattle.slow_eval.proofs.Streaming.{stream_none, stream_some}
 use Rattle.slow_eval.proofs.derived_stream.stream_of.Goals as goal
-use Rattle.slow_eval.proofs.derived_stream.stream_of.Goals.{in-Some+in_ok-of_value+in_ok-push, in_default}
+use Rattle.slow_eval.proofs.derived_stream.stream_of.Goals.{in-Some+in_ok-of_value+in_ok-push}
+use Rattle.slow_eval.proofs.derived_stream.stream_of.Goals.{in_default}
 
 pub answers-preserved : goal.answers-preserved
 answers-preserved c =

@@ -9,5 +9,6 @@ table-requires-clause-distinct c =
 
 pub table-requires-clause-answers : goal.table-requires-clause-answers
 table-requires-clause-answers c =
-    all_take (λ (one : Keyed). c.places.place < length one.answers.items) (get_or c.args.counts.now c.places.place 0)
-    c.args.all.now (c.requires.answers c.places.place c.places-test.true)
+    all_take (λ (one : Keyed). c.places.place < length one.answers.items)
+    (get_or c.args.counts.now c.places.place 0) c.args.all.now
+    (c.requires.answers c.places.place c.places-test.true)

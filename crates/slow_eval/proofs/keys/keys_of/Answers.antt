@@ -19,10 +19,12 @@ items-preserved c =
           ap (λ v. v.items) w.keys-is ∙ w.in_ok-add.ensures ∙ ap (with_key keys) w.key_of.ensures
           ∙ sym (and_added column sync keys item (sym c.holds.ensures ∙ w.if-not-holds.true))
       | else-not-holds w ↦
-          ap (λ v. v.items) w.keys-is ∙ sym (and_kept column sync keys item (sym c.holds.ensures ∙ w.if-not-holds.false))
+          ap (λ v. v.items) w.keys-is
+          ∙ sym (and_kept column sync keys item (sym c.holds.ensures ∙ w.if-not-holds.false))
     ] in
     let long : c.if-not-holds.keys.len ≡ length new = omega (arith, c.if-not-holds.keys.ok.0) in
     subst (AreKeysSoFar column sync word (c.items.item-index + 1) new)
-    (sym (c.in_ok-push-2.ensures.items ∙ ap (λ n. c.items.counts.items ++ n ∷ []) (c.len.ensures ∙ long)))
-    (keys_step column sync word c.items.item-index keys new c.items.counts.items item c.items.invariant (omega arith)
-    (sym c.item-item.is) is)
+    (sym (c.in_ok-push-2.ensures.items
+    ∙ ap (λ n. c.items.counts.items ++ n ∷ []) (c.len.ensures ∙ long)))
+    (keys_step column sync word c.items.item-index keys new c.items.counts.items item
+    c.items.invariant (omega arith) (sym c.item-item.is) is)

@@ -14,10 +14,12 @@ overflow_add-items c =
     let word = c.args.word.now in
     let at = c.items.item-index in
     let are =
-    counted column sync key word at c.items.items c.item-item.result c.items.invariant.items_are (omega arith)
-    (sym c.item-item.is) (sym c.is_of.ensures ∙ c.if-is_of.true) in
+    counted column sync key word at c.items.items c.item-item.result
+    c.items.invariant.items_are (omega arith) (sym c.item-item.is)
+    (sym c.is_of.ensures ∙ c.if-is_of.true) in
     let shorter = projection_shorter column sync key word (at + 1) in
-    let below : c.items.items + 1 < length c.args.answers.now = omega (arith, c.requires, are, shorter) in
+    let below : c.items.items + 1 < length c.args.answers.now =
+    omega (arith, c.requires, are, shorter) in
     search (rules, arith)
 
 pub bounds-answers-items : goal.bounds-answers-items
@@ -31,12 +33,14 @@ bounds-answers-items c =
     elim c.if-is_of.branch [
       | then-is_of w ↦
           w.items-is
-          ∙ counted column sync key word at c.items.items c.item-item.result c.items.invariant.items_are (omega arith)
-          (sym c.item-item.is) (sym c.is_of.ensures ∙ w.if-is_of.true)
+          ∙ counted column sync key word at c.items.items c.item-item.result
+          c.items.invariant.items_are (omega arith) (sym c.item-item.is)
+          (sym c.is_of.ensures ∙ w.if-is_of.true)
       | else-is_of w ↦
           w.items-is
-          ∙ passed column sync key word at c.items.items c.item-item.result c.items.invariant.items_are (omega arith)
-          (sym c.item-item.is) (sym c.is_of.ensures ∙ w.if-is_of.false)
+          ∙ passed column sync key word at c.items.items c.item-item.result
+          c.items.invariant.items_are (omega arith) (sym c.item-item.is)
+          (sym c.is_of.ensures ∙ w.if-is_of.false)
     ] in
     let shorter = projection_shorter column sync key word (at + 1) in
     omega (arith, c.requires, are, shorter)
@@ -59,16 +63,19 @@ items-preserved c =
     elim c.if-is_of.branch [
       | then-is_of w ↦
           w.items-is
-          ∙ counted column sync key word at c.items.items c.item-item.result c.items.invariant.items_are (omega arith)
-          (sym c.item-item.is) (sym c.is_of.ensures ∙ w.if-is_of.true)
+          ∙ counted column sync key word at c.items.items c.item-item.result
+          c.items.invariant.items_are (omega arith) (sym c.item-item.is)
+          (sym c.is_of.ensures ∙ w.if-is_of.true)
       | else-is_of w ↦
           w.items-is
-          ∙ passed column sync key word at c.items.items c.item-item.result c.items.invariant.items_are (omega arith)
-          (sym c.item-item.is) (sym c.is_of.ensures ∙ w.if-is_of.false)
+          ∙ passed column sync key word at c.items.items c.item-item.result
+          c.items.invariant.items_are (omega arith) (sym c.item-item.is)
+          (sym c.is_of.ensures ∙ w.if-is_of.false)
     ] in
     let shorter = projection_shorter column sync key word (at + 1) in
     let below : after < length answers = omega (arith, c.requires, are, shorter) in
-    subst (λ r. IsOnItemsSoFar column sync key word answers r (at + 1) after) (sym c.in_ok-push-2.ensures.items)
+    subst (λ r. IsOnItemsSoFar column sync key word answers r (at + 1) after)
+    (sym c.in_ok-push-2.ensures.items)
     (items_step column sync key word answers row at c.items.items after answer c.items.invariant are
     (c.in_ok-copied-2.ensures
     ∙ sym (read_answer answers after c.index-answers-items.result c.index-answers-items.is below)))

@@ -11,5 +11,8 @@ use Rattle.slow_eval.proofs.leaf_answers.atom_answers.Goals as goal
 pub eval-requires : goal.eval-requires
 eval-requires c =
     let e = values.plain_of c.args.expression.now in
-    subst (λ (item : List Field). (type : ValueType) × HasType (types_of (given item None None)) e type) (sym c.fields.ensures)
-    (atom_typed (predicates.plain_of c.args.pred.now) e c.in-Some.item.now c.args.word.now c.requires c.in-Some.ensures.value)
+    subst
+    (λ (item : List Field). (type : ValueType) × HasType (types_of (given item None None)) e type)
+    (sym c.fields.ensures)
+    (atom_typed (predicates.plain_of c.args.pred.now) e c.in-Some.item.now c.args.word.now
+    c.requires c.in-Some.ensures.value)

@@ -7,5 +7,6 @@ abbrev pub invariant-places : goal.invariant-places
 invariant-places l = record {
   count : length l.given.items ≡ l.place;
   each : (k : ℕ) → k < l.place
-      → IsOnBoth (plain_of l.expression) (get_or l.row k None) (get_or l.other k None) (get_or l.given.items k None);
+      → IsOnBoth (plain_of l.expression) (get_or l.row k None) (get_or l.other k None)
+      (get_or l.given.items k None);
 }

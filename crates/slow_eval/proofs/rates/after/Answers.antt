@@ -13,8 +13,8 @@ positions-preserved c =
     elim c.if-has.branch [
       | then-has w ↦
           subst (AreAfterBelow sets mask (at + 1)) (sym w.found-is)
-          (after_added sets mask at found w.follow-found.result so_far (c.has.ensures.0 w.if-has.true)
-          w.follow-found.ensures)
+          (after_added sets mask at found w.follow-found.result so_far
+          (c.has.ensures.0 w.if-has.true) w.follow-found.ensures)
       | else-has w ↦
           subst (AreAfterBelow sets mask (at + 1)) (sym w.found-is)
           (after_passed sets mask at found so_far

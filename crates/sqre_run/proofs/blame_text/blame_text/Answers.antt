@@ -6,4 +6,5 @@ returns-in-Why c = rw c.in-Why.is c.reason_text.ensures
 
 pub returns-in_default : goal.returns-in_default
 returns-in_default c =
-    other_lines c.args.command c.args.blame.now _ _ c.in_default.not-Why c.refusal.ensures c.refusal_text.ensures
+    other_lines c.args.command c.args.blame.now _ _ c.in_default.not-Why c.refusal.ensures
+    c.refusal_text.ensures

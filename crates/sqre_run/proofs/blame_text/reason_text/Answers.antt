@@ -2,4 +2,5 @@ use Rattle.sqre_run.proofs.Shortest.{reason_found}
 use Rattle.sqre_run.proofs.blame_text.reason_text.Goals as goal
 
 pub returns : goal.returns
-returns c = reason_found c.args.blame.now _ c.in_ok-shown.ensures _ c.refusal.ensures _ c.text_with.ensures
+returns c =
+    reason_found c.args.blame.now _ c.in_ok-shown.ensures _ c.refusal.ensures _ c.text_with.ensures

@@ -6,8 +6,10 @@ example-requires c = blamed_share c.args.blame.now c.ask.result c.ask.ensures c.
 
 pub unreachable-requires : goal.unreachable-requires
 unreachable-requires c =
-    blamed_found c.args.blame.now c.ask.result c.ask.ensures c.requires (rw c.in-None.is at c.in_ok-shown.ensures)
+    blamed_found c.args.blame.now c.ask.result c.ask.ensures c.requires
+    (rw c.in-None.is at c.in_ok-shown.ensures)
 
 pub returns : goal.returns
 returns c =
-    found_shortest c.args.blame.now c.ask.result c.ask.ensures c.in-Some.shown (rw c.in-Some.is at c.in_ok-shown.ensures)
+    found_shortest c.args.blame.now c.ask.result c.ask.ensures c.in-Some.shown
+    (rw c.in-Some.is at c.in_ok-shown.ensures)

@@ -11,4 +11,5 @@ returns-in-len2 c =
 pub returns-in-len3 : goal.returns-in-len3
 returns-in-len3 c =
     c.run_of.ensures ∙ ap run_of c.as_str-in-len3.ensures.value
-    ∙ three_words _ c.args.words.now c.word-item-then-words-lt4.result (omega arith) c.word-item-then-words-lt4.is
+    ∙ three_words _ c.args.words.now c.word-item-then-words-lt4.result (omega arith)
+    c.word-item-then-words-lt4.is

@@ -20,9 +20,11 @@ invariant-items g l =
       position : f.position l.session.follower ≤ l.counter + 1;
       same : l.drill.layout ≡ layout;
       continues : (n : ℕ) → lines_from layout.columns (l.counter + n) l.fn.seed
-          ≡ lines_from layout.columns l.counter l.fn.seed ++ lines_from layout.columns n l.drill.state;
+          ≡ lines_from layout.columns l.counter l.fn.seed
+          ++ lines_from layout.columns n l.drill.state;
       tally : (meaning : Meaning) → IsMeaning (monitor_of l.fn.checked) meaning
-          → IsTally l.counter l.defined (values_of meaning (drilled_lines layout l.counter l.fn.seed))
+          → IsTally l.counter l.defined
+          (values_of meaning (drilled_lines layout l.counter l.fn.seed))
           (value_after meaning (drilled_lines layout l.counter l.fn.seed));
       few : l.defined ≤ l.counter;
     }

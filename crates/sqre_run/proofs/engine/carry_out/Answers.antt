@@ -7,13 +7,18 @@ pub returns-in-Check-clause-carried : goal.returns-in-Check-clause-carried
 returns-in-Check-clause-carried g c =
     let monitor = monitor_of c.args.checked.now in
     let carried = reported_check monitor _ c.check_text.ensures _ _ _ c.report.ensures.reported in
-    elim c.in-Check.is [ inl is ↦ rw is carried | inr is ↦ rw is (reported_why monitor _ _ _ carried) ]
+    elim c.in-Check.is [
+      | inl is ↦ rw is carried
+      | inr is ↦ rw is (reported_why monitor _ _ _ carried)
+    ]
 
 pub returns-in-Bound-clause-carried : goal.returns-in-Bound-clause-carried
 returns-in-Bound-clause-carried g c =
-    rw c.in-Bound.is (reported_bound (monitor_of c.args.checked.now) _ c.bound_line.ensures _ _ _ c.report-in-Bound.ensures.reported)
+    rw c.in-Bound.is (reported_bound (monitor_of c.args.checked.now) _ c.bound_line.ensures _ _ _
+    c.report-in-Bound.ensures.reported)
 
 pub returns-in-Drill-clause-carried : goal.returns-in-Drill-clause-carried
 returns-in-Drill-clause-carried g c =
     rw c.in-Drill.is
-    (reported_drill c.in-Drill.count c.in-Drill.seed (monitor_of c.args.checked.now) _ c.drill_query.ensures _ _ _ c.report-in-Drill.ensures.reported)
+    (reported_drill c.in-Drill.count c.in-Drill.seed (monitor_of c.args.checked.now) _
+    c.drill_query.ensures _ _ _ c.report-in-Drill.ensures.reported)

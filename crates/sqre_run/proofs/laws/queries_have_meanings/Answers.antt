@@ -6,4 +6,5 @@ pub returns-clause-some : goal.returns-clause-some
 returns-clause-some c = some_meaning
 
 pub returns-clause-same : goal.returns-clause-same
-returns-clause-same c monitor one other bytes keeps is_one is_other is = one_output monitor keeps one other is_one is_other bytes is
+returns-clause-same c monitor one other bytes keeps is_one is_other is =
+    one_output monitor keeps one other is_one is_other bytes is

@@ -29,16 +29,19 @@ lines-init g c =
     let kept = ap (λ s. s.follower) begins in
     record {
       running = Running-begins f.follows _ _ _ _ c.in-Ok.ensures
-          (after_none f.follows f.query _ _ same (ap (λ s. s.begun) begins) (subst (λ x. f.follows x []) (sym kept) c.requires.word));
-      ready = ready_begins f.query f.columns f.lost f.sound _ _ _ same kept c.requires.query c.requires.columns
-          (laws.lost_follows _ [] c.requires.word) (laws.follows_sound _ [] c.requires.word);
+          (after_none f.follows f.query _ _ same (ap (λ s. s.begun) begins)
+          (subst (λ x. f.follows x []) (sym kept) c.requires.word));
+      ready = ready_begins f.query f.columns f.lost f.sound _ _ _ same kept c.requires.query
+          c.requires.columns (laws.lost_follows _ [] c.requires.word)
+          (laws.follows_sound _ [] c.requires.word);
       count = omega (arith, ap f.position kept, laws.at_end _ [] c.requires.word);
       items_calm = refl;
       sink_calm = refl;
     }
 
 -- of what is there the predicate holds
-some_holds : {A : Type 0} (P : A → Type 0) (there : Option A) (one : A) → there ≡ Some one → IfSome there P → P one
+some_holds : {A : Type 0} (P : A → Type 0) (there : Option A) (one : A) → there ≡ Some one
+    → IfSome there P → P one
 some_holds P there one is holds = subst (λ o. IfSome o P) is holds
 
 -- the turn ended the run, or the answers to the lines so far were written and are not flushed
@@ -49,13 +52,15 @@ returns-in-Some-clause-ended g c =
     let now = at c.lines.items c.lines.out in
     elim c.match-flush_before_read.branch [
       | in-Ok-flush_before_read w ↦
-          let running = Running-held g.F.Follower.follows c.args.checked.now before now c.lines.lines c.lines.session _
-          c.flush_before_read.ensures.taken c.lines.invariant.running in
-          let stops = some_holds _ w.turn-ended.result c.in-Some.status (sym w.ended-is ∙ c.in-Some.is) w.turn-ended.ensures.stops in
+          let running = Running-held g.F.Follower.follows c.args.checked.now before now
+          c.lines.lines c.lines.session _ c.flush_before_read.ensures.taken
+          c.lines.invariant.running in
+          let stops = some_holds _ w.turn-ended.result c.in-Some.status
+          (sym w.ended-is ∙ c.in-Some.is) w.turn-ended.ensures.stops in
           rw (w.items-is, w.out-is) (stops c.args.checked.now before running)
       | in-Err-flush_before_read w ↦
-          let held = Ended-held g.F.Follower.follows c.args.checked.now before now c.lines.lines c.lines.session _
-          c.flush_before_read.ensures.taken c.lines.invariant.running in
+          let held = Ended-held g.F.Follower.follows c.args.checked.now before now c.lines.lines
+          c.lines.session _ c.flush_before_read.ensures.taken c.lines.invariant.running in
           let fault : SinkFault ≡ c.in-Some.status = cc in
           rw (w.items-is, w.out-is, ← fault) held
     ]

@@ -5,13 +5,15 @@ use Rattle.sqre_run.specs.Running.{Running}
 use Rattle.sqre_run.specs.Sessions.{IsReady}
 use Rattle.sqre_run.proofs.run.run.Given as goal
 
--- no object has failed, the run so far is one from the call's beginning, and its follower can continue
+-- no object has failed, the run so far is one from the call's beginning, and its
+-- follower can continue
 abbrev pub invariant-lines : goal.invariant-lines
 invariant-lines g l =
     let at = outside g.S.Source.left g.S.Source.ends g.W.Sink.taken in
     let f = g.F.Follower in
     record {
-      running : Running f.follows l.fn.checked (at l.fn.items l.fn.out) (at l.items l.out) l.lines l.session;
+      running : Running f.follows l.fn.checked (at l.fn.items l.fn.out) (at l.items l.out)
+          l.lines l.session;
       ready : IsReady f.query f.columns f.lost f.sound l.session;
       count : f.position l.session.follower ≤ l.lines.answered;
       items_calm : g.S.Source.faults l.items ≡ g.S.Source.faults l.fn.items;

@@ -5,7 +5,8 @@ use Rattle.test_engines.proofs.nodes.hit_at_first.Goals as goal
 
 pub start-requires : goal.start-requires
 start-requires c =
-    can_start (plain_of c.args.query.now.shape) c.requires.query (holding_of c.args.node.now.state) c.requires.sound
+    can_start (plain_of c.args.query.now.shape) c.requires.query (holding_of c.args.node.now.state)
+    c.requires.sound
 
 pub returns : goal.returns
 returns c =

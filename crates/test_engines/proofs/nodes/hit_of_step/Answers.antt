@@ -8,7 +8,8 @@ pub step-requires : goal.step-requires
 step-requires c =
     let after : c.args.now ≡ c.args.now - 1 + 1 = omega (arith, c.requires.first) in
     can_step (plain_of c.args.query.now.shape) c.requires.query c.args.item.now c.requires.item
-    (holding_of c.args.node.now.state) c.args.now (c.args.now - 1) after c.requires.few c.requires.sound
+    (holding_of c.args.node.now.state) c.args.now (c.args.now - 1) after c.requires.few
+    c.requires.sound
 
 pub returns : goal.returns
 returns c =

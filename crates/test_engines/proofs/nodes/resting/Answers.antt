@@ -8,5 +8,6 @@ use Rattle.test_engines.proofs.nodes.resting.Goals as goal
 
 pub returns : goal.returns
 returns c =
-    subst (λ (node : Node). IsSound seen_of numbers (plain_of c.args.query.now.shape) 0 (holding_of node.state))
+    subst (λ (node : Node). IsSound seen_of numbers (plain_of c.args.query.now.shape) 0
+    (holding_of node.state))
     (sym c.in_ok-new.ensures.ok) (c.in_ok-node.ensures.sound numbers tt)

@@ -16,7 +16,8 @@ three = search rules
 four : FitsSigned w64 (pos 4)
 four = search rules
 
-can : CanBeRead (split (eps (pos 3)) (eps (pos 4)) (binary op.Sub (read var.Left) (read var.Right))) []
+can : CanBeRead (split (eps (pos 3)) (eps (pos 4)) (binary op.Sub (read var.Left) (read var.Right)))
+    []
 can = record {
   standing = bound;
   columns = [];

@@ -45,4 +45,5 @@ has_keys-requires g c =
     subst (CanBeRead query) (sym c.deref-2.ensures.value) read in
     let plain : CanBeRead (plain_of c.in_ok-query.query.value.shape) c.deref-2.result.now =
     subst (λ q. CanBeRead q c.deref-2.result.now) (sym c.in_ok-query.ensures) on_items in
-    subst (λ (q : Query). CanBeRead (plain_of q.shape) c.deref-2.result.now) (sym c.deref.ensures) plain
+    subst (λ (q : Query). CanBeRead (plain_of q.shape) c.deref-2.result.now)
+    (sym c.deref.ensures) plain

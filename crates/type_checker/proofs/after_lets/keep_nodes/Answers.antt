@@ -6,4 +6,5 @@ use Rattle.type_checker.proofs.after_lets.keep_nodes.Goals as goal
 pub returns-in-Some-clause-refused : goal.returns-in-Some-clause-refused
 returns-in-Some-clause-refused c =
     rw c.refused.ensures
-    (wrong_count (plain_program c.args.program.now) c.in-Some.span (sym c.in_ok-span.ensures ∙ c.in-Some.is))
+    (wrong_count (plain_program c.args.program.now) c.in-Some.span
+    (sym c.in_ok-span.ensures ∙ c.in-Some.is))

@@ -20,8 +20,9 @@ returns-clause-made c =
     let columns = columns_of c.args.items.now in
     let named = c.in_ok-pred.ensures.named in
     λ nesting. atom_made nesting columns (plain_predicate c.args.predicate.now)
-    (plain_expression c.args.value.now) c.args.span (predicates.plain_of c.in_ok-pred.pred) named.tested
-    (values.plain_of c.in_ok-pred.value) named.named c.in_ok-pred.ensures.fits named.numbers (of_columns columns) refl
-    c.in_ok-pred.ty _ c.in_ok-pred.ensures.typed
+    (plain_expression c.args.value.now) c.args.span
+    (predicates.plain_of c.in_ok-pred.pred) named.tested
+    (values.plain_of c.in_ok-pred.value) named.named c.in_ok-pred.ensures.fits named.numbers
+    (of_columns columns) refl c.in_ok-pred.ty _ c.in_ok-pred.ensures.typed
     (ap plain_of c.in_ok-new.ensures.shape_is) (ap places_at c.in_ok-new.ensures.shape_is)
     c.in_ok-new.ensures.span_is c.in_ok-new.ensures.type_is

@@ -11,6 +11,7 @@ returns-in-Some-clause-numbers c = rw c.in-Some.is at c.in_ok-found.ensures.numb
 
 pub returns-in-None-clause-refused : goal.returns-in-None-clause-refused
 returns-in-None-clause-refused c =
-    let none : None ≡ expression_over (of_item c.args.schema.now.columns) (plain_expression c.args.value.now) =
+    let none : None
+    ≡ expression_over (of_item c.args.schema.now.columns) (plain_expression c.args.value.now) =
     rw c.in-None.is at c.in_ok-found.ensures.made in
     rw (c.refused.ensures, ← none) refl

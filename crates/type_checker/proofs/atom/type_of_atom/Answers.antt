@@ -11,7 +11,8 @@ pub returns-then-not-fits-clause-refused : goal.returns-then-not-fits-clause-ref
 returns-then-not-fits-clause-refused c =
     rw c.refused.ensures
     (λ nesting test tree is. unfit nesting (columns_of c.args.items.now) test tree c.args.span
-    (predicates.plain_of c.args.pred.now) is.tested (values.plain_of c.args.value.now) is.named (search rules))
+    (predicates.plain_of c.args.pred.now) is.tested (values.plain_of c.args.value.now)
+    is.named (search rules))
 
 pub returns-in-Some-clause-typed : goal.returns-in-Some-clause-typed
 returns-in-Some-clause-typed c =
@@ -24,5 +25,5 @@ returns-in-None-clause-refused c =
     let fit : fits (columns_of c.args.items.now) pred ≡ true = first_of (cc, search rules) in
     rw c.refused-in-None.ensures
     (λ nesting test tree is. ill_typed nesting (columns_of c.args.items.now) test tree c.args.span
-    pred is.tested (values.plain_of c.args.value.now) is.named fit is.numbers (types_in c.args.items.now)
-    (are_columns c.args.items.now c.requires) c.in-None.ensures.none)
+    pred is.tested (values.plain_of c.args.value.now) is.named fit is.numbers
+    (types_in c.args.items.now) (are_columns c.args.items.now c.requires) c.in-None.ensures.none)

@@ -9,5 +9,5 @@ returns-in_err-pred-clause-refused c =
 
 pub returns-in-Err-clause-refused : goal.returns-in-Err-clause-refused
 returns-in-Err-clause-refused c = λ nesting.
-    c.in-Err.ensures.refused nesting (plain_predicate c.args.predicate.now) (plain_expression c.args.value.now)
-    c.in_ok-pred.ensures.made
+    c.in-Err.ensures.refused nesting (plain_predicate c.args.predicate.now)
+    (plain_expression c.args.value.now) c.in_ok-pred.ensures.made

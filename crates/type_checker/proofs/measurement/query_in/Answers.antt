@@ -3,7 +3,8 @@ use Rattle.type_checker.proofs.measurement.query_in.Goals as goal
 
 pub returns-in_err-typed-clause-refused : goal.returns-in_err-typed-clause-refused
 returns-in_err-typed-clause-refused c =
-    let err = err_from_is_err_and c.from_residual-in_err-typed.result c.from_residual-in_err-typed.ensures.1 in
+    let err = err_from_is_err_and c.from_residual-in_err-typed.result
+    c.from_residual-in_err-typed.ensures.1 in
     rw (err.1, err.2) (rw c.main-main.ensures.same at c.in_err-typed.ensures.refused)
 
 pub returns-clause-named : goal.returns-clause-named

@@ -8,6 +8,7 @@ returns-in-Some-clause-made c = rw c.in-Some.is at c.in_ok-found.ensures
 
 pub returns-in-None-clause-refused : goal.returns-in-None-clause-refused
 returns-in-None-clause-refused c =
-    let none : None ≡ resolved_over c.args.schema.now.columns (plain_predicate c.args.predicate.now) =
+    let none : None
+    ≡ resolved_over c.args.schema.now.columns (plain_predicate c.args.predicate.now) =
     rw c.in-None.is at c.in_ok-found.ensures in
     rw (c.refused.ensures, ← none) refl

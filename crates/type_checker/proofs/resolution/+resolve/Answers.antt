@@ -10,7 +10,8 @@ use Rattle.type_checker.specs.Resolutions.{IsMade, IsRefused, columns_of}
 use Rattle.type_checker.specs.Resolved.{inside}
 use Rattle.type_checker.proofs.Collecting.{collect_first, inner_made, inner_refused}
 use Rattle.type_checker.proofs.Composing.{compose_first, compose_second, on_values}
-use Rattle.type_checker.proofs.FromOperands.{apply_first, iter_first, made_there, name_itself, one_made, one_refused, refused_there}
+use Rattle.type_checker.proofs.FromOperands.{apply_first, iter_first, made_there, name_itself}
+use Rattle.type_checker.proofs.FromOperands.{one_made, one_refused, refused_there}
 use Rattle.type_checker.proofs.Paired.{pair_first, pair_made, pair_nodes, pair_refused, pair_second}
 use Rattle.type_checker.proofs.Shaping.{name_refused}
 use Rattle.type_checker.proofs.resolution.+resolve.Goals as goal
@@ -27,14 +28,18 @@ pub resolve_over-returns-clause-made : goal.resolve_over-returns-clause-made
 resolve_over-returns-clause-made t c = rw c.root.ensures.leads.same at c.resolve_root.ensures.made
 
 pub resolve_over-returns-clause-refused : goal.resolve_over-returns-clause-refused
-resolve_over-returns-clause-refused t c = rw c.root.ensures.leads.same at c.resolve_root.ensures.refused
+resolve_over-returns-clause-refused t c =
+    rw c.root.ensures.leads.same at c.resolve_root.ensures.refused
 
 pub resolve_root-atom-requires : goal.resolve_root-atom-requires
 resolve_root-atom-requires t c = c.requires.types
 
 pub resolve_root-returns-in-Name-clause-refused : goal.resolve_root-returns-in-Name-clause-refused
 resolve_root-returns-in-Name-clause-refused t c =
-    rw (name_itself c.args.scope c.requires.root c.in-Name.name (ap plain_query c.in-Name.is), c.refused.ensures)
+    rw (
+      name_itself c.args.scope c.requires.root c.in-Name.name (ap plain_query c.in-Name.is),
+      c.refused.ensures,
+    )
     (name_refused (nesting_of c.args.nesting) (columns_of c.args.items.now) c.in-Name.name)
 
 pub resolve_root-returns-in-Atom-clause-made : goal.resolve_root-returns-in-Atom-clause-made
@@ -51,14 +56,16 @@ pub resolve_root-returns-in-Eps-clause-made : goal.resolve_root-returns-in-Eps-c
 resolve_root-returns-in-Eps-clause-made t c =
     let nesting = nesting_of c.args.nesting in
     let columns = columns_of c.args.items.now in
-    rw c.in-Eps.is (IfOk-weaker c.eps.result _ (IsMade nesting columns (q.eps c.in-Eps.value c.in-Eps.span))
+    rw c.in-Eps.is
+    (IfOk-weaker c.eps.result _ (IsMade nesting columns (q.eps c.in-Eps.value c.in-Eps.span))
     (λ made everywhere. everywhere nesting columns) c.eps.ensures.made)
 
 pub resolve_root-returns-in-Eps-clause-refused : goal.resolve_root-returns-in-Eps-clause-refused
 resolve_root-returns-in-Eps-clause-refused t c =
     let nesting = nesting_of c.args.nesting in
     let columns = columns_of c.args.items.now in
-    rw c.in-Eps.is (IfErr-weaker c.eps.result _ (IsRefused nesting columns (q.eps c.in-Eps.value c.in-Eps.span))
+    rw c.in-Eps.is
+    (IfErr-weaker c.eps.result _ (IsRefused nesting columns (q.eps c.in-Eps.value c.in-Eps.span))
     (λ stop everywhere. everywhere nesting columns) c.eps.ensures.refused)
 
 -- two operands on one stream
@@ -74,30 +81,33 @@ pub resolve_pair-returns-in_err-first-clause-refused :
 resolve_pair-returns-in_err-first-clause-refused t c =
     let err = err_from_is_err_and c.from_residual.result c.from_residual.ensures.1 in
     rw (err.1, err.2)
-    (pair_first c.args.scope c.pair_of-pair.result c.pair_of-pair.ensures (nesting_of c.args.nesting)
-    (columns_of c.args.items.now) _ c.in_err-first.ensures.refused)
+    (pair_first c.args.scope c.pair_of-pair.result c.pair_of-pair.ensures
+    (nesting_of c.args.nesting) (columns_of c.args.items.now) _ c.in_err-first.ensures.refused)
 
 pub resolve_pair-returns-in_err-second-clause-refused :
     goal.resolve_pair-returns-in_err-second-clause-refused
 resolve_pair-returns-in_err-second-clause-refused t c =
-    let err = err_from_is_err_and c.from_residual-in_err-second.result c.from_residual-in_err-second.ensures.1 in
+    let err = err_from_is_err_and c.from_residual-in_err-second.result
+    c.from_residual-in_err-second.ensures.1 in
     rw (err.1, err.2)
-    (pair_second c.args.scope c.pair_of-pair.result c.pair_of-pair.ensures (nesting_of c.args.nesting)
-    (columns_of c.args.items.now) c.in_ok-first.first c.in_ok-first.ensures.made _ c.in_err-second.ensures.refused)
+    (pair_second c.args.scope c.pair_of-pair.result c.pair_of-pair.ensures
+    (nesting_of c.args.nesting) (columns_of c.args.items.now) c.in_ok-first.first
+    c.in_ok-first.ensures.made _ c.in_err-second.ensures.refused)
 
 pub resolve_pair-returns-clause-made :
     goal.resolve_pair-returns-clause-made
 resolve_pair-returns-clause-made t c =
     pair_made c.args.scope c.pair_of-pair.result c.pair_of-pair.ensures (nesting_of c.args.nesting)
-    (columns_of c.args.items.now) c.in_ok-first.first c.in_ok-first.ensures.made c.in_ok-second.second
-    c.in_ok-second.ensures.made c.joined.result c.joined.ensures.made
+    (columns_of c.args.items.now) c.in_ok-first.first c.in_ok-first.ensures.made
+    c.in_ok-second.second c.in_ok-second.ensures.made c.joined.result c.joined.ensures.made
 
 pub resolve_pair-returns-clause-refused :
     goal.resolve_pair-returns-clause-refused
 resolve_pair-returns-clause-refused t c =
-    pair_refused c.args.scope c.pair_of-pair.result c.pair_of-pair.ensures (nesting_of c.args.nesting)
-    (columns_of c.args.items.now) c.in_ok-first.first c.in_ok-first.ensures.made c.in_ok-second.second
-    c.in_ok-second.ensures.made c.joined.result c.joined.ensures.refused
+    pair_refused c.args.scope c.pair_of-pair.result c.pair_of-pair.ensures
+    (nesting_of c.args.nesting) (columns_of c.args.items.now) c.in_ok-first.first
+    c.in_ok-first.ensures.made c.in_ok-second.second c.in_ok-second.ensures.made c.joined.result
+    c.joined.ensures.refused
 
 -- one operand
 pub resolve_iter-returns-in_err-inner-clause-refused :
@@ -114,7 +124,8 @@ resolve_iter-returns-clause-made t c =
     rw c.in-Iter.is (one_made (nesting_of c.args.nesting) (columns_of c.args.items.now)
     (unfolded_at c.args.scope (plain_query c.in-Iter.operand.value)) c.in_ok-inner.inner
     (rw c.deref.ensures at c.in_ok-inner.ensures.made)
-    (λ (f : q.Query). q.iter f c.in-Iter.first (plain_expression c.in-Iter.step.value) c.in-Iter.span)
+    (λ (f : q.Query). q.iter f c.in-Iter.first
+    (plain_expression c.in-Iter.step.value) c.in-Iter.span)
     c.iter.result (rw c.deref-2.ensures at c.iter.ensures.made))
 
 pub resolve_iter-returns-clause-refused :
@@ -123,7 +134,8 @@ resolve_iter-returns-clause-refused t c =
     rw c.in-Iter.is (one_refused (nesting_of c.args.nesting) (columns_of c.args.items.now)
     (unfolded_at c.args.scope (plain_query c.in-Iter.operand.value)) c.in_ok-inner.inner
     (rw c.deref.ensures at c.in_ok-inner.ensures.made)
-    (λ (f : q.Query). q.iter f c.in-Iter.first (plain_expression c.in-Iter.step.value) c.in-Iter.span)
+    (λ (f : q.Query). q.iter f c.in-Iter.first
+    (plain_expression c.in-Iter.step.value) c.in-Iter.span)
     c.iter.result (rw c.deref-2.ensures at c.iter.ensures.refused))
 
 pub resolve_apply-returns-in_err-inner-clause-refused :
@@ -201,7 +213,8 @@ resolve_fed-returns-in_err-second-clause-refused t c =
     let columns = columns_of c.args.items.now in
     let f = unfolded_at c.args.scope (plain_query c.in-Compose.left.value) in
     let g = unfolded_at c.args.scope (plain_query c.in-Compose.right.value) in
-    let err = err_from_is_err_and c.from_residual-in_err-second.result c.from_residual-in_err-second.ensures.1 in
+    let err = err_from_is_err_and c.from_residual-in_err-second.result
+    c.from_residual-in_err-second.ensures.1 in
     rw (c.in-Compose.is, err.1, err.2)
     (compose_second nesting columns f g c.in-Compose.span
     c.in_ok-first.first (rw c.deref.ensures at c.in_ok-first.ensures.made) _
@@ -221,11 +234,13 @@ resolve_fed-returns-clause-made t c =
 pub resolve_on_values-returns-clause-made : goal.resolve_on_values-returns-clause-made
 resolve_on_values-returns-clause-made t c =
     on_values c.in_ok-values.values c.args.ty c.in_ok-values.ensures
-    (λ (columns : List Column). IfOk c.resolve.result (IsMade inside columns (unfolded_of c.args.scope)))
+    (λ (columns : List Column). IfOk c.resolve.result
+    (IsMade inside columns (unfolded_of c.args.scope)))
     c.resolve.ensures.made
 
 pub resolve_on_values-returns-clause-refused : goal.resolve_on_values-returns-clause-refused
 resolve_on_values-returns-clause-refused t c =
     on_values c.in_ok-values.values c.args.ty c.in_ok-values.ensures
-    (λ (columns : List Column). IfErr c.resolve.result (IsRefused inside columns (unfolded_of c.args.scope)))
+    (λ (columns : List Column). IfErr c.resolve.result
+    (IsRefused inside columns (unfolded_of c.args.scope)))
     c.resolve.ensures.refused

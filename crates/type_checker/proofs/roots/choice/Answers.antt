@@ -8,9 +8,10 @@ use Rattle.type_checker.proofs.roots.choice.Goals as goal
 
 pub returns-in_ok-blame-in-Some-clause-refused : goal.returns-in_ok-blame-in-Some-clause-refused
 returns-in_ok-blame-in-Some-clause-refused c = λ cells f g are.
-    choice_blamed c.in_ok-blame-in-Some.field-0 _ c.args.span c.in_ok-blame-in-Some.ensures.refusal _ c.in-Some.is
-    cells f g c.args.operands are _ c.in_ok-new-in-Some.ensures.ok c.in_ok-blame-in-Some.ensures.ambiguity
-    (on_cells cells f g c.args.operands (choice f g) _ are
+    choice_blamed c.in_ok-blame-in-Some.field-0 _ c.args.span
+    c.in_ok-blame-in-Some.ensures.refusal _ c.in-Some.is
+    cells f g c.args.operands are _ c.in_ok-new-in-Some.ensures.ok
+    c.in_ok-blame-in-Some.ensures.ambiguity (on_cells cells f g c.args.operands (choice f g) _ are
     (λ standing. c.in_ok-rule.ensures standing f g are.left are.right))
 
 pub returns-in_ok-or-in-None-clause-kept : goal.returns-in_ok-or-in-None-clause-kept

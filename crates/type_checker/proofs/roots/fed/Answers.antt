@@ -11,7 +11,8 @@ returns-in_ok-fed_rule-in-Bound-clause-kept c =
     c.in_ok-fed_rule-in-Bound.ensures r are) none)
     c.keep.ensures.kept)
 
-pub returns-in_ok-fed_rule-in-Bound-clause-refused : goal.returns-in_ok-fed_rule-in-Bound-clause-refused
+pub returns-in_ok-fed_rule-in-Bound-clause-refused :
+    goal.returns-in_ok-fed_rule-in-Bound-clause-refused
 returns-in_ok-fed_rule-in-Bound-clause-refused c =
     rw c.in-Bound.is (IfErr-weaker c.keep.result _ _ (λ stop broken r are.
     unfed_by bound c.args.cells.now.value.layout.columns r _

@@ -8,8 +8,10 @@ use Rattle.type_checker.proofs.roots.iterated.Goals as goal
 
 pub returns-in_ok-blame-in-Some-clause-refused : goal.returns-in_ok-blame-in-Some-clause-refused
 returns-in_ok-blame-in-Some-clause-refused c = λ f number step is.
-    iter_blamed c.in_ok-blame-in-Some.field-0 _ c.args.span c.in_ok-blame-in-Some.ensures.refusal _ c.in-Some.is
-    f number step c.args.operand is _ c.in_ok-new-in-Some.ensures.ok c.in_ok-blame-in-Some.ensures.ambiguity
+    iter_blamed c.in_ok-blame-in-Some.field-0 _ c.args.span
+    c.in_ok-blame-in-Some.ensures.refusal _ c.in-Some.is
+    f number step c.args.operand is _ c.in_ok-new-in-Some.ensures.ok
+    c.in_ok-blame-in-Some.ensures.ambiguity
     (λ standing. c.in_ok-rule.ensures standing f number step is)
 
 pub returns-in-None-clause-kept : goal.returns-in-None-clause-kept

@@ -8,7 +8,8 @@ use Rattle.type_checker.proofs.roots.side_by_side.Goals as goal
 
 pub returns-in_err-keep-clause-refused : goal.returns-in_err-keep-clause-refused
 returns-in_err-keep-clause-refused c =
-    let err = err_from_is_err_and c.from_residual-in_err-keep.result c.from_residual-in_err-keep.ensures.1 in
+    let err = err_from_is_err_and c.from_residual-in_err-keep.result
+    c.from_residual-in_err-keep.ensures.1 in
     rw (err.1, err.2) (λ cells f g value are.
     broken_by cells.layout.columns (combine f g value) _
     (on_cells cells f g c.args.operands (combine f g value) _ are

@@ -8,8 +8,10 @@ use Rattle.type_checker.proofs.roots.split.Goals as goal
 
 pub returns-in_ok-blame-in-Some-clause-refused : goal.returns-in_ok-blame-in-Some-clause-refused
 returns-in_ok-blame-in-Some-clause-refused c = λ cells f g value are.
-    split_blamed c.in_ok-blame-in-Some.field-0 _ c.args.span c.in_ok-blame-in-Some.ensures.refusal _ c.in-Some.is
-    cells f g c.args.operands are _ c.in_ok-new-in-Some.ensures.ok value c.in_ok-blame-in-Some.ensures.ambiguity
+    split_blamed c.in_ok-blame-in-Some.field-0 _ c.args.span
+    c.in_ok-blame-in-Some.ensures.refusal _ c.in-Some.is
+    cells f g c.args.operands are _ c.in_ok-new-in-Some.ensures.ok value
+    c.in_ok-blame-in-Some.ensures.ambiguity
     (on_cells cells f g c.args.operands (split f g value) _ are
     (λ standing. c.in_ok-rule.ensures standing f g value are.left are.right))
 

@@ -12,14 +12,15 @@ returns-in_err-value-clause-refused c =
     let err = err_from_is_err_and c.from_residual.result c.from_residual.ensures.1 in
     rw (err.1, err.2)
     (λ nesting columns f is.
-    apply_refused nesting columns f c.args.operand is (plain_expression c.args.value.now) c.args.span
-    (shown_types c.of_one-types.result) c.of_one-types.ensures _ c.in_err-value.ensures.refused)
+    apply_refused nesting columns f c.args.operand is
+    (plain_expression c.args.value.now) c.args.span (shown_types c.of_one-types.result)
+    c.of_one-types.ensures _ c.in_err-value.ensures.refused)
 
 pub returns-clause-made : goal.returns-clause-made
 returns-clause-made c =
     λ nesting columns f is.
     apply_made nesting columns f c.args.operand is (plain_expression c.args.value.now) c.args.span
-    (shown_types c.of_one-types.result) c.of_one-types.ensures c.in_ok-value.value _ c.in_ok-value.ty
-    c.in_ok-value.ensures.made
+    (shown_types c.of_one-types.result) c.of_one-types.ensures c.in_ok-value.value _
+    c.in_ok-value.ty c.in_ok-value.ensures.made
     (ap plain_of c.in_ok-new.ensures.shape_is) (ap places_at c.in_ok-new.ensures.shape_is)
     c.in_ok-new.ensures.span_is c.in_ok-new.ensures.type_is

@@ -13,7 +13,8 @@ returns-in_err-step-clause-refused c =
     rw (err.1, err.2)
     (λ nesting columns f is.
     iter_refused nesting columns f c.args.operand is (plain_expression c.args.step.now) c.args.span
-    (shown_types c.of_two-types.result) c.args.first.now c.of_two-types.ensures _ c.in_err-step.ensures.refused)
+    (shown_types c.of_two-types.result) c.args.first.now c.of_two-types.ensures _
+    c.in_err-step.ensures.refused)
 
 pub returns-clause-made : goal.returns-clause-made
 returns-clause-made c =
@@ -22,5 +23,6 @@ returns-clause-made c =
     (shown_types c.of_two-types.result) c.args.first.now c.of_two-types.ensures c.in_ok-step.step _
     c.in_ok-step.ensures.made
     (search rules)
-    (ap plain_of c.in_ok-new.ensures.shape_is ∙ search rules) (ap places_at c.in_ok-new.ensures.shape_is)
-    c.in_ok-new.ensures.span_is c.in_ok-new.ensures.type_is
+    (ap plain_of c.in_ok-new.ensures.shape_is ∙ search rules)
+    (ap places_at c.in_ok-new.ensures.shape_is) c.in_ok-new.ensures.span_is
+    c.in_ok-new.ensures.type_is

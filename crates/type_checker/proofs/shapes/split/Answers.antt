@@ -22,4 +22,5 @@ returns-clause-made c =
     split_made nesting columns f g c.args.left c.args.right is_left is_right c.args.span
     (plain_expression c.args.value.now) (shown_types c.of_two-types.result) c.of_two-types.ensures
     c.in_ok-value.value c.in_ok-value.ty c.in_ok-value.ensures.made _
-    (ap places_at c.in_ok-new.ensures.shape_is) c.in_ok-new.ensures.span_is c.in_ok-new.ensures.type_is (ap plain_of c.in_ok-new.ensures.shape_is)
+    (ap places_at c.in_ok-new.ensures.shape_is) c.in_ok-new.ensures.span_is
+    c.in_ok-new.ensures.type_is (ap plain_of c.in_ok-new.ensures.shape_is)

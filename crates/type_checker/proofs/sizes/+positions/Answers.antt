@@ -7,33 +7,40 @@ use Rattle.type_checker.specs.Sizes.{has_many_positions}
 use Rattle.query_model.specs.Queries.{plain_of}
 use Rattle.query_model.specs.QueryTypes.{derived_columns, type_of}
 use Rattle.query_model.specs.Rules.{bound}
-use Rattle.type_checker.proofs.ManyPositions.{few_over, few_over_both, many_over, many_over_both, on_ok_both}
+use Rattle.type_checker.proofs.ManyPositions.{few_over, few_over_both, many_over, many_over_both}
+use Rattle.type_checker.proofs.ManyPositions.{on_ok_both}
 use Rattle.type_checker.proofs.OfOperands.{one_inside, one_inside_both}
 use Rattle.type_checker.proofs.sizes.+positions.Goals as goal
 
 -- of two operands
-pub positions_of_two-returns-in_err-left-clause-first : goal.positions_of_two-returns-in_err-left-clause-first
+pub positions_of_two-returns-in_err-left-clause-first :
+    goal.positions_of_two-returns-in_err-left-clause-first
 positions_of_two-returns-in_err-left-clause-first t c =
     let err = err_from_is_err_and c.from_residual.result c.from_residual.ensures.1 in
     rw (err.1, err.2) (λ columns others standing other.
-    ap (λ (found : Option Span). option_or found (first_in has_many_positions others other c.args.second.now))
+    ap (λ (found : Option Span). option_or found
+    (first_in has_many_positions others other c.args.second.now))
     (c.in_err-left.ensures.first columns standing))
 
-pub positions_of_two-returns-in_err-right-clause-first : goal.positions_of_two-returns-in_err-right-clause-first
+pub positions_of_two-returns-in_err-right-clause-first :
+    goal.positions_of_two-returns-in_err-right-clause-first
 positions_of_two-returns-in_err-right-clause-first t c =
-    let err = err_from_is_err_and c.from_residual-in_err-right.result c.from_residual-in_err-right.ensures.1 in
+    let err = err_from_is_err_and c.from_residual-in_err-right.result
+    c.from_residual-in_err-right.ensures.1 in
     rw (err.1, err.2) (λ columns others standing other.
-    ap (λ (found : Option Span). option_or found (first_in has_many_positions others other c.args.second.now))
+    ap (λ (found : Option Span). option_or found
+    (first_in has_many_positions others other c.args.second.now))
     (c.in_ok-left.ensures.none columns standing)
     ∙ c.in_err-right.ensures.first others other)
 
 -- of a node that has those of both
-pub positions_of_both-returns-in_err-counts-clause-first : goal.positions_of_both-returns-in_err-counts-clause-first
+pub positions_of_both-returns-in_err-counts-clause-first :
+    goal.positions_of_both-returns-in_err-counts-clause-first
 positions_of_both-returns-in_err-counts-clause-first t c =
     let err = err_from_is_err_and c.from_residual.result c.from_residual.ensures.1 in
     rw (err.1, err.2) (λ columns node at is.
-    one_inside_both has_many_positions node columns bound c.args.first.now columns bound c.args.second.now _
-    (c.in_err-counts.ensures.first columns columns bound bound))
+    one_inside_both has_many_positions node columns bound c.args.first.now columns bound
+    c.args.second.now _ (c.in_err-counts.ensures.first columns columns bound bound))
 
 pub positions_of_both-returns-clause-none : goal.positions_of_both-returns-clause-none
 positions_of_both-returns-clause-none t c =
@@ -56,19 +63,21 @@ positions_of_both-returns-clause-first t c =
     c.few_together.ensures.many
 
 -- and of one that has those of its first
-pub positions_of_first-returns-in_err-counts-clause-first : goal.positions_of_first-returns-in_err-counts-clause-first
+pub positions_of_first-returns-in_err-counts-clause-first :
+    goal.positions_of_first-returns-in_err-counts-clause-first
 positions_of_first-returns-in_err-counts-clause-first t c =
     let err = err_from_is_err_and c.from_residual.result c.from_residual.ensures.1 in
     rw (err.1, err.2) (λ columns others standing other node.
-    one_inside_both has_many_positions node columns standing c.args.first.now others other c.args.second.now _
-    (c.in_err-counts.ensures.first columns others standing other))
+    one_inside_both has_many_positions node columns standing c.args.first.now others other
+    c.args.second.now _ (c.in_err-counts.ensures.first columns others standing other))
 
 pub positions_of_first-returns-clause-none : goal.positions_of_first-returns-clause-none
 positions_of_first-returns-clause-none t c = λ columns others standing other node is.
     let left = c.in_ok-counts.ensures.left in
     let small = c.in_ok-counts.ensures.small in
-    few_over_both node columns standing c.args.first.now (c.in_ok-counts.ensures.none columns standing).0
-    others other c.args.second.now (c.in_ok-counts.ensures.none others other).1 (omega (arith, small.0, left, is))
+    few_over_both node columns standing c.args.first.now
+    (c.in_ok-counts.ensures.none columns standing).0 others other c.args.second.now
+    (c.in_ok-counts.ensures.none others other).1 (omega (arith, small.0, left, is))
 
 -- of one that has those of a rate
 pub positions_of_rate-returns-in_err-positions_of-clause-first :
@@ -123,13 +132,15 @@ positions_of-returns-in-Split-clause-first t c =
 
 pub positions_of-returns-in-Combine-clause-none : goal.positions_of-returns-in-Combine-clause-none
 positions_of-returns-in-Combine-clause-none t c =
-    let none = rw (c.deref-in-Combine.ensures, c.deref-in-Combine-2.ensures) at c.positions_of_first.ensures.none in
+    let none = rw (c.deref-in-Combine.ensures, c.deref-in-Combine-2.ensures) at
+    c.positions_of_first.ensures.none in
     rw c.in-Combine.is (on_ok_weaker c.positions_of_first.result
     (λ few columns standing. few columns columns bound bound _ refl) none)
 
 pub positions_of-returns-in-Combine-clause-first : goal.positions_of-returns-in-Combine-clause-first
 positions_of-returns-in-Combine-clause-first t c =
-    let first = rw (c.deref-in-Combine.ensures, c.deref-in-Combine-2.ensures) at c.positions_of_first.ensures.first in
+    let first = rw (c.deref-in-Combine.ensures, c.deref-in-Combine-2.ensures) at
+    c.positions_of_first.ensures.first in
     rw c.in-Combine.is (IfErr-weaker c.positions_of_first.result _ _
     (λ place some columns standing. some columns columns bound bound _) first)
 
@@ -139,7 +150,8 @@ positions_of-returns-in-Compose-clause-none t c =
     at c.positions_of_first-in-Compose.ensures.none in
     rw c.in-Compose.is (on_ok_weaker c.positions_of_first-in-Compose.result
     (λ few columns standing. few columns
-    (derived_columns (type_of columns (plain_of c.in-Compose.first.value.shape))) standing standing _ refl) none)
+    (derived_columns (type_of columns (plain_of c.in-Compose.first.value.shape))) standing
+    standing _ refl) none)
 
 pub positions_of-returns-in-Compose-clause-first : goal.positions_of-returns-in-Compose-clause-first
 positions_of-returns-in-Compose-clause-first t c =
@@ -147,7 +159,8 @@ positions_of-returns-in-Compose-clause-first t c =
     at c.positions_of_first-in-Compose.ensures.first in
     rw c.in-Compose.is (IfErr-weaker c.positions_of_first-in-Compose.result _ _
     (λ place some columns standing. some columns
-    (derived_columns (type_of columns (plain_of c.in-Compose.first.value.shape))) standing standing _) first)
+    (derived_columns (type_of columns (plain_of c.in-Compose.first.value.shape))) standing
+    standing _) first)
 
 pub positions_of-returns-in-Iter-clause-none : goal.positions_of-returns-in-Iter-clause-none
 positions_of-returns-in-Iter-clause-none t c =
@@ -173,7 +186,8 @@ positions_of-returns-in-Apply-clause-none t c =
 pub positions_of-returns-in-Apply-clause-first : goal.positions_of-returns-in-Apply-clause-first
 positions_of-returns-in-Apply-clause-first t c =
     let found = rw c.deref-in-Apply.ensures at c.positions_of-in-Apply.ensures.first in
-    rw c.in-Apply.is (IfErr-weaker c.positions_of-in-Apply.result _ _ (λ place some columns standing.
+    rw c.in-Apply.is
+    (IfErr-weaker c.positions_of-in-Apply.result _ _ (λ place some columns standing.
     one_inside has_many_positions _ columns bound c.in-Apply.inner.value place
     (some columns bound)) found)
 

@@ -19,8 +19,9 @@ pub returns-clause-made : goal.returns-clause-made
 returns-clause-made c =
     let parts = c.in_ok-parts.parts in
     let named = c.in_ok-parts.ensures.named in
-    λ f is. collect_made (nesting_of c.args.nesting) (columns_of c.args.items.now) c.args.written.now.key.now
-    (plain_predicate c.args.written.now.sync.now) (plain_rate c.args.written.now.rate.now) f c.args.span c.args.operand
+    λ f is. collect_made (nesting_of c.args.nesting) (columns_of c.args.items.now)
+    c.args.written.now.key.now (plain_predicate c.args.written.now.sync.now)
+    (plain_rate c.args.written.now.rate.now) f c.args.span c.args.operand
     is parts.key named.keyed (predicates.plain_of parts.sync) named.tested
     (rates.plain_of parts.rate) named.rated c.in_ok-parts.ensures.stands c.in_ok-parts.ensures.fit _
     c.requires

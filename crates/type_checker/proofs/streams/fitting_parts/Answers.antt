@@ -10,5 +10,6 @@ returns-in_err-parts-clause-refused c =
 
 pub returns-in-Err-clause-refused : goal.returns-in-Err-clause-refused
 returns-in-Err-clause-refused c = λ operand.
-    c.in-Err.ensures.refused c.args.written.now.key.now (plain_predicate c.args.written.now.sync.now)
-    (plain_rate c.args.written.now.rate.now) operand c.in_ok-parts.ensures.made
+    c.in-Err.ensures.refused c.args.written.now.key.now
+    (plain_predicate c.args.written.now.sync.now) (plain_rate c.args.written.now.rate.now) operand
+    c.in_ok-parts.ensures.made

@@ -11,15 +11,16 @@ returns-then-not-may_collect-clause-refused c =
     let parts = c.args.parts.now in
     let never : may_collect (nesting_of c.args.nesting) ≡ false = first_of (cc, search rules) in
     rw c.refused.ensures
-    (λ key sync rate operand are f is. misplaced (nesting_of c.args.nesting) c.args.schema.now.columns key sync rate f
-    c.args.span operand is parts.key are.keyed (predicates.plain_of parts.sync) are.tested
-    (rates.plain_of parts.rate) are.rated never)
+    (λ key sync rate operand are f is. misplaced (nesting_of c.args.nesting)
+    c.args.schema.now.columns key sync rate f c.args.span operand is parts.key are.keyed
+    (predicates.plain_of parts.sync) are.tested (rates.plain_of parts.rate) are.rated never)
 
 pub returns-then-not-parts_fit-clause-refused : goal.returns-then-not-parts_fit-clause-refused
 returns-then-not-parts_fit-clause-refused c =
     let parts = c.args.parts.now in
     let may : may_collect (nesting_of c.args.nesting) ≡ true = first_of (cc, search rules) in
     rw c.refused-then-not-parts_fit.ensures
-    (λ key sync rate operand are f is. unfit_parts (nesting_of c.args.nesting) c.args.schema.now.columns key sync rate f
-    c.args.span operand is parts.key are.keyed (predicates.plain_of parts.sync) are.tested
-    (rates.plain_of parts.rate) are.rated may (first_of (cc, search rules)))
+    (λ key sync rate operand are f is. unfit_parts (nesting_of c.args.nesting)
+    c.args.schema.now.columns key sync rate f c.args.span operand is parts.key are.keyed
+    (predicates.plain_of parts.sync) are.tested (rates.plain_of parts.rate) are.rated may
+    (first_of (cc, search rules)))

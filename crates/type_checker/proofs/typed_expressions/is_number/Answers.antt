@@ -15,7 +15,8 @@ returns-in-Some-Table c =
     let types = shown_types c.args.types.now in
     let value = plain_of c.args.value.now in
     sym (no_number types value c.requires
-    (table_is_no_number types value (rw c.in-Some-Table.field-0-is at c.in-Some-Table.ensures.some)))
+    (table_is_no_number types value
+    (rw c.in-Some-Table.field-0-is at c.in-Some-Table.ensures.some)))
 
 pub returns-in-None : goal.returns-in-None
 returns-in-None c =

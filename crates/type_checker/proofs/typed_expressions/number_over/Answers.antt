@@ -11,8 +11,9 @@ use Rattle.type_checker.proofs.typed_expressions.number_over.Goals as goal
 pub returns-in_default-clause-refused : goal.returns-in_default-clause-refused
 returns-in_default-clause-refused c =
     rw c.refused.ensures
-    (unnamed_number (plain_scope c.args.scope) (shown_types c.args.types.now) (plain_expression c.args.expression.now)
-    c.args.span (rw c.in_default.is at c.in_ok-value.ensures.made))
+    (unnamed_number (plain_scope c.args.scope) (shown_types c.args.types.now)
+    (plain_expression c.args.expression.now) c.args.span
+    (rw c.in_default.is at c.in_ok-value.ensures.made))
 
 pub is_number-requires : goal.is_number-requires
 is_number-requires c = rw c.in-Some.is at c.in_ok-value.ensures.numbers
@@ -22,8 +23,9 @@ returns-then-not-is_number-clause-refused c =
     let differs : is_number (shown_types c.args.types.now) (plain_of c.in-Some.value) ≡ false =
     first_of (cc, search rules) in
     rw c.refused-then-not-is_number.ensures
-    (fails_number (plain_scope c.args.scope) (shown_types c.args.types.now) (plain_expression c.args.expression.now)
-    c.args.span (plain_of c.in-Some.value) (rw c.in-Some.is at c.in_ok-value.ensures.made) differs)
+    (fails_number (plain_scope c.args.scope) (shown_types c.args.types.now)
+    (plain_expression c.args.expression.now) c.args.span (plain_of c.in-Some.value)
+    (rw c.in-Some.is at c.in_ok-value.ensures.made) differs)
 
 pub returns-clause-made : goal.returns-clause-made
 returns-clause-made c =

@@ -19,4 +19,5 @@ returns-in-Ok-clause-places c =
 pub returns-in-Err-Refused-clause-judged : goal.returns-in-Err-Refused-clause-judged
 returns-in-Err-Refused-clause-judged c =
     unmeasured_refused (plain_program c.args.program.now) _
-    (rw c.in-Err-Refused.why-is (rw c.in-Err-Refused.field-0-is at c.in-Err-Refused.ensures.refused))
+    (rw c.in-Err-Refused.why-is
+    (rw c.in-Err-Refused.field-0-is at c.in-Err-Refused.ensures.refused))

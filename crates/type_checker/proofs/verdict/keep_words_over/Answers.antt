@@ -19,7 +19,8 @@ broken_on shared cells same query stop broken =
 
 pub keep_words-requires : goal.keep_words-requires
 keep_words-requires c =
-    subst (λ (p : Partition). CanBeAsked p (plain_of c.args.query.now.shape)) (sym c.in_ok-cells.ensures) c.requires
+    subst (λ (p : Partition). CanBeAsked p (plain_of c.args.query.now.shape))
+    (sym c.in_ok-cells.ensures) c.requires
 
 pub returns-in_err-keep_words-clause-refused : goal.returns-in_err-keep_words-clause-refused
 returns-in_err-keep_words-clause-refused c =

@@ -14,7 +14,8 @@ use Rattle.type_checker.proofs.word_rules.+met_rule.Goals as goal
 
 pub empty_rule-requires : goal.empty_rule-requires
 empty_rule-requires t c =
-    let among = subst (λ (rate : Rate). AreAmong c.args.cells.now (preds_of (plain_of rate))) c.in-One.is c.requires in
+    let among = subst (λ (rate : Rate). AreAmong c.args.cells.now (preds_of (plain_of rate)))
+    c.in-One.is c.requires in
     among (predicates.plain_of c.in-One.pred) (0, omega arith, refl)
 
 pub returns-in-One : goal.returns-in-One
@@ -31,7 +32,8 @@ met_rule-requires-in-Seq-2 t c =
       | inr is ↦ ap (λ (rate : Rate). preds_of (plain_of rate)) is
     ] in
     let among = among_back c.args.cells.now (preds_of (plain_of c.in-Seq.left.value))
-    (preds_of (plain_of c.in-Seq.right.value)) (subst (AreAmong c.args.cells.now) parts c.requires) in
+    (preds_of (plain_of c.in-Seq.right.value))
+    (subst (AreAmong c.args.cells.now) parts c.requires) in
     (search (rules, the_lemmas), rw c.deref-in-Seq-2.ensures among)
 
 pub returns-in-Seq : goal.returns-in-Seq

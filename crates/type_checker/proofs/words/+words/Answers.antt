@@ -30,7 +30,8 @@ keep_both-new-requires-2 = both.keep_both-new-requires-2
 pub keep_both-returns-in_err-left-clause-refused : goal.keep_both-returns-in_err-left-clause-refused
 keep_both-returns-in_err-left-clause-refused = both.keep_both-returns-in_err-left-clause-refused
 
-pub keep_both-returns-in_err-right-clause-refused : goal.keep_both-returns-in_err-right-clause-refused
+pub keep_both-returns-in_err-right-clause-refused :
+    goal.keep_both-returns-in_err-right-clause-refused
 keep_both-returns-in_err-right-clause-refused = both.keep_both-returns-in_err-right-clause-refused
 
 pub keep_both-returns-clause-kept : goal.keep_both-returns-clause-kept
@@ -71,8 +72,10 @@ keep_words-returns-in-Or-clause-refused = choice.keep_words-returns-in-Or-clause
 pub keep_choice-choice-requires-clause-few : goal.keep_choice-choice-requires-clause-few
 keep_choice-choice-requires-clause-few = choice.keep_choice-choice-requires-clause-few
 
-pub keep_choice-returns-in_err-operands-clause-refused : goal.keep_choice-returns-in_err-operands-clause-refused
-keep_choice-returns-in_err-operands-clause-refused = choice.keep_choice-returns-in_err-operands-clause-refused
+pub keep_choice-returns-in_err-operands-clause-refused :
+    goal.keep_choice-returns-in_err-operands-clause-refused
+keep_choice-returns-in_err-operands-clause-refused =
+    choice.keep_choice-returns-in_err-operands-clause-refused
 
 pub keep_choice-returns-clause-kept : goal.keep_choice-returns-clause-kept
 keep_choice-returns-clause-kept = choice.keep_choice-returns-clause-kept
@@ -99,8 +102,10 @@ keep_words-returns-in-Split-clause-refused = split.keep_words-returns-in-Split-c
 pub keep_split-split-requires-clause-few : goal.keep_split-split-requires-clause-few
 keep_split-split-requires-clause-few = split.keep_split-split-requires-clause-few
 
-pub keep_split-returns-in_err-operands-clause-refused : goal.keep_split-returns-in_err-operands-clause-refused
-keep_split-returns-in_err-operands-clause-refused = split.keep_split-returns-in_err-operands-clause-refused
+pub keep_split-returns-in_err-operands-clause-refused :
+    goal.keep_split-returns-in_err-operands-clause-refused
+keep_split-returns-in_err-operands-clause-refused =
+    split.keep_split-returns-in_err-operands-clause-refused
 
 pub keep_split-returns-clause-kept : goal.keep_split-returns-clause-kept
 keep_split-returns-clause-kept = split.keep_split-returns-clause-kept
@@ -118,8 +123,10 @@ keep_words-keep_combination-requires = combine.keep_words-keep_combination-requi
 pub keep_words-returns-in-Combine-clause-kept : goal.keep_words-returns-in-Combine-clause-kept
 keep_words-returns-in-Combine-clause-kept = combine.keep_words-returns-in-Combine-clause-kept
 
-pub keep_words-returns-in-Combine-clause-positions : goal.keep_words-returns-in-Combine-clause-positions
-keep_words-returns-in-Combine-clause-positions = combine.keep_words-returns-in-Combine-clause-positions
+pub keep_words-returns-in-Combine-clause-positions :
+    goal.keep_words-returns-in-Combine-clause-positions
+keep_words-returns-in-Combine-clause-positions =
+    combine.keep_words-returns-in-Combine-clause-positions
 
 pub keep_words-returns-in-Combine-clause-refused : goal.keep_words-returns-in-Combine-clause-refused
 keep_words-returns-in-Combine-clause-refused = combine.keep_words-returns-in-Combine-clause-refused
@@ -154,8 +161,10 @@ keep_words-returns-in-Iter-clause-refused = iter.keep_words-returns-in-Iter-clau
 pub keep_iteration-new-requires : goal.keep_iteration-new-requires
 keep_iteration-new-requires = iter.keep_iteration-new-requires
 
-pub keep_iteration-returns-in_err-positions-clause-refused : goal.keep_iteration-returns-in_err-positions-clause-refused
-keep_iteration-returns-in_err-positions-clause-refused = iter.keep_iteration-returns-in_err-positions-clause-refused
+pub keep_iteration-returns-in_err-positions-clause-refused :
+    goal.keep_iteration-returns-in_err-positions-clause-refused
+keep_iteration-returns-in_err-positions-clause-refused =
+    iter.keep_iteration-returns-in_err-positions-clause-refused
 
 pub keep_iteration-returns-clause-kept : goal.keep_iteration-returns-clause-kept
 keep_iteration-returns-clause-kept = iter.keep_iteration-returns-clause-kept
@@ -186,8 +195,10 @@ keep_words-keep_composition-requires = compose.keep_words-keep_composition-requi
 pub keep_words-returns-in-Compose-clause-kept : goal.keep_words-returns-in-Compose-clause-kept
 keep_words-returns-in-Compose-clause-kept = compose.keep_words-returns-in-Compose-clause-kept
 
-pub keep_words-returns-in-Compose-clause-positions : goal.keep_words-returns-in-Compose-clause-positions
-keep_words-returns-in-Compose-clause-positions = compose.keep_words-returns-in-Compose-clause-positions
+pub keep_words-returns-in-Compose-clause-positions :
+    goal.keep_words-returns-in-Compose-clause-positions
+keep_words-returns-in-Compose-clause-positions =
+    compose.keep_words-returns-in-Compose-clause-positions
 
 pub keep_words-returns-in-Compose-clause-refused : goal.keep_words-returns-in-Compose-clause-refused
 keep_words-returns-in-Compose-clause-refused = compose.keep_words-returns-in-Compose-clause-refused
@@ -195,8 +206,10 @@ keep_words-returns-in-Compose-clause-refused = compose.keep_words-returns-in-Com
 pub keep_composition-keep_words-requires : goal.keep_composition-keep_words-requires
 keep_composition-keep_words-requires = compose.keep_composition-keep_words-requires
 
-pub keep_composition-returns-in_err-left-clause-refused : goal.keep_composition-returns-in_err-left-clause-refused
-keep_composition-returns-in_err-left-clause-refused = compose.keep_composition-returns-in_err-left-clause-refused
+pub keep_composition-returns-in_err-left-clause-refused :
+    goal.keep_composition-returns-in_err-left-clause-refused
+keep_composition-returns-in_err-left-clause-refused =
+    compose.keep_composition-returns-in_err-left-clause-refused
 
 pub keep_composition-returns-in_err-keep_fed-clause-refused :
     goal.keep_composition-returns-in_err-keep_fed-clause-refused
@@ -213,8 +226,10 @@ keep_words-keep_collection-requires = collect.keep_words-keep_collection-require
 pub keep_words-returns-in-Collect-clause-kept : goal.keep_words-returns-in-Collect-clause-kept
 keep_words-returns-in-Collect-clause-kept = collect.keep_words-returns-in-Collect-clause-kept
 
-pub keep_words-returns-in-Collect-clause-positions : goal.keep_words-returns-in-Collect-clause-positions
-keep_words-returns-in-Collect-clause-positions = collect.keep_words-returns-in-Collect-clause-positions
+pub keep_words-returns-in-Collect-clause-positions :
+    goal.keep_words-returns-in-Collect-clause-positions
+keep_words-returns-in-Collect-clause-positions =
+    collect.keep_words-returns-in-Collect-clause-positions
 
 pub keep_words-returns-in-Collect-clause-refused : goal.keep_words-returns-in-Collect-clause-refused
 keep_words-returns-in-Collect-clause-refused = collect.keep_words-returns-in-Collect-clause-refused

@@ -8,11 +8,13 @@ use Rattle.type_checker.proofs.words.cells_between.Goals as goal
 pub cells_of-requires : goal.cells_of-requires
 cells_of-requires c =
     let made = rw c.schema.ensures at c.in_ok-values.ensures in
-    values_fit _ (plain_of c.args.left.now.shape) (plain_of c.args.right.now.shape) _ c.requires made
+    values_fit _ (plain_of c.args.left.now.shape) (plain_of c.args.right.now.shape)
+    _ c.requires made
 
 pub returns-in-Ok-clause-asked : goal.returns-in-Ok-clause-asked
 returns-in-Ok-clause-asked c =
     let made = rw c.schema.ensures at c.in_ok-values.ensures in
-    subst (λ (p : Partition). CanBeAsked p (plain_of c.args.right.now.shape)) (sym c.in_ok-new-in-Ok.ensures.ok)
+    subst (λ (p : Partition). CanBeAsked p (plain_of c.args.right.now.shape))
+    (sym c.in_ok-new-in-Ok.ensures.ok)
     (asked_values _ (plain_of c.args.left.now.shape) (plain_of c.args.right.now.shape) _ c.requires
     (c.in-Ok.ensures.layout ∙ made) c.in-Ok.ensures.members)

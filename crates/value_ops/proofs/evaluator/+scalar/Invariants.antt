@@ -8,7 +8,8 @@ decreases-scalar l = 2 * size-Expr l.expr.now
 
 abbrev pub decreases-chosen : goal.decreases-chosen
 decreases-chosen l =
-    2 * max (max (size-Expr l.left.now) (size-Expr l.right.now)) (max (size-Expr l.met.now) (size-Expr l.other.now)) + 1
+    2 * max (max (size-Expr l.left.now) (size-Expr l.right.now))
+    (max (size-Expr l.met.now) (size-Expr l.other.now)) + 1
 
 abbrev pub decreases-joined : goal.decreases-joined
 decreases-joined l = 2 * max (size-Expr l.left.now) (size-Expr l.right.now) + 1

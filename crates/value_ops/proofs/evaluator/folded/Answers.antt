@@ -7,6 +7,7 @@ use Rattle.value_ops.proofs.evaluator.folded.Goals as goal
 
 pub loop-i-preserved : goal.loop-i-preserved
 loop-i-preserved c =
-    c.binary-so_far.ensures ∙ ap (λ so_far. binary_of c.args.op so_far c.value.result) c.loop-i.invariant
+    c.binary-so_far.ensures
+    ∙ ap (λ so_far. binary_of c.args.op so_far c.value.result) c.loop-i.invariant
     ∙ sym (fold_more (binary_of c.args.op) c.args.first (values_of c.args.table.now) c.loop-i.i
     c.value.result c.value.ensures)

@@ -10,8 +10,8 @@ use Rattle.ambiguity_check.proofs.factorings.FactoringsGraph.moves.Goals as goal
 pub returns-in-Together : goal.returns-in-Together
 returns-in-Together c = λ node.
     let sets = c.args.self.now.positions.now in
-    let says = then_says c.has.result _ c.then_some.result (λ step. IsOf step node) c.then_some.ensures
-    c.has.ensures in
+    let says = then_says c.has.result _ c.then_some.result (λ step. IsOf step node)
+    c.then_some.ensures c.has.ensures in
     rw c.in-Together.is (some_each c.args.rights
     (λ (right : ℕ). (node.phase ≡ Together) × Follows sets c.args.left node.left
     × Follows sets right node.right)

@@ -9,7 +9,9 @@ lines-init g c =
     let begins = c.begin-session.ensures in
     let kept = ap (λ s. s.follower) begins in
     record {
-      ready = ready_begins f.query f.columns f.lost f.sound _ _ _ (ap (λ s. s.checked.now) begins) kept
-          c.requires.query c.requires.columns (laws.lost_follows _ [] c.requires.word) (laws.follows_sound _ [] c.requires.word);
+      ready =
+          ready_begins f.query f.columns f.lost f.sound _ _ _ (ap (λ s. s.checked.now) begins) kept
+          c.requires.query c.requires.columns (laws.lost_follows _ [] c.requires.word)
+          (laws.follows_sound _ [] c.requires.word);
       count = omega (arith, ap f.position kept, laws.at_end _ [] c.requires.word);
     }

@@ -12,10 +12,14 @@ pub returns : goal.returns
 returns g c =
     let inside = subst (λ seen. c.args.i < length seen.live) (sym c.self.view_is) c.requires in
     let read = follower_read _ c.args.i c.index_mut.result.now inside c.index_mut.ensures.value in (
-      (refl, λ w. lent _ _ c.args.i c.index_mut.result.now w c.self.view_is c.index_mut.ensures.value),
+      (
+        refl,
+        λ w. lent _ _ c.args.i c.index_mut.result.now w c.self.view_is c.index_mut.ensures.value,
+      ),
       record {
         lends = tt;
-        value = subst (λ seen. slice_get (followers_of seen.live) c.args.i ≡ Some c.index_mut.result.now.follower)
+        value = subst (λ seen. slice_get (followers_of seen.live) c.args.i
+            ≡ Some c.index_mut.result.now.follower)
             c.self.view_is read;
       },
     )

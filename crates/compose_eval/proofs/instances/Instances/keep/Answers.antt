@@ -1,5 +1,6 @@
 use Rattle.std.proofs.Common.{◌<◌, ◌∙◌, false, length, refl, ap, subst, arith}
-use Rattle.compose_eval.proofs.Parting.{live_turn, next, next_inside, none_parted, retire_turn, retired_kept, same_read}
+use Rattle.compose_eval.proofs.Parting.{live_turn, next, next_inside, none_parted, retire_turn}
+use Rattle.compose_eval.proofs.Parting.{retired_kept, same_read}
 use Rattle.compose_eval.proofs.instances.Instances.keep.Goals as goal
 use Rattle.compose_eval.proofs.instances.Instances.keep.Goals.{then-live, else-live}
 
@@ -32,7 +33,8 @@ instances-preserved g c =
       | else-live w ↦
           let gone = w.remove-instance.result in
           let inside = next_inside _ _ _ _ _ _ _ _ before.0 below in
-          let same = same_read _ _ c.index.result.now gone inside c.index.ensures w.remove-instance.ensures.value in
+          let same = same_read _ _ c.index.result.now gone inside c.index.ensures
+          w.remove-instance.ensures.value in
           let at = next _ _ _ _ _ _ _ _ gone before.0 below w.remove-instance.ensures.value in
           rw (w.place-is, w.self-inside-is) (
             retire_turn _ _ _ _ _ _ _ _ _ _ gone at

@@ -12,7 +12,8 @@ begin_anew-requires-clause-no_collect c =
     (c.has_no_collect.ensures.0 c.if-has_no_collect.true)
 
 pub returns-then-has_no_collect-clause-sound : goal.returns-then-has_no_collect-clause-sound
-returns-then-has_no_collect-clause-sound c = follows_sound c.begin_anew.new.self [] c.begin_anew.ensures.word
+returns-then-has_no_collect-clause-sound c =
+    follows_sound c.begin_anew.new.self [] c.begin_anew.ensures.word
 
 pub returns-in_err-fresh-clause-sound : goal.returns-in_err-fresh-clause-sound
 returns-in_err-fresh-clause-sound c =
@@ -20,11 +21,13 @@ returns-in_err-fresh-clause-sound c =
       sound = inl (
         refl,
         λ bare. false≢true (sym c.if-has_no_collect.false ∙ c.has_no_collect.ensures.1
-            (subst (λ (query : Query). HasNoCollect (plain_of query.shape)) (sym c.main.ensures.main) bare)),
+            (subst (λ (query : Query). HasNoCollect (plain_of query.shape))
+            (sym c.main.ensures.main) bare)),
       );
     }
 
 pub returns-in_err-fresh-clause-no_memory : goal.returns-in_err-fresh-clause-no_memory
 returns-in_err-fresh-clause-no_memory c = λ bare.
     absurd (false≢true (sym c.if-has_no_collect.false ∙ c.has_no_collect.ensures.1
-    (subst (λ (query : Query). HasNoCollect (plain_of query.shape)) (sym c.main.ensures.main) bare)))
+    (subst (λ (query : Query). HasNoCollect (plain_of query.shape))
+    (sym c.main.ensures.main) bare)))

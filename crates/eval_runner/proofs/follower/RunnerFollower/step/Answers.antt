@@ -13,10 +13,12 @@ pub carry-requires : goal.carry-requires
 carry-requires c =
     let runner = c.args.self.now in
     let on = runner.checked.now in
-    subst (λ (query : Query). CanCarry seen_of (plain_of query.shape) runner.progress c.args.item.now)
+    subst
+    (λ (query : Query). CanCarry seen_of (plain_of query.shape) runner.progress c.args.item.now)
     (sym c.main.ensures.main)
-    (carry_next on.layout.columns (plain_of on.main.shape) runner.progress c.args.item.now c.main.ensures.checked.clear
-    (found_sound runner c.requires.sound c.requires.found) c.requires.fits)
+    (carry_next on.layout.columns (plain_of on.main.shape) runner.progress c.args.item.now
+    c.main.ensures.checked.clear (found_sound runner c.requires.sound c.requires.found)
+    c.requires.fits)
 
 pub returns-clause-ok : goal.returns-clause-ok
 returns-clause-ok c = λ word follows.
@@ -24,9 +26,10 @@ returns-clause-ok c = λ word follows.
     let old = c.args.self.now.progress in
     record {
       found = refl;
-      at = carried free on.layout.columns (plain_of on.main.shape) word c.args.item.now old c.carry.new.runner
-          c.main.ensures.checked.clear c.requires.fits.is_item follows.at
-          (subst (λ (query : Query). IsCarried seen_of (plain_of query.shape) old c.args.item.now c.carry.new.runner)
+      at = carried free on.layout.columns (plain_of on.main.shape) word c.args.item.now old
+          c.carry.new.runner c.main.ensures.checked.clear c.requires.fits.is_item follows.at
+          (subst (λ (query : Query). IsCarried seen_of (plain_of query.shape) old c.args.item.now
+          c.carry.new.runner)
           c.main.ensures.main c.in_ok-carry.ensures.carried);
     }
 
@@ -35,11 +38,12 @@ returns-clause-sound c =
     let runner = c.args.self.now in
     let on = runner.checked.now in
     let one_more =
-    subst (λ (query : Query). IsCarried seen_of (plain_of query.shape) runner.progress c.args.item.now c.carry.new.runner)
+    subst (λ (query : Query). IsCarried seen_of (plain_of query.shape) runner.progress
+    c.args.item.now c.carry.new.runner)
     c.main.ensures.main c.in_ok-carry.ensures.carried in
     record {
-      sound = inr (one_more.sound free on.layout.columns c.main.ensures.checked.clear c.requires.fits.is_item
-          (found_sound runner c.requires.sound c.requires.found));
+      sound = inr (one_more.sound free on.layout.columns c.main.ensures.checked.clear
+          c.requires.fits.is_item (found_sound runner c.requires.sound c.requires.found));
     }
 
 pub returns-in_err-carry-clause-sound : goal.returns-in_err-carry-clause-sound
@@ -48,11 +52,13 @@ returns-in_err-carry-clause-sound c =
       sound = inl (
         refl,
         λ bare. false≢true (c.in_err-carry.ensures.no_memory (runner_carries c.args.self.now _
-            c.args.item.now c.main.ensures.main c.main.ensures.checked c.requires.sound c.requires.fits bare)),
+            c.args.item.now c.main.ensures.main c.main.ensures.checked c.requires.sound
+            c.requires.fits bare)),
       );
     }
 
 pub returns-in_err-carry-clause-no_memory : goal.returns-in_err-carry-clause-no_memory
 returns-in_err-carry-clause-no_memory c = λ bare.
-    absurd (false≢true (c.in_err-carry.ensures.no_memory (runner_carries c.args.self.now _ c.args.item.now
+    absurd
+    (false≢true (c.in_err-carry.ensures.no_memory (runner_carries c.args.self.now _ c.args.item.now
     c.main.ensures.main c.main.ensures.checked c.requires.sound c.requires.fits bare)))

@@ -10,7 +10,8 @@ pub returns-clause-few : goal.returns-clause-few
 returns-clause-few c = λ word follows.
     let runner = c.args.self.now in
     let checked = c.main.ensures.checked in
-    let kept = runner_few seen_of free (columns_of runner) (query_of runner) word runner.progress checked.clear
-    (read_texts (columns_of runner) checked.read) follows.at.is_word follows.at.follows in
+    let kept = runner_few seen_of free (columns_of runner) (query_of runner) word
+    runner.progress checked.clear (read_texts (columns_of runner) checked.read) follows.at.is_word
+    follows.at.follows in
     let count : c.size_of_runner.result ≡ min (kept_of runner) (2 ^ 64 - 1) = search rules in
     omega (arith, kept, count)

@@ -12,28 +12,33 @@ pub returns-clause-words : goal.returns-clause-words
 returns-clause-words c = λ word follows.
     let runner = c.args.self.now in
     let copied =
-    subst (λ (query : Query). IsCopyOf seen_of (IsCopy seen_of (plain_of query.shape)) runner.progress c.in_ok-progress.progress)
+    subst (λ (query : Query). IsCopyOf seen_of (IsCopy seen_of (plain_of query.shape))
+    runner.progress c.in_ok-progress.progress)
     c.main.ensures.main c.in_ok-progress.ensures in
     record {
       found = follows.found;
-      at = copied_at (columns_of runner) (query_of runner) word runner.progress c.in_ok-progress.progress copied follows.at;
+      at = copied_at (columns_of runner) (query_of runner) word runner.progress
+          c.in_ok-progress.progress copied follows.at;
     }
 
 pub returns-clause-kept : goal.returns-clause-kept
 returns-clause-kept c =
     let runner = c.args.self.now in
     copied_kept (query_of runner) runner.progress c.in_ok-progress.progress
-    (subst (λ (query : Query). IsCopyOf seen_of (IsCopy seen_of (plain_of query.shape)) runner.progress c.in_ok-progress.progress)
+    (subst (λ (query : Query). IsCopyOf seen_of (IsCopy seen_of (plain_of query.shape))
+    runner.progress c.in_ok-progress.progress)
     c.main.ensures.main c.in_ok-progress.ensures)
 
 pub returns-clause-sound : goal.returns-clause-sound
 returns-clause-sound c =
     let runner = c.args.self.now in
     let copied =
-    subst (λ (query : Query). IsCopyOf seen_of (IsCopy seen_of (plain_of query.shape)) runner.progress c.in_ok-progress.progress)
+    subst (λ (query : Query). IsCopyOf seen_of (IsCopy seen_of (plain_of query.shape))
+    runner.progress c.in_ok-progress.progress)
     c.main.ensures.main c.in_ok-progress.ensures in (
       record {
-        sound = inr (copied_soundly (columns_of runner) (query_of runner) runner.progress c.in_ok-progress.progress copied
+        sound = inr (copied_soundly (columns_of runner) (query_of runner) runner.progress
+            c.in_ok-progress.progress copied
             (found_sound runner c.requires.sound c.requires.found));
       },
       c.requires.found,

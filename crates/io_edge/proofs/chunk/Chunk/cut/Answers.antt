@@ -14,5 +14,7 @@ returns c =
     let shown = rw c.deref.ensures.value at c.count_without_cr-count.ensures.shown in
     rw (← c.self.view_is)
     (Chunked-same _ _
-    (part-cut items chunk.from chunk.to c.args.at c.count_without_cr-count.result c.self.invariant.2 within few shown)
-    (part-skip items chunk.from chunk.to (c.args.at + 1) c.self.invariant.2 (omega (arith, within))))
+    (part-cut items chunk.from chunk.to c.args.at c.count_without_cr-count.result c.self.invariant.2
+    within few shown)
+    (part-skip items chunk.from chunk.to (c.args.at + 1) c.self.invariant.2
+    (omega (arith, within))))

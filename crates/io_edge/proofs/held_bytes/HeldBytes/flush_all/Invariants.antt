@@ -3,7 +3,8 @@ use Rattle.std.specs.Io.KnownBytes.{Keeps, append_known}
 use Rattle.io_edge.specs.Limits.{max_held}
 use Rattle.io_edge.proofs.held_bytes.HeldBytes.flush_all.Given as goal
 
--- what the writer holds and what is held back are the same bytes as at first, with no fault on the way
+-- what the writer holds and what is held back are the same bytes as at first, with no
+-- fault on the way
 abbrev pub invariant-pieces : goal.invariant-pieces
 invariant-pieces g l =
     let held = l.self-inside.bytes in

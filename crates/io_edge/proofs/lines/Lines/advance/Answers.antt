@@ -3,7 +3,8 @@ use Rattle.std.proofs.lemmas.Result.{err_from_is_err_and}
 use Rattle.std.specs.Result.{IsErrOf}
 use Rattle.io_edge.specs.declared.lines.LineStop.{LineStop}
 use Rattle.io_edge.specs.declared.lines.LineStop.TheVariants.{Failed, Limit}
-use Rattle.io_edge.proofs.Readings.{Answers-from_cut, Takes-turn, Goes-at_limit, Goes-quiet, Reaches-end}
+use Rattle.io_edge.proofs.Readings.{Answers-from_cut, Takes-turn, Goes-at_limit, Goes-quiet}
+use Rattle.io_edge.proofs.Readings.{Reaches-end}
 use Rattle.io_edge.proofs.lines.Lines.advance.Goals as goal
 
 pub returns-in-Some-clause-line : goal.returns-in-Some-clause-line
@@ -16,12 +17,13 @@ returns-in-Some-clause-again g c =
     let now = c.more.invariant in
     record {
       end = λ met. cc (now.takes.goes.not_met, met);
-      limit = λ _ no_lf full. absurd (Goes-at_limit _ _ _ _ _ now.takes.goes c.in-Some.ensures now.few no_lf full);
+      limit = λ _ no_lf full.
+          absurd (Goes-at_limit _ _ _ _ _ now.takes.goes c.in-Some.ensures now.few no_lf full);
     }
 
 -- what a step stopped by is returned, and is not a fault where it is the limit
-not_failed : {T U : Type 0} (result : Result T LineStop) (stop why : LineStop) → result ≡ Err stop → stop ≡ why
-    → IsErrOf {T = U} (Err why) Limit → IsErrOf result Failed → ⊥
+not_failed : {T U : Type 0} (result : Result T LineStop) (stop why : LineStop)
+    → result ≡ Err stop → stop ≡ why → IsErrOf {T = U} (Err why) Limit → IsErrOf result Failed → ⊥
 not_failed result stop why is same limit failed = cc (is, same, limit, failed)
 
 pub returns-in_err-refill-clause-quiet : goal.returns-in_err-refill-clause-quiet
@@ -36,7 +38,8 @@ returns-in_err-refill-clause-quiet g c =
 
 pub returns-then-branch-eq0-clause-line : goal.returns-then-branch-eq0-clause-line
 returns-then-branch-eq0-clause-line g c =
-    let takes = Takes-turn _ _ _ _ _ _ _ c.more.invariant.takes c.in_default.ensures c.in_ok-refill.ensures.bytes in
+    let takes = Takes-turn _ _ _ _ _ _ _ c.more.invariant.takes c.in_default.ensures
+    c.in_ok-refill.ensures.bytes in
     (takes.got, takes.consumed, Reaches-end _ _ _ takes.got c.end.result takes.goes c.end.ensures)
 
 pub returns-then-branch-eq0-clause-quiet : goal.returns-then-branch-eq0-clause-quiet

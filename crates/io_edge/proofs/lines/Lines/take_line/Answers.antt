@@ -9,7 +9,8 @@ returns-in-Some c =
     let line = ap (λ chunk. chunk.line) c.cut.ensures in
     let unread = ap (λ chunk. chunk.unread) c.cut.ensures in
     rw (← c.self.view_is)
-    (Cuts-from_whole _ _ c.in-Some.at lf.0 lf.1 (omega arith) (omega arith) line refl unread (omega arith) (search rules))
+    (Cuts-from_whole _ _ c.in-Some.at lf.0 lf.1 (omega arith) (omega arith) line refl unread
+    (omega arith) (search rules))
 
 pub returns-in-Some-2 : goal.returns-in-Some-2
 returns-in-Some-2 c =
@@ -18,7 +19,8 @@ returns-in-Some-2 c =
     let stands = rw c.unread-bytes.ensures at c.add.ensures in
     let line = c.end_at_lf.ensures in
     rw (← c.self.view_is)
-    (Cuts-from_piece _ _ piece c.add.new.self.start _ lf.0 (rw c.skip.ensures lf.1) (search rules) line.shows line.over (search rules) (search rules))
+    (Cuts-from_piece _ _ piece c.add.new.self.start _ lf.0 (rw c.skip.ensures lf.1) (search rules)
+    line.shows line.over (search rules) (search rules))
 
 pub returns-in-None : goal.returns-in-None
 returns-in-None c =

@@ -11,10 +11,14 @@ pub returns : goal.returns
 returns g c =
     let inside = subst (λ seen. c.args.i < length seen.tracks) (sym c.self.view_is) c.requires in
     let read = keys_read _ c.args.i c.index_mut.result.now inside c.index_mut.ensures.value in (
-      (refl, λ w. lent _ _ c.args.i c.index_mut.result.now w c.self.view_is c.index_mut.ensures.value),
+      (
+        refl,
+        λ w. lent _ _ c.args.i c.index_mut.result.now w c.self.view_is c.index_mut.ensures.value,
+      ),
       record {
         lends = tt;
-        value = subst (λ seen. slice_get (keys_of seen.tracks) c.args.i ≡ Some c.index_mut.result.now.keys)
+        value = subst
+            (λ seen. slice_get (keys_of seen.tracks) c.args.i ≡ Some c.index_mut.result.now.keys)
             c.self.view_is read;
       },
     )

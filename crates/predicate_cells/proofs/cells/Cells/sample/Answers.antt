@@ -19,5 +19,7 @@ fields_of-requires-clause-below c =
 pub returns : goal.returns
 returns c =
     let cells = c.args.self.now in
-    let ranks = c.deref.ensures.value ∙ c.self.invariant.3 ∙ ap (λ (p : Partition). ranks_from 0 p.layout.columns p.preds) c.self.view_is in
-    rw (c.from_fields.ensures ∙ c.in_ok-fields_of.ensures ∙ ap (λ rs. sample_of rs c.args.cell) ranks) (sample_in cells c.args.cell c.requires)
+    let ranks = c.deref.ensures.value ∙ c.self.invariant.3
+    ∙ ap (λ (p : Partition). ranks_from 0 p.layout.columns p.preds) c.self.view_is in
+    rw (c.from_fields.ensures ∙ c.in_ok-fields_of.ensures
+    ∙ ap (λ rs. sample_of rs c.args.cell) ranks) (sample_in cells c.args.cell c.requires)

@@ -10,6 +10,7 @@ returns c =
     let starts = c.deref.result.now in
     let n = c.args.number in
     let first = at_most_first starts n (rw c.deref.ensures.value c.self.invariant.0) in
-    let point = IsPartitionPoint-from_clause (λ start. int_le start n) starts _ c.partition_point.ensures.partitioned first (λ a r q k. search rules) in
+    let point = IsPartitionPoint-from_clause (λ start. int_le start n) starts _
+    c.partition_point.ensures.partitioned first (λ a r q k. search rules) in
     sym (number_searched starts n _ c.partition_point.ensures.bound point)
     ∙ ap (λ xs. number_rank xs n) (c.deref.ensures.value ∙ ap (λ r. r.starts) c.self.view_is)

@@ -9,15 +9,19 @@ pub returns-in-Ok : goal.returns-in-Ok
 returns-in-Ok c =
     let texts = c.deref.result.now in
     let s = c.args.text.now in
-    let found = c.in-Ok.ensures.position (λ t. slice_cmp nat_cmp t s) (always_returns_same _ _ _ (λ a r f h. search rules)) in
-    sym (text_found texts s c.in-Ok.place (rw c.deref.ensures.value c.self.invariant.1) c.in-Ok.ensures.bound found)
+    let found = c.in-Ok.ensures.position (λ t. slice_cmp nat_cmp t s)
+    (always_returns_same _ _ _ (λ a r f h. search rules)) in
+    sym (text_found texts s c.in-Ok.place (rw c.deref.ensures.value c.self.invariant.1)
+    c.in-Ok.ensures.bound found)
     ∙ ap (λ named. text_rank named s) (c.deref.ensures.value ∙ ap (λ r. r.texts) c.self.view_is)
 
 pub returns-in-Err : goal.returns-in-Err
 returns-in-Err c =
     let texts = c.deref.result.now in
     let s = c.args.text.now in
-    let missed = c.in-Err.ensures.position (λ t. slice_cmp nat_cmp t s) (always_returns_same _ _ _ (λ a r f h. search rules)) in
+    let missed = c.in-Err.ensures.position (λ t. slice_cmp nat_cmp t s)
+    (always_returns_same _ _ _ (λ a r f h. search rules)) in
     c.len.ensures ∙ sym c.deref.ensures.len
-    ∙ sym (text_missed texts s c.in-Err.field-0 (rw c.deref.ensures.value c.self.invariant.1) missed)
+    ∙ sym (text_missed texts s c.in-Err.field-0
+    (rw c.deref.ensures.value c.self.invariant.1) missed)
     ∙ ap (λ named. text_rank named s) (c.deref.ensures.value ∙ ap (λ r. r.texts) c.self.view_is)

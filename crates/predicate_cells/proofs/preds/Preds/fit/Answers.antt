@@ -11,6 +11,7 @@ pub returns : goal.returns
 returns c =
     let columns = c.args.schema.now.columns in
     let preds = c.deref.result.now in
-    all_from_yields_List (λ p. fits columns (plain_of p)) _ _ _ c.all.ensures.ran (YieldsList-from_slice preds cc) (λ x b q k. search (rules, tests))
+    all_from_yields_List (λ p. fits columns (plain_of p)) _ _ _ c.all.ensures.ran
+    (YieldsList-from_slice preds cc) (λ x b q k. search (rules, tests))
     ∙ sym (list_all-map (fits columns) plain_of preds)
     ∙ ap (list_all (fits columns)) (ap (map plain_of) c.deref.ensures.value ∙ c.self.view_is)

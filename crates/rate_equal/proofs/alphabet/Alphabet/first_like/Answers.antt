@@ -3,5 +3,6 @@ use Rattle.rate_equal.proofs.Sifting.{none_all}
 use Rattle.rate_equal.proofs.alphabet.Alphabet.first_like.Goals as goal
 
 pub returns-clause-none : goal.returns-clause-none
-returns-clause-none c = λ is. none_all c.args.self.now.letters.items c.args.pattern c.parts.block c.args.self.now.few
+returns-clause-none c =
+    λ is. none_all c.args.self.now.letters.items c.args.pattern c.parts.block c.args.self.now.few
     (omega arith) c.parts.invariant

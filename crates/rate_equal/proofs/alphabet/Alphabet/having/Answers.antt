@@ -10,7 +10,8 @@ returns-clause-first c = λ place position letter found on met.
     let first : c.args.self.now.first.items ≡ c.deref.result.now = cc in
     let within = slice_get_within c.args.self.now.letters.items place letter found in
     c.insert_rows-2.ensures.kept place (c.insert_rows.ensures.held position place on
-    (omega (arith, within, c.args.self.now.few)) (subst (λ (rows : List ℕ). HasRow rows position place) first
+    (omega (arith, within, c.args.self.now.few))
+    (subst (λ (rows : List ℕ). HasRow rows position place) first
     (c.args.self.now.in_first.has place position letter within found met)))
 
 pub returns-clause-second : goal.returns-clause-second
@@ -19,7 +20,11 @@ returns-clause-second c = λ place position letter found on met.
     let second : c.args.self.now.second.items ≡ c.deref-3.result.now = cc in
     let twins : c.args.self.now.twins.items ≡ c.deref-2.result.now = cc in
     let below : place < max_reach =
-    omega (arith, slice_get_within c.args.self.now.letters.items place letter found, c.args.self.now.few) in
+    omega (
+      arith,
+      slice_get_within c.args.self.now.letters.items place letter found,
+      c.args.self.now.few,
+    ) in
     let row = c.args.self.now.in_second.has place position letter
     (slice_get_within c.args.self.now.letters.items place letter found) found met in
     elim (c.without_twins-others.ensures position on) [
@@ -27,7 +32,8 @@ returns-clause-second c = λ place position letter found on met.
           (subst (λ (rows : List ℕ). HasRow rows position place) second row)
       | inr (twin, on', is) ↦
           let same = c.args.self.now.same_letters position twin
-          (subst (λ (masks : List ℕ). Has (slice_index masks position) twin) (sym twins) is) place below in
+          (subst (λ (masks : List ℕ). Has (slice_index masks position) twin) (sym twins) is) place
+          below in
           c.insert_rows-2.ensures.kept place (c.insert_rows.ensures.held twin place on' below
           (subst (λ (rows : List ℕ). HasRow rows twin place) first (same.1 row)))
     ]

@@ -12,11 +12,14 @@ returns c = λ place other found.
     let first : c.args.self.now.first.items ≡ c.deref.result.now = cc in
     let twins : c.args.self.now.twins.items ≡ c.deref-2.result.now = cc in
     let second : c.args.self.now.second.items ≡ c.deref-3.result.now = cc in
-    let in_first = subst (λ (rows : List ℕ). AreRows (λ (l : Letter). l.first) rows letters (length letters)) first
+    let in_first =
+    subst (λ (rows : List ℕ). AreRows (λ (l : Letter). l.first) rows letters (length letters)) first
     c.args.self.now.in_first in
-    let in_second = subst (λ (rows : List ℕ). AreRows (λ (l : Letter). l.second) rows letters (length letters)) second
+    let in_second = subst
+    (λ (rows : List ℕ). AreRows (λ (l : Letter). l.second) rows letters (length letters)) second
     c.args.self.now.in_second in
-    same_target _ _ _ c.args.ways c.args.letter other _ place in_first in_second c.args.self.now.few found
+    same_target _ _ _ c.args.ways c.args.letter other _ place in_first in_second
+    c.args.self.now.few found
     (λ position on lt. elim (c.insert_unlike.ensures.unlike position place on lt) [
       | inl has ↦ inl (c.insert_unlike-2.ensures.kept place has)
       | inr alike ↦ inr alike
@@ -28,10 +31,11 @@ returns c = λ place other found.
         | inr alike ↦
             let same = c.args.self.now.same_letters position twin
             (subst (λ (masks : List ℕ). Has (slice_index masks position) twin) (sym twins) is) in
-            inr (alike_twin c.deref.result.now c.deref-3.result.now letters in_first in_second c.args.self.now.few
-            twin position
+            inr (alike_twin c.deref.result.now c.deref-3.result.now letters in_first in_second
+            c.args.self.now.few twin position
             (subst (λ (rows : List ℕ). HaveSameRow c.deref.result.now rows twin position) second
-            (subst (λ (rows : List ℕ). HaveSameRow rows c.args.self.now.second.items twin position) first same))
+            (subst (λ (rows : List ℕ). HaveSameRow rows c.args.self.now.second.items twin position)
+            first same))
             c.args.letter c.requires place lt alike)
       ]
     ])

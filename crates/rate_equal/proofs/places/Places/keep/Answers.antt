@@ -1,4 +1,5 @@
-use Rattle.std.proofs.Common.{◌≡◌, ◌∙◌, ◌<◌, ℕ, List, arith, length, bit_and, get_or, set, sym, subst}
+use Rattle.std.proofs.Common.{◌≡◌, ◌∙◌, ◌<◌, ℕ, List, arith, length, bit_and, get_or, set, sym}
+use Rattle.std.proofs.Common.{subst}
 use Rattle.std.proofs.lemmas.List.{get_or_default}
 use Rattle.rate_equal.specs.PlaceSets.{KeepsBlock}
 use Rattle.rate_equal.proofs.PlaceSets.{keeps_block}

@@ -27,4 +27,5 @@ returns c =
     let known = ready _ _ _ _ _ _ _ c.ends-before.ensures.sets c.ends.ensures.sets c.requires
     c.ends-before.ensures.ends c.ends.ensures.ends c.count.ensures.count c.moved-after.ensures
     c.in_ok-beside.ensures in
-    sequence_made _ _ _ _ _ _ _ _ known c.with_links-linked.ensures c.then.ensures c.with_ends.ensures
+    sequence_made _ _ _ _ _ _ _ _ known c.with_links-linked.ensures
+    c.then.ensures c.with_ends.ensures

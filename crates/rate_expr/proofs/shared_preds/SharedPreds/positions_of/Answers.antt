@@ -2,7 +2,8 @@ use Rattle.std.proofs.Common.{◌≡◌, ◌<◌, length, arith, ap, sym, ◌∙
 use Rattle.rate_expr.specs.Shared.{Shared}
 use Rattle.rate_expr.proofs.Placing.{placed_here, placed_passed, placed_all, place_read}
 use Rattle.rate_expr.proofs.shared_preds.SharedPreds.positions_of.Goals as goal
-use Rattle.rate_expr.proofs.shared_preds.SharedPreds.positions_of.Goals.{then-index-place, else-index-place}
+use Rattle.rate_expr.proofs.shared_preds.SharedPreds.positions_of.Goals.{then-index-place}
+use Rattle.rate_expr.proofs.shared_preds.SharedPreds.positions_of.Goals.{else-index-place}
 
 pub positions-preserved : goal.positions-preserved
 positions-preserved c =

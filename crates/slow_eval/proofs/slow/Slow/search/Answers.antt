@@ -11,10 +11,11 @@ returns-clause-sound c =
     let answer = c.in_ok-self.field-0 in
     record {
       is_word = c.requires.sound.is_word;
-      typed = typed_answer free on.layout.columns (plain_of on.main.shape) c.args.self.now.items.items answer
-          c.main.ensures.checked.clear c.requires.sound.is_word
+      typed = typed_answer free on.layout.columns (plain_of on.main.shape)
+          c.args.self.now.items.items answer c.main.ensures.checked.clear c.requires.sound.is_word
           (subst (λ word. IsAnswer (plain_of on.main.shape) word answer) c.deref.ensures.value
-          (subst (λ query. IsAnswer (plain_of query.shape) c.deref.result.now answer) c.main.ensures.main (c.in_ok-self.ensures)));
+          (subst (λ query. IsAnswer (plain_of query.shape) c.deref.result.now answer)
+          c.main.ensures.main (c.in_ok-self.ensures)));
     }
 
 pub returns-clause-ok : goal.returns-clause-ok
@@ -26,5 +27,6 @@ returns-clause-ok c =
       found = refl;
       items = refl;
       answer = subst (λ word. IsAnswer (plain_of on.main.shape) word answer) c.deref.ensures.value
-          (subst (λ query. IsAnswer (plain_of query.shape) c.deref.result.now answer) c.main.ensures.main (c.in_ok-self.ensures));
+          (subst (λ query. IsAnswer (plain_of query.shape) c.deref.result.now answer)
+          c.main.ensures.main (c.in_ok-self.ensures));
     }

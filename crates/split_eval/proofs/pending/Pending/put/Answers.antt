@@ -8,5 +8,6 @@ invariant_of-self g c =
     let spare : length c.self.inside.entries.items < c.self.inside.room
     = subst (λ seen. length seen.entries < seen.room) (sym c.self.view_is) c.requires.room in
     let fresh = ap (λ seen. entry_at seen.entries c.args.inner) c.self.view_is ∙ c.requires.fresh in
-    IsKept-put _ _ (record { inner = c.args.inner; outer = c.args.outer; value = c.args.value }) _ _ _
+    IsKept-put _ _
+    (record { inner = c.args.inner; outer = c.args.outer; value = c.args.value }) _ _ _
     c.push_reserved.ensures.items c.self.invariant spare fresh c.push_reserved.ensures.capacity

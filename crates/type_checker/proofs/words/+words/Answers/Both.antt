@@ -24,9 +24,11 @@ keep_both-returns-in_err-left-clause-refused t c =
     let err = err_from_is_err_and c.from_residual.result c.from_residual.ensures.1 in
     rw (err.1, err.2) (stops_before _ _ _ c.in_err-left.ensures.refused)
 
-pub keep_both-returns-in_err-right-clause-refused : goal.keep_both-returns-in_err-right-clause-refused
+pub keep_both-returns-in_err-right-clause-refused :
+    goal.keep_both-returns-in_err-right-clause-refused
 keep_both-returns-in_err-right-clause-refused t c =
-    let err = err_from_is_err_and c.from_residual-in_err-right.result c.from_residual-in_err-right.ensures.1 in
+    let err = err_from_is_err_and c.from_residual-in_err-right.result
+    c.from_residual-in_err-right.ensures.1 in
     rw (err.1, err.2) (stops_after _ _ _ c.in_ok-left.ensures.kept c.in_err-right.ensures.refused)
 
 pub keep_both-returns-clause-kept : goal.keep_both-returns-clause-kept
@@ -35,10 +37,11 @@ keep_both-returns-clause-kept t c =
 
 pub keep_both-returns-clause-automata : goal.keep_both-returns-clause-automata
 keep_both-returns-clause-automata t c = record {
-  left = automaton_of c.args.cells.now.value (plain_of c.args.first.now.shape) _ _ c.in_ok-new.ensures
+  left =
+      automaton_of c.args.cells.now.value (plain_of c.args.first.now.shape) _ _ c.in_ok-new.ensures
       c.in_ok-left.ensures.positions;
-  right = automaton_of c.args.cells.now.value (plain_of c.args.second.now.shape) _ _ c.in_ok-new-2.ensures
-      c.in_ok-right.ensures.positions;
+  right = automaton_of c.args.cells.now.value (plain_of c.args.second.now.shape) _ _
+      c.in_ok-new-2.ensures c.in_ok-right.ensures.positions;
   left_cells = ap (λ (nfa : Automaton). nfa.cells) c.in_ok-new.ensures;
   right_cells = ap (λ (nfa : Automaton). nfa.cells) c.in_ok-new-2.ensures;
 }

@@ -46,10 +46,11 @@ keep_words-returns-in-Or-clause-refused t c =
 -- its root, after its operands
 pub keep_choice-choice-requires-clause-few : goal.keep_choice-choice-requires-clause-few
 keep_choice-choice-requires-clause-few t c =
-    few_together c.args.cells.now.value (plain_of c.args.first.now.shape) (plain_of c.args.second.now.shape) _
-    c.in_ok-operands.ensures.automata c.requires.few
+    few_together c.args.cells.now.value (plain_of c.args.first.now.shape)
+    (plain_of c.args.second.now.shape) _ c.in_ok-operands.ensures.automata c.requires.few
 
-pub keep_choice-returns-in_err-operands-clause-refused : goal.keep_choice-returns-in_err-operands-clause-refused
+pub keep_choice-returns-in_err-operands-clause-refused :
+    goal.keep_choice-returns-in_err-operands-clause-refused
 keep_choice-returns-in_err-operands-clause-refused t c =
     let err = err_from_is_err_and c.from_residual.result c.from_residual.ensures.1 in
     rw (err.1, err.2) (λ standing.
@@ -68,8 +69,8 @@ keep_choice-returns-clause-kept t c = λ standing.
 pub keep_choice-returns-clause-positions : goal.keep_choice-returns-clause-positions
 keep_choice-returns-clause-positions t c =
     answered_ok c.choice.result _ _ c.choice.ensures.kept (λ sets given.
-    (given c.args.cells.now.value (plain_of c.args.first.now.shape) (plain_of c.args.second.now.shape)
-    c.in_ok-operands.ensures.automata).sets)
+    (given c.args.cells.now.value (plain_of c.args.first.now.shape)
+    (plain_of c.args.second.now.shape) c.in_ok-operands.ensures.automata).sets)
 
 pub keep_choice-returns-clause-refused : goal.keep_choice-returns-clause-refused
 keep_choice-returns-clause-refused t c = λ standing.

@@ -32,8 +32,10 @@ keep_words-returns-in-Collect-clause-kept t c =
     rw c.in-Collect.is (kept (standing_of c.args.standing) c.in-Collect.field-0
     (predicates.plain_of c.in-Collect.field-1))
 
-pub keep_words-returns-in-Collect-clause-positions : goal.keep_words-returns-in-Collect-clause-positions
-keep_words-returns-in-Collect-clause-positions t c = rw c.in-Collect.is c.keep_collection.ensures.positions
+pub keep_words-returns-in-Collect-clause-positions :
+    goal.keep_words-returns-in-Collect-clause-positions
+keep_words-returns-in-Collect-clause-positions t c =
+    rw c.in-Collect.is c.keep_collection.ensures.positions
 
 pub keep_words-returns-in-Collect-clause-refused : goal.keep_words-returns-in-Collect-clause-refused
 keep_words-returns-in-Collect-clause-refused t c =
@@ -54,8 +56,10 @@ keep_collection-returns-in_err-keep_words-clause-refused t c =
 
 pub keep_collection-returns-clause-kept : goal.keep_collection-returns-clause-kept
 keep_collection-returns-clause-kept t c = λ standing key sync.
-    let node = q.collect key sync (rates.plain_of c.args.rate.now) (plain_of c.args.operand.now.shape) in
-    root_kept c.args.cells.now.value.layout.columns standing node (with_one (places_in c.args.operand.now) c.args.span)
+    let node = q.collect key sync (rates.plain_of c.args.rate.now)
+    (plain_of c.args.operand.now.shape) in
+    root_kept c.args.cells.now.value.layout.columns standing node
+    (with_one (places_in c.args.operand.now) c.args.span)
     c.in_ok-keep_words.ensures.kept c.collected.result
     (answered_ok _ _ (IsKept c.args.cells.now.value.layout.columns node) c.collected.ensures.kept
     (λ sets given. given key sync (plain_of c.args.operand.now.shape)))
@@ -67,9 +71,10 @@ keep_collection-returns-clause-positions t c =
 
 pub keep_collection-returns-clause-refused : goal.keep_collection-returns-clause-refused
 keep_collection-returns-clause-refused t c = λ standing key sync.
-    let node = q.collect key sync (rates.plain_of c.args.rate.now) (plain_of c.args.operand.now.shape) in
+    let node = q.collect key sync (rates.plain_of c.args.rate.now)
+    (plain_of c.args.operand.now.shape) in
     root_refused c.args.cells.now.value.layout.columns standing node
     (with_one (places_in c.args.operand.now) c.args.span)
     c.in_ok-keep_words.ensures.kept c.collected.result
-    (answered_err _ _ (IsBrokenAt c.args.cells.now.value.layout.columns node c.args.span) c.collected.ensures.refused
-    (λ stop given. given key sync (plain_of c.args.operand.now.shape)))
+    (answered_err _ _ (IsBrokenAt c.args.cells.now.value.layout.columns node c.args.span)
+    c.collected.ensures.refused (λ stop given. given key sync (plain_of c.args.operand.now.shape)))

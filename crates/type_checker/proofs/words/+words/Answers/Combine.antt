@@ -20,23 +20,30 @@ keep_words-keep_combination-requires t c =
     let can = asked_as cells _ _ c.in-Combine.is c.requires in
     let both = asked_combine cells _ _ _ can in (
       search (rules, the_lemmas),
-      (asked_of cells _ _ c.deref-in-Combine.ensures both.0, asked_of cells _ _ c.deref-in-Combine-2.ensures both.1),
+      (
+        asked_of cells _ _ c.deref-in-Combine.ensures both.0,
+        asked_of cells _ _ c.deref-in-Combine-2.ensures both.1,
+      ),
     )
 
 pub keep_words-returns-in-Combine-clause-kept : goal.keep_words-returns-in-Combine-clause-kept
 keep_words-returns-in-Combine-clause-kept t c =
-    let kept = rw (c.deref-in-Combine.ensures, c.deref-in-Combine-2.ensures) at c.keep_combination.ensures.kept in
+    let kept = rw (c.deref-in-Combine.ensures, c.deref-in-Combine-2.ensures) at
+    c.keep_combination.ensures.kept in
     rw c.in-Combine.is (kept (standing_of c.args.standing) (values.plain_of c.in-Combine.field-2))
 
-pub keep_words-returns-in-Combine-clause-positions : goal.keep_words-returns-in-Combine-clause-positions
+pub keep_words-returns-in-Combine-clause-positions :
+    goal.keep_words-returns-in-Combine-clause-positions
 keep_words-returns-in-Combine-clause-positions t c =
     let sets = rw c.deref-in-Combine.ensures at c.keep_combination.ensures.positions in
     rw c.in-Combine.is (sets (values.plain_of c.in-Combine.field-2))
 
 pub keep_words-returns-in-Combine-clause-refused : goal.keep_words-returns-in-Combine-clause-refused
 keep_words-returns-in-Combine-clause-refused t c =
-    let refused = rw (c.deref-in-Combine.ensures, c.deref-in-Combine-2.ensures) at c.keep_combination.ensures.refused in
-    rw c.in-Combine.is (refused (standing_of c.args.standing) (values.plain_of c.in-Combine.field-2))
+    let refused = rw (c.deref-in-Combine.ensures, c.deref-in-Combine-2.ensures) at
+    c.keep_combination.ensures.refused in
+    rw c.in-Combine.is
+    (refused (standing_of c.args.standing) (values.plain_of c.in-Combine.field-2))
 
 -- its root, after its operands
 pub keep_combination-returns-in_err-operands-clause-refused :
@@ -51,7 +58,8 @@ keep_combination-returns-in_err-operands-clause-refused t c =
 
 pub keep_combination-returns-clause-kept : goal.keep_combination-returns-clause-kept
 keep_combination-returns-clause-kept t c = λ standing value.
-    two_kept (λ f g. q.combine f g value) (plain_of c.args.first.now.shape) (plain_of c.args.second.now.shape)
+    two_kept (λ f g. q.combine f g value) (plain_of c.args.first.now.shape)
+    (plain_of c.args.second.now.shape)
     (with_two (places_in c.args.first.now) (places_in c.args.second.now) c.args.span)
     c.args.cells.now.value _ c.in_ok-operands.ensures.automata c.side_by_side.result standing
     c.in_ok-operands.ensures.kept (answered_ok c.side_by_side.result _ _ c.side_by_side.ensures.kept
@@ -60,13 +68,15 @@ keep_combination-returns-clause-kept t c = λ standing value.
 pub keep_combination-returns-clause-positions : goal.keep_combination-returns-clause-positions
 keep_combination-returns-clause-positions t c = λ value.
     answered_ok c.side_by_side.result _ _ c.side_by_side.ensures.kept (λ sets given.
-    (given c.args.cells.now.value (plain_of c.args.first.now.shape) (plain_of c.args.second.now.shape) value
-    c.in_ok-operands.ensures.automata).sets)
+    (given c.args.cells.now.value (plain_of c.args.first.now.shape)
+    (plain_of c.args.second.now.shape) value c.in_ok-operands.ensures.automata).sets)
 
 pub keep_combination-returns-clause-refused : goal.keep_combination-returns-clause-refused
 keep_combination-returns-clause-refused t c = λ standing value.
-    two_refused (λ f g. q.combine f g value) (plain_of c.args.first.now.shape) (plain_of c.args.second.now.shape)
+    two_refused (λ f g. q.combine f g value) (plain_of c.args.first.now.shape)
+    (plain_of c.args.second.now.shape)
     (with_two (places_in c.args.first.now) (places_in c.args.second.now) c.args.span)
     c.args.cells.now.value _ c.in_ok-operands.ensures.automata c.side_by_side.result standing
-    c.in_ok-operands.ensures.kept (answered_err c.side_by_side.result _ _ c.side_by_side.ensures.refused
+    c.in_ok-operands.ensures.kept
+    (answered_err c.side_by_side.result _ _ c.side_by_side.ensures.refused
     (λ made given cells f g. given cells f g value))

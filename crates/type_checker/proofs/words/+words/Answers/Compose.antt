@@ -19,25 +19,30 @@ keep_words-keep_composition-requires t c =
 pub keep_words-returns-in-Compose-clause-kept : goal.keep_words-returns-in-Compose-clause-kept
 keep_words-returns-in-Compose-clause-kept t c =
     rw c.in-Compose.is
-    (rw (c.deref-in-Compose.ensures, c.deref-in-Compose-2.ensures) at c.keep_composition.ensures.kept)
+    (rw (c.deref-in-Compose.ensures, c.deref-in-Compose-2.ensures) at
+    c.keep_composition.ensures.kept)
 
-pub keep_words-returns-in-Compose-clause-positions : goal.keep_words-returns-in-Compose-clause-positions
+pub keep_words-returns-in-Compose-clause-positions :
+    goal.keep_words-returns-in-Compose-clause-positions
 keep_words-returns-in-Compose-clause-positions t c =
     rw c.in-Compose.is (rw (c.deref-in-Compose.ensures) at c.keep_composition.ensures.positions)
 
 pub keep_words-returns-in-Compose-clause-refused : goal.keep_words-returns-in-Compose-clause-refused
 keep_words-returns-in-Compose-clause-refused t c =
     rw c.in-Compose.is
-    (rw (c.deref-in-Compose.ensures, c.deref-in-Compose-2.ensures) at c.keep_composition.ensures.refused)
+    (rw (c.deref-in-Compose.ensures, c.deref-in-Compose-2.ensures) at
+    c.keep_composition.ensures.refused)
 
 -- its two operands and its root
 pub keep_composition-keep_words-requires : goal.keep_composition-keep_words-requires
 keep_composition-keep_words-requires t c = (
   search (rules, the_lemmas),
-  asked_compose c.args.cells.now.value (plain_of c.args.first.now.shape) (plain_of c.args.second.now.shape) c.requires,
+  asked_compose c.args.cells.now.value (plain_of c.args.first.now.shape)
+      (plain_of c.args.second.now.shape) c.requires,
 )
 
-pub keep_composition-returns-in_err-left-clause-refused : goal.keep_composition-returns-in_err-left-clause-refused
+pub keep_composition-returns-in_err-left-clause-refused :
+    goal.keep_composition-returns-in_err-left-clause-refused
 keep_composition-returns-in_err-left-clause-refused t c =
     let err = err_from_is_err_and c.from_residual.result c.from_residual.ensures.1 in
     rw (err.1, err.2)
@@ -47,12 +52,15 @@ keep_composition-returns-in_err-left-clause-refused t c =
 pub keep_composition-returns-in_err-keep_fed-clause-refused :
     goal.keep_composition-returns-in_err-keep_fed-clause-refused
 keep_composition-returns-in_err-keep_fed-clause-refused t c =
-    let err = err_from_is_err_and c.from_residual-in_err-keep_fed.result c.from_residual-in_err-keep_fed.ensures.1 in
+    let err = err_from_is_err_and c.from_residual-in_err-keep_fed.result
+    c.from_residual-in_err-keep_fed.ensures.1 in
     rw (err.1, err.2)
     (composed_second c.args.cells.now.value.layout.columns (standing_of c.args.standing)
-    c.args.first.now c.args.second.now c.args.span c.in_ok-left.ensures.kept _ c.in_err-keep_fed.ensures.refused)
+    c.args.first.now c.args.second.now c.args.span c.in_ok-left.ensures.kept _
+    c.in_err-keep_fed.ensures.refused)
 
 pub keep_composition-returns-clause-kept : goal.keep_composition-returns-clause-kept
 keep_composition-returns-clause-kept t c =
     composed_kept c.args.cells.now.value.layout.columns (standing_of c.args.standing)
-    c.args.first.now c.args.second.now c.args.span c.in_ok-left.ensures.kept c.in_ok-keep_fed.ensures.kept
+    c.args.first.now c.args.second.now c.args.span c.in_ok-left.ensures.kept
+    c.in_ok-keep_fed.ensures.kept

@@ -18,7 +18,8 @@ keep_fed-fed-requires t c =
 
 pub keep_fed-returns-in_err-right-clause-refused : goal.keep_fed-returns-in_err-right-clause-refused
 keep_fed-returns-in_err-right-clause-refused t c =
-    let err = err_from_is_err_and c.from_residual-in_err-right.result c.from_residual-in_err-right.ensures.1 in
+    let err = err_from_is_err_and c.from_residual-in_err-right.result
+    c.from_residual-in_err-right.ensures.1 in
     let values = rw c.as_ref.ensures at c.in_ok-values.ensures.layout in
     rw (err.1, err.2)
     (fed_stopped c.args.cells.now.value.layout.columns (standing_of c.args.standing)
@@ -39,4 +40,5 @@ keep_fed-returns-clause-refused t c =
     fed_refused c.args.cells.now.value.layout.columns (standing_of c.args.standing)
     (plain_of c.args.first.now.shape) c.args.second.now _ values c.args.span
     c.in_ok-right.ensures.kept _
-    (IfErr-weaker c.fed.result _ _ (λ stop each. each _ c.in_ok-right.ensures.positions) c.fed.ensures.refused)
+    (IfErr-weaker c.fed.result _ _ (λ stop each. each _ c.in_ok-right.ensures.positions)
+    c.fed.ensures.refused)

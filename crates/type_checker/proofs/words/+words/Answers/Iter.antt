@@ -25,7 +25,8 @@ keep_words-keep_iteration-requires t c =
 pub keep_words-returns-in-Iter-clause-kept : goal.keep_words-returns-in-Iter-clause-kept
 keep_words-returns-in-Iter-clause-kept t c =
     let kept = rw c.deref-in-Iter.ensures at c.keep_iteration.ensures.kept in
-    rw c.in-Iter.is (kept (standing_of c.args.standing) c.in-Iter.field-1 (values.plain_of c.in-Iter.field-2))
+    rw c.in-Iter.is
+    (kept (standing_of c.args.standing) c.in-Iter.field-1 (values.plain_of c.in-Iter.field-2))
 
 pub keep_words-returns-in-Iter-clause-positions : goal.keep_words-returns-in-Iter-clause-positions
 keep_words-returns-in-Iter-clause-positions t c =
@@ -35,7 +36,8 @@ keep_words-returns-in-Iter-clause-positions t c =
 pub keep_words-returns-in-Iter-clause-refused : goal.keep_words-returns-in-Iter-clause-refused
 keep_words-returns-in-Iter-clause-refused t c =
     let refused = rw c.deref-in-Iter.ensures at c.keep_iteration.ensures.refused in
-    rw c.in-Iter.is (refused (standing_of c.args.standing) c.in-Iter.field-1 (values.plain_of c.in-Iter.field-2))
+    rw c.in-Iter.is
+    (refused (standing_of c.args.standing) c.in-Iter.field-1 (values.plain_of c.in-Iter.field-2))
 
 -- its root, after its operand
 pub keep_iteration-new-requires : goal.keep_iteration-new-requires
@@ -43,34 +45,42 @@ keep_iteration-new-requires t c =
     positions_decided c.args.cells.now.value (plain_of c.args.operand.now.shape) _ c.requires
     c.in_ok-positions.ensures.positions
 
-pub keep_iteration-returns-in_err-positions-clause-refused : goal.keep_iteration-returns-in_err-positions-clause-refused
+pub keep_iteration-returns-in_err-positions-clause-refused :
+    goal.keep_iteration-returns-in_err-positions-clause-refused
 keep_iteration-returns-in_err-positions-clause-refused t c =
     let err = err_from_is_err_and c.from_residual.result c.from_residual.ensures.1 in
     rw (err.1, err.2) (λ standing number step.
-    stopped_in c.args.cells.now.value.layout.columns standing (q.iter (plain_of c.args.operand.now.shape) number step)
+    stopped_in c.args.cells.now.value.layout.columns standing
+    (q.iter (plain_of c.args.operand.now.shape) number step)
     (with_one (places_in c.args.operand.now) c.args.span) _ c.in_err-positions.ensures.refused)
 
 pub keep_iteration-returns-clause-kept : goal.keep_iteration-returns-clause-kept
 keep_iteration-returns-clause-kept t c = λ standing number step.
-    let of_it = automaton_of c.args.cells.now.value (plain_of c.args.operand.now.shape) _ _ c.in_ok-inner.ensures
-    c.in_ok-positions.ensures.positions in
-    root_kept c.args.cells.now.value.layout.columns standing (q.iter (plain_of c.args.operand.now.shape) number step)
-    (with_one (places_in c.args.operand.now) c.args.span) c.in_ok-positions.ensures.kept c.iterated.result
+    let of_it = automaton_of c.args.cells.now.value (plain_of c.args.operand.now.shape) _ _
+    c.in_ok-inner.ensures c.in_ok-positions.ensures.positions in
+    root_kept c.args.cells.now.value.layout.columns standing
+    (q.iter (plain_of c.args.operand.now.shape) number step)
+    (with_one (places_in c.args.operand.now) c.args.span) c.in_ok-positions.ensures.kept
+    c.iterated.result
     (iter_kept c.args.cells.now.value _ (ap (λ (nfa : Automaton). nfa.cells) c.in_ok-inner.ensures)
     (plain_of c.args.operand.now.shape) of_it number step c.iterated.result c.iterated.ensures.kept)
 
 pub keep_iteration-returns-clause-positions : goal.keep_iteration-returns-clause-positions
 keep_iteration-returns-clause-positions t c = λ number step.
-    let of_it = automaton_of c.args.cells.now.value (plain_of c.args.operand.now.shape) _ _ c.in_ok-inner.ensures
-    c.in_ok-positions.ensures.positions in
+    let of_it = automaton_of c.args.cells.now.value (plain_of c.args.operand.now.shape) _ _
+    c.in_ok-inner.ensures c.in_ok-positions.ensures.positions in
     answered_ok c.iterated.result _ _ c.iterated.ensures.kept
     (λ sets given. (given (plain_of c.args.operand.now.shape) number step of_it).sets)
 
 pub keep_iteration-returns-clause-refused : goal.keep_iteration-returns-clause-refused
 keep_iteration-returns-clause-refused t c = λ standing number step.
-    let of_it = automaton_of c.args.cells.now.value (plain_of c.args.operand.now.shape) _ _ c.in_ok-inner.ensures
-    c.in_ok-positions.ensures.positions in
-    root_refused c.args.cells.now.value.layout.columns standing (q.iter (plain_of c.args.operand.now.shape) number step)
-    (with_one (places_in c.args.operand.now) c.args.span) c.in_ok-positions.ensures.kept c.iterated.result
-    (iter_refused c.args.cells.now.value _ (ap (λ (nfa : Automaton). nfa.cells) c.in_ok-inner.ensures)
-    (plain_of c.args.operand.now.shape) of_it number step c.iterated.result c.args.span c.iterated.ensures.refused)
+    let of_it = automaton_of c.args.cells.now.value (plain_of c.args.operand.now.shape) _ _
+    c.in_ok-inner.ensures c.in_ok-positions.ensures.positions in
+    root_refused c.args.cells.now.value.layout.columns standing
+    (q.iter (plain_of c.args.operand.now.shape) number step)
+    (with_one (places_in c.args.operand.now) c.args.span) c.in_ok-positions.ensures.kept
+    c.iterated.result
+    (iter_refused c.args.cells.now.value _
+    (ap (λ (nfa : Automaton). nfa.cells) c.in_ok-inner.ensures)
+    (plain_of c.args.operand.now.shape) of_it number step c.iterated.result c.args.span
+    c.iterated.ensures.refused)

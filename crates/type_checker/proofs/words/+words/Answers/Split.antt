@@ -31,26 +31,30 @@ keep_words-keep_split-requires t c =
 
 pub keep_words-returns-in-Split-clause-kept : goal.keep_words-returns-in-Split-clause-kept
 keep_words-returns-in-Split-clause-kept t c =
-    let kept = rw (c.deref-in-Split.ensures, c.deref-in-Split-2.ensures) at c.keep_split.ensures.kept in
+    let kept = rw (c.deref-in-Split.ensures, c.deref-in-Split-2.ensures) at
+    c.keep_split.ensures.kept in
     rw c.in-Split.is (kept (standing_of c.args.standing) (values.plain_of c.in-Split.field-2))
 
 pub keep_words-returns-in-Split-clause-positions : goal.keep_words-returns-in-Split-clause-positions
 keep_words-returns-in-Split-clause-positions t c =
-    let sets = rw (c.deref-in-Split.ensures, c.deref-in-Split-2.ensures) at c.keep_split.ensures.positions in
+    let sets = rw (c.deref-in-Split.ensures, c.deref-in-Split-2.ensures) at
+    c.keep_split.ensures.positions in
     rw c.in-Split.is (sets (values.plain_of c.in-Split.field-2))
 
 pub keep_words-returns-in-Split-clause-refused : goal.keep_words-returns-in-Split-clause-refused
 keep_words-returns-in-Split-clause-refused t c =
-    let refused = rw (c.deref-in-Split.ensures, c.deref-in-Split-2.ensures) at c.keep_split.ensures.refused in
+    let refused = rw (c.deref-in-Split.ensures, c.deref-in-Split-2.ensures) at
+    c.keep_split.ensures.refused in
     rw c.in-Split.is (refused (standing_of c.args.standing) (values.plain_of c.in-Split.field-2))
 
 -- its root, after its operands
 pub keep_split-split-requires-clause-few : goal.keep_split-split-requires-clause-few
 keep_split-split-requires-clause-few t c =
-    few_together c.args.cells.now.value (plain_of c.args.first.now.shape) (plain_of c.args.second.now.shape) _
-    c.in_ok-operands.ensures.automata c.requires.few
+    few_together c.args.cells.now.value (plain_of c.args.first.now.shape)
+    (plain_of c.args.second.now.shape) _ c.in_ok-operands.ensures.automata c.requires.few
 
-pub keep_split-returns-in_err-operands-clause-refused : goal.keep_split-returns-in_err-operands-clause-refused
+pub keep_split-returns-in_err-operands-clause-refused :
+    goal.keep_split-returns-in_err-operands-clause-refused
 keep_split-returns-in_err-operands-clause-refused t c =
     let err = err_from_is_err_and c.from_residual.result c.from_residual.ensures.1 in
     rw (err.1, err.2) (λ standing value.
@@ -61,7 +65,8 @@ keep_split-returns-in_err-operands-clause-refused t c =
 
 pub keep_split-returns-clause-kept : goal.keep_split-returns-clause-kept
 keep_split-returns-clause-kept t c = λ standing value.
-    two_kept (λ f g. q.split f g value) (plain_of c.args.first.now.shape) (plain_of c.args.second.now.shape)
+    two_kept (λ f g. q.split f g value) (plain_of c.args.first.now.shape)
+    (plain_of c.args.second.now.shape)
     (with_two (places_in c.args.first.now) (places_in c.args.second.now) c.args.span)
     c.args.cells.now.value _ c.in_ok-operands.ensures.automata c.split.result standing
     c.in_ok-operands.ensures.kept (answered_ok c.split.result _ _ c.split.ensures.kept
@@ -70,12 +75,13 @@ keep_split-returns-clause-kept t c = λ standing value.
 pub keep_split-returns-clause-positions : goal.keep_split-returns-clause-positions
 keep_split-returns-clause-positions t c = λ value.
     answered_ok c.split.result _ _ c.split.ensures.kept (λ sets given.
-    (given c.args.cells.now.value (plain_of c.args.first.now.shape) (plain_of c.args.second.now.shape) value
-    c.in_ok-operands.ensures.automata).sets)
+    (given c.args.cells.now.value (plain_of c.args.first.now.shape)
+    (plain_of c.args.second.now.shape) value c.in_ok-operands.ensures.automata).sets)
 
 pub keep_split-returns-clause-refused : goal.keep_split-returns-clause-refused
 keep_split-returns-clause-refused t c = λ standing value.
-    two_refused (λ f g. q.split f g value) (plain_of c.args.first.now.shape) (plain_of c.args.second.now.shape)
+    two_refused (λ f g. q.split f g value) (plain_of c.args.first.now.shape)
+    (plain_of c.args.second.now.shape)
     (with_two (places_in c.args.first.now) (places_in c.args.second.now) c.args.span)
     c.args.cells.now.value _ c.in_ok-operands.ensures.automata c.split.result standing
     c.in_ok-operands.ensures.kept (answered_err c.split.result _ _ c.split.ensures.refused

@@ -11,15 +11,20 @@ key_start-start-requires c =
 pub index-requires : goal.index-requires
 index-requires c =
     let entries = c.self.inside.entries in
-    omega (arith, entries.ok.0, kept_within entries.items c.self.inside.keys.items _ _ c.self.view_is c.requires)
+    omega (
+      arith,
+      entries.ok.0,
+      kept_within entries.items c.self.inside.keys.items _ _ c.self.view_is c.requires,
+    )
 
 pub slice_bounds-result-count : goal.slice_bounds-result-count
 slice_bounds-result-count c =
     let entries = c.self.inside.entries.items in
     let bytes = c.self.inside.keys.items in
     let within = kept_within entries bytes _ _ c.self.view_is c.requires in
-    let key = read_within entries c.deref.result.now (length bytes) c.args.i c.key_start-start.result
-    c.index.result.now c.self.invariant.0 within c.deref.ensures.value c.key_start-start.ensures c.index.ensures in
+    let key = read_within entries c.deref.result.now (length bytes) c.args.i
+    c.key_start-start.result c.index.result.now c.self.invariant.0 within c.deref.ensures.value
+    c.key_start-start.ensures c.index.ensures in
     omega (arith, key.0)
 
 pub slice_bounds-result-start : goal.slice_bounds-result-start
@@ -27,8 +32,9 @@ slice_bounds-result-start c =
     let entries = c.self.inside.entries.items in
     let bytes = c.self.inside.keys.items in
     let within = kept_within entries bytes _ _ c.self.view_is c.requires in
-    let key = read_within entries c.deref.result.now (length bytes) c.args.i c.key_start-start.result
-    c.index.result.now c.self.invariant.0 within c.deref.ensures.value c.key_start-start.ensures c.index.ensures in
+    let key = read_within entries c.deref.result.now (length bytes) c.args.i
+    c.key_start-start.result c.index.result.now c.self.invariant.0 within c.deref.ensures.value
+    c.key_start-start.ensures c.index.ensures in
     omega (arith, key.0, key.1, ap length c.as_slice.ensures.value)
 
 pub slice_bounds-result-end : goal.slice_bounds-result-end
@@ -36,8 +42,9 @@ slice_bounds-result-end c =
     let entries = c.self.inside.entries.items in
     let bytes = c.self.inside.keys.items in
     let within = kept_within entries bytes _ _ c.self.view_is c.requires in
-    let key = read_within entries c.deref.result.now (length bytes) c.args.i c.key_start-start.result
-    c.index.result.now c.self.invariant.0 within c.deref.ensures.value c.key_start-start.ensures c.index.ensures in
+    let key = read_within entries c.deref.result.now (length bytes) c.args.i
+    c.key_start-start.result c.index.result.now c.self.invariant.0 within c.deref.ensures.value
+    c.key_start-start.ensures c.index.ensures in
     omega (arith, key.1, ap length c.as_slice.ensures.value)
 
 pub returns : goal.returns
@@ -45,5 +52,7 @@ returns c =
     let entries = c.self.inside.entries.items in
     let bytes = c.self.inside.keys.items in
     let within = kept_within entries bytes _ _ c.self.view_is c.requires in
-    rw (← c.self.view_is, c.as_slice.ensures.value) (key_at entries c.deref.result.now bytes c.args.i
-    c.key_start-start.result c.index.result.now within c.deref.ensures.value c.key_start-start.ensures c.index.ensures)
+    rw (← c.self.view_is, c.as_slice.ensures.value)
+    (key_at entries c.deref.result.now bytes c.args.i
+    c.key_start-start.result c.index.result.now within c.deref.ensures.value
+    c.key_start-start.ensures c.index.ensures)

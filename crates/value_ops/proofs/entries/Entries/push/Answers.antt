@@ -12,16 +12,19 @@ invariant_of-self-2 c =
     let bytes = c.self.inside.keys.items in
     let key = c.args.key.now in
     let entry : Entry = record { end = c.len-end.result; value = c.known-value.result } in
-    let added : c.extend_from_slice.new.self.items ≡ bytes ++ key = c.in_ok-extend_from_slice.ensures.items in
+    let added : c.extend_from_slice.new.self.items ≡ bytes ++ key =
+    c.in_ok-extend_from_slice.ensures.items in
     let ends : c.len-end.result ≡ length (bytes ++ key)
     = c.len-end.ensures ∙ c.extend_from_slice.new.self.ok.0 ∙ ap length added in
     let put : c.push_reserved.new.self.items ≡ entries ++ entry ∷ []
-    = c.push_reserved.ensures.items ∙ ap (λ (before : List Entry). before ++ entry ∷ []) c.reserve.ensures.items in
+    = c.push_reserved.ensures.items
+    ∙ ap (λ (before : List Entry). before ++ entry ∷ []) c.reserve.ensures.items in
     let none = rw (← c.self.view_is) at c.requires in
     rw (put, added) (
       KeysFill-push 0 entries bytes key entry c.self.invariant.0 ends,
       rw (entries_from-push 0 entries bytes key entry c.self.invariant.0 ends)
-          (IsTable-push _ key c.known-value.result c.self.invariant.1 none (text_from_bytes key c.type_inv.key)
+          (IsTable-push _ key c.known-value.result c.self.invariant.1 none
+          (text_from_bytes key c.type_inv.key)
           (rw c.known-value.ensures.same c.known-value.ensures.range)),
     )
 
@@ -31,10 +34,12 @@ returns-clause-ok c =
     let bytes = c.self.inside.keys.items in
     let key = c.args.key.now in
     let entry : Entry = record { end = c.len-end.result; value = c.known-value.result } in
-    let added : c.extend_from_slice.new.self.items ≡ bytes ++ key = c.in_ok-extend_from_slice.ensures.items in
+    let added : c.extend_from_slice.new.self.items ≡ bytes ++ key =
+    c.in_ok-extend_from_slice.ensures.items in
     let ends : c.len-end.result ≡ length (bytes ++ key)
     = c.len-end.ensures ∙ c.extend_from_slice.new.self.ok.0 ∙ ap length added in
     let put : c.push_reserved.new.self.items ≡ entries ++ entry ∷ []
-    = c.push_reserved.ensures.items ∙ ap (λ (before : List Entry). before ++ entry ∷ []) c.reserve.ensures.items in
+    = c.push_reserved.ensures.items
+    ∙ ap (λ (before : List Entry). before ++ entry ∷ []) c.reserve.ensures.items in
     rw (← c.self.view_is, put, added, ← c.known-value.ensures.same)
     (entries_from-push 0 entries bytes key entry c.self.invariant.0 ends)

@@ -6,7 +6,11 @@ use Rattle.value_ops.proofs.entries.Entries.value.Goals as goal
 pub index-requires : goal.index-requires
 index-requires c =
     let entries = c.self.inside.entries in
-    omega (arith, entries.ok.0, kept_within entries.items c.self.inside.keys.items _ _ c.self.view_is c.requires)
+    omega (
+      arith,
+      entries.ok.0,
+      kept_within entries.items c.self.inside.keys.items _ _ c.self.view_is c.requires,
+    )
 
 pub returns : goal.returns
 returns c =

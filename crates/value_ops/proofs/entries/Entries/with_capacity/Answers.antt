@@ -5,4 +5,5 @@ use Rattle.value_ops.proofs.entries.Entries.with_capacity.Goals as goal
 
 pub invariant_of-result : goal.invariant_of-result
 invariant_of-result c =
-    rw (c.in_ok-with_capacity-2.ensures.items, c.in_ok-with_capacity.ensures.items) (refl, empty_table)
+    rw (c.in_ok-with_capacity-2.ensures.items, c.in_ok-with_capacity.ensures.items)
+    (refl, empty_table)
