@@ -1,11 +1,13 @@
 -- Positions that letters can lack, one after the other and all together.
-use Rattle.std.proofs.Common.{◌≡◌, ℕ, zero, suc, ◌++◌, [], ◌∷◌, arith, get_or, length, ◌<◌, ◌↔◌}
-use Rattle.std.proofs.Common.{◌⊎◌, List, bit_or, ap, sym, subst, inl, inr}
+use Rattle.std.proofs.Common.{◌≡◌, ℕ, zero, suc, ◌++◌, [], ◌∷◌, ◌+◌, ◌≤◌, ◌∙◌, arith, get_or}
+use Rattle.std.proofs.Common.{length, ◌<◌, ◌↔◌, ◌⊎◌, List, bit_or, ap, sym, subst, inl, inr}
+use Rattle.std.proofs.lemmas.Bool.{cases_lt}
+use Rattle.std.proofs.lemmas.List.{get_or_default}
 use Rattle.std.proofs.lemmas.List.Elements.{All-append, Contains-get_or}
 use Rattle.std.specs.List.{All, Contains}
 use Rattle.rate_expr.specs.Sets.{Has}
 use Rattle.rate_expr.proofs.MaskMembers.{has_first, has_or, has_second, has_zero}
-use Rattle.rate_equal.specs.Free.{AreAllFree, AreFree, AreMet, CanLack, HasOther, IsWithout}
+use Rattle.rate_equal.specs.Free.{AreAllFree, AreFree, CanLack, HasOther, IsWithout}
 use Rattle.rate_equal.specs.Patterns.{HasAt, positions_of}
 use Rattle.rate_equal.specs.declared.letters.Letter.{Letter}
 use Rattle.rate_equal.specs.declared.pattern.Position.{Position}
@@ -69,59 +71,28 @@ both_free letters one other free free' = record {
       ),
     )
 
--- a letter with the positions that are left of one is that one without the others
-pub left_without : (letters : List Letter) (met : List (ℕ × ℕ)) (are : AreMet letters met)
-    (letter : Letter)
-    (gone left : ℕ × ℕ) → ((position : ℕ)
-    → Has left.0 position ↔ (Has letter.first position × (Has gone.0 position → ⊥)))
-    → ((position : ℕ)
-    → Has left.1 position ↔ (Has letter.second position × (Has gone.1 position → ⊥)))
-    → Contains met left → HasOther letters gone letter
-left_without letters met are letter gone left exact exact' c =
-    let (other, c', same) = are.each left c in record {
-      other = other;
-      is_letter = c';
-      without = without other same;
-    }
-  where
-    without : (other : Letter) → positions_of other ≡ left → IsWithout gone letter other
-    without other same (First position) = (
-      λ has. (exact position).0
-          (subst (λ (m : ℕ). Has m position) (ap (λ (m : ℕ × ℕ). m.0) same) has),
-      λ there. subst (λ (m : ℕ). Has m position) (sym (ap (λ (m : ℕ × ℕ). m.0) same))
-          ((exact position).1 there),
-    )
-    without other same (Second position) = (
-      λ has. (exact' position).0
-          (subst (λ (m : ℕ). Has m position) (ap (λ (m : ℕ × ℕ). m.1) same) has),
-      λ there. subst (λ (m : ℕ). Has m position) (sym (ap (λ (m : ℕ × ℕ). m.1) same))
-          ((exact' position).1 there),
-    )
-
--- a letter that loses nothing is itself without the positions
-pub all_left : (letters : List Letter) (letter : Letter) (gone left : ℕ × ℕ)
-    → Contains letters letter
-    → ((position : ℕ)
-    → Has left.0 position ↔ (Has letter.first position × (Has gone.0 position → ⊥)))
-    → ((position : ℕ)
-    → Has left.1 position ↔ (Has letter.second position × (Has gone.1 position → ⊥)))
-    → left.0 ≡ letter.first → left.1 ≡ letter.second
+-- a letter that has none of the positions is itself without them
+pub apart_other : (letters : List Letter) (letter : Letter) (gone : ℕ × ℕ) → Contains letters letter
+    → ((position : Position) → HasAt gone position → HasAt (positions_of letter) position → ⊥)
     → HasOther letters gone letter
-all_left letters letter gone left c exact exact' same same' = record {
+apart_other letters letter gone c apart = record {
   other = letter;
   is_letter = c;
-  without = without;
+  without = λ position. (λ has. (has, λ on. apart position on has), λ (has, none). has);
 }
-  where
-    without : IsWithout gone letter letter
-    without (First position) = (
-      λ has. (exact position).0 (subst (λ (m : ℕ). Has m position) (sym same) has),
-      λ there. there.0,
-    )
-    without (Second position) = (
-      λ has. (exact' position).0 (subst (λ (m : ℕ). Has m position) (sym same') has),
-      λ there. there.0,
-    )
+
+-- one letter more that can lack them
+pub others_next : (letters : List Letter) (gone : ℕ × ℕ) (at : ℕ) (e : Letter)
+    → ((k : ℕ) (d : Letter) → k < at → HasOther letters gone (get_or letters k d))
+    → at < length letters → HasOther letters gone (get_or letters at e)
+    → (k : ℕ) (d : Letter) → k < at + 1 → HasOther letters gone (get_or letters k d)
+others_next letters gone at e before within one k d lt = elim (cases_lt k at) [
+  | inl less ↦ before k d less
+  | inr most ↦
+      let here : at ≡ k = omega (arith, lt, most) in
+      subst (HasOther letters gone)
+      (get_or_default letters at e d within ∙ ap (λ (p : ℕ). get_or letters p d) here) one
+]
 
 -- free positions that have all that is to be lacked and none of the ways
 pub free_lack : (letters : List Letter) (free lost ways : ℕ × ℕ) → AreFree letters free
@@ -138,19 +109,6 @@ free_lack letters free lost ways are wider apart letter c =
       )),
       λ position gone has. ((there.without position).0 has).1 (wider position gone),
     )
-
--- one more letter of which the positions were entered
-pub met_next : (letters : List Letter) (met met' : List (ℕ × ℕ)) (at : ℕ) (d : Letter)
-    → AreMet letters met → at < length letters
-    → ((positions : ℕ × ℕ) → Contains met' positions
-    → Contains met positions ⊎ (positions_of (get_or letters at d) ≡ positions))
-    → AreMet letters met'
-met_next letters met met' at d before lt more = record {
-  each = λ positions there. elim (more positions there) [
-    | inl was ↦ before.each positions was
-    | inr here ↦ (get_or letters at d, Contains-get_or letters at d lt, here)
-  ];
-}
 
 -- free positions after others
 pub free_pushed : (letters : List Letter) (free : List (ℕ × ℕ)) (more : ℕ × ℕ)

@@ -2,6 +2,7 @@ pub mod Added
 pub mod Agreeing
 pub mod Along
 pub mod Coming
+pub mod Counterparts
 pub mod Differing
 pub mod Exploring
 pub mod Filling

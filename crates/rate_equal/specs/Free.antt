@@ -1,7 +1,7 @@
 -- For the prover. Positions that letters can lack.
 use Rattle.std.specs.Prelude.{◌≡◌, ◌↔◌, ℕ, List}
 use Rattle.std.specs.List.{All, Contains}
-use Rattle.rate_equal.specs.Patterns.{HasAt, HaveSame, positions_of}
+use Rattle.rate_equal.specs.Patterns.{HasAt, HaveSame, HaveSameAt, positions_of}
 use Rattle.rate_equal.specs.declared.letters.Letter.{Letter}
 use Rattle.rate_equal.specs.declared.pattern.Position.{Position}
 
@@ -15,6 +15,12 @@ pub record HasOther (letters : List Letter) (masks : ℕ × ℕ) (letter : Lette
   pub other : Letter
   pub is_letter : Contains letters other
   pub without : IsWithout masks letter other
+
+-- some letter has the positions of this one
+pub record IsMet (letters : List Letter) (letter : Letter) : Type 0 where
+  pub other : Letter
+  pub is_letter : Contains letters other
+  pub same : (position : Position) → HaveSameAt position letter other
 
 -- each letter without the positions is a letter too
 pub record AreFree (letters : List Letter) (masks : ℕ × ℕ) : Type 0 where
@@ -34,8 +40,3 @@ abbrev pub CanLack : List Letter → ℕ × ℕ → ℕ × ℕ → Type 0
 CanLack letters masks ways = (letter : Letter) → Contains letters letter
     → (other : Letter) × Contains letters other × HaveSame ways letter other
     × ((position : Position) → HasAt masks position → HasAt (positions_of other) position → ⊥)
-
--- these are the positions of letters
-pub record AreMet (letters : List Letter) (met : List (ℕ × ℕ)) : Type 0 where
-  pub each : (positions : ℕ × ℕ) → Contains met positions
-      → (letter : Letter) × Contains letters letter × (positions_of letter ≡ positions)

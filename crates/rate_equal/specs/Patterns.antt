@@ -56,3 +56,9 @@ Decide letters ways pattern masks = (one other : Letter) → Contains letters on
 abbrev pub DecideAll : List Letter → ℕ × ℕ → ℕ × ℕ → Type 0
 DecideAll letters ways masks = (one other : Letter) → Contains letters one
     → Contains letters other → HaveSame masks one other → target ways one ≡ target ways other
+
+-- all letters have the positions
+abbrev pub AreCommon : List Letter → ℕ × ℕ → Type 0
+AreCommon letters masks = (letter : Letter) → Contains letters letter
+    → ((position : ℕ) → Has masks.0 position → Has letter.first position)
+    × ((position : ℕ) → Has masks.1 position → Has letter.second position)

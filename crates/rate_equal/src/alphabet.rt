@@ -5,14 +5,14 @@ ghost use Rattle.std.specs.List.{Contains};
 ghost use Rattle.rate_expr.specs.Sets.{Has};
 ghost use Rattle.rate_equal.specs.Free.{AreKnownFree};
 ghost use Rattle.rate_equal.specs.Holding.{AreRows, AreTwins};
-ghost use Rattle.rate_equal.specs.Patterns.{DecideAll, IsLike};
+ghost use Rattle.rate_equal.specs.Patterns.{AreCommon, DecideAll, IsLike};
 ghost use Rattle.rate_equal.specs.PlaceSets.{block_count, HasPlace};
 ghost use Rattle.rate_equal.specs.Reach.{max_reach};
 ghost use Rattle.rate_equal.specs.Targets.{target};
 ghost use Rattle.rate_equal.specs.declared.letters.Letter.{Letter as LetterOf};
 
 use crate::free::FreePositions;
-use crate::letters::Letter;
+use crate::letters::{Letter, common_of};
 use crate::pattern::Pattern;
 use crate::places::{BLOCKS, Places};
 use crate::rows::{ROWS, gather, hold, in_all, insert_rows, insert_unlike, without};
@@ -29,6 +29,8 @@ pub(crate) struct Alphabet {
     // For each position of the second automaton, its twins in the first.
     twins: Vec<u128>,
     pub(crate) free: FreePositions,
+    // The positions that all letters have.
+    common: (u128, u128),
     ghost few: { length letters.items ≤ max_reach },
     ghost rows_of_first: { length first.items ≡ max_reach },
     ghost rows_of_second: { length second.items ≡ max_reach },
@@ -36,6 +38,7 @@ pub(crate) struct Alphabet {
     ghost in_second: { AreRows (λ l. l.second) second.items letters.items (length letters.items) },
     ghost each_position: { length twins.items ≡ 128 },
     ghost same_letters: { AreTwins first.items second.items twins.items },
+    ghost in_common: { AreCommon letters.items common },
 }
 
 impl Alphabet {
@@ -72,12 +75,14 @@ impl Alphabet {
         let used = union_of(&letters);
         let twins = twins(alloc, &first, &second, used)?;
         let free = FreePositions::of(alloc, &letters, &first, &second, &twins, used)?;
+        let common = common_of(&letters);
         Ok(Alphabet {
             letters,
             first,
             second,
             twins,
             free,
+            common,
         })
     }
 
@@ -130,9 +135,20 @@ impl Alphabet {
         self.letters.get(places.first()?).copied()
     }
 
-    /// The ways without the positions of the second automaton that have a twin on the ways. They
-    /// decide the target of a letter.
-    pub(crate) fn without_twins(&self, ways: (u128, u128)) -> (u128, u128)
+    /// The ways without the positions that all letters have, and without those of the second
+    /// automaton that have a twin on the ways. They decide the target of a letter.
+    pub(crate) fn decisive(&self, ways: (u128, u128)) -> (u128, u128)
+        ensures { DecideAll self.now.letters.items ways result }
+    {
+        let asked = self.without_twins(ways);
+        (
+            without(asked.0, self.common.0),
+            without(asked.1, self.common.1),
+        )
+    }
+
+    // The ways without the positions of the second automaton that have a twin on the ways.
+    fn without_twins(&self, ways: (u128, u128)) -> (u128, u128)
         ensures { DecideAll self.now.letters.items ways result }
     {
         (ways.0, without_twins(&self.twins, ways.0, ways.1))

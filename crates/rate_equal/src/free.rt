@@ -3,19 +3,17 @@
 //! Where each test stands on a column of its own, all positions are free. Of ways on that lack free
 //! positions of known ones, the targets need not be looked for: they are the known targets that
 //! lack these positions.
-ghost use Rattle.std.specs.Prelude.{◌≡◌, IfOk, IsTrue, length};
+ghost use Rattle.std.specs.Prelude.{◌≡◌, List, IfOk, IsTrue, length};
 ghost use Rattle.std.specs.List.{Contains};
-ghost use Rattle.rate_equal.specs.Free.{AreAllFree, AreFree, AreKnownFree, AreMet, CanLack};
-ghost use Rattle.rate_equal.specs.Free.{HasOther};
-ghost use Rattle.rate_equal.specs.Patterns.{HasAt};
+ghost use Rattle.rate_equal.specs.Free.{AreAllFree, AreFree, AreKnownFree, CanLack};
+ghost use Rattle.rate_equal.specs.Patterns.{IsBelow};
 ghost use Rattle.rate_equal.specs.Reach.{max_reach};
-ghost use Rattle.rate_equal.specs.declared.pattern.Position.{Position};
+ghost use Rattle.rate_equal.specs.declared.letters.Letter.{Letter as LetterOf};
 
 use crate::letters::Letter;
-use crate::rows::without;
+use crate::pattern::{Position, are_apart, is_within};
 use crate::twins::{POSITIONS, twins_of};
-use indexmap::IndexSet;
-use rate_expr::masks::{has, lowest, overlap, without_lowest};
+use rate_expr::masks::{has, lowest, without_lowest};
 use std::alloc::{AllocError, Global};
 
 /// For each position of either automaton, free positions.
@@ -43,13 +41,24 @@ impl FreePositions {
         ensures { IfOk result (λ free. AreKnownFree letters.now free.first.items
             free.second.items) }
     {
-        let met = met_by(alloc, letters)?;
-        let of_first = free_of_first(alloc, letters, &met, first, second, used)?;
-        let of_second = free_of_second(alloc, letters, &met, second, used.1, twins, &of_first)?;
+        let of_first = free_of_first(alloc, letters, first, second, used)?;
+        let of_second = free_of_second(alloc, letters, second, used.1, twins, &of_first)?;
         Ok(FreePositions {
             first: of_first,
             second: of_second,
         })
+    }
+
+    /// Free positions, as a rule all that the same letters have as the position.
+    pub(crate) fn with(&self, position: Position) -> (u128, u128)
+        requires { IsBelow position }
+        ensures { (letters : List LetterOf) → AreKnownFree letters self.now.first.items
+            self.now.second.items → AreFree letters result }
+    {
+        match position {
+            Position::First(place) => self.first[place as usize],
+            Position::Second(place) => self.second[place as usize],
+        }
     }
 
     /// Whether it is known that for each letter some letter has the same of the ways and lacks the
@@ -69,30 +78,17 @@ impl FreePositions {
     }
 }
 
-// The positions of each letter.
-fn met_by(alloc: Global, letters: &[Letter]) -> Result<IndexSet<(u128, u128)>, AllocError>
-    ensures { IfOk result (λ met. AreMet letters.now met.keys) }
-{
-    let mut met = IndexSet::new(alloc);
-    'letters: for letter in letters {
-        met.insert((letter.first, letter.second))?;
-    }
-    Ok(met)
-}
-
 // For each position of the first automaton, free positions: all that the same letters have, if
 // they are free, and else none.
 fn free_of_first(
     alloc: Global,
     letters: &[Letter],
-    met: &IndexSet<(u128, u128)>,
     first: &[u128],
     second: &[u128],
     used: (u128, u128),
 ) -> Result<Vec<(u128, u128)>, AllocError>
     requires rows_of_first { length first.now ≡ max_reach }
     requires rows_of_second { length second.now ≡ max_reach }
-    requires met { AreMet letters.now met.now.keys }
     ensures length { IfOk result (λ free. length free.items ≡ 128) }
     ensures free { IfOk result (λ free. AreAllFree letters.now free.items) }
 {
@@ -103,7 +99,7 @@ fn free_of_first(
             alike.0 = twins_of(first, used.0, first, position);
             alike.1 = twins_of(second, used.1, first, position);
         }
-        free.push(free_or_none(letters, met, alike))?;
+        free.push(free_or_none(letters, alike))?;
     }
     Ok(free)
 }
@@ -112,14 +108,12 @@ fn free_of_first(
 fn free_of_second(
     alloc: Global,
     letters: &[Letter],
-    met: &IndexSet<(u128, u128)>,
     second: &[u128],
     used: u128,
     twins: &[u128],
     of_first: &[(u128, u128)],
 ) -> Result<Vec<(u128, u128)>, AllocError>
     requires rows_of_second { length second.now ≡ max_reach }
-    requires met { AreMet letters.now met.now.keys }
     requires twins { length twins.now ≡ 128 }
     requires length { length of_first.now ≡ 128 }
     requires free { AreAllFree letters.now of_first.now }
@@ -136,56 +130,55 @@ fn free_of_second(
         if has(used, position as u32) {
             alike = twins_of(second, used, second, position);
         }
-        free.push(free_or_none(letters, met, (0, alike)))?;
+        free.push(free_or_none(letters, (0, alike)))?;
     }
     Ok(free)
 }
 
 // The positions if they are free, and else none.
-fn free_or_none(
-    letters: &[Letter],
-    met: &IndexSet<(u128, u128)>,
-    positions: (u128, u128),
-) -> (u128, u128)
-    requires { AreMet letters.now met.now.keys }
+fn free_or_none(letters: &[Letter], positions: (u128, u128)) -> (u128, u128)
     ensures { AreFree letters.now result }
 {
-    if are_free(letters, met, positions) {
+    if are_free(letters, positions) {
         positions
     } else {
         (0, 0)
     }
 }
 
-// Whether each letter without the positions is a letter too.
-fn are_free(letters: &[Letter], met: &IndexSet<(u128, u128)>, positions: (u128, u128)) -> bool
-    requires { AreMet letters.now met.now.keys }
+// Whether each letter without the positions is a letter too. Letters that have all of the
+// positions stand in the same order without them, so that one pass finds them all.
+fn are_free(letters: &[Letter], positions: (u128, u128)) -> bool
     ensures { IsTrue result → AreFree letters.now positions }
 {
+    let mut next = 0;
     'letters: for letter in letters {
-        if !is_met_without(letters, met, *letter, positions) {
+        if are_apart(positions, letter.positions()) {
+            continue 'letters;
+        }
+        let left = letter.lacking(positions);
+        next = place_from(letters, next, left);
+        if !stands_at(letters, next, left) {
             return false;
         }
     }
     true
 }
 
-// Whether the letter without the positions is a letter.
-fn is_met_without(
-    letters: &[Letter],
-    met: &IndexSet<(u128, u128)>,
-    letter: Letter,
-    positions: (u128, u128),
-) -> bool
-    requires met { AreMet letters.now met.now.keys }
-    requires letter { Contains letters.now letter }
-    ensures { IsTrue result → HasOther letters.now positions letter }
+// The first place from `start` on whose letter is not below this one, in the order of letters.
+fn place_from(letters: &[Letter], start: usize, letter: Letter) -> usize {
+    'places: for place in start..letters.len() {
+        if letters[place] >= letter {
+            return place;
+        }
+    }
+    letters.len()
+}
+
+fn stands_at(letters: &[Letter], place: usize, letter: Letter) -> bool
+    ensures { IsTrue result → Contains letters.now letter }
 {
-    let left = (
-        without(letter.first, positions.0),
-        without(letter.second, positions.1),
-    );
-    left == (letter.first, letter.second) || met.contains(&left)
+    place < letters.len() && letters[place] == letter
 }
 
 // The free positions of all positions of the mask, and those that are given.
@@ -208,20 +201,4 @@ fn with_free(
         rest = without_lowest(rest);
     }
     found
-}
-
-// Whether the positions are among the others.
-fn is_within(positions: (u128, u128), others: (u128, u128)) -> bool
-    ensures { IsTrue result → (position : Position) → HasAt positions position
-        → HasAt others position }
-{
-    without(positions.0, others.0) == 0 && without(positions.1, others.1) == 0
-}
-
-// Whether no position is in both pairs of masks.
-fn are_apart(positions: (u128, u128), others: (u128, u128)) -> bool
-    ensures { IsTrue result → (position : Position) → HasAt positions position
-        → HasAt others position → ⊥ }
-{
-    !overlap(positions.0, others.0) && !overlap(positions.1, others.1)
 }

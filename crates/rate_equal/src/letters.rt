@@ -2,11 +2,14 @@
 ghost use Rattle.std.specs.Prelude.{◌≡◌, ◌+◌, ◌<◌, ◌≤◌, ℕ, IfOk, OnOk, length};
 ghost use Rattle.predicate_cells.specs.Cells.{cell_count};
 ghost use Rattle.symbolic_nfa.specs.Automata.{Automaton};
+ghost use Rattle.rate_equal.specs.Free.{IsWithout};
 ghost use Rattle.rate_equal.specs.Letters.{AreLetters, AreMetBy, IsGathered};
+ghost use Rattle.rate_equal.specs.Patterns.{AreCommon, positions_of};
 ghost use Rattle.rate_equal.specs.Reach.{max_reach};
 ghost use Rattle.rate_equal.specs.Targets.{target};
 
 use crate::pair::Pair;
+use crate::rows::without;
 use indexmap::IndexSet;
 use std::alloc::{AllocError, Global};
 use symbolic_nfa::{Nfa, State};
@@ -31,6 +34,22 @@ impl Letter {
             first: met.0,
             second: met.1,
         }
+    }
+
+    /// A letter with the positions of this one but for those that are given.
+    pub(crate) fn lacking(&self, positions: (u128, u128)) -> Letter
+        ensures { IsWithout positions self.now result }
+    {
+        Letter::of((
+            without(self.first, positions.0),
+            without(self.second, positions.1),
+        ))
+    }
+
+    pub(crate) fn positions(&self) -> (u128, u128)
+        ensures { result ≡ positions_of self.now }
+    {
+        (self.first, self.second)
     }
 
     pub(crate) fn target(&self, ways: (u128, u128)) -> Pair
@@ -88,4 +107,15 @@ fn add_letter(
     }
     letters.push(Letter::of(met))?;
     Ok(())
+}
+
+/// The positions that all letters have.
+pub(crate) fn common_of(letters: &[Letter]) -> (u128, u128)
+    ensures { AreCommon letters.now result }
+{
+    let mut common = (u128::MAX, u128::MAX);
+    'letters: for letter in letters {
+        common = (common.0 & letter.first, common.1 & letter.second);
+    }
+    common
 }

@@ -5,7 +5,8 @@ ghost use Rattle.rate_equal.specs.Patterns.{HasAt, HaveSameAt, IsBelow, IsLike, 
 ghost use Rattle.rate_equal.specs.Patterns.{positions_of};
 
 use crate::letters::Letter;
-use rate_expr::masks::{has, lowest, only, without_lowest};
+use crate::rows::without;
+use rate_expr::masks::{has, lowest, only, overlap, without_lowest};
 
 /// A position of one of two automata.
 #[derive(Clone, Copy)]
@@ -32,6 +33,14 @@ impl Pattern {
         }
     }
 
+    /// The pattern of the letters that have all of the positions.
+    pub(crate) fn of_those(positions: (u128, u128)) -> Pattern {
+        Pattern {
+            has: positions,
+            lacks: (0, 0),
+        }
+    }
+
     /// Parts the letters of the pattern into those that agree with `letter` about the position, and
     /// the others.
     pub(crate) fn parted(self, position: Position, letter: Letter) -> (Pattern, Pattern)
@@ -46,6 +55,13 @@ impl Pattern {
         } else {
             (self.lacking(position), self.having(position))
         }
+    }
+
+    /// Whether a letter with these positions is known to be of the pattern.
+    pub(crate) fn takes(self, letter: Letter) -> bool
+        ensures { IsTrue result → IsLike self letter }
+    {
+        is_within(self.has, letter.positions()) && are_apart(self.lacks, letter.positions())
     }
 
     fn having(self, position: Position) -> Pattern
@@ -108,4 +124,20 @@ fn with(positions: (u128, u128), position: Position) -> (u128, u128)
         Position::First(place) => (positions.0 | only(place), positions.1),
         Position::Second(place) => (positions.0, positions.1 | only(place)),
     }
+}
+
+/// Whether the positions are among the others.
+pub(crate) fn is_within(positions: (u128, u128), others: (u128, u128)) -> bool
+    ensures { IsTrue result → (position : Position) → HasAt positions position
+        → HasAt others position }
+{
+    without(positions.0, others.0) == 0 && without(positions.1, others.1) == 0
+}
+
+/// Whether no position is in both pairs of masks.
+pub(crate) fn are_apart(positions: (u128, u128), others: (u128, u128)) -> bool
+    ensures { IsTrue result → (position : Position) → HasAt positions position
+        → HasAt others position → ⊥ }
+{
+    !overlap(positions.0, others.0) && !overlap(positions.1, others.1)
 }

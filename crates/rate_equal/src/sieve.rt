@@ -4,12 +4,13 @@
 //! are parted by the first position into those that have it and those that lack it, each part by
 //! the next position, and so on. All letters of a last part have the same target, and one of them
 //! gives it. A part without letters is left out.
-ghost use Rattle.std.specs.Prelude.{◌≡◌, ◌≤◌, ◌+◌, Err, OnOk, length};
+ghost use Rattle.std.specs.Prelude.{◌≡◌, ◌≤◌, ◌+◌, Err, IfSome, None, OnOk, length};
 ghost use Rattle.std.specs.List.{Contains};
 ghost use Rattle.rate_equal.specs.declared.letters.Letter.{Letter as LetterOf};
 ghost use Rattle.rate_equal.specs.declared.stop.EqualStop.TheVariants.{Reach};
 ghost use Rattle.rate_equal.specs.Added.{AreTooMany, HasPair};
-ghost use Rattle.rate_equal.specs.Patterns.{Decide, IsLike};
+ghost use Rattle.rate_equal.specs.Free.{AreKnownFree, IsMet};
+ghost use Rattle.rate_equal.specs.Patterns.{Decide, IsBelow, IsLike};
 ghost use Rattle.rate_equal.specs.Reach.{max_reach};
 ghost use Rattle.rate_equal.specs.Targets.{AreAlong, IsTarget, target};
 
@@ -17,7 +18,7 @@ use crate::addition::add;
 use crate::alphabet::Alphabet;
 use crate::letters::Letter;
 use crate::pair::Pair;
-use crate::pattern::{Pattern, first_and_rest};
+use crate::pattern::{Pattern, Position, first_and_rest};
 use crate::places::Places;
 use crate::stop::EqualStop;
 use indexmap::IndexSet;
@@ -34,7 +35,9 @@ pub(crate) fn sift(
     targets: &mut Places,
 ) -> Result<(), EqualStop>
     requires few { length pairs.old.keys ≤ max_reach }
-    requires known { Contains alphabet.now.letters.items letter × IsLike pattern letter }
+    requires free { AreKnownFree alphabet.now.letters.items
+        alphabet.now.free.first.items alphabet.now.free.second.items }
+    requires known { IsMet alphabet.now.letters.items letter × IsLike pattern letter }
     requires decide { Decide alphabet.now.letters.items ways pattern asked }
     ensures added { OnOk result (AreAlong alphabet.now.letters.items ways
         pairs.old.keys targets.old pairs.new.keys targets.new) }
@@ -49,8 +52,32 @@ pub(crate) fn sift(
     };
     let (same, other) = pattern.parted(position, letter);
     sift(alphabet, ways, same, letter, rest, pairs, targets)?;
-    if let Some(found) = alphabet.first_like(other) {
+    if let Some(found) = letter_of(alphabet, other, letter, position) {
         sift(alphabet, ways, other, found, rest, pairs, targets)?;
     }
     Ok(())
+}
+
+// A letter of the part, if there is one. Where the position is free, mostly the known letter
+// without it is one.
+fn letter_of(
+    alphabet: &Alphabet,
+    part: Pattern,
+    known: Letter,
+    position: Position,
+) -> Option<Letter>
+    requires free { AreKnownFree alphabet.now.letters.items
+        alphabet.now.free.first.items alphabet.now.free.second.items }
+    requires known { IsMet alphabet.now.letters.items known }
+    requires position { IsBelow position }
+    ensures some { IfSome result (λ letter. IsMet alphabet.now.letters.items letter
+        × IsLike part letter) }
+    ensures none { result ≡ None → (letter : LetterOf) → Contains alphabet.now.letters.items letter
+        → IsLike part letter → ⊥ }
+{
+    let lacking = known.lacking(alphabet.free.with(position));
+    if part.takes(lacking) {
+        return Some(lacking);
+    }
+    alphabet.first_like(part)
 }

@@ -1,6 +1,8 @@
 //! The targets along ways on.
-ghost use Rattle.std.specs.Prelude.{◌≡◌, ◌≤◌, Err, IfOk, length};
+ghost use Rattle.std.specs.Prelude.{◌≡◌, ◌≤◌, Err, IfOk, IfSome, None, length};
+ghost use Rattle.std.specs.List.{Contains};
 ghost use Rattle.rate_equal.specs.Free.{AreKnownFree};
+ghost use Rattle.rate_equal.specs.declared.letters.Letter.{Letter as LetterOf};
 ghost use Rattle.rate_equal.specs.declared.stop.EqualStop.TheVariants.{Reach};
 ghost use Rattle.rate_equal.specs.Added.{AreTooMany};
 ghost use Rattle.rate_equal.specs.Holding.{AreHeld};
@@ -12,6 +14,7 @@ use crate::alphabet::Alphabet;
 use crate::extension::extend;
 use crate::holders::Holders;
 use crate::known_sets::{Known, count, nearest};
+use crate::letters::Letter;
 use crate::pair::Pair;
 use crate::pattern::Pattern;
 use crate::places::Places;
@@ -24,7 +27,7 @@ use std::alloc::Global;
 
 // If at most this many positions are asked, the letters are sifted. Each further position may
 // double the number of parts.
-const FEW: u32 = 4;
+const FEW: u32 = 5;
 
 /// Adds all targets along the ways, and gives their places. There may be places of other pairs too,
 /// but only of pairs whose positions are all on the ways.
@@ -66,6 +69,8 @@ fn from_few(
     asked: (u128, u128),
     pairs: &mut IndexSet<Pair>,
 ) -> Result<Places, EqualStop>
+    requires free { AreKnownFree alphabet.now.letters.items
+        alphabet.now.free.first.items alphabet.now.free.second.items }
     requires few { length pairs.old.keys ≤ max_reach }
     requires decide { DecideAll alphabet.now.letters.items ways asked }
     ensures found { IfOk result (λ targets.
@@ -74,12 +79,32 @@ fn from_few(
         → AreTooMany pairs.old.keys (IsTarget alphabet.now.letters.items ways) }
 {
     let mut targets = Places::none(alloc)?;
-    let all = Pattern::of_all();
-    let Some(letter) = alphabet.first_like(all) else {
+    let Some(letter) = first_letter(alphabet, asked) else {
         return Ok(targets);
     };
-    sift(alphabet, ways, all, letter, asked, pairs, &mut targets)?;
+    sift(
+        alphabet,
+        ways,
+        Pattern::of_all(),
+        letter,
+        asked,
+        pairs,
+        &mut targets,
+    )?;
     Ok(targets)
+}
+
+// A letter that has all of the positions, if there is one, and else the first one.
+fn first_letter(alphabet: &Alphabet, positions: (u128, u128)) -> Option<Letter>
+    ensures some { IfSome result (λ letter. Contains alphabet.now.letters.items letter) }
+    ensures none { result ≡ None → (letter : LetterOf) → Contains alphabet.now.letters.items letter
+        → ⊥ }
+{
+    let having = alphabet.first_like(Pattern::of_those(positions));
+    if having.is_some() {
+        return having;
+    }
+    alphabet.first_like(Pattern::of_all())
 }
 
 // The same by the targets along known ways, and by the letters that have a position which these
