@@ -4,13 +4,7 @@
 mod answers;
 mod bound;
 mod call;
-mod case;
-mod damage;
-mod draft;
-mod draws;
 mod engines;
-mod grammar;
-mod grammar_file;
 mod judgment;
 mod lines;
 mod memory;
@@ -20,14 +14,10 @@ mod tally;
 mod texts;
 mod transcripts;
 
-use crate::hostile::case::Case;
-use crate::hostile::draft::case_of;
-use crate::hostile::grammar::Grammar;
-use crate::hostile::grammar_file::grammar_of;
 use crate::hostile::judgment::judge;
 use crate::hostile::stop::Stop;
 use crate::hostile::tally::Tally;
-use crate::spelling::push_spelled;
+use query_cases::{Case, Grammar, drawn_case, grammar_of, push_spelled};
 use std::alloc::{AllocError, Global};
 use std::{fs, io};
 
@@ -59,7 +49,7 @@ fn report_of(
     seed: u64,
     tally: &mut Tally,
 ) -> Result<String, AllocError> {
-    let case = case_of(alloc, grammar, seed)?;
+    let case = drawn_case(alloc, grammar, seed)?;
     match judge(alloc, &case, tally) {
         Ok(()) => Ok(String::new(alloc)),
         Err(Stop::Memory) => Err(AllocError),
@@ -74,9 +64,9 @@ fn report_of(
 /// The query and the items of the case, spelled.
 fn shown(alloc: Global, case: &Case) -> Result<String, AllocError> {
     let mut text = String::from_str(alloc, "  ")?;
-    push_spelled(&mut text, case.query())?;
+    push_spelled(&mut text, case.query.as_slice())?;
     text.push_str("\n  ")?;
-    push_spelled(&mut text, case.items())?;
+    push_spelled(&mut text, case.items.as_slice())?;
     text.push('\n')?;
     Ok(text)
 }

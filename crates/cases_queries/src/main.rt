@@ -4,7 +4,6 @@
 
 mod acceptance;
 mod hostile;
-mod spelling;
 mod tables;
 mod why;
 

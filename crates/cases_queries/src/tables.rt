@@ -8,7 +8,6 @@ mod pair;
 mod refusal;
 mod run;
 mod stop;
-mod table;
 mod transcripts;
 mod trees;
 mod verdict;
@@ -16,8 +15,8 @@ mod verdict;
 use crate::tables::constructors::constructors;
 use crate::tables::csv_lines::read_lines;
 use crate::tables::run::written;
-use crate::tables::table::{Case, cases_of};
 use crate::tables::verdict::verdict;
+use query_cases::{Case, spelled_cases};
 use std::alloc::{AllocError, Global};
 use std::{fs, io};
 
@@ -71,9 +70,9 @@ fn report_trees(rt: HostRuntime) -> io::Result<()> {
 /// A line for each case.
 fn report(alloc: Global, question: Question, table: &str) -> Result<String, AllocError> {
     let mut text = String::new(alloc);
-    for case in &cases_of(alloc, table)? {
-        let found = found(alloc, question, case)?;
-        writeln!(text, "{}: {}", case.number, found)?;
+    for numbered in &spelled_cases(alloc, table)? {
+        let found = found(alloc, question, &numbered.case)?;
+        writeln!(text, "{}: {}", numbered.number, found)?;
     }
     Ok(text)
 }

@@ -2,9 +2,9 @@
 ghost use Rattle.std.specs.Prelude.{◌≡◌, ◌↔◌, IsTrue};
 ghost use Rattle.cases_queries.specs.Outcomes.{IsSame};
 
-use crate::hostile::case::Case;
 use crate::hostile::stop::{Finding, Stop};
 use io_edge::{MemorySink, MemorySource};
+use query_cases::Case;
 use sqre_run::{Status, sqre};
 use std::alloc::{AllocError, Global};
 use std::str;
@@ -64,8 +64,8 @@ fn call(
     cuts: &[usize],
     out: &mut MemorySink,
 ) -> Result<Status, AllocError> {
-    let mut query = MemorySource::new(alloc, case.query(), cuts, &[])?;
-    let mut items = MemorySource::new(alloc, case.items(), cuts, &[])?;
+    let mut query = MemorySource::new(alloc, case.query.as_slice(), cuts, &[])?;
+    let mut items = MemorySource::new(alloc, case.items.as_slice(), cuts, &[])?;
     Ok(sqre(alloc, words, &mut query, &mut items, out))
 }
 

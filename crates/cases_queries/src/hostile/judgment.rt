@@ -5,12 +5,12 @@ ghost use Rattle.cases_queries.specs.Outcomes.{IsSame};
 use crate::acceptance::checked;
 use crate::hostile::answers::{Answers, is_bound, is_drill};
 use crate::hostile::call::{Outcome, asked, run, run_slowly};
-use crate::hostile::case::Case;
 use crate::hostile::engines::ask_engines;
 use crate::hostile::lines::lines_due;
 use crate::hostile::refusals::rule_of;
 use crate::hostile::stop::{Finding, Stop};
 use crate::hostile::tally::Tally;
+use query_cases::Case;
 use sqre_run::Status;
 use std::alloc::Global;
 
@@ -82,15 +82,15 @@ fn judge_accepted(alloc: Global, case: &Case, calls: &Calls, tally: &mut Tally) 
 
 /// Checks what a run writes.
 fn judge_run(alloc: Global, case: &Case, run: &Outcome, tally: &mut Tally) -> Result<(), Stop> {
-    let checked = checked(alloc, case.query())?;
+    let checked = checked(alloc, case.query.as_slice())?;
     let answers = Answers::of(alloc, run.text.as_str())?;
-    if answers.lines != lines_due(case.items(), checked.schema().has_header()) {
+    if answers.lines != lines_due(case.items.as_slice(), checked.schema().has_header()) {
         return Err(Stop::Found(Finding::Count));
     }
     if answers.lines <= FEW && !run_slowly(alloc, case)?.is_as(run) {
         return Err(Stop::Found(Finding::Engines));
     }
-    let compared = ask_engines(alloc, &checked, case.items(), &answers)?;
+    let compared = ask_engines(alloc, &checked, case.items.as_slice(), &answers)?;
     tally.add_accepted(&answers, compared);
     Ok(())
 }
@@ -109,7 +109,7 @@ fn judge_refused(alloc: Global, case: &Case, calls: &Calls, tally: &mut Tally) -
     if !slow.is_as(check) {
         return Err(Stop::Found(Finding::Verdicts));
     }
-    match rule_of(check.text.as_str(), case.query().len()) {
+    match rule_of(check.text.as_str(), case.query.len()) {
         Some(rule) => {
             tally.add_refused(rule);
             Ok(())

@@ -1,7 +1,7 @@
 //! Refusals of queries.
 
-use crate::spelling::push_spelled;
 use language_base::{Refusal, Span};
+use query_cases::push_spelled;
 use report_writer::refusal_text;
 use std::alloc::{AllocError, Global};
 

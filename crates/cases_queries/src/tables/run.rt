@@ -1,7 +1,7 @@
 //! Runs of queries.
 
-use crate::spelling::push_spelled;
 use io_edge::{MemorySink, SteadySource};
+use query_cases::push_spelled;
 use sqre_run::{Status, sqre};
 use std::alloc::{AllocError, Global};
 

@@ -1,11 +1,11 @@
 //! The grammar from which cases are drawn.
 
-use crate::hostile::draws::Draws;
+use crate::draws::Draws;
 use std::alloc::{AllocError, Global};
 
 /// Rules, the first of which is that of a case.
 #[derive(Drop)]
-pub(crate) struct Grammar {
+pub struct Grammar {
     pub(crate) rules: Vec<Rule>,
     /// The bytes of all parts, one after the other.
     texts: Vec<u8>,

@@ -1,9 +1,9 @@
 //! Cases as they are drawn.
 
-use crate::hostile::case::Case;
-use crate::hostile::damage::{Spoil, rarity};
-use crate::hostile::draws::Draws;
-use crate::hostile::grammar::{ByteRange, Grammar, Mark, Part, Rule};
+use crate::case::Case;
+use crate::damage::{Spoil, rarity};
+use crate::draws::Draws;
+use crate::grammar::{ByteRange, Grammar, Mark, Part, Rule};
 use std::alloc::{AllocError, Global};
 
 /// More parts than a case has.
@@ -34,7 +34,7 @@ struct Draft {
 }
 
 /// The case of a seed. Some cases are drawn as the grammar says, and some have spoiled parts.
-pub(crate) fn case_of(alloc: Global, grammar: &Grammar, seed: u64) -> Result<Case, AllocError> {
+pub fn drawn_case(alloc: Global, grammar: &Grammar, seed: u64) -> Result<Case, AllocError> {
     let mut draft = Draft::new(alloc, seed);
     if let Some(rule) = grammar.rules.first() {
         draft.plan(rule)?;
@@ -45,7 +45,7 @@ pub(crate) fn case_of(alloc: Global, grammar: &Grammar, seed: u64) -> Result<Cas
             None => break,
         }
     }
-    Ok(draft.case())
+    draft.case()
 }
 
 impl Draft {
@@ -67,10 +67,13 @@ impl Draft {
         }
     }
 
-    fn case(self) -> Case {
-        let Draft { bytes, cut, .. } = self;
-        let cut = cut.unwrap_or(bytes.len());
-        Case::new(bytes, cut)
+    fn case(&self) -> Result<Case, AllocError> {
+        let cut = self.cut.unwrap_or(self.bytes.len());
+        let (query, items) = (self.bytes.get(..cut), self.bytes.get(cut..));
+        Ok(Case {
+            query: Vec::from_slice(self.alloc, query.unwrap_or(&[]))?,
+            items: Vec::from_slice(self.alloc, items.unwrap_or(&[]))?,
+        })
     }
 
     /// Draws an alternative of the rule, whose parts come next.

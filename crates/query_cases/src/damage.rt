@@ -1,6 +1,6 @@
 //! How parts of a case are spoiled.
 
-use crate::hostile::draws::Draws;
+use crate::draws::Draws;
 
 #[derive(Clone, Copy)]
 pub(crate) enum Spoil {

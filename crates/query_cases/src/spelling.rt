@@ -43,7 +43,7 @@ fn digit_of(byte: u8) -> u8 {
 }
 
 /// Spells the bytes.
-pub(crate) fn push_spelled(text: &mut String, bytes: &[u8]) -> Result<(), AllocError> {
+pub fn push_spelled(text: &mut String, bytes: &[u8]) -> Result<(), AllocError> {
     for byte in bytes {
         push_spelled_byte(text, *byte)?;
     }

@@ -1,6 +1,6 @@
 //! The grammar, read from its file.
 
-use crate::hostile::grammar::{Alternative, Grammar, Mark, Part, Rule};
+use crate::grammar::{Alternative, Grammar, Mark, Part, Rule};
 use std::alloc::{AllocError, Global};
 
 /// A line of the file: `NAME: TEXT`, or `NAME WEIGHT: TEXT`.
@@ -13,7 +13,7 @@ struct Entry<'t> {
 
 /// The grammar of the text, with the rules in the order in which they come first. There is none if
 /// a line is no entry, or names no rule. Empty lines and lines that begin with `#` are remarks.
-pub(crate) fn grammar_of(alloc: Global, text: &str) -> Result<Option<Grammar>, AllocError> {
+pub fn grammar_of(alloc: Global, text: &str) -> Result<Option<Grammar>, AllocError> {
     let mut grammar = named_rules(alloc, text)?;
     for line in text.lines() {
         if !is_remark(line) && !add_alternative(alloc, &mut grammar, line)? {

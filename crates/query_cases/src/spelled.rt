@@ -1,17 +1,17 @@
-//! The cases of a table.
+//! Cases as tables spell them.
 
+use crate::case::Case;
 use crate::spelling::bytes_of;
 use std::alloc::{AllocError, Global};
 
 /// More lines than a table has.
 const LINES: u32 = 1_000;
 
+/// A case with the number of its line in the table.
 #[derive(Drop)]
-pub(crate) struct Case {
-    /// The number of its line in the table.
-    pub(crate) number: u32,
-    pub(crate) query: Vec<u8>,
-    pub(crate) items: Vec<u8>,
+pub struct NumberedCase {
+    pub number: u32,
+    pub case: Case,
 }
 
 /// What comes before and after the part of a query.
@@ -42,7 +42,7 @@ impl Frame {
 /// The cases of the table, a line each: a part of a query, and after a bar the items, if any. A
 /// line that begins with `frame` has the frame of the parts below it. Empty lines and lines that
 /// begin with `#` are no cases.
-pub(crate) fn cases_of(alloc: Global, table: &str) -> Result<Vec<Case>, AllocError> {
+pub fn spelled_cases(alloc: Global, table: &str) -> Result<Vec<NumberedCase>, AllocError> {
     let mut frame = Frame::of(alloc, "...")?;
     let mut cases = Vec::new(alloc);
     for (number, line) in (1..LINES).zip(table.lines()) {
@@ -54,23 +54,23 @@ pub(crate) fn cases_of(alloc: Global, table: &str) -> Result<Vec<Case>, AllocErr
 fn add_line(
     alloc: Global,
     frame: &mut Frame,
-    cases: &mut Vec<Case>,
+    cases: &mut Vec<NumberedCase>,
     number: u32,
     line: &str,
 ) -> Result<(), AllocError> {
     if let Some(spelled) = line.strip_prefix("frame ") {
         *frame = Frame::of(alloc, spelled)?;
     } else if !line.is_empty() && !line.starts_with('#') {
-        cases.push(case_of(alloc, number, frame, line)?)?;
+        let case = case_of(alloc, frame, line)?;
+        cases.push(NumberedCase { number, case })?;
     }
     Ok(())
 }
 
-fn case_of(alloc: Global, number: u32, frame: &Frame, line: &str) -> Result<Case, AllocError> {
+fn case_of(alloc: Global, frame: &Frame, line: &str) -> Result<Case, AllocError> {
     let mut pieces = line.split(" | ");
     let part = bytes_of(alloc, pieces.next().unwrap_or(""))?;
     Ok(Case {
-        number,
         query: frame.around(alloc, &part)?,
         items: bytes_of(alloc, pieces.next().unwrap_or(""))?,
     })
