@@ -1,13 +1,13 @@
 //! The engines on the first items of a case.
 ghost use Rattle.std.specs.Prelude.{◌≡◌, ◌↔◌, IsOk, IsTrue, nat_eq, string_bytes};
 ghost use Rattle.std.specs.List.{list_all, starts_with};
-ghost use Rattle.cases_queries.specs.Kept.{is_within};
+ghost use Rattle.cases_drawn.specs.Kept.{is_within};
 
-use crate::hostile::answers::Answers;
-use crate::hostile::bound::bound_of;
-use crate::hostile::memory::Bound;
-use crate::hostile::stop::{Finding, Stop};
-use crate::hostile::transcripts::{Transcript, transcript_of};
+use crate::answers::Answers;
+use crate::bound::bound_of;
+use crate::memory::Bound;
+use crate::stop::{Finding, Stop};
+use crate::transcripts::{Transcript, transcript_of};
 use eval_runner::Runner;
 use query_model::Checked;
 use slow_eval::Slow;

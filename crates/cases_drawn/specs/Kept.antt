@@ -1,7 +1,7 @@
 -- Statement. What an engine may keep after an item.
 use Rattle.std.specs.Prelude.{Bool, ◌+◌, ◌*◌, if◌then◌else◌, nat_le}
-use Rattle.cases_queries.specs.declared.hostile.memory.Bound.{Bound}
-use Rattle.cases_queries.specs.declared.hostile.memory.Kept.{Kept}
+use Rattle.cases_drawn.specs.declared.memory.Bound.{Bound}
+use Rattle.cases_drawn.specs.declared.memory.Kept.{Kept}
 
 -- at most the slots, and where tables are made, as many again for each text
 abbrev pub is_within : Bound → Kept → Bool

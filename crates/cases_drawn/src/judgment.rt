@@ -1,18 +1,20 @@
 //! What is checked in each case.
 ghost use Rattle.std.specs.Prelude.{◌≡◌, ◌⊎◌, OnOk};
-ghost use Rattle.cases_queries.specs.Outcomes.{IsSame};
+ghost use Rattle.cases_drawn.specs.Outcomes.{IsSame};
 
-use crate::acceptance::checked;
-use crate::hostile::answers::{Answers, is_bound, is_drill};
-use crate::hostile::call::{Outcome, asked, run, run_slowly};
-use crate::hostile::engines::ask_engines;
-use crate::hostile::lines::lines_due;
-use crate::hostile::refusals::rule_of;
-use crate::hostile::stop::{Finding, Stop};
-use crate::hostile::tally::Tally;
+use crate::answers::{Answers, is_bound, is_drill};
+use crate::call::{Outcome, asked, run, run_slowly};
+use crate::engines::ask_engines;
+use crate::lines::lines_due;
+use crate::refusals::rule_of;
+use crate::stop::{Finding, Stop};
+use crate::tally::Tally;
 use query_cases::Case;
+use query_model::Checked;
+use query_syntax::read_syntax;
 use sqre_run::Status;
 use std::alloc::Global;
+use type_checker::check;
 
 /// How many bytes the first reads give, and the first writes take, in a run in pieces.
 const PIECES: [usize; 12] = [1, 2, 3, 1, 5, 1, 1, 8, 1, 13, 1, 100];
@@ -93,6 +95,12 @@ fn judge_run(alloc: Global, case: &Case, run: &Outcome, tally: &mut Tally) -> Re
     let compared = ask_engines(alloc, &checked, case.items.as_slice(), &answers)?;
     tally.add_accepted(&answers, compared);
     Ok(())
+}
+
+/// The query that the text is, read by itself.
+fn checked(alloc: Global, query: &[u8]) -> Result<Checked, Stop> {
+    let program = read_syntax(alloc, query)?;
+    Ok(check(alloc, &program)?)
 }
 
 /// Checks that all calls refuse the query in the same way.

@@ -1,7 +1,7 @@
 //! The lines that a call writes for a query that is accepted.
 ghost use Rattle.std.specs.Prelude.{◌≡◌, ◌-◌, length, slice_index_or, OnOk};
 
-use crate::hostile::stop::{Finding, Stop};
+use crate::stop::{Finding, Stop};
 use std::alloc::Global;
 
 /// The causes for which a line is no item.

@@ -1,7 +1,7 @@
 //! What an engine may keep.
 ghost use Rattle.std.specs.Prelude.{◌≡◌};
 ghost use Rattle.std.specs.List.{list_all};
-ghost use Rattle.cases_queries.specs.Kept.{is_within};
+ghost use Rattle.cases_drawn.specs.Kept.{is_within};
 
 /// What an engine keeps after an item.
 #[derive(Clone, Copy)]

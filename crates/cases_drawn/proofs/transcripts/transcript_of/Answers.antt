@@ -1,6 +1,6 @@
 use Rattle.std.proofs.Common.{[], arith, ap}
 use Rattle.sqre_run.proofs.Sessions.{ready_begins}
-use Rattle.cases_queries.proofs.hostile.transcripts.transcript_of.Goals as goal
+use Rattle.cases_drawn.proofs.transcripts.transcript_of.Goals as goal
 
 pub lines-init : goal.lines-init
 lines-init g c =

@@ -1,6 +1,6 @@
 use Rattle.std.proofs.Common.{◌≤◌, ◌+◌}
 use Rattle.sqre_run.specs.Sessions.{IsReady}
-use Rattle.cases_queries.proofs.hostile.transcripts.transcript_of.Given as goal
+use Rattle.cases_drawn.proofs.transcripts.transcript_of.Given as goal
 
 -- the engine can continue, and has taken no more items than are counted
 abbrev pub invariant-lines : goal.invariant-lines

@@ -1,8 +1,8 @@
 //! Calls of the program over memory.
 ghost use Rattle.std.specs.Prelude.{◌≡◌, ◌↔◌, IsTrue};
-ghost use Rattle.cases_queries.specs.Outcomes.{IsSame};
+ghost use Rattle.cases_drawn.specs.Outcomes.{IsSame};
 
-use crate::hostile::stop::{Finding, Stop};
+use crate::stop::{Finding, Stop};
 use io_edge::{MemorySink, MemorySource};
 use query_cases::Case;
 use sqre_run::{Status, sqre};

@@ -3,8 +3,8 @@ ghost use Rattle.std.specs.Prelude.{◌≡◌, ◌≤◌, ◌<◌, ◌+◌, ◌^
 ghost use Rattle.query_model.specs.Queries.{plain_of};
 ghost use Rattle.sqre_run.specs.Sessions.{IsReady};
 
-use crate::hostile::memory::Kept;
-use crate::hostile::texts::Texts;
+use crate::memory::Kept;
+use crate::texts::Texts;
 use io_edge::{Line, Lines, SteadySource};
 use query_model::{Checked, Follower};
 use report_writer::push_answer;

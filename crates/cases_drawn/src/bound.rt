@@ -1,6 +1,6 @@
 //! The bound of a query on what an engine keeps.
 
-use crate::hostile::memory::Bound;
+use crate::memory::Bound;
 use memory_bound::slots;
 use query_model::{Query, Shape};
 

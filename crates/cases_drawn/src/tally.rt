@@ -1,7 +1,7 @@
 //! What was seen in all cases.
 
-use crate::hostile::answers::Answers;
-use crate::hostile::refusals::RULES;
+use crate::answers::Answers;
+use crate::refusals::RULES;
 use std::alloc::{AllocError, Global};
 
 #[derive(Drop)]

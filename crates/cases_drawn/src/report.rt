@@ -1,22 +1,8 @@
-//! Hostile cases: they are drawn from a number and run in memory, and what is wrong in a run is
-//! reported.
+//! What is found in cases that are drawn one after the other.
 
-mod answers;
-mod bound;
-mod call;
-mod engines;
-mod judgment;
-mod lines;
-mod memory;
-mod refusals;
-mod stop;
-mod tally;
-mod texts;
-mod transcripts;
-
-use crate::hostile::judgment::judge;
-use crate::hostile::stop::Stop;
-use crate::hostile::tally::Tally;
+use crate::judgment::judge;
+use crate::stop::Stop;
+use crate::tally::Tally;
 use query_cases::{Case, Grammar, drawn_case, grammar_of, push_spelled};
 use std::alloc::{AllocError, Global};
 use std::{fs, io};

@@ -1,5 +1,6 @@
 //! Why a case is not judged to the end.
 
+use query_parser::ReadStop;
 use std::alloc::{AllocError, AllocFailed};
 use std::fmt;
 use type_checker::CheckStop;
@@ -64,6 +65,15 @@ impl From<AllocError> for Stop {
 impl<T: Drop> From<AllocFailed<T>> for Stop {
     fn from(_failed: AllocFailed<T>) -> Stop {
         Stop::Memory
+    }
+}
+
+impl From<ReadStop> for Stop {
+    fn from(stop: ReadStop) -> Stop {
+        match stop {
+            ReadStop::Refused(_) => Stop::Found(Finding::Accepted),
+            ReadStop::Memory => Stop::Memory,
+        }
     }
 }
 

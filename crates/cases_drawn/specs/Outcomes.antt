@@ -1,6 +1,6 @@
 -- Statement. How calls compare.
 use Rattle.std.specs.Prelude.{◌≡◌, string_bytes}
-use Rattle.cases_queries.specs.declared.hostile.call.Outcome.{Outcome}
+use Rattle.cases_drawn.specs.declared.call.Outcome.{Outcome}
 
 -- both calls ended in the same way and wrote the same
 abbrev pub IsSame : Outcome → Outcome → Type 0
