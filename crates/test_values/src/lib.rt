@@ -1,6 +1,5 @@
-//! Calls of `language_base`, `value_ops`, `item_schema`, `predicate_cells`, `plain_items` and
-//! `item_lines` with ample memory, and what they give at their edges. They stand here because a
-//! crate with tests is proved twice.
+//! Calls of `language_base` and `value_ops` with ample memory, and what they give at their edges.
+//! They stand here because a crate with tests is proved twice.
 #![tactic(auto)]
 
 #[cfg(test)]
@@ -10,20 +9,8 @@ mod assertions;
 #[cfg(test)]
 mod base;
 #[cfg(test)]
-mod cells;
-#[cfg(test)]
 mod expressions;
 #[cfg(test)]
 mod fields;
-#[cfg(test)]
-mod items;
-#[cfg(test)]
-mod lines;
-#[cfg(test)]
-mod long_lines;
-#[cfg(test)]
-mod schemas;
-#[cfg(test)]
-mod shown_lines;
 #[cfg(test)]
 mod tables;
