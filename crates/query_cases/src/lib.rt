@@ -1,5 +1,6 @@
 //! Cases, each a query and the items that it is run on: as tables spell them, and as numbers draw
-//! them by a grammar.
+//! them by a grammar. It serves tests alone: the stored output of the programs that go through its
+//! cases holds it to what it gives, and no clause does.
 #![tactic(auto)]
 
 mod case;
