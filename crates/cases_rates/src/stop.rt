@@ -30,7 +30,7 @@ impl fmt::Display for Stop {
             Stop::Test => "a test is none of the items of its stream",
             Stop::Size => "there are too many positions or cells",
             Stop::Reach => "too many states",
-            Stop::Memory => "memory is wanting",
+            Stop::Memory => "out of memory",
         })
     }
 }

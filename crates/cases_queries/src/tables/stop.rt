@@ -15,7 +15,7 @@ impl fmt::Display for Stop {
     fn fmt<W: fmt::Write>(&self, f: &mut fmt::Formatter<W>) -> fmt::Result {
         f.write_str(match self {
             Stop::Line => "a line is not a query with items",
-            Stop::Memory => "memory is wanting",
+            Stop::Memory => "out of memory",
         })
     }
 }
