@@ -1,4 +1,5 @@
-// Assertions as calls, since a macro's text for a failure is written out at each place where it stands.
+// Assertions as calls, since a macro writes out the text of its failure at each place where it
+// stands.
 use std::fmt::Debug;
 use std::process::Abort;
 
