@@ -1,5 +1,5 @@
 -- Letters that stand for others with the same positions.
-use Rattle.std.proofs.Common.{◌≡◌, ℕ, ◌+◌, ◌<◌, ◌≤◌, ◌&&◌, ◌∙◌, ◌↔◌, ◌⊎◌, List, IsTrue, bit_and}
+use Rattle.std.proofs.Common.{◌≡◌, ℕ, ◌+◌, ◌<◌, ◌≤◌, ◌&&◌, ◌∙◌, ◌↔◌, List, IsTrue, bit_and}
 use Rattle.std.proofs.Common.{get_or, length, nat_eq, ap, arith, rules, sym, subst, inl, inr}
 use Rattle.std.proofs.lemmas.Bool.{cases_lt}
 use Rattle.std.proofs.lemmas.List.{get_or_default}
@@ -8,7 +8,7 @@ use Rattle.rate_expr.specs.Sets.{Has}
 use Rattle.rate_expr.proofs.MaskSets.{has-and}
 use Rattle.rate_equal.specs.Added.{AreAdded}
 use Rattle.rate_equal.specs.Free.{AreFree, IsMet, IsWithout}
-use Rattle.rate_equal.specs.Patterns.{AreCommon, Decide, DecideAll, HasAt, HaveSame, IsLike}
+use Rattle.rate_equal.specs.Patterns.{Decide, HasAt, IsLike}
 use Rattle.rate_equal.specs.Reach.{max_reach}
 use Rattle.rate_equal.specs.Targets.{AreAlong, IsTarget, target}
 use Rattle.rate_equal.specs.declared.letters.Letter.{Letter}
@@ -16,7 +16,7 @@ use Rattle.rate_equal.specs.declared.pair.Pair.{Pair}
 use Rattle.rate_equal.specs.declared.pattern.Pattern.{Pattern}
 use Rattle.rate_equal.specs.declared.pattern.Position.{Position}
 use Rattle.rate_equal.specs.declared.pattern.Position.TheVariants.{First, Second}
-use Rattle.rate_equal.proofs.Patterns.{at_or_not, same_ways, target_added}
+use Rattle.rate_equal.proofs.Patterns.{same_ways, target_added}
 
 -- a letter stands for itself
 pub met_itself : (letters : List Letter) (letter : Letter) → Contains letters letter
@@ -87,33 +87,6 @@ module _ (letters : List Letter) (ways : ℕ × ℕ) (letter : Letter) (met : Is
       target_added letters ways met.other old new held places few met.is_letter
       (subst (λ (p : Pair). AreAdded (λ other. p ≡ other) (λ other. p ≡ other)
       old held new places) (sym met_target) added)
-
--- what all letters have need not be asked
-pub same_but_common : (letters : List Letter) (ways asked left common : ℕ × ℕ)
-    → DecideAll letters ways asked → AreCommon letters common
-    → ((position : ℕ) → Has left.0 position
-    ↔ (Has asked.0 position × (Has common.0 position → ⊥)))
-    → ((position : ℕ) → Has left.1 position
-    ↔ (Has asked.1 position × (Has common.1 position → ⊥)))
-    → DecideAll letters ways left
-same_but_common letters ways asked left common decide all exact exact' one other c c' same =
-    decide one other c c' alike
-  where
-    alike : HaveSame asked one other
-    alike (First position) on = elim (at_or_not common (First position)) [
-      | inl each ↦ (
-        λ has. (all other c').0 position each,
-        λ has. (all one c).0 position each,
-      )
-      | inr none ↦ same (First position) ((exact position).1 (on, none))
-    ]
-    alike (Second position) on = elim (at_or_not common (Second position)) [
-      | inl each ↦ (
-        λ has. (all other c').1 position each,
-        λ has. (all one c).1 position each,
-      )
-      | inr none ↦ same (Second position) ((exact' position).1 (on, none))
-    ]
 
 -- letters are the same if all their parts are
 pub same_letter : (one other : Letter) → IsTrue (nat_eq one.missed other.missed

@@ -1,11 +1,10 @@
 -- Positions that letters can lack, one after the other and all together.
-use Rattle.std.proofs.Common.{◌≡◌, ℕ, zero, suc, ◌++◌, [], ◌∷◌, ◌+◌, ◌≤◌, ◌∙◌, arith, get_or}
-use Rattle.std.proofs.Common.{length, ◌<◌, ◌↔◌, ◌⊎◌, List, bit_or, ap, sym, subst, inl, inr}
+use Rattle.std.proofs.Common.{◌≡◌, ℕ, zero, suc, ◌++◌, [], ◌∷◌, ◌+◌, ◌∙◌, arith, get_or}
+use Rattle.std.proofs.Common.{length, ◌<◌, List, bit_or, ap, subst, inl, inr}
 use Rattle.std.proofs.lemmas.Bool.{cases_lt}
 use Rattle.std.proofs.lemmas.List.{get_or_default}
-use Rattle.std.proofs.lemmas.List.Elements.{All-append, Contains-get_or}
+use Rattle.std.proofs.lemmas.List.Elements.{All-append}
 use Rattle.std.specs.List.{All, Contains}
-use Rattle.rate_expr.specs.Sets.{Has}
 use Rattle.rate_expr.proofs.MaskMembers.{has_first, has_or, has_second, has_zero}
 use Rattle.rate_equal.specs.Free.{AreAllFree, AreFree, CanLack, HasOther, IsWithout}
 use Rattle.rate_equal.specs.Patterns.{HasAt, positions_of}

@@ -3,6 +3,7 @@ pub mod Agreeing
 pub mod Along
 pub mod Coming
 pub mod Counterparts
+pub mod Deciding
 pub mod Differing
 pub mod Exploring
 pub mod Filling

@@ -1,5 +1,5 @@
 -- What letters have in common by what they have of positions.
-use Rattle.std.proofs.Common.{◌≡◌, ℕ, ◌^◌, ◌<◌, ◌≤◌, ◌↔◌, ◌⊎◌, List, bit_or, length, slice_index}
+use Rattle.std.proofs.Common.{◌≡◌, ℕ, ◌^◌, ◌<◌, ◌≤◌, ◌↔◌, ◌⊎◌, List, bit_or, length}
 use Rattle.std.proofs.Common.{ap, arith, rules, sym, subst, inl, inr}
 use Rattle.std.proofs.lemmas.Bool.Decides.{eqb_tells}
 use Rattle.std.specs.Int.{bit_at}
@@ -9,7 +9,6 @@ use Rattle.rate_expr.specs.declared.state.State.TheVariants.{At}
 use Rattle.rate_expr.proofs.MaskMembers.{has_first, has_one, has_only_one, has_or, has_second}
 use Rattle.rate_expr.proofs.MaskSets.{has-below}
 use Rattle.rate_equal.specs.Added.{AreAdded}
-use Rattle.rate_equal.specs.Holding.{AreRows, AreTwins}
 use Rattle.rate_equal.specs.Narrowed.{AreStatesWithin}
 use Rattle.rate_equal.specs.Patterns.{Decide, HasAt, HaveSame, HaveSameAt, IsLike, IsRest}
 use Rattle.rate_equal.specs.Patterns.{positions_of}
@@ -24,7 +23,6 @@ use Rattle.rate_equal.proofs.Added.{added_more, added_none}
 use Rattle.rate_equal.proofs.Narrowed.{is_target_within}
 use Rattle.rate_equal.proofs.Holding.{low_or_left}
 use Rattle.rate_equal.proofs.Lettering.{same_on}
-use Rattle.rate_equal.proofs.SameRows.{letter_twin}
 
 -- the number of a position
 abbrev place_of : Position → ℕ
@@ -139,33 +137,6 @@ same_ways ways one other same = λ j. record {
   second =
       ap At (same_on ways.1 one.second other.second (λ position on. same (Second position) on)) j;
 }
-
-module _ (first second twins : List ℕ) (letters : List Letter)
-    (in_first : AreRows (λ l. l.first) first letters (length letters))
-    (in_second : AreRows (λ l. l.second) second letters (length letters))
-    (few : length letters ≤ max_reach) (are : AreTwins first second twins) (ways : ℕ × ℕ) (left : ℕ)
-    (sorted : (position : ℕ) → Has ways.1 position → Has left position
-    ⊎ ((twin : ℕ) × Has ways.0 twin × Has (slice_index twins position) twin)) where
-  -- so do those that have the same of all but twins
-  pub same_but_twins : (one other : Letter) → Contains letters one → Contains letters other
-      → HaveSame (ways.0, left) one other → target ways one ≡ target ways other
-  same_but_twins one other c c' same = same_ways ways one other all
-    where
-      all : HaveSame ways one other
-      all (First position) on = same (First position) on
-      all (Second position) on = elim (sorted position on) [
-        | inl apart ↦ same (Second position) apart
-        | inr (twin, on', is) ↦
-            let row = are position twin is in
-            let of_one = letter_twin first second letters in_first in_second few twin
-            position row one c in
-            let of_other = letter_twin first second letters in_first in_second few twin
-            position row other c' in
-            let both = same (First twin) on' in (
-              λ has. of_other.1 (both.0 (of_one.0 has)),
-              λ has. of_one.1 (both.1 (of_other.0 has)),
-            )
-      ]
 
 -- two letters have the same at a position, or one has it alone
 pub same_or_not : (position : Position) (one other : Letter)

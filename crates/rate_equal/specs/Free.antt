@@ -1,5 +1,5 @@
 -- For the prover. Positions that letters can lack.
-use Rattle.std.specs.Prelude.{◌≡◌, ◌↔◌, ℕ, List}
+use Rattle.std.specs.Prelude.{◌↔◌, ℕ, List}
 use Rattle.std.specs.List.{All, Contains}
 use Rattle.rate_equal.specs.Patterns.{HasAt, HaveSame, HaveSameAt, positions_of}
 use Rattle.rate_equal.specs.declared.letters.Letter.{Letter}

@@ -16,7 +16,7 @@ use crate::letters::{Letter, common_of};
 use crate::pattern::Pattern;
 use crate::places::{BLOCKS, Places};
 use crate::rows::{ROWS, gather, hold, in_all, insert_rows, insert_unlike, without};
-use crate::twins::{twins, without_twins};
+use crate::twins::{one_of_each, twins, without_twins};
 use rate_expr::masks::{lowest, overlap};
 use std::alloc::{AllocError, Global};
 
@@ -28,6 +28,9 @@ pub(crate) struct Alphabet {
     second: Vec<u128>,
     // For each position of the second automaton, its twins in the first.
     twins: Vec<u128>,
+    // For each position of either automaton, its twins in the same one.
+    like_first: Vec<u128>,
+    like_second: Vec<u128>,
     pub(crate) free: FreePositions,
     // The positions that all letters have.
     common: (u128, u128),
@@ -38,6 +41,10 @@ pub(crate) struct Alphabet {
     ghost in_second: { AreRows (λ l. l.second) second.items letters.items (length letters.items) },
     ghost each_position: { length twins.items ≡ 128 },
     ghost same_letters: { AreTwins first.items second.items twins.items },
+    ghost each_of_first: { length like_first.items ≡ 128 },
+    ghost each_of_second: { length like_second.items ≡ 128 },
+    ghost same_in_first: { AreTwins first.items first.items like_first.items },
+    ghost same_in_second: { AreTwins second.items second.items like_second.items },
     ghost in_common: { AreCommon letters.items common },
 }
 
@@ -73,6 +80,8 @@ impl Alphabet {
             alphabet.free.first.items alphabet.free.second.items) }
     {
         let used = union_of(&letters);
+        let like_first = twins(alloc, &first, &first, (used.0, used.0))?;
+        let like_second = twins(alloc, &second, &second, (used.1, used.1))?;
         let twins = twins(alloc, &first, &second, used)?;
         let free = FreePositions::of(alloc, &letters, &first, &second, &twins, used)?;
         let common = common_of(&letters);
@@ -81,6 +90,8 @@ impl Alphabet {
             first,
             second,
             twins,
+            like_first,
+            like_second,
             free,
             common,
         })
@@ -135,23 +146,14 @@ impl Alphabet {
         self.letters.get(places.first()?).copied()
     }
 
-    /// The ways without the positions that all letters have, and without those of the second
-    /// automaton that have a twin on the ways. They decide the target of a letter.
+    /// Positions on the ways that decide the target of a letter: of those that not all letters
+    /// have, one of each twins.
     pub(crate) fn decisive(&self, ways: (u128, u128)) -> (u128, u128)
         ensures { DecideAll self.now.letters.items ways result }
     {
-        let asked = self.without_twins(ways);
-        (
-            without(asked.0, self.common.0),
-            without(asked.1, self.common.1),
-        )
-    }
-
-    // The ways without the positions of the second automaton that have a twin on the ways.
-    fn without_twins(&self, ways: (u128, u128)) -> (u128, u128)
-        ensures { DecideAll self.now.letters.items ways result }
-    {
-        (ways.0, without_twins(&self.twins, ways.0, ways.1))
+        let first = one_of_each(&self.like_first, without(ways.0, self.common.0));
+        let second = one_of_each(&self.like_second, without(ways.1, self.common.1));
+        (first, without_twins(&self.twins, first, second))
     }
 
     /// The first letter of the pattern, if there is one.

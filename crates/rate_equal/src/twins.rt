@@ -1,7 +1,8 @@
-//! Twins: positions of two automata that exactly the same letters have.
+//! Twins: positions of one or two automata that exactly the same letters have.
 //!
-//! Two rates mostly ask the same predicates, and positions with the same predicate are twins. A
-//! letter has a position exactly if it has its twins, so that only one of them has to be asked.
+//! A rate often asks a predicate at several places, and two rates mostly ask the same ones;
+//! positions with the same predicate are twins. A letter has a position exactly if it has its
+//! twins, so that only one of them has to be asked.
 ghost use Rattle.std.specs.Prelude.{◌≡◌, ◌<◌, ◌⊎◌, ℕ, IsTrue, IfOk, length, slice_index};
 ghost use Rattle.rate_expr.specs.Sets.{Has};
 ghost use Rattle.rate_equal.specs.Holding.{AreTwins, HaveSameRow};
@@ -95,6 +96,26 @@ pub(crate) fn without_twins(twins: &[u128], first: u128, second: u128) -> u128
         let position = lowest(rest);
         if !overlap(twins[position as usize], first) {
             found |= only(position);
+        }
+        rest = without_lowest(rest);
+    }
+    found
+}
+
+/// Of the positions in the mask that are twins of one another, one each.
+pub(crate) fn one_of_each(twins: &[u128], mask: u128) -> u128
+    requires { length twins.now ≡ 128 }
+    ensures { (position : ℕ) → Has mask position → (twin : ℕ) × Has result twin
+        × ((twin ≡ position) ⊎ Has (slice_index twins.now twin) position) }
+{
+    let mut found = 0;
+    let mut alike = 0;
+    let mut rest = mask;
+    'positions: while rest != 0 {
+        let position = lowest(rest);
+        if !has(alike, position) {
+            found |= only(position);
+            alike |= twins[position as usize];
         }
         rest = without_lowest(rest);
     }

@@ -1,4 +1,4 @@
-use Rattle.std.proofs.Common.{◌≤◌, ◌<◌, arith, subst}
+use Rattle.std.proofs.Common.{arith, subst}
 use Rattle.rate_expr.specs.Sets.{Has}
 use Rattle.rate_equal.specs.declared.letters.Letter.{Letter}
 use Rattle.rate_equal.proofs.Counterparts.{common_next}

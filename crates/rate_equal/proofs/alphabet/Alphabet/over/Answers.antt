@@ -10,5 +10,9 @@ invariant_of-result c = record {
   in_second = c.requires.in_second;
   each_position = c.in_ok-twins.ensures.length;
   same_letters = search rules;
-  in_common = rw c.deref-8.ensures.value at c.common_of-common.ensures;
+  each_of_first = c.in_ok-like_first.ensures.length;
+  each_of_second = c.in_ok-like_second.ensures.length;
+  same_in_first = search rules;
+  same_in_second = search rules;
+  in_common = rw c.deref-12.ensures.value at c.common_of-common.ensures;
 }
