@@ -7,13 +7,13 @@ use Rattle.query_model.specs.Queries.{plain_of}
 use Rattle.query_model.specs.Rules.{free, IsClear}
 use Rattle.query_model.specs.Sizes.{IsSmall}
 
--- a stream and a query on its items
-pub record OnStream : Type 0 where
+-- what a `Checked` has: a stream, and a query on its items
+pub record CheckedQuery : Type 0 where
   pub layout : Layout
   pub main : Query
 
 -- the stream's columns are read from lines, and the rules and limits hold
-pub record IsChecked (on : OnStream) : Type 0 where
+pub record IsChecked (on : CheckedQuery) : Type 0 where
   pub read : IsTrue (list_all (λ column. is_read column.kind) on.layout.columns)
   pub clear : IsClear free on.layout.columns (plain_of on.main.shape)
   pub small : IsSmall on.layout.columns (plain_of on.main.shape)

@@ -1,6 +1,6 @@
 //! A query that is known to mean one thing.
 ghost use Rattle.std.specs.Prelude.{◌≡◌, IfOk};
-ghost use Rattle.query_model.specs.Checked.{IsChecked, OnStream};
+ghost use Rattle.query_model.specs.Checked.{IsChecked, CheckedQuery};
 ghost use Rattle.query_model.specs.Queries.{plain_of, spans_of};
 
 use crate::Query;
@@ -17,10 +17,10 @@ pub struct Checked {
 
 impl Model for Checked {
     ghost use Rattle.std.specs.Coded.{codes};
-    ghost use Rattle.query_model.specs.Checked.{IsChecked, OnStream};
+    ghost use Rattle.query_model.specs.Checked.{IsChecked, CheckedQuery};
     ghost use Rattle.query_model.specs.contracts.query.Query as coded_query;
 
-    ghost Value = { OnStream };
+    ghost Value = { CheckedQuery };
 
     ghost coded = { Prim.hlevel (codes, coded_query.the_row.coded) };
 
@@ -32,7 +32,7 @@ impl Model for Checked {
 impl Checked {
     /// The rules are for the caller to have asked.
     pub fn new(schema: Schema, main: Box<Query>) -> Checked
-        requires { let on : OnStream = record { layout = schema; main = main.value } in
+        requires { let on : CheckedQuery = record { layout = schema; main = main.value } in
             IsChecked on }
         ensures { result ≡ record { layout = schema; main = main.value } }
     {

@@ -1,7 +1,7 @@
 -- Words that the rates of two queries share.
 use Rattle.std.proofs.Common.{ℕ, sym, subst}
 use Rattle.item_schema.specs.Layout.{Layout}
-use Rattle.query_model.specs.Checked.{OnStream}
+use Rattle.query_model.specs.Checked.{CheckedQuery}
 use Rattle.query_model.specs.Monitors.{monitor_of}
 use Rattle.query_model.specs.Queries.{plain_of}
 use Rattle.query_model.specs.Rates.{rate_of}
@@ -13,7 +13,7 @@ use Rattle.separating_word.specs.Separations.{ShareWordsBelow}
 use Rattle.separating_word.specs.declared.automata.Automata.{Automata}
 
 -- where the states after each word with fewer items agree, the rates share those words
-pub share_below : (left right : OnStream) (automata : Automata) (items : ℕ)
+pub share_below : (left right : CheckedQuery) (automata : Automata) (items : ℕ)
     → AreOfRates left right automata → AgreeBelow automata items
     → ShareWordsBelow (monitor_of left) (monitor_of right) items
 share_below left right automata items of agree word is less =

@@ -1,7 +1,7 @@
 -- For the prover. The automata of the rates of two queries.
 use Rattle.std.specs.Prelude.{◌≡◌, ◌<◌, ℕ, List, All}
 use Rattle.predicate_cells.specs.Cells.{Partition, cell_count}
-use Rattle.query_model.specs.Checked.{OnStream}
+use Rattle.query_model.specs.Checked.{CheckedQuery}
 use Rattle.query_model.specs.Queries.{plain_of}
 use Rattle.query_model.specs.Rates.{rate_of}
 use Rattle.rate_expr.specs.Paths.{AreOf}
@@ -27,7 +27,7 @@ pub record AreOver (cells : Partition) (first second : Sets) (automata : Automat
   pub right_is : automata.right ≡ over cells second
 
 -- they are over items of the left query's stream, and are automata of the queries' rates
-pub record AreOfRates (left right : OnStream) (automata : Automata) : Type 0 where
+pub record AreOfRates (left right : CheckedQuery) (automata : Automata) : Type 0 where
   pub shared : ShareCells automata
   pub layout : automata.left.cells.layout ≡ left.layout
   pub left_of : AreOf automata.left.sets (rate_of (plain_of left.main.shape))

@@ -7,7 +7,7 @@ use Rattle.io_edge.specs.Counts.{Rose, next_count}
 use Rattle.io_edge.specs.Lines.{Shown, lines}
 use Rattle.io_edge.specs.Reading.{Reading, lines_after}
 use Rattle.io_edge.specs.Written.{AppendsSome}
-use Rattle.query_model.specs.Checked.{OnStream}
+use Rattle.query_model.specs.Checked.{CheckedQuery}
 use Rattle.query_model.specs.Monitors.{monitor_of}
 use Rattle.sqre_run.specs.Meanings.{IsMeaning, Meaning}
 use Rattle.sqre_run.specs.Outside.{Ended, MeetsOneAtMost, Outside}
@@ -82,7 +82,7 @@ part_of meaning all shown old new (others, are) (front, rest, parts, appends) = 
 )
 
 -- a part of the answers to some lines was written, and the sink failed
-pub ended_part : (on : OnStream) (old new : Outside) (got : List ℕ) (shown : List Shown)
+pub ended_part : (on : CheckedQuery) (old new : Outside) (got : List ℕ) (shown : List Shown)
     → MeetsOneAtMost old.ends new.ends
     → Consumes old.left new.left got
     → Begin old new got shown

@@ -5,7 +5,7 @@ use Rattle.value_ops.specs.declared.field.Field.{Field}
 use Rattle.item_schema.specs.declared.column.Column.{Column}
 use Rattle.item_schema.specs.Items.{IsItemOf}
 use Rattle.query_model.specs.Bounds.{nodes_of}
-use Rattle.query_model.specs.Checked.{IsChecked, OnStream}
+use Rattle.query_model.specs.Checked.{IsChecked, CheckedQuery}
 use Rattle.query_model.specs.Following.{FitsNext, composes_of}
 use Rattle.query_model.specs.Queries.{Qre, atom, eps, choice, split, iter, combine, apply, compose}
 use Rattle.query_model.specs.Queries.{collect, plain_of}
@@ -25,7 +25,7 @@ composes_few (compose f g) = let a = composes_few f in let b = composes_few g in
 composes_few (collect column sync rate f) = let a = composes_few f in omega arith
 
 -- one more item fits after fewer than 2^63 of them
-pub fits_next : (on : OnStream) → IsChecked on
+pub fits_next : (on : CheckedQuery) → IsChecked on
     → (columns : List Column) (query : Qre) (position : ℕ)
     (item : List Field) → query ≡ plain_of on.main.shape → columns ≡ on.layout.columns
     → position < 2 ^ 63 → IsItemOf on.layout.columns item → FitsNext columns query position item

@@ -13,7 +13,7 @@ use Rattle.item_schema.specs.declared.stop.Skip.{Skip}
 use Rattle.item_schema.specs.Reading.{item_of}
 use Rattle.rate_expr.specs.Words.{Word, IsWordOf}
 use Rattle.rate_expr.proofs.Wording.{word_more}
-use Rattle.query_model.specs.Checked.{IsChecked, OnStream}
+use Rattle.query_model.specs.Checked.{IsChecked, CheckedQuery}
 use Rattle.query_model.specs.Following.{IsAnswer}
 use Rattle.query_model.specs.Queries.{Qre, plain_of}
 use Rattle.query_model.specs.Rules.{free}
@@ -113,7 +113,7 @@ reply-text _ _ answered value is same = absurd is
 
 module _ {F : Type 0} (follows : F → Word → Type 0) (query : F → Qre) where
   -- before the first line
-  pub after_none : (on : OnStream) (session : Session F) → session.checked.now ≡ on
+  pub after_none : (on : CheckedQuery) (session : Session F) → session.checked.now ≡ on
       → session.begun ≡ false → follows session.follower [] → IsAfter follows on [] session
   after_none on session same fresh none = at on.layout.has_header refl
     where
@@ -132,12 +132,12 @@ module _ {F : Type 0} (follows : F → Word → Type 0) (query : F → Qre) wher
           empty true = refl
           empty false = refl
 
-  module _ (on : OnStream) (before : List Shown) (line : Shown) (old new : Session F)
+  module _ (on : CheckedQuery) (before : List Shown) (line : Shown) (old new : Session F)
       (holds_after : IsAfter follows on before old) where
     -- what the session reads is what the line gives after these
     pub read_is : read_by old line ≡ read_after on.layout before line
     read_is =
-        ap (λ (o : OnStream). cond (o.layout.has_header && not old.begun) None
+        ap (λ (o : CheckedQuery). cond (o.layout.has_header && not old.begun) None
         (read_of o.layout.columns line)) holds_after.same
         ∙ ap
         (λ (b : Bool). cond (on.layout.has_header && not b) None (read_of on.layout.columns line))
@@ -196,7 +196,8 @@ module _ {F : Type 0} (follows : F → Word → Type 0) (query : F → Qre) wher
       let is : read_by old line ≡ read = read_is on before line old new holds_after in
       let here : new.checked.now ≡ on = ap (λ c. c.now) same ∙ holds_after.same in
       let after = follows_more on before line old new holds_after read refl
-      (subst (λ (o : OnStream). FollowsOn follows o.layout.columns read old.follower new.follower)
+      (subst
+      (λ (o : CheckedQuery). FollowsOn follows o.layout.columns read old.follower new.follower)
       holds_after.same
       (subst (λ (r : Option (Result (List Field) Skip)). FollowsOn follows
       old.checked.now.layout.columns r old.follower new.follower) is follows_on)) in (
@@ -207,7 +208,7 @@ module _ {F : Type 0} (follows : F → Word → Type 0) (query : F → Qre) wher
             let given = answers item (is ∙ found) in
             let checked : IsChecked on = subst IsChecked holds_after.same given.0 in
             let query_is : query new.follower ≡ plain_of on.main.shape =
-            given.1 ∙ ap (λ (o : OnStream). plain_of o.main.shape) here in
+            given.1 ∙ ap (λ (o : CheckedQuery). plain_of o.main.shape) here in
             one_answer free on.layout.columns (plain_of on.main.shape) items answered
             (meaning.value items) checked.clear after.0
             (subst (λ (q : Qre). IsAnswer q items answered) query_is (given.2 items after.1))
@@ -268,15 +269,16 @@ read_line session line other some =
 
 -- a session of a follower that follows the empty word is ready
 pub ready_begins : {F : Type 0} (query : F → Qre) (columns : F → List Column) (lost : F → Bool)
-    (sound : F → Type 0) (on : OnStream) (follower : F) (session : Session F)
+    (sound : F → Type 0) (on : CheckedQuery) (follower : F) (session : Session F)
     → session.checked.now ≡ on → session.follower ≡ follower
     → query follower ≡ plain_of on.main.shape → columns follower ≡ on.layout.columns
     → lost follower ≡ false → sound follower → IsReady query columns lost sound session
 ready_begins query columns lost sound on follower session same kept query_is columns_are found
     is_sound = record {
-      query_is = ap query kept ∙ query_is ∙ ap (λ (o : OnStream). plain_of o.main.shape) (sym same);
+      query_is =
+          ap query kept ∙ query_is ∙ ap (λ (o : CheckedQuery). plain_of o.main.shape) (sym same);
       columns_are =
-          ap columns kept ∙ columns_are ∙ ap (λ (o : OnStream). o.layout.columns) (sym same);
+          ap columns kept ∙ columns_are ∙ ap (λ (o : CheckedQuery). o.layout.columns) (sym same);
       found = ap lost kept ∙ found;
       is_sound = subst sound (sym kept) is_sound;
     }

@@ -12,7 +12,7 @@ use Rattle.item_schema.specs.Layout.{Layout}
 use Rattle.item_schema.specs.declared.stop.Skip.{Skip}
 use Rattle.item_drill.specs.Lines.{bytes_of, header_of, names_of, row_of}
 use Rattle.rate_expr.specs.Words.{Word, IsWordOf}
-use Rattle.query_model.specs.Checked.{IsChecked, OnStream}
+use Rattle.query_model.specs.Checked.{IsChecked, CheckedQuery}
 use Rattle.query_model.specs.Following.{IsAnswer}
 use Rattle.query_model.specs.Monitors.{monitor_of}
 use Rattle.query_model.specs.Queries.{Qre, plain_of}
@@ -49,7 +49,8 @@ module _ {F : Type 0} (follows : F → Word → Type 0) (query : F → Qre) wher
       let is : read_by old line ≡ read = read_is follows query on before line old new holds_after in
       let here : new.checked.now ≡ on = ap (λ c. c.now) same ∙ holds_after.same in
       let after = follows_more follows query on before line old new holds_after read refl
-      (subst (λ (o : OnStream). FollowsOn follows o.layout.columns read old.follower new.follower)
+      (subst
+      (λ (o : CheckedQuery). FollowsOn follows o.layout.columns read old.follower new.follower)
       holds_after.same
       (subst (λ (r : Option (Result (List Field) Skip)). FollowsOn follows
       old.checked.now.layout.columns r old.follower new.follower) is follows_on)) in
@@ -67,7 +68,7 @@ pub takes_line : {F : Type 0} (follows : F → Word → Type 0) (bytes shown : L
 takes_line follows bytes shown old new same took =
     subst (λ (b : List ℕ). Takes follows (text b) old new) same took
 
-module _ {F : Type 0} (follows : F → Word → Type 0) (on : OnStream) (session : Session F)
+module _ {F : Type 0} (follows : F → Word → Type 0) (on : CheckedQuery) (session : Session F)
     (seed : ℕ) where
   -- whichever line is the header, no item comes of it
   no_item : (line : Shown) → on.layout.has_header ≡ true → items_of on.layout (line ∷ []) ≡ []
@@ -99,7 +100,7 @@ module _ {F : Type 0} (follows : F → Word → Type 0) (on : OnStream) (session
       map ended_by_lf (if h then row_of (names_of on.layout.columns) ∷ [] else []) ++ []) is
 
 -- the header was taken
-pub header_taken : {F : Type 0} (follows : F → Word → Type 0) (on : OnStream) (seed : ℕ)
+pub header_taken : {F : Type 0} (follows : F → Word → Type 0) (on : CheckedQuery) (seed : ℕ)
     (old new : Session F) (bytes : List ℕ) (layout : Layout) → on.layout.has_header ≡ true
     → layout ≡ on.layout → bytes ≡ bytes_of (header_of layout)
     → (result : Result (Unit {0}) AllocError)
@@ -123,7 +124,7 @@ header_taken follows on seed old new bytes layout has same are (Ok done) took =
         has
 
 -- there was none
-pub none_taken : {F : Type 0} (follows : F → Word → Type 0) (on : OnStream) (seed : ℕ)
+pub none_taken : {F : Type 0} (follows : F → Word → Type 0) (on : CheckedQuery) (seed : ℕ)
     (session : Session F) → on.layout.has_header ≡ false → IsAfter follows on [] session
     → IsAfter follows on (drilled_lines on.layout 0 seed) session
 none_taken follows on seed session none holds_after =
@@ -140,7 +141,7 @@ next_taken follows old new bytes shown are (Ok done) took = took shown are
 next_taken follows old new bytes shown are (Err error) took = tt
 
 -- the answer after lines is the value after them
-pub answer_after : {F : Type 0} (follows : F → Word → Type 0) (query : F → Qre) (on : OnStream)
+pub answer_after : {F : Type 0} (follows : F → Word → Type 0) (query : F → Qre) (on : CheckedQuery)
     (shown : List Shown) (session : Session F) (answer : Option Value) → IsChecked on
     → IsAfter follows on shown session
     → query session.follower ≡ plain_of session.checked.now.main.shape
@@ -151,7 +152,7 @@ answer_after follows query on shown session answer checked holds_after query_is
     answers meaning means =
     let items = items_of on.layout shown in
     let asked : query session.follower ≡ plain_of on.main.shape =
-    query_is ∙ ap (λ (o : OnStream). plain_of o.main.shape) holds_after.same
+    query_is ∙ ap (λ (o : CheckedQuery). plain_of o.main.shape) holds_after.same
     in
     one_answer free on.layout.columns (plain_of on.main.shape) items answer (meaning.value items)
     checked.clear holds_after.is_word

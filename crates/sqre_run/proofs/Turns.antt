@@ -19,7 +19,7 @@ use Rattle.io_edge.specs.declared.lines.LineStop.{LineStop}
 use Rattle.io_edge.specs.declared.lines.LineStop.TheVariants.{Failed, Limit}
 use Rattle.sqre_run.specs.Output.{answers}
 use Rattle.rate_expr.specs.Words.{Word}
-use Rattle.query_model.specs.Checked.{OnStream}
+use Rattle.query_model.specs.Checked.{CheckedQuery}
 use Rattle.query_model.specs.Monitors.{monitor_of}
 use Rattle.sqre_run.specs.Meanings.{IsMeaning, Meaning}
 use Rattle.sqre_run.specs.Sessions.{IsAfter, RepliesTo}
@@ -37,7 +37,7 @@ use Rattle.sqre_run.proofs.Showing.{Answers-whole, Waits-lines, true_or_false}
 use Rattle.sqre_run.proofs.Takes.{TakesLine, Reported-gives, Reported-going}
 
 -- a run ends by that fault where the sink does not flush what it holds
-pub Ended-held : {F : Type 0} (follows : F → Word → Type 0) (on : OnStream) (old now : Outside)
+pub Ended-held : {F : Type 0} (follows : F → Word → Type 0) (on : CheckedQuery) (old now : Outside)
     (reading : Reading) (kept : Session F) (taken : Option (List ℕ)) → taken ≡ now.taken
     → Running follows on old now reading kept
     → Ended (monitor_of on) SinkFault old (record now { taken = taken })
@@ -52,16 +52,16 @@ Ended-held follows on old now reading kept taken same run =
     (run.wrote.wrote meaning means)))
 
 -- and the run so far is one still where it has flushed what it held
-pub Running-held : {F : Type 0} (follows : F → Word → Type 0) (on : OnStream) (old now : Outside)
-    (reading : Reading) (kept : Session F) (taken : Option (List ℕ)) → taken ≡ now.taken
-    → Running follows on old now reading kept
+pub Running-held : {F : Type 0} (follows : F → Word → Type 0) (on : CheckedQuery)
+    (old now : Outside) (reading : Reading) (kept : Session F) (taken : Option (List ℕ))
+    → taken ≡ now.taken → Running follows on old now reading kept
     → Running follows on old (record now { taken = taken }) reading kept
 Running-held follows on old now reading kept taken same run =
     subst (λ (t : Option (List ℕ)). Running follows on old (record now { taken = t }) reading kept)
     (sym same) run
 
 -- how it ends where the sink flushes what it holds, or does not
-pub Ended-or_held : (on : OnStream) (old new : Outside) (status status' : Status)
+pub Ended-or_held : (on : CheckedQuery) (old new : Outside) (status status' : Status)
     → (status' ≡ status) ⊎ (status' ≡ SinkFault) → Ended (monitor_of on) status old new
     → Ended (monitor_of on) SinkFault old new → Ended (monitor_of on) status' old new
 Ended-or_held on old new status status' (inl is) ended held =
@@ -69,7 +69,7 @@ Ended-or_held on old new status status' (inl is) ended held =
 Ended-or_held on old new status status' (inr is) ended held =
     subst (λ (s : Status). Ended (monitor_of on) s old new) (sym is) held
 
-module _ {F : Type 0} (follows : F → Word → Type 0) (on : OnStream) (old now new : Outside)
+module _ {F : Type 0} (follows : F → Word → Type 0) (on : CheckedQuery) (old now new : Outside)
     (reading next : Reading) (kept : Session F) where
   -- what a call that came before any end says of the end
   module _
@@ -334,7 +334,7 @@ module _ {F : Type 0} (follows : F → Word → Type 0) (now new : Outside) (rea
       → TakesLine now.left new.left now.ends new.ends reading next line
       → IfOk reply (λ said. RepliesTo follows line said.now kept kept')
       → Replied status reply now.taken new.taken
-      → IfNone status ((on : OnStream) (old : Outside)
+      → IfNone status ((on : CheckedQuery) (old : Outside)
       → Running follows on old now reading kept → Running follows on old new next kept')
   Replied-continues None (Ok said) takes replies written = λ on old run.
       Running-line follows on old now new reading next kept kept' line said.now takes
@@ -347,7 +347,7 @@ module _ {F : Type 0} (follows : F → Word → Type 0) (now new : Outside) (rea
       → TakesLine now.left new.left now.ends new.ends reading next line
       → IfOk reply (λ said. RepliesTo follows line said.now kept kept')
       → Replied status reply now.taken new.taken
-      → IfSome status (λ status. (on : OnStream) (old : Outside)
+      → IfSome status (λ status. (on : CheckedQuery) (old : Outside)
       → Running follows on old now reading kept → Ended (monitor_of on) status old new)
   Replied-stops None reply takes replies written = tt
   Replied-stops (Some SinkFault) (Ok said) takes replies written = λ on old run.
@@ -360,7 +360,7 @@ module _ {F : Type 0} (follows : F → Word → Type 0) (now new : Outside) (rea
   Replied-stops (Some status) reply takes replies written = absurd written
 
 -- before the first line nothing was read and nothing was written
-pub Running-begins : {F : Type 0} (follows : F → Word → Type 0) (on : OnStream) (here : Outside)
+pub Running-begins : {F : Type 0} (follows : F → Word → Type 0) (on : CheckedQuery) (here : Outside)
     (reading : Reading) (session : Session F)
     → reading ≡ record { start = []; unread = []; answered = 0; met = false; shown = [] }
     → IsAfter follows on [] session → Running follows on here here reading session

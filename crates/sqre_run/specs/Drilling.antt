@@ -6,7 +6,7 @@ use Rattle.language_base.specs.Limits.{max_columns}
 use Rattle.item_schema.specs.Layout.{Layout}
 use Rattle.item_drill.specs.Lines.{are_read, header_of, lines_from, names_of}
 use Rattle.rate_expr.specs.Words.{Word}
-use Rattle.query_model.specs.Checked.{OnStream}
+use Rattle.query_model.specs.Checked.{CheckedQuery}
 use Rattle.sqre_run.specs.Sessions.{IsAfter}
 use Rattle.sqre_run.specs.declared.session.Session.{Session}
 
@@ -25,5 +25,5 @@ drilled_lines layout count seed =
 
 -- after whichever lines the old session stands, the new one stands after these and the line
 abbrev pub Takes : {F : Type 0} → (F → Word → Type 0) → Shown → Session F → Session F → Type 0
-Takes follows line old new = (on : OnStream) (before : List Shown)
+Takes follows line old new = (on : CheckedQuery) (before : List Shown)
     → IsAfter follows on before old → IsAfter follows on (before ++ line ∷ []) new

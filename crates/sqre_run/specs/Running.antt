@@ -5,7 +5,7 @@ use Rattle.io_edge.specs.Counts.{next_count}
 use Rattle.io_edge.specs.Lines.{Shown, lines}
 use Rattle.io_edge.specs.Reading.{Reading, lines_after, count_of}
 use Rattle.rate_expr.specs.Words.{Word}
-use Rattle.query_model.specs.Checked.{OnStream}
+use Rattle.query_model.specs.Checked.{CheckedQuery}
 use Rattle.query_model.specs.Monitors.{monitor_of}
 use Rattle.sqre_run.specs.Output.{answers}
 use Rattle.sqre_run.specs.Outside.{Outside, Wrote}
@@ -21,7 +21,8 @@ pub record Showed (got : List ℕ) (shown : List Shown) (now : Reading) : Type 0
 
 -- From old to now a run took bytes and wrote the answers to the lines in them, whatever function
 -- gives the values of the query. The session stands after these lines.
-pub record Running {F : Type 0} (follows : F → Word → Type 0) (on : OnStream) (old now : Outside)
+pub record Running {F : Type 0} (follows : F → Word → Type 0) (on : CheckedQuery)
+    (old now : Outside)
     (reading : Reading) (session : Session F) : Type 0 where
   pub got : List ℕ
   pub shown : List Shown

@@ -10,7 +10,7 @@ use Rattle.item_schema.specs.declared.column.Column.{Column}
 use Rattle.item_schema.specs.declared.stop.Skip.{Skip}
 use Rattle.rate_expr.specs.Words.{Word, IsWordOf}
 use Rattle.report_writer.specs.Texts.{answer_text, skip_text}
-use Rattle.query_model.specs.Checked.{OnStream}
+use Rattle.query_model.specs.Checked.{CheckedQuery}
 use Rattle.query_model.specs.Following.{Carries}
 use Rattle.query_model.specs.Monitors.{monitor_of}
 use Rattle.query_model.specs.Queries.{Qre, plain_of}
@@ -60,7 +60,8 @@ pub record IsReady {F : Type 0} (query : F → Qre) (columns : F → List Column
   pub is_sound : sound session.follower
 
 -- the state after these lines, of a session for this query: its follower has followed their items
-pub record IsAfter {F : Type 0} (follows : F → Word → Type 0) (on : OnStream) (lines : List Shown)
+pub record IsAfter {F : Type 0} (follows : F → Word → Type 0) (on : CheckedQuery)
+    (lines : List Shown)
     (session : Session F) : Type 0 where
   pub same : session.checked.now ≡ on
   pub is_word : IsWordOf on.layout.columns (items_of on.layout lines)
@@ -72,7 +73,7 @@ pub record IsAfter {F : Type 0} (follows : F → Word → Type 0) (on : OnStream
 -- is written answers this line, by every function that gives the values of the query
 abbrev pub RepliesTo : {F : Type 0} → (F → Word → Type 0) → Shown → List ℕ → Session F → Session F
     → Type 0
-RepliesTo follows line written old new = (on : OnStream) (before : List Shown)
+RepliesTo follows line written old new = (on : CheckedQuery) (before : List Shown)
     → IsAfter follows on before old → ((meaning : Meaning) → IsMeaning (monitor_of on) meaning
     → written ≡ answer meaning before line) × IsAfter follows on (before ++ line ∷ []) new
 

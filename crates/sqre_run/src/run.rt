@@ -2,7 +2,7 @@
 ghost use Rattle.std.specs.Prelude.{◌≡◌, ◌⊎◌, ◌<◌, ◌≤◌, [], IfNone, IfSome};
 ghost use Rattle.io_edge.specs.Limits.{max_count};
 ghost use Rattle.io_edge.specs.Reported.{IsQuiet};
-ghost use Rattle.query_model.specs.Checked.{OnStream};
+ghost use Rattle.query_model.specs.Checked.{CheckedQuery};
 ghost use Rattle.query_model.specs.Monitors.{monitor_of};
 ghost use Rattle.query_model.specs.Queries.{plain_of};
 ghost use Rattle.sqre_run.specs.Faults.{EndsFlushed, LeavesFlushed, ReportsFault};
@@ -68,11 +68,11 @@ fn turn<F: Follower, S: Source, W: Sink>(
     // Before a read, nothing is held back.
     requires flushed { IsQuiet lines.old ⊎ (W.held out.old ≡ 0) }
     ensures continues { let at = outside S.left S.ends W.taken in
-        IfNone result ((on : OnStream) (before : Outside)
+        IfNone result ((on : CheckedQuery) (before : Outside)
         → Running F.follows on before (at items.old out.old) lines.old session.old
         → Running F.follows on before (at items.new out.new) lines.new session.new) }
     ensures stops { let at = outside S.left S.ends W.taken in
-        IfSome result (λ status. (on : OnStream) (before : Outside)
+        IfSome result (λ status. (on : CheckedQuery) (before : Outside)
         → Running F.follows on before (at items.old out.old) lines.old session.old
         → Ended (monitor_of on) status before (at items.new out.new)) }
     ensures flushed { IfSome result (λ status.

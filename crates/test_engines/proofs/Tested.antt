@@ -18,7 +18,7 @@ use Rattle.rate_expr.specs.Rates.{one}
 use Rattle.rate_expr.specs.Readings.{HaveOneSplit}
 use Rattle.rate_expr.specs.Words.{Word}
 use Rattle.query_model.specs.Following.{composes_of}
-use Rattle.query_model.specs.Checked.{IsChecked, OnStream}
+use Rattle.query_model.specs.Checked.{IsChecked, CheckedQuery}
 use Rattle.query_model.specs.Queries.{Qre, atom, plain_of, split}
 use Rattle.query_model.specs.Rules.{CanBeMet, IsClear, Standing, bound, free}
 use Rattle.query_model.specs.Sizes.{IsSmall}
@@ -61,7 +61,7 @@ small = record {
   derived = (tt, tt);
 }
 
-pub checked_as : (q : Qre) → IsClear free numbers q → IsSmall numbers q → (on : OnStream)
+pub checked_as : (q : Qre) → IsClear free numbers q → IsSmall numbers q → (on : CheckedQuery)
     → on.layout.columns ≡ numbers → plain_of on.main.shape ≡ q → IsChecked on
 checked_as q is_clear is_small on columns query = record {
   read = subst (λ (cs : List Column). IsTrue (list_all (λ (c : Column). is_read c.kind) cs))
@@ -72,7 +72,7 @@ checked_as q is_clear is_small on columns query = record {
       (subst (IsSmall numbers) (sym query) is_small);
 }
 
-pub checked : (on : OnStream) → on.layout.columns ≡ numbers
+pub checked : (on : CheckedQuery) → on.layout.columns ≡ numbers
     → plain_of on.main.shape ≡ difference → IsChecked on
 checked on columns query = checked_as difference (clear free) small on columns query
 

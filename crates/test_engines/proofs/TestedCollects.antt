@@ -12,7 +12,7 @@ use Rattle.item_schema.specs.declared.column.Kind.TheVariants as kind
 use Rattle.item_schema.specs.Layout.{is_read}
 use Rattle.predicate_cells.specs.Predicates.{Predicate, any, eq_text}
 use Rattle.rate_expr.specs.Rates.{one, sequence, star}
-use Rattle.query_model.specs.Checked.{IsChecked, OnStream}
+use Rattle.query_model.specs.Checked.{IsChecked, CheckedQuery}
 use Rattle.query_model.specs.Queries.{Qre, collect, plain_of}
 use Rattle.query_model.specs.Rules.{CanBeMet, IsClear, free}
 use Rattle.query_model.specs.Sizes.{IsSmall}
@@ -50,7 +50,7 @@ small = record {
   derived = tt;
 }
 
-pub by_key_checked : (on : OnStream) → on.layout.columns ≡ keyed
+pub by_key_checked : (on : CheckedQuery) → on.layout.columns ≡ keyed
     → plain_of on.main.shape ≡ totals_by_key → IsChecked on
 by_key_checked on columns query = record {
   read = subst (λ (cs : List Column). IsTrue (list_all (λ (c : Column). is_read c.kind) cs))

@@ -9,7 +9,7 @@ use Rattle.value_ops.specs.declared.value.Value.TheVariants as value
 use Rattle.value_ops.specs.declared.value.ValueType.TheVariants as type
 use Rattle.value_ops.specs.Expressions.{read}
 use Rattle.predicate_cells.specs.Predicates.{any}
-use Rattle.query_model.specs.Checked.{IsChecked, OnStream}
+use Rattle.query_model.specs.Checked.{IsChecked, CheckedQuery}
 use Rattle.query_model.specs.Queries.{Qre, compose, plain_of}
 use Rattle.query_model.specs.QueryTypes.{derived_columns}
 use Rattle.query_model.specs.Rules.{CanBeMet, IsClear, free}
@@ -46,6 +46,6 @@ small = record {
   derived = (tt, omega arith, tt);
 }
 
-pub totals_checked : (on : OnStream) → on.layout.columns ≡ numbers
+pub totals_checked : (on : CheckedQuery) → on.layout.columns ≡ numbers
     → plain_of on.main.shape ≡ total_of_totals → IsChecked on
 totals_checked on columns query = checked_as total_of_totals clear small on columns query

@@ -13,7 +13,7 @@ use Rattle.rate_expr.specs.Language.{In}
 use Rattle.rate_expr.specs.Rates.{one}
 use Rattle.rate_expr.specs.Readings.{HasOneFactoring}
 use Rattle.rate_expr.specs.Words.{Word, join}
-use Rattle.query_model.specs.Checked.{IsChecked, OnStream}
+use Rattle.query_model.specs.Checked.{IsChecked, CheckedQuery}
 use Rattle.query_model.specs.Queries.{Qre, atom, combine, iter, plain_of}
 use Rattle.query_model.specs.Rules.{IsClear, Standing, free}
 use Rattle.query_model.specs.Sizes.{IsSmall}
@@ -64,6 +64,6 @@ small = record {
   derived = (tt, tt);
 }
 
-pub excess_checked : (on : OnStream) → on.layout.columns ≡ numbers
+pub excess_checked : (on : CheckedQuery) → on.layout.columns ≡ numbers
     → plain_of on.main.shape ≡ excess → IsChecked on
 excess_checked on columns query = checked_as excess (clear free) small on columns query
