@@ -1,6 +1,6 @@
 -- Positions that decide the targets of letters.
 use Rattle.std.proofs.Common.{◌≡◌, ℕ, ◌<◌, ◌≤◌, ◌↔◌, ◌⊎◌, List, length, slice_index}
-use Rattle.std.proofs.Common.{arith, refl, subst, sym, inl, inr}
+use Rattle.std.proofs.Common.{arith, subst, sym, inl, inr}
 use Rattle.std.proofs.lemmas.Option.{slice_get_within}
 use Rattle.std.specs.List.{Contains}
 use Rattle.rate_expr.specs.Sets.{Has, IsLowest}
@@ -16,33 +16,27 @@ use Rattle.rate_equal.proofs.Patterns.{at_or_not, same_ways}
 use Rattle.rate_equal.proofs.SameRows.{letter_twin}
 
 module _ (twins : List ℕ) (mask : ℕ) where
-  -- the position is one of those that were found, or a twin of one
+  -- the position or one of its twins was found
   abbrev pub IsPicked : ℕ → ℕ → Type 0
   IsPicked found position = (twin : ℕ) × Has found twin
-      × ((twin ≡ position) ⊎ Has (slice_index twins twin) position)
+      × ((twin ≡ position) ⊎ Has (slice_index twins position) twin)
 
-  -- each position of the mask is left, or was found, or is a twin of one that was
-  pub record IsPicking (rest found gone : ℕ) : Type 0 where
+  -- each position of the mask is left, or it or a twin was found
+  pub record IsPicking (rest found : ℕ) : Type 0 where
     pub left : (position : ℕ) → Has rest position → Has mask position
     pub picked : (position : ℕ) → Has mask position → Has rest position ⊎ IsPicked found position
-    pub twin_of : (position : ℕ) → Has gone position → IsPicked found position
 
   -- all are left
-  pub picking_begun : IsPicking mask 0 0
-  picking_begun = record {
-    left = λ position has. has;
-    picked = λ position has. inl has;
-    twin_of = λ position has. absurd (has_zero position has);
-  }
+  pub picking_begun : IsPicking mask 0
+  picking_begun = record { left = λ position has. has; picked = λ position has. inl has }
 
-  -- the lowest is picked, or a twin of one that was
-  pub picking_next : (rest after found gone found' gone' low : ℕ) → IsPicking rest found gone
+  -- one is found for the lowest
+  pub picking_next : (rest after found found' low : ℕ) → IsPicking rest found
       → IsLowest rest low
       → ((other : ℕ) → Has after other ↔ (Has rest other × (IsLowest rest other → ⊥)))
       → ((position : ℕ) → Has found position → Has found' position) → IsPicked found' low
-      → ((position : ℕ) → Has gone' position → IsPicked found' position)
-      → IsPicking after found' gone'
-  picking_next rest after found gone found' gone' low before is exact kept lowest twin_of = record {
+      → IsPicking after found'
+  picking_next rest after found found' low before is exact kept lowest = record {
     left = λ position has. before.left position ((exact position).0 has).0;
     picked = λ position has. elim (before.picked position has) [
       | inr (twin, there, how) ↦ inr (twin, kept twin there, how)
@@ -51,30 +45,12 @@ module _ (twins : List ℕ) (mask : ℕ) where
         | inl here ↦ inr (subst (IsPicked found') (sym here) lowest)
       ]
     ];
-    twin_of = twin_of;
   }
 
-  -- a further one is picked, and its twins with it
-  pub picking_more : (rest after found gone found' gone' low : ℕ) → IsPicking rest found gone
-      → IsLowest rest low
-      → ((other : ℕ) → Has after other ↔ (Has rest other × (IsLowest rest other → ⊥)))
-      → ((position : ℕ) → Has found position → Has found' position) → Has found' low
-      → ((position : ℕ) → Has gone' position
-      → Has gone position ⊎ Has (slice_index twins low) position)
-      → IsPicking after found' gone'
-  picking_more rest after found gone found' gone' low before is exact kept lowest more =
-      picking_next rest after found gone found' gone' low before is exact kept
-      (low, lowest, inl refl)
-      (λ position has. elim (more position has) [
-        | inl was ↦ let (twin, there, how) = before.twin_of position was in
-            (twin, kept twin there, how)
-        | inr alike ↦ (low, lowest, inr alike)
-      ])
-
   -- none is left
-  pub picking_all : (found gone : ℕ) → IsPicking 0 found gone → (position : ℕ) → Has mask position
+  pub picking_all : (found : ℕ) → IsPicking 0 found → (position : ℕ) → Has mask position
       → IsPicked found position
-  picking_all found gone all position has = elim (all.picked position has) [
+  picking_all found all position has = elim (all.picked position has) [
     | inl waits ↦ absurd (has_zero position waits)
     | inr is ↦ is
   ]
@@ -101,13 +77,13 @@ module _ (of : Letter → ℕ) (rows : List ℕ) (letters : List Letter)
       let (twin, there, how) = picked position on in elim how [
         | inl here ↦ subst (λ (p : ℕ). Has (of one) p ↔ Has (of other) p) here (same twin there)
         | inr is ↦
-            let row = are twin position is in
-            let back : HaveSameRow rows rows twin position =
+            let row = are position twin is in
+            let back : HaveSameRow rows rows position twin =
             λ place lt. ((row place lt).1, (row place lt).0) in (
-              λ has. alike twin position back other c'
-                  ((same twin there).0 (alike position twin row one c has)),
-              λ has. alike twin position back one c
-                  ((same twin there).1 (alike position twin row other c' has)),
+              λ has. alike twin position row other c'
+                  ((same twin there).0 (alike position twin back one c has)),
+              λ has. alike twin position row one c
+                  ((same twin there).1 (alike position twin back other c' has)),
             )
       ]
 

@@ -61,6 +61,13 @@ impl FreePositions {
         }
     }
 
+    /// Whether each of the positions is known to be among free ones.
+    pub(crate) fn has_all(&self, letters: &[Letter], positions: (u128, u128)) -> bool
+        requires { AreKnownFree letters.now self.now.first.items self.now.second.items }
+    {
+        is_within(positions, self.around(letters, positions))
+    }
+
     /// Whether it is known that for each letter some letter has the same of the ways and lacks the
     /// positions.
     pub(crate) fn can_lack(
@@ -72,9 +79,17 @@ impl FreePositions {
         requires { AreKnownFree letters.now self.now.first.items self.now.second.items }
         ensures { IsTrue result → CanLack letters.now positions ways }
     {
-        let free = with_free(letters, &self.first, positions.0, (0, 0));
-        let free = with_free(letters, &self.second, positions.1, free);
+        let free = self.around(letters, positions);
         is_within(positions, free) && are_apart(free, ways)
+    }
+
+    // The free positions of all of the positions.
+    fn around(&self, letters: &[Letter], positions: (u128, u128)) -> (u128, u128)
+        requires { AreKnownFree letters.now self.now.first.items self.now.second.items }
+        ensures { AreFree letters.now result }
+    {
+        let free = with_free(letters, &self.first, positions.0, (0, 0));
+        with_free(letters, &self.second, positions.1, free)
     }
 }
 

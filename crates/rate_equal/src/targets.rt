@@ -27,7 +27,9 @@ use std::alloc::Global;
 
 // If at most this many positions are asked, the letters are sifted. Each further position may
 // double the number of parts.
-const FEW: u32 = 5;
+const FEW: u32 = 3;
+// The same if all of them are free: then the letter of a part is mostly known.
+const FEW_FREE: u32 = 5;
 
 /// Adds all targets along the ways, and gives their places. There may be places of other pairs too,
 /// but only of pairs whose positions are all on the ways.
@@ -52,7 +54,12 @@ pub(crate) fn targets(
     ensures too_many { result ≡ Err Reach
         → AreTooMany pairs.old.keys (IsTarget alphabet.now.letters.items ways) }
 {
-    if count(asked) <= FEW {
+    let few = if alphabet.free.has_all(&alphabet.letters, asked) {
+        FEW_FREE
+    } else {
+        FEW
+    };
+    if count(asked) <= few {
         return from_few(alloc, alphabet, ways, asked, pairs);
     }
     match nearest(known, alphabet, asked) {

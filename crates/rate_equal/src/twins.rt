@@ -102,22 +102,27 @@ pub(crate) fn without_twins(twins: &[u128], first: u128, second: u128) -> u128
     found
 }
 
-/// Of the positions in the mask that are twins of one another, one each.
+/// One twin for each position in the mask: the lowest, which is the same one for all its twins.
 pub(crate) fn one_of_each(twins: &[u128], mask: u128) -> u128
     requires { length twins.now ≡ 128 }
     ensures { (position : ℕ) → Has mask position → (twin : ℕ) × Has result twin
-        × ((twin ≡ position) ⊎ Has (slice_index twins.now twin) position) }
+        × ((twin ≡ position) ⊎ Has (slice_index twins.now position) twin) }
 {
     let mut found = 0;
-    let mut alike = 0;
     let mut rest = mask;
     'positions: while rest != 0 {
         let position = lowest(rest);
-        if !has(alike, position) {
-            found |= only(position);
-            alike |= twins[position as usize];
-        }
+        found |= only(lowest_or(twins[position as usize], position));
         rest = without_lowest(rest);
     }
     found
+}
+
+// The lowest position of the mask, if it has any, and else the other one.
+fn lowest_or(mask: u128, other: u32) -> u32
+    requires { other < 128 }
+    ensures below { result < 128 }
+    ensures is { (result ≡ other) ⊎ Has mask result }
+{
+    if mask == 0 { other } else { lowest(mask) }
 }
