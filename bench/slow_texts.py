@@ -47,6 +47,13 @@ def endings(count, length, *lengths):
     return marked + columns, [ending(marked, length), *parts]
 
 
+def below(limits, *lengths):
+    """Any items and then numbers below one limit after the other, beside cycles."""
+    columns, parts = cycles(*lengths)
+    marked = [f"item(lt(n,{limit}))" for limit in limits]
+    return [*columns, "n"], [lambda draw: nested(["star(item(any))", *marked], draw), *parts]
+
+
 TEXTS = {
     "two cycles, of 62 and 63 items": cycles(62, 63),
     "three cycles, of 13, 14 and 15": cycles(13, 14, 15),
@@ -54,6 +61,11 @@ TEXTS = {
     "twelve last items, by eleven columns": endings(11, 12),
     "seven last items and cycles of 4 and 5": endings(7, 7, 4, 5),
     "two last items and cycles of 7, 9 and 10": endings(2, 2, 7, 9, 10),
+    "six last items by four columns, cycles of 2, 3 and 15": endings(4, 6, 3, 15, 2),
+    "nine last items by seven columns and a cycle of 10": endings(7, 9, 10),
+    "eleven last items by one column, cycles of 5, 8 and 15": endings(1, 11, 15, 5, 8),
+    "numbers below five limits, cycles of 2, 13 and 14": below((35, 32, 26, 9, 5), 2, 14, 13),
+    "numbers below four limits, cycles of 4, 9 and 11": below((23, 19, 13, 8), 9, 11, 4),
 }
 
 
@@ -78,7 +90,7 @@ def combined(kinds):
 def text_of(columns, parts, *, refused):
     collects = [f"let(q{kind},collect({columns[0]},not(any),{rate(parts, kind)},atom(any,1)))" for kind in range(KINDS)]
     query = combined([at % KINDS for at in range(LEAVES)])
-    declared = ",".join(f"col({column},text)" for column in columns)
+    declared = ",".join(f"col({column},{'int' if column == 'n' else 'text'})" for column in columns)
     main = f"or({query},iter(atom(any,1),0,add(x,y)))" if refused else query
     return "\n".join([f"stream(plain,{declared})", *collects, f"main({main})", ""])
 
