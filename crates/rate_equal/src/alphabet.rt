@@ -156,6 +156,11 @@ impl Alphabet {
         (first, without_twins(&self.twins, first, second))
     }
 
+    /// The ways without the positions of the second automaton that have a twin on the ways.
+    pub(crate) fn without_twins(&self, ways: (u128, u128)) -> (u128, u128) {
+        (ways.0, without_twins(&self.twins, ways.0, ways.1))
+    }
+
     /// The first letter of the pattern, if there is one.
     pub(crate) fn first_like(&self, pattern: Pattern) -> Option<Letter>
         ensures some { IfSome result (λ letter. Contains self.now.letters.items letter

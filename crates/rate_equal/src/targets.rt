@@ -32,7 +32,8 @@ const FEW: u32 = 3;
 const FEW_FREE: u32 = 5;
 
 /// Adds all targets along the ways, and gives their places. There may be places of other pairs too,
-/// but only of pairs whose positions are all on the ways.
+/// but only of pairs whose positions are all on the ways. A known set that is near is chosen by the
+/// `asked` positions.
 pub(crate) fn targets(
     alloc: Global,
     alphabet: &Alphabet,
@@ -44,7 +45,6 @@ pub(crate) fn targets(
 ) -> Result<Places, EqualStop>
     requires free { AreKnownFree alphabet.now.letters.items
         alphabet.now.free.first.items alphabet.now.free.second.items }
-    requires decide { DecideAll alphabet.now.letters.items ways asked }
     requires known { AreKnown alphabet.now.letters.items pairs.old.keys known.now }
     requires held { AreHeld holders.now.first.items holders.now.second.items
         pairs.old.keys (length pairs.old.keys) }
@@ -54,13 +54,14 @@ pub(crate) fn targets(
     ensures too_many { result ≡ Err Reach
         → AreTooMany pairs.old.keys (IsTarget alphabet.now.letters.items ways) }
 {
-    let few = if alphabet.free.has_all(&alphabet.letters, asked) {
+    let decisive = alphabet.decisive(ways);
+    let few = if alphabet.free.has_all(&alphabet.letters, decisive) {
         FEW_FREE
     } else {
         FEW
     };
-    if count(asked) <= few {
-        return from_few(alloc, alphabet, ways, asked, pairs);
+    if count(decisive) <= few {
+        return from_few(alloc, alphabet, ways, decisive, pairs);
     }
     match nearest(known, alphabet, asked) {
         Some(place) => from_known(alloc, alphabet, &known[place], holders, ways, pairs),

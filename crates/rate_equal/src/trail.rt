@@ -65,7 +65,7 @@ impl Trail {
             return Ok(());
         }
         self.holders.enter(pairs.as_slice());
-        let asked = alphabet.decisive(ways);
+        let asked = alphabet.without_twins(ways);
         let targets = targets(
             alloc,
             alphabet,
