@@ -1,4 +1,4 @@
-"""Instructions an item of seven queries, beside programs that were written for them in plain Rust, with blocks.
+"""Instructions an item of eight queries, beside programs that were written for them in plain Rust, with blocks.
 
 Printed is a table in Markdown. Valgrind counts what a run takes over 10,000 lines and over 30,000; the difference is of
 the 20,000 lines between. The count of a program is the same in each run, whatever else the machine does.
@@ -17,6 +17,7 @@ COUNTED = {
     "a running sum": ("running_sum", numbers),
     "the peak of a running sum": ("peak", numbers),
     "an average": ("average", numbers),
+    "an average by a record": ("average_by_record", numbers),
     "sums by 8 keys, a table at each 16th line": ("sums_by_key", lambda count: keyed(8, 16, count)),
     "sums by 10,000 keys, a table at each 5,000th": ("sums_by_key", lambda count: keyed(10_000, 5_000, count)),
     "a sum since a mark": ("sum_since_mark", lambda count: keyed(8, 10, count)),

@@ -20,6 +20,11 @@ QUERIES = {
         iter(atom(any, n), 0, add(x, y)),
         iter(atom(any, 1), 0, add(x, y)),
         div(x, y)))""",
+    "average_by_record": f"""{NUMBERS} main(apply(combine(
+        iter(atom(any, n), 0, add(x, y)),
+        iter(atom(any, 1), 0, add(x, y)),
+        rec(x, y)),
+        div(part(x, 1), part(x, 2))))""",
     "peak": f"""{NUMBERS} main(compose(
         iter(atom(any, n), 0, add(x, y)),
         iter(atom(any, value), 0, max(x, y))))""",
@@ -54,6 +59,9 @@ MAWK = {
     "turnover": '$1 == "AAPL" { sum += int($2 * 100 + 0.5) * $3 } { printf "%.0f\\n", sum; fflush() }',
 }
 
+# Queries that have the answers of another one, by that one's name.
+SAME = {"average_by_record": "average"}
+
 # What is measured, by its query and the name of its items.
 MEASURED = {
     "a running sum": ("running_sum", "numbers"),
@@ -70,11 +78,12 @@ WEIGHED = {"a key": None, "a key and its entry in a table": ITEMS}
 
 
 def programs(query):
+    by_hand = SAME.get(query, query)
     return {
         "`sqre run`": [SQRE, "run", f"{query}.sqre", "-"],
-        "Rust, line by line": ["./plain_queries", query],
-        "Rust, blocks": ["./plain_queries", query, "blocks"],
-        "mawk": ["mawk", "-F,", MAWK[query]],
+        "Rust, line by line": ["./plain_queries", by_hand],
+        "Rust, blocks": ["./plain_queries", by_hand, "blocks"],
+        "mawk": ["mawk", "-F,", MAWK[by_hand]],
     }
 
 

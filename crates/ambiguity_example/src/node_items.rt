@@ -18,7 +18,7 @@ pub(crate) fn shared_items(
     first: &Nfa,
     second: &Nfa,
     nodes: &[Node],
-) -> Result<Vec<Item>, AllocError>
+) -> Result<Vec<Item<'static>>, AllocError>
     requires cells { first.now.cells ≡ second.now.cells }
     requires meet { HaveItems first.now.cells.layout.columns
         (λ _. first.now.sets) (λ _. second.now.sets) nodes.now }
@@ -39,7 +39,7 @@ pub(crate) fn split_items(
     first: &Nfa,
     second: &Nfa,
     nodes: &[Node],
-) -> Result<Vec<Item>, AllocError>
+) -> Result<Vec<Item<'static>>, AllocError>
     requires cells { first.now.cells ≡ second.now.cells }
     requires meet { HaveItems first.now.cells.layout.columns
         (left_of first.now.sets second.now.sets) (right_of first.now.sets second.now.sets)
@@ -55,7 +55,12 @@ pub(crate) fn split_items(
     Ok(items)
 }
 
-fn split_item(alloc: Global, first: &Nfa, second: &Nfa, node: Node) -> Result<Item, AllocError>
+fn split_item(
+    alloc: Global,
+    first: &Nfa,
+    second: &Nfa,
+    node: Node,
+) -> Result<Item<'static>, AllocError>
     requires cells { first.now.cells ≡ second.now.cells }
     requires meet { HasItem first.now.cells.layout.columns
         (left_of first.now.sets second.now.sets) (right_of first.now.sets second.now.sets) node }
@@ -78,7 +83,7 @@ fn shared_item(
     second: &Nfa,
     left: u32,
     right: u32,
-) -> Result<Item, AllocError>
+) -> Result<Item<'static>, AllocError>
     requires cells { first.now.cells ≡ second.now.cells }
     requires meet { MeetOne first.now.cells.layout.columns first.now.sets second.now.sets
         left right }

@@ -93,7 +93,7 @@ fn ends_of(first: &Positions, second: &Positions) -> Moves
     }
 }
 
-fn in_one_piece(alloc: Global, items: Vec<Item>) -> Result<Example, AllocError>
+fn in_one_piece(alloc: Global, items: Vec<Item<'static>>) -> Result<Example, AllocError>
     requires { length items.items < 2 ^ 32 }
     ensures { IfOk result (λ example. example ≡ twice_whole items.items) }
 {

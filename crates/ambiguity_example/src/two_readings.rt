@@ -8,7 +8,7 @@ use std::marker::Model;
 /// The items of a word, and the cuts of two readings.
 #[derive(Drop)]
 pub struct Example {
-    items: Vec<Item>,
+    items: Vec<Item<'static>>,
     first: Cuts,
     second: Cuts,
 }
@@ -22,7 +22,7 @@ impl Model for Example {
 }
 
 impl Example {
-    pub fn new(items: Vec<Item>, first: Cuts, second: Cuts) -> Example
+    pub fn new(items: Vec<Item<'static>>, first: Cuts, second: Cuts) -> Example
         ensures { result ≡ record { items = items.items; first = first; second = second } }
     {
         Example {

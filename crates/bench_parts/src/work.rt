@@ -44,7 +44,7 @@ impl Work {
 }
 
 // An item that meets every test.
-fn greatest(alloc: Global) -> Result<Item, AllocError> {
+fn greatest(alloc: Global) -> Result<Item<'static>, AllocError> {
     let fields = vec![in alloc; Field::Int(i64::MAX), Field::Int(i64::MAX)]?;
     Ok(Item::from_fields(fields))
 }

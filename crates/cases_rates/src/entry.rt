@@ -46,7 +46,7 @@ fn entry_of<'t>(
     alloc: Global,
     scope: &Scope,
     line: &'t str,
-    short: &[Vec<Item>],
+    short: &[Vec<Item<'static>>],
 ) -> Result<Entry<'t>, Stop> {
     let Some((words, written)) = line.split_once(": ") else {
         return Err(Stop::Line);
@@ -61,7 +61,11 @@ fn entry_of<'t>(
     })
 }
 
-fn members_of(alloc: Global, rate: &Rate, short: &[Vec<Item>]) -> Result<Vec<bool>, AllocError> {
+fn members_of(
+    alloc: Global,
+    rate: &Rate,
+    short: &[Vec<Item<'static>>],
+) -> Result<Vec<bool>, AllocError> {
     let mut members = Vec::new(alloc);
     for word in short {
         members.push(contains(rate, word))?;

@@ -4,7 +4,7 @@ use crate::scope::Scope;
 use crate::stop::Stop;
 use item_schema::{Item, Schema, read_item};
 use std::alloc::Global;
-use value_ops::{Scalar, Value, ValueType};
+use value_ops::{Field, Scalar, Value, ValueType};
 
 /// A stream of lines, or one of the values of another query.
 #[derive(Drop)]
@@ -32,9 +32,9 @@ impl Stream {
         })
     }
 
-    pub(crate) fn item(&self, alloc: Global, word: &str) -> Result<Item, Stop> {
+    pub(crate) fn item(&self, alloc: Global, word: &str) -> Result<Item<'static>, Stop> {
         if self.has_values {
-            return Ok(Item::of_value(alloc, &Value::Scalar(scalar_of(word)?))?);
+            return Ok(Item::from_field(Field::Val(Value::Scalar(scalar_of(word)?))));
         }
         Ok(read_item(alloc, &self.scope.schema, word.as_bytes())?)
     }

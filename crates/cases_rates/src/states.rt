@@ -37,7 +37,7 @@ fn stepped(alloc: Global, nfa: &Nfa, state: State, digit: u8) -> Result<State, S
     Ok(nfa.step(state, cell))
 }
 
-fn item_of(alloc: Global, digit: u8) -> Result<Item, AllocError> {
+fn item_of(alloc: Global, digit: u8) -> Result<Item<'static>, AllocError> {
     let number = i64::from(digit) - i64::from(b'0');
     Ok(Item::from_fields(vec![in alloc; Field::Int(number)]?))
 }

@@ -8,12 +8,15 @@ use std::alloc::{AllocError, Global};
 pub(crate) const ITEMS: u32 = 6;
 
 /// All words of up to six items, with one item of each cell, shorter words first.
-pub(crate) fn short_words(alloc: Global, cells: &Cells) -> Result<Vec<Vec<Item>>, AllocError> {
+pub(crate) fn short_words(
+    alloc: Global,
+    cells: &Cells,
+) -> Result<Vec<Vec<Item<'static>>>, AllocError> {
     let items = samples(alloc, cells)?;
     words_of(alloc, &items)
 }
 
-fn words_of(alloc: Global, items: &[Item]) -> Result<Vec<Vec<Item>>, AllocError> {
+fn words_of(alloc: Global, items: &[Item]) -> Result<Vec<Vec<Item<'static>>>, AllocError> {
     let mut words = Vec::new(alloc);
     let mut longest = vec![in alloc; Vec::new(alloc)]?;
     for _ in 0..ITEMS {
@@ -25,7 +28,7 @@ fn words_of(alloc: Global, items: &[Item]) -> Result<Vec<Vec<Item>>, AllocError>
     Ok(words)
 }
 
-fn samples(alloc: Global, cells: &Cells) -> Result<Vec<Item>, AllocError> {
+fn samples(alloc: Global, cells: &Cells) -> Result<Vec<Item<'static>>, AllocError> {
     let mut items = Vec::new(alloc);
     for cell in 0..cells.count() {
         items.push(cells.sample(alloc, cell)?)?;
@@ -36,9 +39,9 @@ fn samples(alloc: Global, cells: &Cells) -> Result<Vec<Item>, AllocError> {
 /// Each of the words with each of the items after it.
 fn longer_words(
     alloc: Global,
-    words: &[Vec<Item>],
+    words: &[Vec<Item<'static>>],
     items: &[Item],
-) -> Result<Vec<Vec<Item>>, AllocError> {
+) -> Result<Vec<Vec<Item<'static>>>, AllocError> {
     let mut longer = Vec::new(alloc);
     for word in words {
         for item in items {
@@ -48,7 +51,7 @@ fn longer_words(
     Ok(longer)
 }
 
-fn with_item(alloc: Global, word: &[Item], item: &Item) -> Result<Vec<Item>, AllocError> {
+fn with_item(alloc: Global, word: &[Item], item: &Item) -> Result<Vec<Item<'static>>, AllocError> {
     let mut longer = Vec::new(alloc);
     for one in word {
         longer.push(one.try_copy(alloc)?)?;

@@ -18,7 +18,7 @@ use Rattle.rate_expr.specs.Words.{Word, IsWordOf, join}
 use Rattle.rate_expr.proofs.Wording.{comparable, word_parts}
 use Rattle.query_model.specs.Denotation.{Den, Folds, on_both}
 use Rattle.query_model.specs.Queries.{Qre, split, iter}
-use Rattle.query_model.specs.QueryTypes.{of_two, table_or_number, type_of}
+use Rattle.query_model.specs.QueryTypes.{of_two, type_or_number, type_of}
 use Rattle.query_model.specs.Rates.{rate_of}
 use Rattle.query_model.specs.Rules.{bound, IsClear, IsTyped}
 use Rattle.eval_nodes.specs.Starts.{AreApart}
@@ -95,7 +95,8 @@ one_split columns r one = λ u v u' v' is (us, whole, all) in_v (us', whole', al
 
 typed_number : (types : Types) (e : Expression) → HasType types e Number → IsTyped types e
 typed_number types (expr.read name) is =
-    subst (λ type. HasType types (expr.read name) (table_or_number type)) (sym is) is
+    subst (λ type. HasType types (expr.read name) (type_or_number type)) (sym is) is
+typed_number types (expr.rec parts) is = absurd is
 typed_number types e is = is
 
 pub chain_clear : (columns : List Column) (f : Qre) (number : ℤ) (e : Expression)

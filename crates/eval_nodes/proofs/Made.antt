@@ -9,7 +9,7 @@ use Rattle.rate_expr.specs.Language.{In}
 use Rattle.rate_expr.specs.Rates as rate
 use Rattle.rate_expr.specs.Readings.{HasExtension}
 use Rattle.rate_expr.specs.Words.{Word}
-use Rattle.query_model.specs.Bounds.{inner_of, nodes_of, places_of, slots_of}
+use Rattle.query_model.specs.Bounds.{inner_of, nodes_of, places_of, slots_of, width_of}
 use Rattle.query_model.specs.Denotation.{Den}
 use Rattle.query_model.specs.Following.{composes_of}
 use Rattle.query_model.specs.Rates.{rate_of}
@@ -52,7 +52,7 @@ pub all_places : (q : Qre) (room : ℕ) → slots_of q ≤ max_slots
     → room ≡ min (places_of q) (2 ^ 32 - 1) → room ≡ places_of q
 all_places q room small is =
     let few = places_few q in
-    let slots : inner_of q + 2 ≤ 2 ^ 20 = small in
+    let slots : inner_of q + 1 + width_of q ≤ 2 ^ 20 = small in
     omega (arith, few, slots, is)
 
 -- nothing is reached and nothing waits without a start

@@ -11,12 +11,13 @@ use Rattle.item_schema.specs.declared.column.Column.{Column}
 use Rattle.rate_expr.specs.Language.{In}
 use Rattle.rate_expr.specs.Readings.{HasExtension}
 use Rattle.rate_expr.specs.Words.{Word, IsWordOf}
-use Rattle.query_model.specs.Bounds.{places_of}
+use Rattle.query_model.specs.Bounds.{places_of, width_of}
 use Rattle.query_model.specs.Denotation.{Den}
 use Rattle.query_model.specs.Queries.{Qre, split}
 use Rattle.query_model.specs.Rates.{rate_of}
-use Rattle.query_model.specs.Rules.{bound, IsClear}
+use Rattle.query_model.specs.Rules.{Standing, bound, IsClear}
 use Rattle.query_model.proofs.InRates.{den_in}
+use Rattle.query_model.proofs.Widths.{den_width, width_of_value}
 use Rattle.memory_bound.specs.KeysMet.{entries_of, key_columns, keys_met}
 use Rattle.memory_bound.proofs.Entries.{among_rest, among_whole, entries_few}
 use Rattle.memory_bound.proofs.Growth.{AreAmong, among_all, keys_mono}
@@ -30,12 +31,24 @@ use Rattle.eval_nodes.proofs.Apart.{apart_right}
 use Rattle.eval_nodes.proofs.Few.{few_live}
 use Rattle.eval_nodes.proofs.Members.{member_cases, no_member}
 use Rattle.eval_nodes.proofs.Pieces.{word_piece}
-use Rattle.eval_nodes.proofs.Totals.{in_turn, many_parts, sum_few}
+use Rattle.eval_nodes.proofs.Totals.{in_turn, many_parts, sum_few, value_fits}
 use Rattle.eval_nodes.proofs.Zips.{part_there, whole_there}
 
-pub value_size : (v : Value) → size_of_value v ≡ 1 + entries_of v
+-- a value counts as wide as it is, and its entries besides
+value_size : (v : Value) → size_of_value v ≡ width_of_value v + entries_of v
 value_size (value.Scalar scalar) = omega arith
+value_size (value.Rec parts) = omega arith
 value_size (value.Table entries) = omega arith
+
+-- a value of a query counts as wide as the query, and one for each key that was met
+pub value_few : (standing : Standing) (columns : List Column) (q : Qre) (word : Word) (v : Value)
+    → IsClear standing columns q → IsWordOf columns word → Den q word v
+    → size_of_value v ≤ width_of q + keys_met q word
+value_few standing columns q word v clear is den =
+    let few = entries_few standing columns q word v clear den in
+    let wide = den_width standing columns q word v clear is den in
+    let size = value_size v in
+    omega (arith, few, wide, size)
 
 -- items of a piece are items of the word
 pub after_among : (word : Word) (at : ℕ) → AreAmong (drop at word) word
@@ -130,21 +143,22 @@ module _ (columns : List Column) (f g : Qre) (e : Expression) (word : Word) (sta
       let count = length-map entries (λ (x : Entry Value). x.inner) in
       omega (arith, few, count)
 
-  -- each value has no more entries than keys were met
+  -- each value counts little
   entry_few : (entry : Entry Value) → Contains entries entry
-      → 2 + size_of_value entry.value ≤ 3 * (1 + keys_met f word)
+      → 2 + size_of_value entry.value ≤ (2 + width_of f) * (1 + keys_met f word)
   entry_few entry there =
       let it = waits entry there in
-      let few = entries_few bound columns f it.piece entry.value clear.0 it.gives in
+      let few = value_few bound columns f it.piece entry.value clear.0
+      (word_piece columns word entry.outer entry.inner it.piece is it.cut) it.gives in
       let all = keys_mono f f it.piece word (among_all (key_columns f))
       (piece_among word entry.outer entry.inner it.piece it.cut) in
-      let size = value_size entry.value in
-      omega (arith, few, all, size)
+      value_fits 2 (width_of f) (keys_met f word) (size_of_value entry.value) (omega arith)
+      (omega (arith, few, all))
 
-  pub entries_size : sizes_of entries ≤ 3 * places_of g * (1 + keys_met f word)
+  pub entries_size : sizes_of entries ≤ (2 + width_of f) * places_of g * (1 + keys_met f word)
   entries_size =
       let few = sum_few (λ (entry : Entry Value). 2 + size_of_value entry.value)
-      (3 * (1 + keys_met f word)) entries entry_few in
-      in_turn (sizes_of entries) (places_of g) 3 (keys_met f word)
-      (many_parts (sizes_of entries) (length entries) (places_of g) 3 (keys_met f word)
-      few entries_count)
+      ((2 + width_of f) * (1 + keys_met f word)) entries entry_few in
+      in_turn (sizes_of entries) (places_of g) (2 + width_of f) (keys_met f word)
+      (many_parts (sizes_of entries) (length entries) (places_of g) (2 + width_of f)
+      (keys_met f word) few entries_count)

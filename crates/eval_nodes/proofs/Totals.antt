@@ -43,6 +43,16 @@ many_parts x count places each n few fewer =
     let same = mul_assoc places each (1 + n) in
     omega (arith, few, up, same)
 
+-- a value of this width that has this many entries at the most, with what is kept beside it
+pub value_fits : (beside width n size : ℕ) → 1 ≤ beside → size ≤ width + n
+    → beside + size ≤ (beside + width) * (1 + n)
+value_fits beside width n size some few =
+    let whole = mul-add (beside + width) 1 n in
+    let turned = mul_comm (beside + width) n in
+    let some_of_all : 1 ≤ beside + width = omega (arith, some) in
+    let less = mul-le-mul_left n some_of_all in
+    omega (arith, few, whole, turned, less)
+
 -- two lists of such
 pub together : (x y i j places each n : ℕ) → x ≤ i * (each * (1 + n)) → y ≤ j * (each * (1 + n))
     → i + j ≡ places → x + y ≤ places * each * (1 + n)

@@ -18,9 +18,10 @@ use Rattle.map_collect.specs.declared.track.Track.{Track}
 use Rattle.eval_nodes.specs.Holdings.{Holding, atom_held, choice_held, combine_held, apply_held}
 use Rattle.eval_nodes.specs.Holdings.{split_held, iter_held, compose_held, collect_held, Seen}
 
--- a scalar counts one, and a table one and one for each of its entries
+-- a scalar counts one, a record its parts, and a table one and one for each of its entries
 abbrev pub size_of_value : Value → ℕ
 size_of_value (value.Scalar scalar) = 1
+size_of_value (value.Rec parts) = length parts
 size_of_value (value.Table entries) = length entries + 1
 
 abbrev pub size_of_answer : Option Value → ℕ

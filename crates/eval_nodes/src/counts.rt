@@ -144,6 +144,7 @@ fn size_of_value(value: &Value) -> u64
 {
     match value {
         Value::Scalar(_) => 1,
+        Value::Rec(parts) => parts.len() as u64,
         Value::Table(table) => (table.len() as u64).saturating_add(1),
     }
 }

@@ -6,7 +6,7 @@ use Rattle.item_schema.specs.declared.column.Column.{Column}
 use Rattle.rate_expr.specs.FirstLastFollow.{AreSetsOf}
 use Rattle.rate_expr.specs.Rates as rates
 use Rattle.rate_expr.specs.Rates.{size_of}
-use Rattle.query_model.specs.Bounds.{inner_of, slots_of}
+use Rattle.query_model.specs.Bounds.{inner_of, slots_of, width_of}
 use Rattle.query_model.specs.Queries.{Qre, collect}
 use Rattle.query_model.specs.Sizes.{max_slots}
 use Rattle.map_collect.specs.Tracks.{Contents, starts_of}
@@ -26,9 +26,9 @@ more_times n m = omega arith
 pub body_small : (column : ℕ) (sync : Predicate) (rate : rates.Regex) (f : Qre)
     → slots_of (collect column sync rate f) ≤ max_slots → slots_of f ≤ max_slots
 body_small column sync rate f small =
-    let whole : (size_of rate + 1) * (1 + size_of rate + (inner_of f + 2)) + 2 ≤ max_slots =
-    small in
-    let more = more_times (size_of rate) (1 + size_of rate + (inner_of f + 2)) in
+    let whole : (size_of rate + 1) * (1 + size_of rate + (inner_of f + 1 + width_of f)) + 1 + 1
+    ≤ max_slots = small in
+    let more = more_times (size_of rate) (1 + size_of rate + (inner_of f + 1 + width_of f)) in
     omega (arith, whole, more)
 
 module _ {R : Type 0} (seen : R → Seen R) (columns : List Column) (column : ℕ) (sync : Predicate)

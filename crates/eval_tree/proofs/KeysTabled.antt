@@ -38,12 +38,14 @@ pub entry_some : (key : List ℕ) (answer : Option Value) (scalar : Scalar)
 entry_some key None scalar is = absurd (none-some scalar is)
 entry_some key (Some (value.Scalar other)) scalar is =
     ap (λ (s : Scalar). Some (key, s)) (same_Some other scalar is)
+entry_some key (Some (value.Rec parts)) scalar is = absurd (none-some scalar is)
 entry_some key (Some (value.Table entries)) scalar is = absurd (none-some scalar is)
 
 pub entry_none : (key : List ℕ) (answer : Option Value) → scalar_of answer ≡ None
     → entry_with key answer ≡ None
 entry_none key None is = refl
 entry_none key (Some (value.Scalar other)) is = absurd (none-some other (sym is))
+entry_none key (Some (value.Rec parts)) is = refl
 entry_none key (Some (value.Table entries)) is = refl
 
 more_after : {A : Type 0} (o : Option A) (xs ys : List A)
@@ -141,6 +143,7 @@ module _ {R : Type 0} (seen : R → Seen R) where
       by (Some (value.Scalar scalar)) rest =
           ap (λ (b : Bool). cond b (Some scalar) (value_at key (entries_in seen names runners)))
           differ.0 ∙ rest
+      by (Some (value.Rec parts)) rest = rest
       by (Some (value.Table entries)) rest = rest
 
   -- none stands under a key before it is put
@@ -163,6 +166,11 @@ module _ {R : Type 0} (seen : R → Seen R) where
     entries_are (x ∷ names) (y ∷ runners) zip =
         by (seen y).answer zip.0.answer (entries_are names runners zip.1)
       where
+        is_number : (v : Value) → Den q (projection column sync x word) v → IsValueOf Number v
+        is_number v den = subst (λ ty. IsValueOf ty v) number
+            (den_typed standing columns q (projection column sync x word) v clear
+            (kept_word columns _ word is) den)
+
         by : (answer : Option Value) → IsAnswer q (projection column sync x word) answer
             → AreEntries (on_keys q column sync word) names (entries_in seen names runners)
             → AreEntries (on_keys q column sync word) (x ∷ names)
@@ -170,10 +178,8 @@ module _ {R : Type 0} (seen : R → Seen R) where
         by None none rest = inr (none, rest)
         by (Some (value.Scalar scalar)) den rest =
             inl (scalar, entries_in seen names runners, den, rest, refl)
-        by (Some (value.Table entries)) den rest =
-            absurd (subst (λ ty. IsValueOf ty (value.Table entries)) number
-            (den_typed standing columns q (projection column sync x word)
-            (value.Table entries) clear (kept_word columns _ word is) den))
+        by (Some (value.Rec parts)) den rest = absurd (is_number (value.Rec parts) den)
+        by (Some (value.Table entries)) den rest = absurd (is_number (value.Table entries) den)
 
   -- the entries of all are the table of the word
   pub tabled : (keys : Keys R)

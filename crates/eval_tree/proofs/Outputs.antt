@@ -5,7 +5,6 @@ use Rattle.std.proofs.Common.{subst, append_assoc, append-nil, inl, inr}
 use Rattle.value_ops.specs.declared.field.Field.{Field}
 use Rattle.value_ops.specs.declared.value.Value.{Value}
 use Rattle.value_ops.specs.declared.value.ValueType.{ValueType}
-use Rattle.value_ops.specs.declared.value.ValueType.TheVariants as type
 use Rattle.value_ops.specs.Types.{IsValueOf}
 use Rattle.item_schema.specs.declared.column.Column.{Column}
 use Rattle.item_schema.specs.Items.{IsItemOf}
@@ -14,6 +13,7 @@ use Rattle.query_model.specs.Denotation.{Den, Emits, Outputs}
 use Rattle.query_model.specs.Queries.{Qre}
 use Rattle.query_model.specs.QueryTypes.{derived_columns, type_of}
 use Rattle.query_model.specs.Rules.{Standing, IsClear}
+use Rattle.query_model.proofs.DerivedItems.{derived_item}
 use Rattle.query_model.proofs.Typed.{den_typed, outputs_word}
 use Rattle.query_model.proofs.Unique.{one_value, outputs_one}
 use Rattle.eval_tree.specs.declared.hit.Hit.{Hit}
@@ -48,16 +48,10 @@ module _ (D : Word → Value → Type 0) where
       subst (Outputs D [] (word ++ item ∷ [])) (append-nil out)
       (outputs_more [] word item out [] outputs (inr (none, refl)))
 
--- a value as an item of the stream of values
-pub value_item : (ty : ValueType) (v : Value) → IsValueOf ty v
-    → IsItemOf (derived_columns ty) (item_of v)
-value_item type.Number v is = (is, tt)
-value_item type.Table v is = (is, tt)
-
 pub hit_item : (ty : ValueType) (hit : Option Hit) → IsHitOf ty hit
     → IsHitIn (derived_columns ty) hit
 hit_item ty None is = tt
-hit_item ty (Some found) is = value_item ty found.value is
+hit_item ty (Some found) is = derived_item ty found.value is
 
 module _ (standing : Standing) (columns : List Column) (f : Qre)
     (clear : IsClear standing columns f) where

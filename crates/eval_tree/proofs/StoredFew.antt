@@ -13,7 +13,7 @@ use Rattle.predicate_cells.specs.Truth.{holds}
 use Rattle.item_schema.specs.declared.column.Column.{Column}
 use Rattle.rate_expr.specs.Rates.{size_of}
 use Rattle.rate_expr.specs.Words.{Word, IsWordOf}
-use Rattle.query_model.specs.Bounds.{inner_of, places_of, slots_of}
+use Rattle.query_model.specs.Bounds.{inner_of, places_of, slots_of, width_of}
 use Rattle.query_model.specs.Denotation.{key_of, keys_after, projection}
 use Rattle.query_model.specs.Following.{IsAnswer}
 use Rattle.query_model.specs.Queries.{Qre, atom, eps, choice, split, iter, combine, apply, compose}
@@ -22,7 +22,7 @@ use Rattle.query_model.specs.QueryTypes.{derived_columns, type_of}
 use Rattle.query_model.specs.Rules.{Standing, bound, IsClear}
 use Rattle.query_model.proofs.Keys.{kept_word}
 use Rattle.memory_bound.specs.KeysMet.{key_columns, keys_met}
-use Rattle.memory_bound.proofs.Entries.{entries_few, out_keys, tables_only}
+use Rattle.memory_bound.proofs.Entries.{out_keys, tables_only}
 use Rattle.memory_bound.proofs.Growth.{among_all, among_first, among_second, keys_mono}
 use Rattle.memory_bound.proofs.Tables.{keys_few}
 use Rattle.compose_eval.specs.Followers.{followers_of}
@@ -47,22 +47,20 @@ use Rattle.eval_nodes.proofs.Few.{few_live}
 use Rattle.eval_nodes.proofs.Instances.{all_member}
 use Rattle.eval_nodes.proofs.Members.{member_cases, no_member}
 use Rattle.eval_nodes.proofs.Pieces.{word_after}
-use Rattle.eval_nodes.proofs.StoredEntries.{after_among, entries_size, value_size}
+use Rattle.eval_nodes.proofs.StoredEntries.{after_among, entries_size, value_few}
 use Rattle.eval_nodes.proofs.Totals.{many_parts, scaled, sum_few, three_parts, together, track_fits}
-use Rattle.eval_nodes.proofs.Totals.{two_parts}
+use Rattle.eval_nodes.proofs.Totals.{two_parts, value_fits}
 use Rattle.eval_nodes.proofs.Zips.{whole_there, zip_long, zip_member}
 use Rattle.eval_tree.proofs.Outputs.{out_word}
 use Rattle.eval_tree.proofs.StoredTracks.{HasTextsAlone, derived_texts, state_size}
 
--- an answer has no more entries than keys were met
+-- an answer counts as wide as the query, and one for each key that was met
 answer_size : (standing : Standing) (columns : List Column) (q : Qre) (word : Word)
-    (answer : Option Value) → IsClear standing columns q → IsAnswer q word answer
-    → size_of_answer answer ≤ 1 + keys_met q word
-answer_size standing columns q word None clear is = omega arith
-answer_size standing columns q word (Some v) clear is =
-    let few = entries_few standing columns q word v clear is in
-    let size = value_size v in
-    omega (arith, few, size)
+    (answer : Option Value) → IsClear standing columns q → IsWordOf columns word
+    → IsAnswer q word answer → size_of_answer answer ≤ width_of q + keys_met q word
+answer_size standing columns q word None clear is answers = omega arith
+answer_size standing columns q word (Some v) clear is answers =
+    value_few standing columns q word v clear is answers
 
 -- the one start 0 is a position, and is apart
 pub first_position : (word : Word) → ArePositions word (0 ∷ [])
@@ -84,17 +82,20 @@ first_apart columns q word = λ i j more is first second a b.
 module _ {R : Type 0} (seen : R → Seen R) where
   -- a runner, with its position and its answer
   runner_size : (standing : Standing) (columns : List Column) (q : Qre) (word : Word) (runner : R)
-      → IsClear standing columns q → IsAnswer q word (seen runner).answer
+      → IsClear standing columns q → IsWordOf columns word → IsAnswer q word (seen runner).answer
       → stored_in seen q (seen runner).node ≤ inner_of q * (1 + keys_met q word)
       → size_of_runner seen (stored_in seen q) runner ≤ slots_of q * (1 + keys_met q word)
-  runner_size standing columns q word runner clear is node =
-      let answer = answer_size standing columns q word (seen runner).answer clear is in
+  runner_size standing columns q word runner clear is answers node =
+      let answer = answer_size standing columns q word (seen runner).answer clear is answers in
       three_parts_of (stored_in seen q (seen runner).node)
-      (size_of_answer (seen runner).answer) (inner_of q) (keys_met q word) node answer
+      (size_of_answer (seen runner).answer) (inner_of q) (width_of q) (keys_met q word) node answer
     where
-      three_parts_of : (x y a n : ℕ) → x ≤ a * (1 + n) → y ≤ 1 + n → x + y + 1 ≤ (a + 2) * (1 + n)
-      three_parts_of x y a n first second =
-          let all = two_parts x (y + 1) a 2 n first (omega (arith, second)) in omega (arith, all)
+      three_parts_of : (x y a w n : ℕ) → x ≤ a * (1 + n) → y ≤ w + n
+          → x + y + 1 ≤ (a + 1 + w) * (1 + n)
+      three_parts_of x y a w n first second =
+          let fits = value_fits 1 w n y (omega arith) second in
+          let all = two_parts x (1 + y) a (1 + w) n first fits in
+          omega (arith, all)
 
   -- one for a start or a key, and a runner
   one_more : (x a n : ℕ) → x ≤ a * (1 + n) → 1 + x ≤ (1 + a) * (1 + n)
@@ -191,11 +192,11 @@ module _ {R : Type 0} (seen : R → Seen R) where
       reached rep.2 in
       let less = keys_mono f q word word (among_first (key_columns f) (key_columns g))
       (among_all word) in
-      three_parts _ _ _ (inner_of f) (inner_of g) (3 * places_of g) (keys_met q word)
+      three_parts _ _ _ (inner_of f) (inner_of g) ((2 + width_of f) * places_of g) (keys_met q word)
       (scaled (stored_in seen f a) (inner_of f) (keys_met f word) (keys_met q word) first less)
       (scaled (stored_in seen g b) (inner_of g) (keys_met g word) (keys_met q word) second
       (keys_mono g q word word (among_second (key_columns f) (key_columns g)) (among_all word)))
-      (scaled _ (3 * places_of g) (keys_met f word) (keys_met q word) lefts less)
+      (scaled _ ((2 + width_of f) * places_of g) (keys_met f word) (keys_met q word) lefts less)
   stored_few standing columns (iter f number e) (iter_held a so_far) word starts clear texts is
       positions apart rep =
       let q = iter f number e in
@@ -227,7 +228,8 @@ module _ {R : Type 0} (seen : R → Seen R) where
       let node = stored_few standing derived g (seen one.follower).node out (0 ∷ []) clear.1
       (derived_texts (type_of columns f)) out_is (first_position out)
       (first_apart derived g out) follows.node in
-      let size = runner_size standing derived g out one.follower clear.1 follows.answer node in
+      let size = runner_size standing derived g out one.follower clear.1 out_is
+      follows.answer node in
       let less = out_keys standing columns f g (drop one.outer word) out clear.0 clear.2 outputs in
       let part = keys_mono f f (drop one.outer word) word (among_all (key_columns f))
       (after_among word one.outer) in
@@ -265,7 +267,7 @@ module _ {R : Type 0} (seen : R → Seen R) where
       let part_is = kept_word columns test u u_is in
       let node = stored_few bound columns f (seen runner).node part (0 ∷ []) clear.0 texts part_is
       (first_position part) (first_apart columns f part) follows.node in
-      let size = runner_size bound columns f part runner clear.0 follows.answer node in
+      let size = runner_size bound columns f part runner clear.0 part_is follows.answer node in
       let none : keys_met f part ≡ 0 =
       tables_only f part clear.2 ∙ texts.none column clear.3 part part_is in
       let least = subst
@@ -283,6 +285,6 @@ module _ {R : Type 0} (seen : R → Seen R) where
       → IsWordOf columns word → FollowsWord seen columns q word runner
       → size_of_runner seen (stored_in seen q) runner ≤ slots_of q * (1 + keys_met q word)
   runner_few standing columns q word runner clear texts is follows =
-      runner_size standing columns q word runner clear follows.answer
+      runner_size standing columns q word runner clear is follows.answer
       (stored_few standing columns q (seen runner).node word (0 ∷ []) clear texts is
       (first_position word) (first_apart columns q word) follows.node)

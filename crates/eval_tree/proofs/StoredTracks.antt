@@ -1,6 +1,6 @@
 -- Runners for keys: each follows items of the stream, on which there is no table.
 use Rattle.std.proofs.Common.{◌≡◌, ◌≤◌, ℕ, zero, suc, Bool, true, false, IsTrue, List, [], ◌∷◌}
-use Rattle.std.proofs.Common.{◌&&◌, length, refl, sym, ap, arith}
+use Rattle.std.proofs.Common.{◌++◌, ◌∙◌, ◌&&◌, length, refl, sym, ap, arith}
 use Rattle.std.specs.List.{list_all}
 use Rattle.std.proofs.lemmas.Bool.{true≢false}
 use Rattle.std.proofs.lemmas.Nat.{ones-le}
@@ -12,8 +12,8 @@ use Rattle.item_schema.specs.declared.column.Column.{Column}
 use Rattle.item_schema.specs.declared.column.Kind.{Kind}
 use Rattle.item_schema.specs.declared.column.Kind.TheVariants.{Int, Fixed, Text, Number, Table}
 use Rattle.item_schema.specs.Items.{IsFieldOf, IsItemOf}
-use Rattle.item_schema.specs.Layout.{is_read}
-use Rattle.predicate_cells.specs.Fits.{has_texts}
+use Rattle.item_schema.specs.Layout.{is_read, part_column, part_columns}
+use Rattle.predicate_cells.specs.Fits.{has_texts, is_text}
 use Rattle.rate_expr.specs.After.{IsAfter, IsStateOf}
 use Rattle.rate_expr.specs.FirstLastFollow.{AreSetsOf}
 use Rattle.rate_expr.specs.Rates as rates
@@ -34,6 +34,20 @@ pub record HasTextsAlone (columns : List Column) : Type 0 where
   pub none : (column : ℕ) → has_texts columns column ≡ true → (word : Word) → IsWordOf columns word
       → most_entries word ≡ 0
 
+-- one more column that is no text
+texts_before : (columns : List Column) (last : Column) (at : ℕ) → is_text last.kind ≡ false
+    → ((i : ℕ) → has_texts columns i ≡ true → ⊥) → has_texts (columns ++ last ∷ []) at ≡ true → ⊥
+texts_before [] last zero other none texts = true≢false (sym texts ∙ other)
+texts_before [] last (suc at) other none texts = true≢false (sym texts)
+texts_before (column ∷ columns) last zero other none texts = none zero texts
+texts_before (column ∷ columns) last (suc at) other none texts =
+    texts_before columns last at other (λ i. none (suc i)) texts
+
+parts_texts : (size at : ℕ) → has_texts (part_columns size) at ≡ true → ⊥
+parts_texts zero at texts = true≢false (sym texts)
+parts_texts (suc size) at texts =
+    texts_before (part_columns size) (part_column size) at refl (parts_texts size) texts
+
 -- a stream of values has no texts
 pub derived_texts : (ty : ValueType) → HasTextsAlone (derived_columns ty)
 derived_texts ty = record { none = λ column texts word is. absurd (by ty column texts) }
@@ -41,6 +55,7 @@ derived_texts ty = record { none = λ column texts word is. absurd (by ty column
     by : (ty : ValueType) (column : ℕ) → has_texts (derived_columns ty) column ≡ true → ⊥
     by type.Number zero texts = true≢false (sym texts)
     by type.Table zero texts = true≢false (sym texts)
+    by (type.Rec size) column texts = parts_texts size column texts
     by ty (suc column) texts = true≢false (sym texts)
 
 -- one that is read from lines has no tables

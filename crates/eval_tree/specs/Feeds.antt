@@ -5,10 +5,9 @@ use Rattle.std.specs.Prelude.{Some, MatchOption, if◌then◌else◌, length, sl
 use Rattle.std.specs.Option.{option_map}
 use Rattle.std.specs.List.{AllByRecursion}
 use Rattle.value_ops.specs.declared.field.Field.{Field}
-use Rattle.value_ops.specs.declared.field.Field.TheVariants as field
 use Rattle.value_ops.specs.declared.value.Value.{Value}
 use Rattle.item_schema.specs.declared.column.Column.{Column}
-use Rattle.item_schema.specs.Items.{IsItemOf}
+use Rattle.item_schema.specs.Items.{IsItemOf, fields_of_value}
 use Rattle.rate_expr.specs.Words.{Word, IsWordOf}
 use Rattle.query_model.specs.Following.{composes_of}
 use Rattle.query_model.specs.Queries.{Qre}
@@ -21,7 +20,7 @@ use Rattle.eval_tree.specs.declared.hit.Hit.{Hit}
 
 -- the value as an item of a stream of values
 abbrev pub item_of : Value → List Field
-item_of value = field.Val value ∷ []
+item_of value = fields_of_value value
 
 -- an answer as a hit of the start
 abbrev pub hit_at : ℕ → Option Value → Option Hit

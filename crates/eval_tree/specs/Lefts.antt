@@ -1,16 +1,24 @@
 -- For the prover. What becomes of left values: they are put in, found for a right hit, and joined
 -- with it.
-use Rattle.std.specs.Prelude.{◌≡◌, ◌<◌, ◌⊎◌, ℕ, Bool, true, List, [], ◌∷◌, ◌++◌, Option, None, Some}
-use Rattle.std.specs.Prelude.{MatchOption, length}
+use Rattle.std.specs.Prelude.{◌≡◌, ◌≢◌, ◌<◌, ◌⊎◌, ℕ, Bool, true, List, [], ◌∷◌, ◌++◌, Option, None}
+use Rattle.std.specs.Prelude.{Some, MatchOption, length}
+use Rattle.value_ops.specs.declared.field.Field.{Field}
 use Rattle.value_ops.specs.declared.value.Value.{Value}
 use Rattle.value_ops.specs.declared.value.ValueType.{ValueType}
-use Rattle.value_ops.specs.Evaluation.{given}
+use Rattle.value_ops.specs.declared.value.ValueType.TheVariants.{Table}
+use Rattle.value_ops.specs.Evaluation.{given, value_of}
 use Rattle.value_ops.specs.Expressions.{Expression}
-use Rattle.value_ops.specs.Typing.{HasType, IsNumber, types_of}
+use Rattle.value_ops.specs.Typing.{HasType, Types, types_of}
 use Rattle.query_model.specs.Denotation.{on_both, on_one}
 use Rattle.split_eval.specs.Entries.{Contents, entry_at}
 use Rattle.split_eval.specs.declared.entry.Entry.{Entry}
 use Rattle.eval_tree.specs.declared.hit.Hit.{Hit}
+
+-- a hit at the start with what the expression computes of the fields
+abbrev pub IsFound : Expression → ℕ → List Field → Option Hit → Type 0
+IsFound expression start fields hit =
+    (value : Value) × (hit ≡ Some (record { start = start; value = value }))
+    × (value_of (given fields None None) expression ≡ Some value)
 
 -- the value is put in if the start is live, no value has its inner start, and there is room
 pub record CanPut (continues : Bool) (held : Contents Value) (inner : ℕ) : Type 0 where
@@ -81,28 +89,33 @@ abbrev pub AreTypedWith : Expression → List (Entry Value) → Option Hit → T
 AreTypedWith expression entries right = MatchOption right (Unit {0}) (λ found. (entry : Entry Value)
     → entry_at entries found.start ≡ Some entry → IsTypedOnBoth expression entry.value found.value)
 
--- the expression is a number on one value, and on two
-abbrev pub IsNumberOnOne : Expression → Value → Type 0
-IsNumberOnOne expression left = IsNumber (types_of (given [] (Some left) None)) expression
+-- the expression is well typed, and gives no table
+abbrev pub GivesNoTable : Types → Expression → Type 0
+GivesNoTable types expression =
+    (type : ValueType) × (type ≢ Table) × HasType types expression type
 
-abbrev pub IsNumberOnBoth : Expression → Value → Value → Type 0
-IsNumberOnBoth expression left right =
-    IsNumber (types_of (given [] (Some left) (Some right))) expression
+-- so it is on a value, and on two
+abbrev pub IsNoTableOnOne : Expression → Value → Type 0
+IsNoTableOnOne expression left = GivesNoTable (types_of (given [] (Some left) None)) expression
 
--- the expression is a number on the same of hits and of what waits
-abbrev pub IsNumberOnHit : Expression → Option Hit → Type 0
-IsNumberOnHit expression inner =
-    MatchOption inner (Unit {0}) (λ found. IsNumberOnOne expression found.value)
+abbrev pub IsNoTableOnBoth : Expression → Value → Value → Type 0
+IsNoTableOnBoth expression left right =
+    GivesNoTable (types_of (given [] (Some left) (Some right))) expression
 
-abbrev pub IsNumberWith : Expression → Value → Option Hit → Type 0
-IsNumberWith expression left right =
-    MatchOption right (Unit {0}) (λ found. IsNumberOnBoth expression left found.value)
+-- the expression gives no table on the same of hits and of what waits
+abbrev pub IsNoTableOnHit : Expression → Option Hit → Type 0
+IsNoTableOnHit expression inner =
+    MatchOption inner (Unit {0}) (λ found. IsNoTableOnOne expression found.value)
 
-abbrev pub AreNumbersOnHits : Expression → Option Hit → Option Hit → Type 0
-AreNumbersOnHits expression left right =
-    MatchOption left (Unit {0}) (λ found. IsNumberWith expression found.value right)
+abbrev pub IsNoTableWith : Expression → Value → Option Hit → Type 0
+IsNoTableWith expression left right =
+    MatchOption right (Unit {0}) (λ found. IsNoTableOnBoth expression left found.value)
 
-abbrev pub AreNumbersWith : Expression → List (Entry Value) → Option Hit → Type 0
-AreNumbersWith expression entries right = MatchOption right (Unit {0}) (λ found.
+abbrev pub AreNoTablesOnHits : Expression → Option Hit → Option Hit → Type 0
+AreNoTablesOnHits expression left right =
+    MatchOption left (Unit {0}) (λ found. IsNoTableWith expression found.value right)
+
+abbrev pub AreNoTablesWith : Expression → List (Entry Value) → Option Hit → Type 0
+AreNoTablesWith expression entries right = MatchOption right (Unit {0}) (λ found.
     (entry : Entry Value) → entry_at entries found.start ≡ Some entry
-    → IsNumberOnBoth expression entry.value found.value)
+    → IsNoTableOnBoth expression entry.value found.value)

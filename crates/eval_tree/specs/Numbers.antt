@@ -1,5 +1,5 @@
--- Statement. Number queries: their values are scalars, and nothing that is kept for one grows. So
--- once its node is made, no call is out of memory.
+-- Statement. Number queries: none of their values is a table, and nothing that is kept for one
+-- grows. So once its node is made, no call is out of memory.
 use Rattle.std.specs.Prelude.{◌≡◌, ℕ, List, Option}
 use Rattle.std.specs.List.{AllByRecursion}
 use Rattle.value_ops.specs.declared.field.Field.{Field}

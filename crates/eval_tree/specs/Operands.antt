@@ -12,7 +12,7 @@ use Rattle.eval_nodes.specs.Holdings.{Holding, Seen}
 use Rattle.eval_nodes.specs.Live.{live_of}
 use Rattle.eval_tree.specs.declared.hit.Hit.{Hit}
 use Rattle.eval_tree.specs.Calls.{HasStarted, HasStepped}
-use Rattle.eval_tree.specs.Lefts.{AreNumbersWith, AreTypedWith, IsEnded, IsJoined, IsNumberWith}
+use Rattle.eval_tree.specs.Lefts.{AreNoTablesWith, AreTypedWith, IsEnded, IsJoined, IsNoTableWith}
 use Rattle.eval_tree.specs.Lefts.{IsPut, IsTypedWith}
 use Rattle.eval_tree.specs.Numbers.{StartsNumbers, StepsNumbers}
 use Rattle.eval_tree.specs.Steps.{CanStart, CanStep, StartsSoundly, StepsSoundly}
@@ -44,7 +44,7 @@ module _ {R : Type 0} (seen : R → Seen R) where
       pub steps : StepsNumbers seen operand old now item
       pub ends : (new : Holding R) (right : Option Hit)
           → StepsSoundly seen operand old now item new right
-          → AreNumbersWith expression waiting right
+          → AreNoTablesWith expression waiting right
 
   module _ (operand : Qre) (expression : Expression) (left : Hit) (old : Holding R) (at : ℕ) where
     -- a start may be added, and the expression is well typed on the left value and a hit there
@@ -64,7 +64,7 @@ module _ {R : Type 0} (seen : R → Seen R) where
     pub record JoinsNumbers : Type 0 where
       pub starts : StartsNumbers seen operand old at
       pub joins : (new : Holding R) (right : Option Hit)
-          → StartsSoundly seen operand old at new right → IsNumberWith expression left.value right
+          → StartsSoundly seen operand old at new right → IsNoTableWith expression left.value right
 
   -- a piece of an iteration began after a value so far, which waits for it if the start is live
   pub record Continues (operand : Qre) (hit : Hit) (old : Holding R) (waiting : Contents Value)

@@ -38,12 +38,14 @@ use Rattle.eval_tree.specs.Feeds.{IsCarried}
 abbrev pub entry_with : List ℕ → Option Value → Option (List ℕ × Scalar)
 entry_with key None = None
 entry_with key (Some (value.Scalar scalar)) = Some (key, scalar)
+entry_with key (Some (value.Rec parts)) = None
 entry_with key (Some (value.Table entries)) = None
 
 -- the number that an answer is, if it is one
 abbrev pub scalar_of : Option Value → Option Scalar
 scalar_of None = None
 scalar_of (Some (value.Scalar scalar)) = Some scalar
+scalar_of (Some (value.Rec parts)) = None
 scalar_of (Some (value.Table entries)) = None
 
 -- a runner may be made

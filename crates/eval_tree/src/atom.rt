@@ -1,11 +1,15 @@
 //! The calls of an atom: it keeps the start at the end of the word.
-ghost use Rattle.std.specs.Prelude.{◌≡◌, ℕ, None, Ok};
+ghost use Rattle.std.specs.Prelude.{◌≡◌, ℕ, None, Ok, IsOk, IfOk};
 ghost use Rattle.predicate_cells.specs.Plain as predicates;
 ghost use Rattle.predicate_cells.specs.Predicates.{Predicate};
+ghost use Rattle.value_ops.specs.Evaluation.{given};
 ghost use Rattle.value_ops.specs.Expressions as values;
+ghost use Rattle.value_ops.specs.Typing.{HasType, types_of};
+ghost use Rattle.value_ops.specs.declared.value.ValueType.{ValueType};
 ghost use Rattle.query_model.specs.Queries.{atom};
 ghost use Rattle.eval_nodes.specs.Plain.{holding_of, seen_of};
 ghost use Rattle.eval_tree.specs.Calls.{HasStarted, HasStepped, found_in};
+ghost use Rattle.eval_tree.specs.Lefts.{GivesNoTable, IsFound};
 ghost use Rattle.eval_tree.specs.Steps.{CanStart, CanStep};
 
 use crate::Hit;
@@ -13,7 +17,7 @@ use eval_nodes::{Node, State};
 use item_schema::Item;
 use predicate_cells::{Pred, holds};
 use std::alloc::{AllocError, Global};
-use value_ops::Expr;
+use value_ops::{Expr, Field, Value};
 
 /// An atom has no value on the empty word.
 #[tactic(auto, using(crate::proofs::Unsound::unlike_atom))]
@@ -55,12 +59,41 @@ pub(crate) fn step_atom(
     match &mut node.state {
         State::Atom(found) => match found.take() {
             Some(start) if holds(pred, item) => {
-                let value = expression.eval(alloc, item.fields(), None, None)?;
-                *hit = Some(Hit { start, value });
-                Ok(())
+                put_value(hit, alloc, expression, item.fields(), start)
             }
             _ => Ok(()),
         },
         _ => unreachable!(),
     }
+}
+
+// Sets the hit to what the expression gives on the fields, at the start.
+#[inline(always)]
+fn put_value(
+    hit: &mut Option<Hit>,
+    alloc: Global,
+    expression: &Expr,
+    fields: &[Field],
+    start: u64,
+) -> Result<(), AllocError>
+    requires { (type : ValueType)
+        × HasType (types_of (given fields.now None None)) (values.plain_of expression.now) type }
+    ensures put { IfOk result (λ done. IsFound (values.plain_of expression.now) start fields.now
+        hit.new) }
+    ensures no_memory { GivesNoTable (types_of (given fields.now None None))
+        (values.plain_of expression.now) → IsOk result }
+{
+    match expression.eval_scalar(fields, None, None) {
+        Some(scalar) => {
+            *hit = Some(Hit {
+                start,
+                value: Value::Scalar(scalar),
+            });
+        }
+        None => {
+            let value = expression.eval(alloc, fields, None, None)?;
+            *hit = Some(Hit { start, value });
+        }
+    }
+    Ok(())
 }

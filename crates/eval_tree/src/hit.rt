@@ -73,6 +73,21 @@ pub(crate) fn put_if_none(hit: &mut Option<Hit>, other: Option<Hit>)
     }
 }
 
+/// Puts the value of a hit in the place of an answer.
+#[inline(always)]
+pub(crate) fn put_answer(answer: &mut Option<Value>, hit: Option<Hit>)
+    ensures { answer.new ≡ option_map (λ (found : Hit). found.value) hit }
+{
+    match hit {
+        Some(hit) => {
+            *answer = Some(hit.into_parts().1);
+        }
+        None => {
+            *answer = None;
+        }
+    }
+}
+
 /// The value of a hit.
 pub fn value_of(hit: Option<Hit>) -> Option<Value>
     ensures { result ≡ option_map (λ (found : Hit). found.value) hit }

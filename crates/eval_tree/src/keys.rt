@@ -99,7 +99,7 @@ fn place_or_new(
 }
 
 /// The text in the key column.
-fn key_of(item: &Item, column: u32) -> &[u8]
+fn key_of<'i>(item: &'i Item<'_>, column: u32) -> &'i [u8]
     ensures { result.now ≡ key_of column item.now }
 {
     match item.fields().get(column as usize) {

@@ -4,9 +4,9 @@ ghost use Rattle.std.specs.Prelude.{IsOk};
 ghost use Rattle.std.specs.Option.{option_copied};
 ghost use Rattle.value_ops.specs.Expressions.{plain_of};
 ghost use Rattle.split_eval.specs.Entries.{entry_at};
-ghost use Rattle.eval_tree.specs.Lefts.{AreCombined, AreNumbersOnHits, AreNumbersWith};
+ghost use Rattle.eval_tree.specs.Lefts.{AreCombined, AreNoTablesOnHits, AreNoTablesWith};
 ghost use Rattle.eval_tree.specs.Lefts.{AreTypedOnHits, AreTypedWith, IsApplied, IsEnded, IsJoined};
-ghost use Rattle.eval_tree.specs.Lefts.{IsNumberOnBoth, IsNumberOnHit, IsNumberWith, IsPut};
+ghost use Rattle.eval_tree.specs.Lefts.{IsNoTableOnBoth, IsNoTableOnHit, IsNoTableWith, IsPut};
 ghost use Rattle.eval_tree.specs.Lefts.{IsTypedOnBoth, IsTypedOnHit, IsTypedWith};
 
 use crate::Hit;
@@ -45,11 +45,18 @@ pub(crate) fn apply_to(
 ) -> Result<(), AllocError>
     requires { IsTypedOnHit (plain_of expression.now) hit.old }
     ensures applied { IfOk result (λ done. IsApplied (plain_of expression.now) hit.old hit.new) }
-    ensures no_memory { IsNumberOnHit (plain_of expression.now) hit.old → IsOk result }
+    ensures no_memory { IsNoTableOnHit (plain_of expression.now) hit.old → IsOk result }
 {
     match hit {
         Some(found) => {
-            found.value = expression.eval(alloc, &[], Some(&found.value), None)?;
+            match expression.eval_scalar(&[], Some(&found.value), None) {
+                Some(scalar) => {
+                    found.value = Value::Scalar(scalar);
+                }
+                None => {
+                    found.value = expression.eval(alloc, &[], Some(&found.value), None)?;
+                }
+            }
             Ok(())
         }
         None => Ok(()),
@@ -67,15 +74,11 @@ pub(crate) fn combine_with(
     requires { AreTypedOnHits (plain_of expression.now) hit.old right }
     ensures combined { IfOk result (λ done. AreCombined (plain_of expression.now) hit.old right
         hit.new) }
-    ensures no_memory { AreNumbersOnHits (plain_of expression.now) hit.old right → IsOk result }
+    ensures no_memory { AreNoTablesOnHits (plain_of expression.now) hit.old right → IsOk result }
 {
     match hit {
         Some(left) => match right {
-            Some(right) => {
-                let value = expression.eval(alloc, &[], Some(&left.value), Some(&right.value))?;
-                left.value = value;
-                Ok(())
-            }
+            Some(right) => with_right(alloc, expression, left, &right),
             None => {
                 *hit = None;
                 Ok(())
@@ -83,6 +86,31 @@ pub(crate) fn combine_with(
         },
         None => Ok(()),
     }
+}
+
+// The hit of a combine, from those of both operands. It replaces the left one.
+#[inline(always)]
+fn with_right(
+    alloc: Global,
+    expression: &Expr,
+    hit: &mut Hit,
+    right: &Hit,
+) -> Result<(), AllocError>
+    requires { IsTypedOnBoth (plain_of expression.now) hit.old.value right.now.value }
+    ensures combined { IfOk result (λ done. IsJoined (plain_of expression.now) hit.old.start
+        hit.old.value (Some right.now) (Some hit.new)) }
+    ensures no_memory { IsNoTableOnBoth (plain_of expression.now) hit.old.value right.now.value
+        → IsOk result }
+{
+    match expression.eval_scalar(&[], Some(&hit.value), Some(&right.value)) {
+        Some(scalar) => {
+            hit.value = Value::Scalar(scalar);
+        }
+        None => {
+            hit.value = expression.eval(alloc, &[], Some(&hit.value), Some(&right.value))?;
+        }
+    }
+    Ok(())
 }
 
 /// The hit of a whole whose left value was just found. It replaces the hit of the right operand.
@@ -95,7 +123,7 @@ pub(crate) fn join_to(
     requires { IsTypedWith (plain_of expression.now) left.now.value hit.old }
     ensures joined { IfOk result (λ done. IsJoined (plain_of expression.now) left.now.start
         left.now.value hit.old hit.new) }
-    ensures no_memory { IsNumberWith (plain_of expression.now) left.now.value hit.old
+    ensures no_memory { IsNoTableWith (plain_of expression.now) left.now.value hit.old
         → IsOk result }
 {
     match hit {
@@ -115,7 +143,7 @@ pub(crate) fn end_waiting(
     requires { AreTypedWith (plain_of expression.now) held.now.entries hit.old }
     ensures ended { IfOk result (λ done. IsEnded (plain_of expression.now) held.now.entries hit.old
         hit.new) }
-    ensures no_memory { AreNumbersWith (plain_of expression.now) held.now.entries hit.old
+    ensures no_memory { AreNoTablesWith (plain_of expression.now) held.now.entries hit.old
         → IsOk result }
 {
     match hit {
@@ -143,10 +171,17 @@ fn with_left(
     requires { IsTypedOnBoth (plain_of expression.now) left.now hit.old.value }
     ensures joined { IfOk result (λ done. IsJoined (plain_of expression.now) start left.now
         (Some hit.old) (Some hit.new)) }
-    ensures no_memory { IsNumberOnBoth (plain_of expression.now) left.now hit.old.value
+    ensures no_memory { IsNoTableOnBoth (plain_of expression.now) left.now hit.old.value
         → IsOk result }
 {
-    hit.value = expression.eval(alloc, &[], Some(left), Some(&hit.value))?;
+    match expression.eval_scalar(&[], Some(left), Some(&hit.value)) {
+        Some(scalar) => {
+            hit.value = Value::Scalar(scalar);
+        }
+        None => {
+            hit.value = expression.eval(alloc, &[], Some(left), Some(&hit.value))?;
+        }
+    }
     hit.start = start;
     Ok(())
 }

@@ -9,13 +9,14 @@ ghost use Rattle.eval_tree.specs.Numbers.{BeginsNumbers, CarriesNumbers, FeedsNu
 ghost use Rattle.eval_tree.specs.Numbers.{PassesNumbers};
 
 use crate::Hit;
-use crate::hit::value_of;
+use crate::hit::put_answer;
 use crate::steps::{start_into, step_into};
 use compose_eval::Instances;
 use eval_nodes::{Progress, clear};
-use item_schema::Item;
+use item_schema::{Item, Room};
 use query_model::Query;
 use std::alloc::{AllocError, Global};
+use value_ops::{Field, Value};
 
 /// The last idle runner is emptied, takes the value of the hit if there is one, and is fed from the
 /// start if this is live. If the starts are apart (`AreApart`), there is an idle one and none is
@@ -113,7 +114,7 @@ fn deliver(
         (item_of left.value) → IsOk result }
 {
     let (start, value) = left.into_parts();
-    carry(query, runner, alloc, &Item::from_value(value))?;
+    carry_value(query, runner, alloc, value)?;
     match &runner.answer {
         Some(value) => {
             let value = value.try_copy(alloc)?;
@@ -122,6 +123,48 @@ fn deliver(
         }
         None => Ok(()),
     }
+}
+
+/// The runner takes the item of a value.
+#[cycle(step)]
+fn carry_value(
+    query: &Query,
+    runner: &mut Progress,
+    alloc: Global,
+    value: Value,
+) -> Result<(), AllocError>
+    requires { CanCarry seen_of (plain_of query.now.shape) runner.old (item_of value) }
+    ensures carried { IfOk result (λ done. IsCarried seen_of (plain_of query.now.shape) runner.old
+        (item_of value) runner.new) }
+    ensures no_memory { CarriesNumbers seen_of (plain_of query.now.shape) runner.old (item_of value)
+        → IsOk result }
+{
+    match value {
+        Value::Rec(_) => carry_parts(query, runner, alloc, value),
+        Value::Scalar(_) | Value::Table(_) => {
+            carry(query, runner, alloc, &Item::from_field(Field::Val(value)))
+        }
+    }
+}
+
+// Apart, so that the room costs other values nothing.
+#[cycle(step)]
+#[inline(never)]
+fn carry_parts(
+    query: &Query,
+    runner: &mut Progress,
+    alloc: Global,
+    value: Value,
+) -> Result<(), AllocError>
+    requires { CanCarry seen_of (plain_of query.now.shape) runner.old (item_of value) }
+    ensures carried { IfOk result (λ done. IsCarried seen_of (plain_of query.now.shape) runner.old
+        (item_of value) runner.new) }
+    ensures no_memory { CarriesNumbers seen_of (plain_of query.now.shape) runner.old (item_of value)
+        → IsOk result }
+{
+    let mut room = Room::new();
+    let item = Item::from_value(value, &mut room);
+    carry(query, runner, alloc, &item)
 }
 
 /// The runner takes one more item.
@@ -142,7 +185,7 @@ pub fn carry(
     let mut hit = None;
     step_into(query, &mut runner.node, alloc, now, item, &mut hit)?;
     runner.position = now;
-    runner.answer = value_of(hit);
+    put_answer(&mut runner.answer, hit);
     Ok(())
 }
 
@@ -159,6 +202,6 @@ pub fn renew(query: &Query, runner: &mut Progress, alloc: Global) -> Result<(), 
     let mut hit = None;
     start_into(query, &mut runner.node, alloc, 0, &mut hit)?;
     runner.position = 0;
-    runner.answer = value_of(hit);
+    put_answer(&mut runner.answer, hit);
     Ok(())
 }

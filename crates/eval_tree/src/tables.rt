@@ -29,7 +29,7 @@ fn scalar_of(answer: &Option<Value>) -> Option<Scalar>
 {
     match answer {
         Some(Value::Scalar(scalar)) => Some(*scalar),
-        Some(Value::Table(_entries)) => None,
+        Some(Value::Rec(_) | Value::Table(_)) => None,
         None => None,
     }
 }

@@ -25,7 +25,10 @@ pub(crate) fn continue_from(
     ensures no_memory { IsNoTable hit.now.value → IsOk result }
 {
     if live && so_far.len() < so_far.room() as usize {
-        so_far.put(at, hit.start, hit.value.try_copy(alloc)?);
+        match &hit.value {
+            Value::Scalar(scalar) => so_far.put(at, hit.start, Value::Scalar(*scalar)),
+            other => so_far.put(at, hit.start, other.try_copy(alloc)?),
+        }
     }
     Ok(())
 }

@@ -17,30 +17,41 @@ use Rattle.query_syntax.specs.Rates.{Rate}
 use Rattle.query_syntax.specs.Spans.{query_span}
 use Rattle.query_syntax.specs.declared.leaf.Name.{Name}
 use Rattle.explanation.specs.Misfits.{misfit_item, misfit_read, misfit_test, unless_key}
-use Rattle.explanation.specs.Scopes.{Scope, of_item, of_mistyped, of_one, of_two, of_value}
-use Rattle.explanation.specs.Scopes.{unless_known}
+use Rattle.explanation.specs.Scopes.{Scope, of_item, of_misread, of_mistyped, of_one, of_two}
+use Rattle.explanation.specs.Scopes.{of_value, unless_known}
 use Rattle.explanation.specs.Spots.{has_in, is_at}
 use Rattle.explanation.specs.Unknown.{first_of, unknown_column, unknown_item, unknown_name}
 use Rattle.explanation.specs.Uses.{is_on_values}
 use Rattle.explanation.specs.declared.culprit.Culprit.{Culprit}
-use Rattle.explanation.specs.declared.culprit.Culprit.TheVariants.{NoLet, TwiceColumn, TwiceLet}
+use Rattle.explanation.specs.declared.culprit.Culprit.TheVariants.{Collected, NoLet, TwiceColumn}
+use Rattle.explanation.specs.declared.culprit.Culprit.TheVariants.{TwiceLet}
 
 -- in the name of a query
 abbrev pub in_name : Rule → Span → Option Culprit
 in_name rule.Name span = Some (NoLet span)
 in_name _ span = None
 
--- in an atom, a column whose kind does not fit; over values every name is the one column
+-- in an atom
+abbrev pub first_in_atom : Scope → Predicate → Expression → Option Culprit
+first_in_atom scope predicate value =
+    first_of (unknown_column scope predicate) (unknown_name scope value)
+
+-- in an atom over values, a name that none of them have, or else the first, since of names that
+-- other values have one may be meant that these have not
+abbrev pub names_in_atom : Scope → Predicate → Expression → Option Culprit
+names_in_atom of_value predicate value =
+    first_of (first_in_atom of_value predicate value) (first_in_atom of_misread predicate value)
+names_in_atom scope predicate value = first_in_atom scope predicate value
+
+-- in an atom, a column whose kind does not fit; over values each name is that of one
 abbrev pub kinds_in_atom : Scope → Predicate → Expression → Option Culprit
 kinds_in_atom (of_item columns) predicate value =
     first_of (misfit_test columns predicate) (misfit_read columns value)
-kinds_in_atom _ predicate value =
-    first_of (unknown_column of_mistyped predicate) (unknown_name of_mistyped value)
+kinds_in_atom _ predicate value = first_in_atom of_mistyped predicate value
 
 -- in an atom
 abbrev pub in_atom : Rule → Scope → Predicate → Expression → Option Culprit
-in_atom rule.Name scope predicate value =
-    first_of (unknown_column scope predicate) (unknown_name scope value)
+in_atom rule.Name scope predicate value = names_in_atom scope predicate value
 in_atom rule.Mismatch scope predicate value = kinds_in_atom scope predicate value
 in_atom _ scope predicate value = None
 
@@ -50,11 +61,12 @@ in_fold rule.Name scope value = unknown_name scope value
 in_fold _ scope value = None
 
 -- in the key, the predicate for items of all keys and the rate of a collection, a column whose kind
--- does not fit
+-- does not fit; where all fit, the key, since what is collected does not
 abbrev pub kinds_in_keys : Scope → Name → Predicate → Rate → Option Culprit
-kinds_in_keys (of_item columns) key sync rate =
-    first_of (unless_key columns key)
-    (first_of (misfit_test columns sync) (misfit_item columns rate))
+kinds_in_keys (of_item columns) key sync rate = first_of
+    (first_of (unless_key columns key)
+    (first_of (misfit_test columns sync) (misfit_item columns rate)))
+    (Some (Collected key.span))
 kinds_in_keys _ key sync rate = None
 
 -- in the same parts, by the rule

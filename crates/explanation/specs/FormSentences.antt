@@ -5,7 +5,7 @@ use Rattle.query_forms.specs.declared.term_place.TermPlace.{TermPlace}
 use Rattle.query_forms.specs.declared.term_place.TermPlace.TheVariants.{Mode, Column, Kind, Query}
 use Rattle.query_forms.specs.declared.term_place.TermPlace.TheVariants.{Rate, Pred, Literal, Expr}
 use Rattle.query_forms.specs.declared.term_place.TermPlace.TheVariants.{Compare, Name, Number, Text}
-use Rattle.query_forms.specs.declared.term_place.TermPlace.TheVariants.{Digits}
+use Rattle.query_forms.specs.declared.term_place.TermPlace.TheVariants.{Digits, Index}
 use Rattle.explanation.specs.declared.form_sentence.TheConstants as words
 use Rattle.explanation.specs.declared.expectation.Standing.{Standing}
 use Rattle.explanation.specs.declared.expectation.Standing.TheVariants.{Top, In, Nothing}
@@ -25,6 +25,7 @@ forms_of_place Name = words.NAME.now
 forms_of_place Number = words.NUMBER.now
 forms_of_place Text = words.TEXT.now
 forms_of_place Digits = words.DIGITS.now
+forms_of_place Index = words.INDEX.now
 
 -- the forms of what has to stand at a place
 abbrev pub forms_of : Standing → List ℕ

@@ -6,8 +6,8 @@ use Rattle.explanation.specs.declared.hint.Hint.TheVariants.{BadString, Comment,
 use Rattle.explanation.specs.declared.hint.Hint.TheVariants.{Arithmetic, Connective, Mark}
 use Rattle.explanation.specs.declared.hint.Hint.TheVariants.{ByteOrderMark, NotAscii, MissingComma}
 use Rattle.explanation.specs.declared.hint.Hint.TheVariants.{MissingTerm, NoHead, EmptyWord}
-use Rattle.explanation.specs.declared.hint.Hint.TheVariants.{TwoKinds, TableOrNumber, ValueCells}
-use Rattle.explanation.specs.declared.hint.Hint.TheVariants.{RateItem}
+use Rattle.explanation.specs.declared.hint.Hint.TheVariants.{TwoTypes, OtherType, Iterated}
+use Rattle.explanation.specs.declared.hint.Hint.TheVariants.{ValueCells, RateItem}
 use Rattle.explanation.specs.declared.hint_sentence.TheConstants as words
 
 -- what is often meant
@@ -27,7 +27,8 @@ hint_sentence MissingComma = words.MISSING_COMMA.now
 hint_sentence MissingTerm = words.MISSING_TERM.now
 hint_sentence NoHead = words.NO_HEAD.now
 hint_sentence EmptyWord = words.EMPTY_WORD.now
-hint_sentence TwoKinds = words.TWO_KINDS.now
-hint_sentence TableOrNumber = words.TABLE_OR_NUMBER.now
+hint_sentence TwoTypes = words.TWO_TYPES.now
+hint_sentence OtherType = words.OTHER_TYPE.now
+hint_sentence Iterated = words.ITERATED.now
 hint_sentence ValueCells = words.VALUE_CELLS.now
 hint_sentence RateItem = words.RATE_ITEM.now

@@ -16,8 +16,8 @@ use Rattle.explanation.specs.declared.hint.Hint.TheVariants.{BadString, Comment,
 use Rattle.explanation.specs.declared.hint.Hint.TheVariants.{Arithmetic, Connective, Mark}
 use Rattle.explanation.specs.declared.hint.Hint.TheVariants.{ByteOrderMark, NotAscii, MissingComma}
 use Rattle.explanation.specs.declared.hint.Hint.TheVariants.{MissingTerm, NoHead, EmptyWord}
-use Rattle.explanation.specs.declared.hint.Hint.TheVariants.{TwoKinds, TableOrNumber, ValueCells}
-use Rattle.explanation.specs.declared.hint.Hint.TheVariants.{RateItem}
+use Rattle.explanation.specs.declared.hint.Hint.TheVariants.{TwoTypes, OtherType, Iterated}
+use Rattle.explanation.specs.declared.hint.Hint.TheVariants.{ValueCells, RateItem}
 
 -- the bytes of a term
 abbrev pub term_at : List ℕ → Span → List ℕ
@@ -85,10 +85,10 @@ piece_hint byte =
 -- the hint for a call whose operands, or the values of whose expression, have the wrong types
 abbrev pub type_hint : List ℕ → Option Hint
 type_hint head =
-    if bytes_eq head (codes "or") then Some TwoKinds
-    else (if bytes_eq head (codes "split") || bytes_eq head (codes "iter")
-    || bytes_eq head (codes "combine") || bytes_eq head (codes "apply")
-    then Some TableOrNumber else None)
+    if bytes_eq head (codes "or") then Some TwoTypes
+    else (if bytes_eq head (codes "iter") then Some Iterated
+    else (if bytes_eq head (codes "split") || bytes_eq head (codes "combine")
+    || bytes_eq head (codes "apply") then Some OtherType else None))
 
 -- the hint for a rule that is broken at a place which begins with this byte
 abbrev pub hint_at : Rule → List ℕ → Span → ℕ → Option Hint

@@ -60,6 +60,7 @@ has_words place.Number = false
 has_words place.Literal = false
 has_words place.Text = false
 has_words place.Digits = false
+has_words place.Index = false
 has_words _ = true
 
 -- the same for what has to stand at a place

@@ -2,7 +2,7 @@
 -- is not known in a scope.
 use Rattle.std.specs.Prelude.{Option, None, Some}
 use Rattle.query_syntax.specs.Expressions as e
-use Rattle.query_syntax.specs.Expressions.{Expression}
+use Rattle.query_syntax.specs.Expressions.{Expression, Expressions}
 use Rattle.query_syntax.specs.Predicates as p
 use Rattle.query_syntax.specs.Predicates.{Predicate}
 use Rattle.query_syntax.specs.Rates as r
@@ -34,18 +34,27 @@ unknown_item scope (r.joined join left right span) =
     first_of (unknown_item scope left) (unknown_item scope right)
 unknown_item scope (r.star operand span) = unknown_item scope operand
 
--- in an expression
-abbrev pub unknown_name : Scope → Expression → Option Culprit
-unknown_name scope (e.number n) = None
-unknown_name scope (e.name name) = unless_known scope name
-unknown_name scope (e.unary operator operand span) = unknown_name scope operand
-unknown_name scope (e.binary operator left right span) =
-    first_of (unknown_name scope left) (unknown_name scope right)
-unknown_name scope (e.choice operator left right at holds fails span) =
-    first_of (first_of (unknown_name scope left) (unknown_name scope right))
-    (first_of (unknown_name scope holds) (unknown_name scope fails))
-unknown_name scope (e.summary operator table span) = unless_known scope table
-unknown_name scope (e.extremum operator table first span) =
-    first_of (unless_known scope table) (unknown_name scope first)
-unknown_name scope (e.get table key absent span) =
-    first_of (unless_known scope table) (unknown_name scope absent)
+abbrev mutual
+  -- in an expression
+  pub unknown_name : Scope → Expression → Option Culprit
+  unknown_name scope (e.number n) = None
+  unknown_name scope (e.name name) = unless_known scope name
+  unknown_name scope (e.unary operator operand span) = unknown_name scope operand
+  unknown_name scope (e.binary operator left right span) =
+      first_of (unknown_name scope left) (unknown_name scope right)
+  unknown_name scope (e.choice operator left right at holds fails span) =
+      first_of (first_of (unknown_name scope left) (unknown_name scope right))
+      (first_of (unknown_name scope holds) (unknown_name scope fails))
+  unknown_name scope (e.summary operator table span) = unless_known scope table
+  unknown_name scope (e.extremum operator table first span) =
+      first_of (unless_known scope table) (unknown_name scope first)
+  unknown_name scope (e.get table key absent span) =
+      first_of (unless_known scope table) (unknown_name scope absent)
+  unknown_name scope (e.rec parts span) = unknown_part scope parts
+  unknown_name scope (e.part whole index span) = unless_known scope whole
+
+  -- in the parts of a record
+  pub unknown_part : Scope → Expressions → Option Culprit
+  unknown_part scope e.none = None
+  unknown_part scope (e.more part others) =
+      first_of (unknown_name scope part) (unknown_part scope others)

@@ -12,8 +12,10 @@ pub(crate) enum Culprit {
     NoLet(Span),
     /// A name that is read from items, and no column has it.
     NoColumn(Span),
-    /// A name that is read from values, and it is not theirs.
+    /// A name that is read from values, and no values have it.
     NoValue(Span),
+    /// The first of the names that are read from values, one of which is not that of these.
+    OtherValue(Span),
     /// The name of values, which are of another kind than is needed.
     OfValue(Span),
     /// A name other than `x`, where one value is known.
@@ -26,6 +28,10 @@ pub(crate) enum Culprit {
     Numbers(Span),
     /// A column of numbers, where a key is needed.
     Key(Span),
+    /// The key by which a record is collected, where a number is needed.
+    Collected(Span),
     /// A column of items, where a table is needed.
     NoTable(Span),
+    /// A column of items, where a record is needed.
+    NoRecord(Span),
 }

@@ -15,7 +15,10 @@ const COLUMN_NAMES: &str =
     "These names are columns of the stream: one is not declared as it is spelled here.\n";
 
 const VALUE_NAME: &str =
-    "The right side of a compose reads values of the left, in one column called value.\n";
+    "The right side of a compose reads the left's values in value, a record's parts in value1, ..\n";
+
+const VALUE_NAMES: &str =
+    "A record is read in a column for each part, value1 and value2 and so on, others in value.\n";
 
 const VALUE_KINDS: &str =
     "No value is a text; a value that is a table has no tests, and tsum(value) reads it.\n";
@@ -34,6 +37,8 @@ const NO_LET: &str = "No earlier let has this name: ";
 
 const UNKNOWN: &str = "Not known here: ";
 
+const ONE_UNKNOWN: &str = "Of the names here one is not known; the first is: ";
+
 const OTHER_KIND: &str = "Of another kind than is taken here: ";
 
 const TEXTS: &str =
@@ -44,7 +49,12 @@ const NUMBERS: &str =
 
 const KEY: &str = "A column of numbers, where a key is taken; declare it text: ";
 
+const COLLECTED: &str =
+    "A record is collected by this key, where a number is taken, as apply(F, part(x, 1)): ";
+
 const NO_TABLE: &str = "A column of items, where a table is taken: ";
+
+const NO_RECORD: &str = "A column of items, where a record is taken: ";
 
 pub(crate) fn push_culprit(
     text: &[u8],
@@ -79,6 +89,7 @@ fn known_there(culprit: Culprit) -> &'static str
         Culprit::NoLet(_) => QUERY_NAMES,
         Culprit::NoColumn(_) => COLUMN_NAMES,
         Culprit::NoValue(_) => VALUE_NAME,
+        Culprit::OtherValue(_) => VALUE_NAMES,
         Culprit::OfValue(_) => VALUE_KINDS,
         Culprit::NotOne(_) => ONE_NAME,
         Culprit::NotTwo(_) => TWO_NAMES,
@@ -87,7 +98,9 @@ fn known_there(culprit: Culprit) -> &'static str
         | Culprit::Texts(_)
         | Culprit::Numbers(_)
         | Culprit::Key(_)
-        | Culprit::NoTable(_) => "",
+        | Culprit::Collected(_)
+        | Culprit::NoTable(_)
+        | Culprit::NoRecord(_) => "",
     }
 }
 
@@ -102,11 +115,14 @@ fn said_of(culprit: Culprit) -> &'static str
         Culprit::NoColumn(_) | Culprit::NoValue(_) | Culprit::NotOne(_) | Culprit::NotTwo(_) => {
             UNKNOWN
         }
+        Culprit::OtherValue(_) => ONE_UNKNOWN,
         Culprit::OfValue(_) => OTHER_KIND,
         Culprit::Texts(_) => TEXTS,
         Culprit::Numbers(_) => NUMBERS,
         Culprit::Key(_) => KEY,
+        Culprit::Collected(_) => COLLECTED,
         Culprit::NoTable(_) => NO_TABLE,
+        Culprit::NoRecord(_) => NO_RECORD,
     }
 }
 
@@ -119,12 +135,15 @@ fn place_of(culprit: Culprit) -> Span
         | Culprit::NoLet(span)
         | Culprit::NoColumn(span)
         | Culprit::NoValue(span)
+        | Culprit::OtherValue(span)
         | Culprit::OfValue(span)
         | Culprit::NotOne(span)
         | Culprit::NotTwo(span)
         | Culprit::Texts(span)
         | Culprit::Numbers(span)
         | Culprit::Key(span)
-        | Culprit::NoTable(span) => span,
+        | Culprit::Collected(span)
+        | Culprit::NoTable(span)
+        | Culprit::NoRecord(span) => span,
     }
 }

@@ -32,8 +32,8 @@ const LITERAL: &str =
 
 const EXPRESSION: &str = "\
     An expression is NUM, NAME, neg or abs of (EXPR), add, sub, mul, div, rem, min or max of \
-    (EXPR, EXPR), if(CMP, EXPR, EXPR), tsum or tcount of (NAME), tmax or tmin of (NAME, EXPR) \
-    or tget(NAME, STR, EXPR).";
+    (EXPR, EXPR), if(CMP, EXPR, EXPR), tsum or tcount of (NAME), tmax or tmin of (NAME, EXPR), \
+    tget(NAME, STR, EXPR), rec(EXPR, ..) with 2 to 8 EXPR or part(NAME, N) with N from 1 to 8.";
 
 const COMPARISON: &str = "A comparison is lt, le, gt, ge, eq or ne of (EXPR, EXPR).";
 
@@ -45,6 +45,8 @@ const NUMBER: &str =
 const TEXT: &str = "A key stands here: a string, as \"lab\".";
 
 const DIGITS: &str = "A number from 1 to 9 stands here: how many digits may stand after the point.";
+
+const INDEX: &str = "A number from 1 to 8 stands here: which part of the record.";
 
 /// The forms of what is to stand at a place.
 pub(crate) fn forms_of(standing: Standing) -> &'static str
@@ -74,5 +76,6 @@ fn forms_of_place(place: TermPlace) -> &'static str
         TermPlace::Number => NUMBER,
         TermPlace::Text => TEXT,
         TermPlace::Digits => DIGITS,
+        TermPlace::Index => INDEX,
     }
 }

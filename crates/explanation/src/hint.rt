@@ -33,10 +33,12 @@ pub(crate) enum Hint {
     NoHead,
     /// `eps`, where a query is needed.
     EmptyWord,
-    /// A table and a number, where both are to be of one kind.
-    TwoKinds,
-    /// A table where a number is needed, or a number where a table is.
-    TableOrNumber,
+    /// Values of two types, where both are to be of one.
+    TwoTypes,
+    /// A value of another type than a form takes.
+    OtherType,
+    /// An iteration that does not give a number.
+    Iterated,
     /// The cells of values.
     ValueCells,
     /// The items of a written rate.

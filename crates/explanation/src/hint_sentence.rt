@@ -40,13 +40,17 @@ const NO_HEAD: &str = "A bracket opens after a word, and there is none before th
 
 const EMPTY_WORD: &str = "The query of the empty word has its value: eps(0).";
 
-const TWO_KINDS: &str = "One of the two queries gives a table, and the other one a number.";
+const TWO_TYPES: &str =
+    "Both queries give numbers, or both tables, or both records with equally many parts.";
 
-const TABLE_OR_NUMBER: &str =
-    "tsum, tcount, tmax, tmin and tget take a table, and all operators take numbers.";
+const OTHER_TYPE: &str =
+    "tsum, tcount, tmax, tmin and tget take a table, part a record with that part, others numbers.";
+
+const ITERATED: &str =
+    "An iter carries a number and takes numbers: two are joined by combine(F, G, rec(x, y)).";
 
 const VALUE_CELLS: &str =
-    "The tests on its right side tell too many values of its left side apart.";
+    "The tests on its right side tell too many of the left's values apart; eight parts always do.";
 
 const RATE_ITEM: &str = "A predicate stands in each item(P) of its rate; some item is to meet it.";
 
@@ -70,8 +74,9 @@ pub(crate) fn hint_sentence(hint: Hint) -> &'static str
         Hint::MissingTerm => MISSING_TERM,
         Hint::NoHead => NO_HEAD,
         Hint::EmptyWord => EMPTY_WORD,
-        Hint::TwoKinds => TWO_KINDS,
-        Hint::TableOrNumber => TABLE_OR_NUMBER,
+        Hint::TwoTypes => TWO_TYPES,
+        Hint::OtherType => OTHER_TYPE,
+        Hint::Iterated => ITERATED,
         Hint::ValueCells => VALUE_CELLS,
         Hint::RateItem => RATE_ITEM,
     }

@@ -1,9 +1,11 @@
 //! The first column of an atom or a collection whose kind does not fit where it is used.
 ghost use Rattle.std.specs.Prelude.{◌≡◌};
-ghost use Rattle.query_syntax.specs.Plain.{plain_expression, plain_predicate, plain_rate};
+ghost use Rattle.query_syntax.specs.Plain.{plain_expression, plain_expressions, plain_predicate};
+ghost use Rattle.query_syntax.specs.Plain.{plain_rate};
 ghost use Rattle.explanation.specs.Misfits.{has_numbers, has_texts, is_text, misfit_item};
-ghost use Rattle.explanation.specs.Misfits.{misfit_read, misfit_test, misfit_with, unless_key};
-ghost use Rattle.explanation.specs.Misfits.{unless_number, unless_table, unless_text};
+ghost use Rattle.explanation.specs.Misfits.{misfit_part, misfit_read, misfit_test, misfit_with};
+ghost use Rattle.explanation.specs.Misfits.{unless_key, unless_number, unless_record, unless_table};
+ghost use Rattle.explanation.specs.Misfits.{unless_text};
 
 use crate::culprit::Culprit;
 use crate::scope::has_name;
@@ -45,6 +47,7 @@ pub(crate) fn misfit_item(columns: &[Column], rate: &Rate) -> Option<Culprit>
 }
 
 /// The first column in an expression that is not of the kind that is needed there.
+#[cycle(misfit)]
 pub(crate) fn misfit_read(columns: &[Column], expression: &Expression) -> Option<Culprit>
     ensures { result ≡ misfit_read columns.now (plain_expression expression.now) }
 {
@@ -67,7 +70,22 @@ pub(crate) fn misfit_read(columns: &[Column], expression: &Expression) -> Option
         Expression::Summary { table, .. }
         | Expression::Extremum { table, .. }
         | Expression::Get { table, .. } => unless_table(columns, table),
+        Expression::Record { parts, .. } => misfit_part(columns, parts.as_slice()),
+        Expression::Part { whole, .. } => unless_record(columns, whole),
     }
+}
+
+// The same in the parts of a record.
+#[cycle(misfit)]
+fn misfit_part(columns: &[Column], parts: &[Expression]) -> Option<Culprit>
+    ensures { result ≡ misfit_part columns.now (plain_expressions parts.now) }
+{
+    'parts: for part in parts {
+        if let Some(culprit) = misfit_read(columns, part) {
+            return Some(culprit);
+        }
+    }
+    None
 }
 
 fn misfit_with(columns: &[Column], column: &Name, literal: &Literal) -> Option<Culprit>
@@ -96,6 +114,13 @@ fn unless_table(columns: &[Column], name: &Name) -> Option<Culprit>
     ensures { result ≡ unless_table columns.now name.now }
 {
     has_name(columns, name.bytes.as_slice()).then_some(Culprit::NoTable(name.span))
+}
+
+// No column has records.
+fn unless_record(columns: &[Column], name: &Name) -> Option<Culprit>
+    ensures { result ≡ unless_record columns.now name.now }
+{
+    has_name(columns, name.bytes.as_slice()).then_some(Culprit::NoRecord(name.span))
 }
 
 /// The name of a key column, if that has numbers.

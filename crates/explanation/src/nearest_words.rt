@@ -42,7 +42,7 @@ const ITER: &str = "iter(F, NUM, EXPR) goes from a number on, as iter(F, 0, add(
 const APPLY: &str = "apply(F, EXPR) has an expression of its value x, as apply(F, neg(x)).";
 
 const COMPOSE: &str =
-    "compose(F, G) takes two queries: G reads the values of F, in one column called value.";
+    "compose(F, G) takes two queries: G reads the values of F, in a column called value.";
 
 const COLLECT: &str =
     "collect(NAME, PRED, RATE, F) is a query: as in apply(T, tsum(x)) its table is read.";
@@ -82,6 +82,10 @@ const ENTRIES: &str = "The number of entries of a table is tcount(NAME).";
 
 const TWO_OPERANDS: &str = "It takes two: of three, add(x, add(y, z)).";
 
+const RECORD: &str = "A record has two to eight parts, as rec(x, y).";
+
+const PART: &str = "part takes the name of a record and which part, from 1: part(x, 1).";
+
 const IF: &str = "if(CMP, E, F) has a value where it holds, and one where it does not.";
 
 const IF_TEST: &str = "An if has no and, or or not: nest one if in another.";
@@ -113,7 +117,7 @@ pub(crate) const KINDS: [[&str; 2]; 16] = [
     ["timestamp", TIMES],
 ];
 
-pub(crate) const QUERIES: [[&str; 2]; 37] = [
+pub(crate) const QUERIES: [[&str; 2]; 39] = [
     ["sum", SUM],
     ["total", SUM],
     ["count", COUNT],
@@ -150,6 +154,8 @@ pub(crate) const QUERIES: [[&str; 2]; 37] = [
     ["neg", VALUE],
     ["abs", VALUE],
     ["if", VALUE],
+    ["rec", VALUE],
+    ["part", VALUE],
     ["let", LET],
 ];
 
@@ -184,7 +190,7 @@ pub(crate) const PREDICATES: [[&str; 2]; 14] = [
     ["item", RATE_ITEM],
 ];
 
-pub(crate) const EXPRESSIONS: [[&str; 2]; 20] = [
+pub(crate) const EXPRESSIONS: [[&str; 2]; 25] = [
     ["mod", REMAINDER],
     ["sum", ADDITION],
     ["count", ENTRIES],
@@ -195,6 +201,11 @@ pub(crate) const EXPRESSIONS: [[&str; 2]; 20] = [
     ["rem", TWO_OPERANDS],
     ["min", TWO_OPERANDS],
     ["max", TWO_OPERANDS],
+    ["rec", RECORD],
+    ["record", RECORD],
+    ["tuple", RECORD],
+    ["pair", RECORD],
+    ["part", PART],
     ["if", IF],
     ["and", IF_TEST],
     ["or", IF_TEST],

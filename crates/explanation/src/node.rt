@@ -2,8 +2,9 @@
 ghost use Rattle.std.specs.Prelude.{◌≡◌};
 ghost use Rattle.query_syntax.specs.Plain.{plain_expression, plain_predicate, plain_query};
 ghost use Rattle.query_syntax.specs.Plain.{plain_rate};
-ghost use Rattle.explanation.specs.Culprits.{in_atom, in_fold, in_keys, in_name, kinds_in_atom};
-ghost use Rattle.explanation.specs.Culprits.{kinds_in_keys, node_culprit};
+ghost use Rattle.explanation.specs.Culprits.{first_in_atom, in_atom, in_fold, in_keys, in_name};
+ghost use Rattle.explanation.specs.Culprits.{kinds_in_atom, kinds_in_keys, names_in_atom};
+ghost use Rattle.explanation.specs.Culprits.{node_culprit};
 ghost use Rattle.explanation.specs.Scopes.{plain_scope};
 
 use crate::culprit::Culprit;
@@ -60,10 +61,28 @@ fn in_atom(
         (plain_predicate predicate.now) (plain_expression value.now) }
 {
     match rule {
-        Rule::Name => unknown_column(scope, predicate).or(unknown_name(scope, value)),
+        Rule::Name => names_in_atom(scope, predicate, value),
         Rule::Mismatch => kinds_in_atom(scope, predicate, value),
         _ => None,
     }
+}
+
+fn names_in_atom(scope: Scope<'_>, predicate: &Predicate, value: &Expression) -> Option<Culprit>
+    ensures { result ≡ names_in_atom (plain_scope scope.entry)
+        (plain_predicate predicate.now) (plain_expression value.now) }
+{
+    let unknown = first_in_atom(scope, predicate, value);
+    match scope {
+        Scope::Value => unknown.or(first_in_atom(Scope::Misread, predicate, value)),
+        _ => unknown,
+    }
+}
+
+fn first_in_atom(scope: Scope<'_>, predicate: &Predicate, value: &Expression) -> Option<Culprit>
+    ensures { result ≡ first_in_atom (plain_scope scope.entry)
+        (plain_predicate predicate.now) (plain_expression value.now) }
+{
+    unknown_column(scope, predicate).or(unknown_name(scope, value))
 }
 
 fn kinds_in_atom(scope: Scope<'_>, predicate: &Predicate, value: &Expression) -> Option<Culprit>
@@ -72,7 +91,7 @@ fn kinds_in_atom(scope: Scope<'_>, predicate: &Predicate, value: &Expression) ->
 {
     match scope {
         Scope::Item(columns) => misfit_test(columns, predicate).or(misfit_read(columns, value)),
-        _ => unknown_column(Scope::Mistyped, predicate).or(unknown_name(Scope::Mistyped, value)),
+        _ => first_in_atom(Scope::Mistyped, predicate, value),
     }
 }
 
@@ -114,7 +133,8 @@ fn kinds_in_keys(scope: Scope<'_>, key: &Name, sync: &Predicate, rate: &Rate) ->
     match scope {
         Scope::Item(columns) => {
             let tests = misfit_test(columns, sync).or(misfit_item(columns, rate));
-            unless_key(columns, key).or(tests)
+            let misfit = unless_key(columns, key).or(tests);
+            misfit.or(Some(Culprit::Collected(key.span)))
         }
         _ => None,
     }

@@ -1,7 +1,7 @@
 //! Which names are known at a node.
 ghost use Rattle.std.specs.Prelude.{◌≡◌};
-ghost use Rattle.explanation.specs.Scopes.{has_name, is_known, plain_scope, unknown_in};
-ghost use Rattle.explanation.specs.Scopes.{unless_known};
+ghost use Rattle.explanation.specs.Scopes.{has_name, is_known, is_of_values, plain_scope};
+ghost use Rattle.explanation.specs.Scopes.{unknown_in, unless_known};
 
 use crate::culprit::Culprit;
 use language_base::Span;
@@ -12,9 +12,11 @@ use query_syntax::{Column, Name};
 pub(crate) enum Scope<'s> {
     /// The columns of an item.
     Item(&'s [Column]),
-    /// The one column of a stream of values, `value`.
+    /// The columns of a stream of values: `value`, or `value1`, `value2` and so on for records.
     Value,
-    /// The same column, where values of another kind are needed.
+    /// The same columns, of which one is not those of these values.
+    Misread,
+    /// The same columns, where values of another kind are needed.
     Mistyped,
     /// One value, `x`.
     One,
@@ -37,11 +39,23 @@ fn is_known(scope: Scope<'_>, name: &[u8]) -> bool
 {
     match scope {
         Scope::Item(columns) => has_name(columns, name),
-        Scope::Value => name == b"value".as_slice(),
-        Scope::Mistyped => false,
+        Scope::Value => is_of_values(name),
+        Scope::Misread | Scope::Mistyped => false,
         Scope::One => name == b"x".as_slice(),
         Scope::Two => name == b"x".as_slice() || name == b"y".as_slice(),
     }
+}
+
+// The names that columns of values may have.
+const VALUE_NAMES: [&[u8]; 9] = [
+    b"value", b"value1", b"value2", b"value3", b"value4", b"value5", b"value6", b"value7",
+    b"value8",
+];
+
+fn is_of_values(name: &[u8]) -> bool
+    ensures { result ≡ is_of_values name.now }
+{
+    VALUE_NAMES.iter().any(|known| name == *known)
 }
 
 pub(crate) fn has_name(columns: &[Column], name: &[u8]) -> bool
@@ -58,6 +72,7 @@ fn unknown_in(scope: Scope<'_>, span: Span) -> Culprit
     match scope {
         Scope::Item(_) => Culprit::NoColumn(span),
         Scope::Value => Culprit::NoValue(span),
+        Scope::Misread => Culprit::OtherValue(span),
         Scope::Mistyped => Culprit::OfValue(span),
         Scope::One => Culprit::NotOne(span),
         Scope::Two => Culprit::NotTwo(span),

@@ -102,6 +102,7 @@ fn rows_of(place: TermPlace) -> &'static [[&'static str; 2]]
         | TermPlace::Literal
         | TermPlace::Name
         | TermPlace::Text
-        | TermPlace::Digits => { &[] }
+        | TermPlace::Digits
+        | TermPlace::Index => { &[] }
     }
 }

@@ -1,8 +1,8 @@
 //! The first name that is not known where it stands.
 ghost use Rattle.std.specs.Prelude.{◌≡◌};
-ghost use Rattle.query_syntax.specs.Plain.{plain_expression, plain_predicate, plain_rate};
+ghost use Rattle.query_syntax.specs.Plain.{plain_expression, plain_expressions, plain_predicate, plain_rate};
 ghost use Rattle.explanation.specs.Scopes.{plain_scope};
-ghost use Rattle.explanation.specs.Unknown.{unknown_column, unknown_item, unknown_name};
+ghost use Rattle.explanation.specs.Unknown.{unknown_column, unknown_item, unknown_name, unknown_part};
 
 use crate::culprit::Culprit;
 use crate::scope::{Scope, unless_known};
@@ -40,6 +40,7 @@ pub(crate) fn unknown_item(scope: Scope<'_>, rate: &Rate) -> Option<Culprit>
 }
 
 /// The first name in an expression that is not known in the scope.
+#[cycle(unknown)]
 pub(crate) fn unknown_name(scope: Scope<'_>, expression: &Expression) -> Option<Culprit>
     ensures { result ≡ unknown_name (plain_scope scope.entry) (plain_expression expression.now) }
 {
@@ -66,5 +67,20 @@ pub(crate) fn unknown_name(scope: Scope<'_>, expression: &Expression) -> Option<
         Expression::Get { table, absent, .. } => {
             unless_known(scope, table).or(unknown_name(scope, absent))
         }
+        Expression::Record { parts, .. } => unknown_part(scope, parts.as_slice()),
+        Expression::Part { whole, .. } => unless_known(scope, whole),
     }
+}
+
+// The same in the parts of a record.
+#[cycle(unknown)]
+fn unknown_part(scope: Scope<'_>, parts: &[Expression]) -> Option<Culprit>
+    ensures { result ≡ unknown_part (plain_scope scope.entry) (plain_expressions parts.now) }
+{
+    'parts: for part in parts {
+        if let Some(culprit) = unknown_name(scope, part) {
+            return Some(culprit);
+        }
+    }
+    None
 }

@@ -1,11 +1,11 @@
 -- A line that writes a number is the only text in it.
 use Rattle.std.proofs.Common.{◌≡◌, ℕ, ◌<◌, ◌==◌, Bool, true, false, ◌||◌, not, nat_lt, List, []}
-use Rattle.std.proofs.Common.{◌∷◌, ◌++◌, length, length-append, Result, Ok, Err, refl, sym, ap, ◌∙◌}
-use Rattle.std.proofs.Common.{inl, inr, arith}
+use Rattle.std.proofs.Common.{◌∷◌, ◌++◌, length, length-append, Option, Some, None, Ok, refl, sym}
+use Rattle.std.proofs.Common.{ap, ◌∙◌, inl, inr, arith}
 use Rattle.std.specs.Char.{is_ascii_digit}
 use Rattle.std.specs.List.{list_all, list_any, starts_with}
+use Rattle.std.specs.Prelude.{ℤ}
 use Rattle.std.specs.Option.{IfSome}
-use Rattle.std.specs.Result.{result_ok}
 use Rattle.std.specs.Str.Parse.{signed_digits_value, without_leading_sign}
 use Rattle.std.proofs.lemmas.Bool.{and_from, and_parts}
 use Rattle.std.proofs.lemmas.Bool.Decides.{nat_tests}
@@ -14,7 +14,6 @@ use Rattle.std.proofs.lemmas.List.Splits.{slice_split_none}
 use Rattle.value_ops.specs.declared.field.Field.{Field}
 use Rattle.item_schema.specs.declared.column.Column.{Column}
 use Rattle.item_schema.specs.declared.column.Kind.TheVariants.{Int, Fixed}
-use Rattle.item_schema.specs.declared.stop.Cause.{Cause}
 use Rattle.item_schema.specs.declared.stop.Cause.TheVariants as cause
 use Rattle.item_schema.specs.CutLines.{is_comma, mark, texts_in}
 use Rattle.item_schema.specs.LineParts.{is_special}
@@ -157,8 +156,8 @@ decimal_item column places line field kind is =
     let written = decimal_written line passes.0 in
     written_item column line field written.bytes written.some (rw kind is)
 
--- what is said of a field that is read
-pub if_read : (P : Field → Type 0) (read : Result Field Cause)
-    → ((field : Field) → read ≡ Ok field → P field) → IfSome (result_ok read) P
-if_read P (Ok field) holds = holds field refl
-if_read P (Err cause) holds = tt
+-- what is said of a number that is read
+pub if_number : (P Q : ℤ → Type 0) (found : Option ℤ) → ((number : ℤ) → P number → Q number)
+    → IfSome found P → IfSome found Q
+if_number P Q (Some number) more is = more number is
+if_number P Q None more is = tt

@@ -1,6 +1,6 @@
 -- Statement. The columns of a stream.
-use Rattle.std.specs.Prelude.{◌≤◌, ◌<◌, ◌&&◌, not, nat_le, nat_lt, Bool, true, false, List, [], ◌∷◌}
-use Rattle.std.specs.Prelude.{length, codes, IsTrue}
+use Rattle.std.specs.Prelude.{◌≤◌, ◌<◌, ◌+◌, ◌&&◌, ℕ, zero, suc, not, nat_le, nat_lt, Bool, true}
+use Rattle.std.specs.Prelude.{false, List, [], ◌∷◌, ◌++◌, length, codes, IsTrue}
 use Rattle.std.specs.List.{list_all, list_any}
 use Rattle.std.specs.Str.{bytes_eq}
 use Rattle.language_base.specs.Limits.{max_columns}
@@ -50,14 +50,21 @@ are_columns columns =
     nat_lt 0 (length columns) && nat_le (length columns) max_columns && are_distinct columns
     && list_all (λ c. has_digits c.kind && is_read c.kind) columns
 
--- the kind of a column that has values of this type
-abbrev pub kind_of_values : ValueType → Kind
-kind_of_values values.Number = Number
-kind_of_values values.Table = Table
+-- the column of the part at a place, counted from 0: `value1`, `value2` and so on up to `value8`
+abbrev pub part_column : ℕ → Column
+part_column place = record { name = codes "value" ++ (49 + place) ∷ []; kind = Number }
 
--- a stream of values that another query gives: no header, and one column, `value`
+-- the columns of this many parts
+abbrev pub part_columns : ℕ → List Column
+part_columns zero = []
+part_columns (suc place) = part_columns place ++ part_column place ∷ []
+
+-- the columns that have values of this type: one, `value`, or one for each part of a record
+abbrev pub columns_of_values : ValueType → List Column
+columns_of_values values.Number = record { name = codes "value"; kind = Number } ∷ []
+columns_of_values (values.Rec size) = part_columns size
+columns_of_values values.Table = record { name = codes "value"; kind = Table } ∷ []
+
+-- a stream of values that another query gives: no header, and the columns of its values
 abbrev pub derived_layout : ValueType → Layout
-derived_layout ty = record {
-  has_header = false;
-  columns = record { name = codes "value"; kind = kind_of_values ty } ∷ [];
-}
+derived_layout ty = record { has_header = false; columns = columns_of_values ty }

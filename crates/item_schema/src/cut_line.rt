@@ -54,7 +54,11 @@ fn is_break(byte: u8) -> bool
 }
 
 /// The item of a line with a text for each column.
-pub(crate) fn cut_item(alloc: Global, schema: &Schema, line: &[u8]) -> Result<Item, ItemStop>
+pub(crate) fn cut_item(
+    alloc: Global,
+    schema: &Schema,
+    line: &[u8],
+) -> Result<Item<'static>, ItemStop>
     requires { length (texts_in line.now) ≡ length schema.now.columns }
     ensures item { IfOk result (λ item.
         fields_of 1 schema.now.columns (texts_in line.now) ≡ Ok item) }
@@ -67,7 +71,7 @@ pub(crate) fn cut_item(alloc: Global, schema: &Schema, line: &[u8]) -> Result<It
 }
 
 // The item of a line that has the text of the only column.
-fn only_item(alloc: Global, column: &Column, line: &[u8]) -> Result<Item, ItemStop>
+fn only_item(alloc: Global, column: &Column, line: &[u8]) -> Result<Item<'static>, ItemStop>
     requires { length (texts_in line.now) ≡ 1 }
     ensures item { IfOk result (λ item.
         fields_of 1 (column.now ∷ []) (texts_in line.now) ≡ Ok item) }

@@ -1,25 +1,30 @@
 //! An item of a stream.
 ghost use Rattle.std.specs.Prelude.{◌≡◌, [], ◌∷◌, IsOk, IfOk};
+ghost use Rattle.item_schema.specs.Items.{fields_of_value};
 ghost use Rattle.value_ops.specs.Values.{IsNoTable};
 
+use crate::Room;
 use std::alloc::{AllocError, Global};
 use std::marker::Model;
+use std::slice;
 use value_ops::{Field, Value};
 
-/// A field for each column of a stream, seen as the list of these.
+/// A field for each column of a stream, seen as the list of these. What keeps an item has one for
+/// `'static`, which owns its fields.
 #[derive(Drop)]
-pub struct Item {
-    fields: Fields,
+pub struct Item<'a> {
+    fields: Fields<'a>,
 }
 
-// One field takes no memory.
+// One field takes no memory, nor do those of a record's parts, which lie in a room.
 #[derive(Drop)]
-enum Fields {
-    One([Field; 1]),
+enum Fields<'a> {
+    One(Field),
     Many(Vec<Field>),
+    Lent(&'a [Field]),
 }
 
-impl Model for Item {
+impl<'a> Model for Item<'a> {
     ghost use Rattle.std.specs.Prelude.{List};
     ghost use Rattle.value_ops.specs.declared.field.Field.{Field};
 
@@ -30,32 +35,41 @@ impl Model for Item {
     ghost view = { λ i. list_of i.fields };
 }
 
-impl Item {
-    /// The item of a stream of values.
-    pub fn of_value(alloc: Global, value: &Value) -> Result<Item, AllocError>
-        ensures item { IfOk result (λ item. item ≡ Field.Val value.now ∷ []) }
+impl<'a> Item<'a> {
+    /// The item of a stream of values. The fields of a record's parts lie in the room.
+    pub fn of_value(
+        alloc: Global,
+        value: &Value,
+        room: &'a mut Room,
+    ) -> Result<Item<'a>, AllocError>
+        ensures item { IfOk result (λ item. item ≡ fields_of_value value.now) }
         ensures no_memory { IsNoTable value.now → IsOk result }
     {
-        Ok(Item::from_value(value.try_copy(alloc)?))
+        Ok(Item::from_value(value.try_copy(alloc)?, room))
     }
 
     /// The item of a stream of values, which takes the value itself.
-    pub fn from_value(value: Value) -> Item
-        ensures { result ≡ Field.Val value ∷ [] }
+    pub fn from_value(value: Value, room: &'a mut Room) -> Item<'a>
+        ensures { result ≡ fields_of_value value }
     {
-        Item::from_field(Field::Val(value))
-    }
-
-    /// The item of a stream of one column.
-    pub(crate) fn from_field(field: Field) -> Item
-        ensures { result ≡ field ∷ [] }
-    {
-        Item {
-            fields: Fields::One([field]),
+        match value {
+            Value::Rec(parts) => Item {
+                fields: Fields::Lent(room.fields_of(&parts)),
+            },
+            Value::Scalar(_) | Value::Table(_) => Item::from_field(Field::Val(value)),
         }
     }
 
-    pub fn from_fields(fields: Vec<Field>) -> Item
+    /// The item of a stream of one column.
+    pub fn from_field(field: Field) -> Item<'a>
+        ensures { result ≡ field ∷ [] }
+    {
+        Item {
+            fields: Fields::One(field),
+        }
+    }
+
+    pub fn from_fields(fields: Vec<Field>) -> Item<'a>
         ensures { result ≡ fields.items }
     {
         Item {
@@ -67,12 +81,23 @@ impl Item {
         ensures { result.now ≡ self.now }
     {
         match &self.fields {
-            Fields::One(field) => field,
+            Fields::One(field) => slice::from_ref(field),
             Fields::Many(fields) => fields,
+            Fields::Lent(fields) => *fields,
         }
     }
 
-    pub fn try_copy(&self, alloc: Global) -> Result<Item, AllocError>
+    /// The same item, which owns its fields.
+    pub fn into_owned(self, alloc: Global) -> Result<Item<'static>, AllocError>
+        ensures { IfOk result (λ item. item ≡ self.entry) }
+    {
+        Ok(Item {
+            fields: self.fields.into_owned(alloc)?,
+        })
+    }
+
+    /// A copy, which owns its fields.
+    pub fn try_copy(&self, alloc: Global) -> Result<Item<'static>, AllocError>
         ensures { IfOk result (λ copy. copy ≡ self.now) }
     {
         Ok(Item {
@@ -81,15 +106,26 @@ impl Item {
     }
 }
 
-impl Fields {
+impl<'a> Fields<'a> {
     ghost use Rattle.item_schema.specs.Fields.{list_of};
 
-    fn try_copy(&self, alloc: Global) -> Result<Fields, AllocError>
+    fn into_owned(self, alloc: Global) -> Result<Fields<'static>, AllocError>
+        ensures { IfOk result (λ owned. list_of owned ≡ list_of self.entry) }
+    {
+        match self {
+            Fields::One(field) => Ok(Fields::One(field)),
+            Fields::Many(fields) => Ok(Fields::Many(fields)),
+            Fields::Lent(fields) => Ok(Fields::Many(copied(alloc, fields)?)),
+        }
+    }
+
+    fn try_copy(&self, alloc: Global) -> Result<Fields<'static>, AllocError>
         ensures { IfOk result (λ copy. list_of copy ≡ list_of self.now) }
     {
         match self {
-            Fields::One([field]) => Ok(Fields::One([field.try_copy(alloc)?])),
+            Fields::One(field) => Ok(Fields::One(field.try_copy(alloc)?)),
             Fields::Many(fields) => Ok(Fields::Many(copied(alloc, fields)?)),
+            Fields::Lent(fields) => Ok(Fields::Many(copied(alloc, *fields)?)),
         }
     }
 }

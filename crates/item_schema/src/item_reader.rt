@@ -4,7 +4,7 @@ ghost use Rattle.item_schema.specs.Items.{IsItemOf};
 ghost use Rattle.item_schema.specs.Reading.{IsStopOf, item_of};
 
 use crate::cut_line::without_mark;
-use crate::number_line::number_item;
+use crate::number_line::only_number;
 use crate::parts::parts_of;
 use crate::row::{read_row, row_fields};
 use crate::{Cause, Item, ItemStop, Schema};
@@ -12,20 +12,20 @@ use std::alloc::Global;
 use value_ops::Field;
 
 /// Reads the fields of a line, with neither its LF nor the CR before that, to an item.
-pub fn read_item(alloc: Global, schema: &Schema, line: &[u8]) -> Result<Item, ItemStop>
+pub fn read_item(alloc: Global, schema: &Schema, line: &[u8]) -> Result<Item<'static>, ItemStop>
     ensures item { IfOk result (λ item. item_of schema.now.columns line.now ≡ Ok item) }
     ensures skipped { IfErr result (IsStopOf (item_of schema.now.columns line.now)) }
     ensures of_schema { IfOk result (IsItemOf schema.now.columns) }
 {
-    match number_item(schema, line) {
-        Some(item) => Ok(item),
+    match only_number(schema, line) {
+        Some(number) => Ok(Item::from_field(Field::Int(number))),
         None => line_item(alloc, schema, line),
     }
 }
 
 // Kept out of the way of numbers, which need none of its fields' room.
 #[inline(never)]
-fn line_item(alloc: Global, schema: &Schema, line: &[u8]) -> Result<Item, ItemStop>
+fn line_item(alloc: Global, schema: &Schema, line: &[u8]) -> Result<Item<'static>, ItemStop>
     ensures item { IfOk result (λ item. item_of schema.now.columns line.now ≡ Ok item) }
     ensures stopped { IfErr result (IsStopOf (item_of schema.now.columns line.now)) }
 {

@@ -4,6 +4,7 @@
 mod column;
 mod cut;
 mod cut_line;
+mod derived;
 mod field;
 mod item;
 mod item_reader;
@@ -14,6 +15,7 @@ mod number_line;
 mod parts;
 mod plain_line;
 mod quote_state;
+mod room;
 mod row;
 mod schema;
 mod stop;
@@ -27,5 +29,6 @@ pub use laws::{
     lines_have_items_of_their_columns, lines_write_their_items,
 };
 pub use layout::are_columns;
+pub use room::Room;
 pub use schema::Schema;
 pub use stop::{Cause, ItemStop, Skip};

@@ -30,7 +30,12 @@ impl Parts {
     }
 
     /// The item of a line that has these parts, a text for each column.
-    pub(crate) fn item(self, alloc: Global, schema: &Schema, line: &[u8]) -> Result<Item, ItemStop>
+    pub(crate) fn item(
+        self,
+        alloc: Global,
+        schema: &Schema,
+        line: &[u8],
+    ) -> Result<Item<'static>, ItemStop>
         requires parts { ArePartsOf line.now self }
         requires each { length (texts_in line.now) ≡ length schema.now.columns }
         ensures item { IfOk result (λ item.

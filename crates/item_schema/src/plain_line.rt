@@ -30,7 +30,11 @@ pub(crate) fn plain_commas(line: &[u8]) -> Option<usize>
 }
 
 /// The item of what stands between the commas, a text for each column.
-pub(crate) fn plain_item(alloc: Global, schema: &Schema, line: &[u8]) -> Result<Item, ItemStop>
+pub(crate) fn plain_item(
+    alloc: Global,
+    schema: &Schema,
+    line: &[u8],
+) -> Result<Item<'static>, ItemStop>
     requires { length (slice_split is_comma line.now) ≡ length schema.now.columns }
     ensures item { IfOk result (λ item.
         fields_of 1 schema.now.columns (slice_split is_comma line.now) ≡ Ok item) }
@@ -44,7 +48,7 @@ pub(crate) fn plain_item(alloc: Global, schema: &Schema, line: &[u8]) -> Result<
 }
 
 // The item of a line that is the text of the only column.
-fn whole_item(alloc: Global, column: &Column, line: &[u8]) -> Result<Item, ItemStop>
+fn whole_item(alloc: Global, column: &Column, line: &[u8]) -> Result<Item<'static>, ItemStop>
     requires { length (slice_split is_comma line.now) ≡ 1 }
     ensures item { IfOk result (λ item.
         fields_of 1 (column.now ∷ []) (slice_split is_comma line.now) ≡ Ok item) }

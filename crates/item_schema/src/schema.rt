@@ -2,11 +2,13 @@
 ghost use Rattle.std.specs.Prelude.{◌≡◌, ◌↔◌, IsTrue, IfOk};
 ghost use Rattle.item_schema.specs.Items.{IsItemOf};
 ghost use Rattle.item_schema.specs.Layout.{IsLayout, are_columns, derived_layout};
+ghost use Rattle.value_ops.specs.Types.{IsType};
 
-use crate::{Column, Item, Kind};
+use crate::derived::columns_of_values;
+use crate::{Column, Item};
 use std::alloc::{AllocError, Global};
 use std::marker::Model;
-use value_ops::{Bytes, Field, ValueType};
+use value_ops::{Field, ValueType};
 
 /// The columns of a stream, and whether a header line comes before its items.
 #[derive(Drop)]
@@ -39,20 +41,12 @@ impl Schema {
 
     /// The schema of a stream of values that another query gives.
     pub fn derived(alloc: Global, ty: ValueType) -> Result<Schema, AllocError>
+        requires { IsType ty }
         ensures { IfOk result (λ schema. schema ≡ derived_layout ty) }
     {
-        let kind = match ty {
-            ValueType::Number => Kind::Number,
-            ValueType::Table => Kind::Table,
-        };
-        let mut columns = Vec::with_capacity(alloc, 1)?;
-        columns.push(Column {
-            name: Bytes::from_slice(alloc, b"value")?,
-            kind,
-        })?;
         Ok(Schema {
             has_header: false,
-            columns,
+            columns: columns_of_values(alloc, ty)?,
         })
     }
 

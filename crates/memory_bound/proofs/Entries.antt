@@ -13,11 +13,12 @@ use Rattle.value_ops.specs.declared.field.Field.TheVariants as field
 use Rattle.value_ops.specs.declared.scalar.Scalar.{Scalar}
 use Rattle.value_ops.specs.declared.value.Value.{Value}
 use Rattle.value_ops.specs.declared.value.Value.TheVariants as value
-use Rattle.value_ops.specs.Evaluation.{Inputs, given, scalar_of, value_named, value_of}
+use Rattle.value_ops.specs.Evaluation.{Inputs, given, scalar_of, scalars_of, value_named, value_of}
 use Rattle.value_ops.specs.Evaluation.{value_of_field}
 use Rattle.value_ops.specs.Expressions.{Expression, literal, read, unary, binary, choice, sum}
-use Rattle.value_ops.specs.Expressions.{count, most, least, entry}
+use Rattle.value_ops.specs.Expressions.{count, most, least, entry, rec, part}
 use Rattle.item_schema.specs.declared.column.Column.{Column}
+use Rattle.item_schema.specs.Items.{fields_of_parts, fields_of_value}
 use Rattle.rate_expr.specs.Words.{Word, join}
 use Rattle.query_model.specs.Denotation.{Den, Emits, Folds, Outputs, keys_after, on_both}
 use Rattle.query_model.specs.Queries as query
@@ -51,6 +52,13 @@ scalar_few None n v is = absurd (none-some v is)
 scalar_few (Some scalar) n v is =
     let none = ap entries_of (same_Some (value.Scalar scalar) v is) in omega (arith, none)
 
+-- and so has a record
+record_few : (found : Option (List Scalar)) (n : ℕ) (v : Value)
+    → option_map value.Rec found ≡ Some v → entries_of v ≤ n
+record_few None n v is = absurd (none-some v is)
+record_few (Some parts) n v is =
+    let none = ap entries_of (same_Some (value.Rec parts) v is) in omega (arith, none)
+
 -- what an expression gives has at most as many entries as what it is given
 gives_few : (inputs : Inputs) (n : ℕ) (e : Expression) (v : Value) → AreSmall inputs n
     → value_of inputs e ≡ Some v → entries_of v ≤ n
@@ -71,6 +79,9 @@ gives_few inputs n (least name first) v small is =
     scalar_few (scalar_of inputs (least name first)) n v is
 gives_few inputs n (entry name key other) v small is =
     scalar_few (scalar_of inputs (entry name key other)) n v is
+gives_few inputs n (rec parts) v small is = record_few (scalars_of inputs parts) n v is
+gives_few inputs n (part name place) v small is =
+    scalar_few (scalar_of inputs (part name place)) n v is
 
 no_field : (column : ℕ) (v : Value) (n : ℕ) → value_of_field (slice_get [] column) ≡ Some v
     → entries_of v ≤ n
@@ -134,6 +145,16 @@ piece_among (x ∷ pieces) piece there = record {
   ];
 }
 
+-- the item of a value has at most as many as the value
+parts_few : (parts : List Scalar) → most_entries (fields_of_parts parts ∷ []) ≤ 0
+parts_few [] = omega arith
+parts_few (first ∷ others) = let rest = parts_few others in omega (arith, rest)
+
+item_few : (v : Value) → most_entries (fields_of_value v ∷ []) ≤ entries_of v
+item_few (value.Scalar scalar) = omega arith
+item_few (value.Rec parts) = parts_few parts
+item_few (value.Table entries) = omega arith
+
 -- what comes out on the prefixes
 emits_few : (D : Word → Value → Type 0) (n : ℕ) (word items : Word)
     → ((v : Value) → D word v → entries_of v ≤ n) → Emits D word items → most_entries items ≤ n
@@ -141,7 +162,8 @@ emits_few D n word items each emits = elim emits [
   | inl (v, den, whole) ↦
       let few = each v den in
       let same = ap most_entries whole in
-      omega (arith, few, same)
+      let one = item_few v in
+      omega (arith, few, same, one)
   | inr (none, empty) ↦ let same = ap most_entries empty in omega (arith, same)
 ]
 

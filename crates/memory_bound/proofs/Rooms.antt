@@ -4,7 +4,7 @@ use Rattle.std.proofs.Math.Nat.{add-mul, mul-le-mul_left}
 use Rattle.predicate_cells.specs.Predicates.{Predicate}
 use Rattle.rate_expr.specs.Rates as rate
 use Rattle.rate_expr.specs.Rates.{size_of}
-use Rattle.query_model.specs.Bounds.{inner_of, places_of}
+use Rattle.query_model.specs.Bounds.{inner_of, places_of, width_of}
 use Rattle.query_model.specs.Queries.{Qre, atom, eps, choice, split, iter, combine, apply, compose}
 use Rattle.query_model.specs.Queries.{collect}
 
@@ -32,14 +32,15 @@ places_inner (apply f e) = places_inner f
 places_inner (compose f g) =
     let first = places_inner f in omega (arith, first)
 places_inner (collect column sync rate f) =
-    count_of (size_of rate) (1 + size_of rate + (inner_of f + 2)) (omega arith)
+    count_of (size_of rate) (1 + size_of rate + (inner_of f + 1 + width_of f)) (omega arith)
 
 -- a right operand of a compose is kept whole, and so is the body of a collect
-pub right_inner : (f g : Qre) → inner_of g + 2 ≤ inner_of (compose f g)
+pub right_inner : (f g : Qre) → inner_of g + 1 + width_of g ≤ inner_of (compose f g)
 right_inner f g =
-    let one = once_of (places_of f) (1 + (inner_of g + 2)) in omega (arith, one)
+    let one = once_of (places_of f) (1 + (inner_of g + 1 + width_of g)) in omega (arith, one)
 
 pub body_inner : (column : ℕ) (sync : Predicate) (rate : rate.Regex) (f : Qre)
-    → inner_of f + 2 ≤ inner_of (collect column sync rate f)
+    → inner_of f + 1 + width_of f ≤ inner_of (collect column sync rate f)
 body_inner column sync rate f =
-    let one = once_of (size_of rate) (1 + size_of rate + (inner_of f + 2)) in omega (arith, one)
+    let one = once_of (size_of rate) (1 + size_of rate + (inner_of f + 1 + width_of f)) in
+    omega (arith, one)

@@ -45,6 +45,7 @@ keys_among columns word = flat_map (keys_in columns) word
 -- how many entries the value has as a table
 abbrev pub entries_of : Value → ℕ
 entries_of (value.Scalar scalar) = 0
+entries_of (value.Rec parts) = 0
 entries_of (value.Table entries) = length entries
 
 abbrev pub entries_in : Field → ℕ

@@ -17,7 +17,7 @@ const PLAIN_TEXT: &[u8] = b"other";
 
 /// An item of the cell for a person to read: its numbers are as near to zero as they can be, and a
 /// text is `other` if the cell allows it.
-pub fn plain_item(alloc: Global, cells: &Cells, cell: u32) -> Result<Item, AllocError>
+pub fn plain_item(alloc: Global, cells: &Cells, cell: u32) -> Result<Item<'static>, AllocError>
     requires { cell < cell_count cells.now }
     ensures cell { IfOk result (IsIn cells.now cell) }
     ensures plain { IfOk result (IsPlain cells.now cell) }
@@ -33,7 +33,7 @@ pub fn plain_item(alloc: Global, cells: &Cells, cell: u32) -> Result<Item, Alloc
 fn make_plain(
     alloc: Global,
     cells: &Cells,
-    item: &mut Item,
+    item: &mut Item<'static>,
     column: usize,
 ) -> Result<(), AllocError>
     requires { IsItemOf cells.now.layout.columns item.old }
@@ -52,6 +52,7 @@ fn make_plain(
         }
         Some(Field::Val(Value::Scalar(Scalar::Overflow))) => Ok(()),
         Some(Field::Val(Value::Scalar(Scalar::DivZero))) => Ok(()),
+        Some(Field::Val(Value::Rec(_))) => Ok(()),
         Some(Field::Val(Value::Table(_))) => Ok(()),
         None => Ok(()),
     }

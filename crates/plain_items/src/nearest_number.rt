@@ -12,7 +12,7 @@ use std::alloc::{AllocError, Global};
 pub(crate) fn bring_near_zero(
     alloc: Global,
     cells: &Cells,
-    item: &mut Item,
+    item: &mut Item<'static>,
     column: usize,
     form: Form,
     number: i64,
@@ -31,7 +31,7 @@ pub(crate) fn bring_near_zero(
 fn bisect(
     alloc: Global,
     cells: &Cells,
-    item: &mut Item,
+    item: &mut Item<'static>,
     column: usize,
     form: Form,
     number: i64,

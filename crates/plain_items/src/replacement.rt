@@ -22,7 +22,7 @@ pub(crate) enum Form {
 pub(crate) fn put_number(
     alloc: Global,
     cells: &Cells,
-    item: &mut Item,
+    item: &mut Item<'static>,
     column: usize,
     form: Form,
     number: i64,
@@ -39,7 +39,7 @@ pub(crate) fn put_number(
 pub(crate) fn put_text(
     alloc: Global,
     cells: &Cells,
-    item: &mut Item,
+    item: &mut Item<'static>,
     column: usize,
     text: &[u8],
 ) -> Result<bool, AllocError>
@@ -62,7 +62,7 @@ fn number_field(form: Form, number: i64) -> Field
 fn put(
     alloc: Global,
     cells: &Cells,
-    item: &mut Item,
+    item: &mut Item<'static>,
     column: usize,
     field: &Field,
 ) -> Result<bool, AllocError>
@@ -77,7 +77,12 @@ fn put(
     Ok(true)
 }
 
-fn with_field(alloc: Global, item: &Item, column: usize, field: &Field) -> Result<Item, AllocError>
+fn with_field(
+    alloc: Global,
+    item: &Item,
+    column: usize,
+    field: &Field,
+) -> Result<Item<'static>, AllocError>
     ensures { IfOk result (λ other. other ≡ slice_set item.now column field.now) }
 {
     let mut fields = Vec::with_capacity(alloc, item.fields().len())?;

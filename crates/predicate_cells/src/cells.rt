@@ -102,7 +102,7 @@ impl Cells {
     }
 
     /// Some item of the cell.
-    pub fn sample(&self, alloc: Global, cell: u32) -> Result<Item, AllocError>
+    pub fn sample(&self, alloc: Global, cell: u32) -> Result<Item<'static>, AllocError>
         requires { cell < cell_count self.now }
         ensures { IfOk result (IsIn self.now cell) }
     {

@@ -1,6 +1,6 @@
 -- Statement. The forms: at each place the words, numbers, strings and calls that may stand there.
 use Rattle.std.specs.Prelude.{ℕ, ℤ, pos, Bool, true, false, ◌&&◌, ◌||◌, ◌==◌, List, [], ◌∷◌, length}
-use Rattle.std.specs.Prelude.{nat_le, codes, Option, Some, None, if◌then◌else◌}
+use Rattle.std.specs.Prelude.{nat_le, replicate, codes, Option, Some, None, if◌then◌else◌}
 use Rattle.std.specs.Str.{bytes_eq}
 use Rattle.language_base.specs.declared.span.Span.{Span}
 use Rattle.query_trees.specs.Trees.{first_of_two}
@@ -8,7 +8,7 @@ use Rattle.query_forms.specs.declared.term_place.TermPlace.{TermPlace}
 use Rattle.query_forms.specs.declared.term_place.TermPlace.TheVariants.{Mode, Column, Kind, Query}
 use Rattle.query_forms.specs.declared.term_place.TermPlace.TheVariants.{Rate, Pred, Literal, Expr}
 use Rattle.query_forms.specs.declared.term_place.TermPlace.TheVariants.{Compare, Name, Number, Text}
-use Rattle.query_forms.specs.declared.term_place.TermPlace.TheVariants.{Digits}
+use Rattle.query_forms.specs.declared.term_place.TermPlace.TheVariants.{Digits, Index}
 use Rattle.query_forms.specs.Terms.{Terms, word, number, string, call, count_of}
 
 -- a head word and the places of its arguments
@@ -69,6 +69,14 @@ forms_at Expr =
     ∷ form (codes "tmax") (Name ∷ Expr ∷ [])
     ∷ form (codes "tmin") (Name ∷ Expr ∷ [])
     ∷ form (codes "tget") (Name ∷ Text ∷ Expr ∷ [])
+    ∷ form (codes "part") (Name ∷ Index ∷ [])
+    ∷ form (codes "rec") (replicate 2 Expr)
+    ∷ form (codes "rec") (replicate 3 Expr)
+    ∷ form (codes "rec") (replicate 4 Expr)
+    ∷ form (codes "rec") (replicate 5 Expr)
+    ∷ form (codes "rec") (replicate 6 Expr)
+    ∷ form (codes "rec") (replicate 7 Expr)
+    ∷ form (codes "rec") (replicate 8 Expr)
     ∷ []
 forms_at Compare =
     form (codes "lt") (Expr ∷ Expr ∷ [])
@@ -109,12 +117,18 @@ abbrev pub is_digits : ℤ → Bool
 is_digits (pos n) = nat_le 1 n && nat_le n 9
 is_digits _ = false
 
+-- the number is from 1 to 8
+abbrev pub is_index : ℤ → Bool
+is_index (pos n) = nat_le 1 n && nat_le n 8
+is_index _ = false
+
 -- the numbers that may stand at each place
 abbrev pub fits_number : TermPlace → ℤ → Bool
 fits_number Literal value = true
 fits_number Expr value = true
 fits_number Number value = true
 fits_number Digits value = is_digits value
+fits_number Index value = is_index value
 fits_number _ value = false
 
 -- whether a string may stand at the place

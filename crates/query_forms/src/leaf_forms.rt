@@ -23,7 +23,8 @@ pub fn fits_word(place: TermPlace, word: &[u8]) -> bool
         | TermPlace::Compare
         | TermPlace::Number
         | TermPlace::Text
-        | TermPlace::Digits => false,
+        | TermPlace::Digits
+        | TermPlace::Index => false,
     }
 }
 
@@ -42,6 +43,7 @@ pub fn fits_number(place: TermPlace, raw: &[u8]) -> bool
     match place {
         TermPlace::Literal | TermPlace::Expr | TermPlace::Number => true,
         TermPlace::Digits => matches!(number_value(raw), Some(1..=9)),
+        TermPlace::Index => matches!(number_value(raw), Some(1..=8)),
         TermPlace::Mode
         | TermPlace::Column
         | TermPlace::Kind

@@ -60,6 +60,14 @@ const EXPR: &[Form] = &[
     Form(b"tmax", &[Name, Expr]),
     Form(b"tmin", &[Name, Expr]),
     Form(b"tget", &[Name, Text, Expr]),
+    Form(b"part", &[Name, Index]),
+    Form(b"rec", &[Expr; 2]),
+    Form(b"rec", &[Expr; 3]),
+    Form(b"rec", &[Expr; 4]),
+    Form(b"rec", &[Expr; 5]),
+    Form(b"rec", &[Expr; 6]),
+    Form(b"rec", &[Expr; 7]),
+    Form(b"rec", &[Expr; 8]),
 ];
 
 const COMPARE: &[Form] = &[
@@ -82,6 +90,6 @@ pub fn forms_at(place: TermPlace) -> &'static [Form]
         Pred => PRED,
         Expr => EXPR,
         Compare => COMPARE,
-        Mode | Literal | Name | Number | Text | Digits => &[],
+        Mode | Literal | Name | Number | Text | Digits | Index => &[],
     }
 }

@@ -29,4 +29,6 @@ pub enum TermPlace {
     Text,
     /// A number from 1 to 9.
     Digits,
+    /// A number from 1 to 8.
+    Index,
 }

@@ -3,7 +3,6 @@ use Rattle.std.proofs.Common.{append-nil, append_assoc, ◌≡◌, ◌≢◌, �
 use Rattle.std.proofs.Common.{None, refl, sym, subst, ap, ◌⊎◌, inl, inr}
 use Rattle.std.specs.List.{AllByRecursion}
 use Rattle.value_ops.specs.declared.field.Field.{Field}
-use Rattle.value_ops.specs.declared.field.Field.TheVariants as field
 use Rattle.value_ops.specs.declared.scalar.Scalar.{Scalar}
 use Rattle.value_ops.specs.declared.scalar.Scalar.TheVariants.{Number}
 use Rattle.value_ops.specs.declared.value.Value.{Value}
@@ -14,6 +13,7 @@ use Rattle.value_ops.specs.Expressions.{Expression}
 use Rattle.value_ops.specs.Types.{IsValueOf}
 use Rattle.value_ops.specs.Typing.{HasType}
 use Rattle.item_schema.specs.declared.column.Column.{Column}
+use Rattle.item_schema.specs.Items.{fields_of_value}
 use Rattle.rate_expr.specs.Language.{In}
 use Rattle.rate_expr.specs.Rates as rate
 use Rattle.rate_expr.specs.Words.{Word, IsWordOf, join}
@@ -64,7 +64,7 @@ emits_some : (columns : List Column) (D : Word → Value → Type 0) → Decides
     → (word : Word) → IsWordOf columns word → (items : Word) × Emits D word items
 emits_some columns D decides word is =
     elim (decides word is) [
-      | inl (v, den) ↦ ((field.Val v ∷ []) ∷ [], inl (v, den, refl))
+      | inl (v, den) ↦ (fields_of_value v ∷ [], inl (v, den, refl))
       | inr none ↦ ([], inr (none, refl))
     ]
 
@@ -120,6 +120,7 @@ entries_some D decides (key ∷ keys) =
 number_inside : (v : Value) → IsValueOf type.Number v
     → (scalar : Scalar) × (v ≡ value.Scalar scalar)
 number_inside (value.Scalar scalar) is = (scalar, refl)
+number_inside (value.Rec parts) is = absurd is
 number_inside (value.Table entries) is = absurd is
 
 -- a value with its type

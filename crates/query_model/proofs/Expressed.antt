@@ -7,7 +7,7 @@ use Rattle.value_ops.specs.Evaluation.{Inputs, given, value_of}
 use Rattle.value_ops.specs.Expressions.{Expression}
 use Rattle.value_ops.specs.Types.{IsValueOf}
 use Rattle.value_ops.specs.Typing.{Types, AreValues, HasType, types_of}
-use Rattle.value_ops.proofs.TypedExpressions.{typed_value, typed_range}
+use Rattle.value_ops.proofs.TypedValues.{typed_value, typed_range}
 use Rattle.item_schema.specs.declared.column.Column.{Column}
 use Rattle.item_schema.specs.Items.{IsItemOf}
 use Rattle.query_model.specs.Denotation.{on_one, on_both}

@@ -28,9 +28,9 @@ use Rattle.query_model.proofs.Inside.{same_inside}
 -- a value of a type has that type
 pub type_of_value : (type : ValueType) (value : Value) → IsValueOf type value → type_of value ≡ type
 type_of_value type.Number (value.Scalar scalar) is = refl
-type_of_value type.Number (value.Table entries) is = absurd is
-type_of_value type.Table (value.Scalar scalar) is = absurd is
+type_of_value (type.Rec size) (value.Rec parts) is = ap type.Rec is.count
 type_of_value type.Table (value.Table entries) is = refl
+type_of_value _ _ is = absurd is
 
 -- and is a value of its own type
 pub value_of_own : (type : ValueType) (value : Value) → IsValueOf type value

@@ -1,5 +1,6 @@
 pub mod Decided
 pub mod Defined
+pub mod DerivedItems
 pub mod Expressed
 pub mod Inside
 pub mod InRates
@@ -8,3 +9,4 @@ pub mod Keys
 pub mod SameMembers
 pub mod Typed
 pub mod Unique
+pub mod Widths

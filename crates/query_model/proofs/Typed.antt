@@ -2,7 +2,6 @@
 use Rattle.std.proofs.Common.{◌≡◌, ℕ, ◌++◌, List, [], ◌∷◌, refl, sym, subst, ◌⊎◌, inl, inr, ap}
 use Rattle.std.specs.Prelude.{All}
 use Rattle.std.specs.List.{AllByRecursion}
-use Rattle.value_ops.specs.declared.field.Field.TheVariants as field
 use Rattle.value_ops.specs.declared.scalar.Scalar.{Scalar}
 use Rattle.value_ops.specs.declared.value.Value.{Value}
 use Rattle.value_ops.specs.declared.value.Value.TheVariants as value
@@ -24,6 +23,7 @@ use Rattle.query_model.specs.Queries.{Qre, atom, eps, choice, split, iter, combi
 use Rattle.query_model.specs.Queries.{collect}
 use Rattle.query_model.specs.QueryTypes.{derived_columns, of_two, type_of}
 use Rattle.query_model.specs.Rules.{Standing, free, bound, IsClear}
+use Rattle.query_model.proofs.DerivedItems.{derived_item}
 use Rattle.query_model.proofs.Expressed.{atom_ranges, one_ranges, two_ranges}
 use Rattle.query_model.proofs.InRates.{OnValues}
 use Rattle.query_model.proofs.Keys.{AreKeys, all_elements, entry_keys, entry_keys_differ}
@@ -46,12 +46,6 @@ fold_typed columns D ty expression each typed (piece ∷ pieces) so_far value be
     (each piece last parts.0 den) typed gives)
     parts.1 folds
 
--- a value as an item of a stream of values
-derived_item : (ty : ValueType) (v : Value) → IsValueOf ty v
-    → IsWordOf (derived_columns ty) ((field.Val v ∷ []) ∷ [])
-derived_item type.Number v is = ((is, tt), tt)
-derived_item type.Table v is = ((is, tt), tt)
-
 word_joined : (columns : List Column) (u v : Word) → IsWordOf columns u → IsWordOf columns v
     → IsWordOf columns (u ++ v)
 word_joined columns [] v is others = others
@@ -63,7 +57,8 @@ emitted : (columns : List Column) (ty : ValueType) (D : Word → Value → Type 
 emitted columns ty D each word items is emits =
     elim emits [
       | inl (v, den, whole) ↦
-          subst (IsWordOf (derived_columns ty)) (sym whole) (derived_item ty v (each word v is den))
+          subst (IsWordOf (derived_columns ty)) (sym whole)
+          (derived_item ty v (each word v is den), tt)
       | inr (none, empty) ↦ subst (IsWordOf (derived_columns ty)) (sym empty) tt
     ]
 

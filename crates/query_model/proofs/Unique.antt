@@ -4,7 +4,6 @@ use Rattle.std.proofs.Common.{◌⊎◌, inl, inr}
 use Rattle.std.specs.List.{AllByRecursion}
 use Rattle.std.proofs.lemmas.List.{append_cancel_left}
 use Rattle.value_ops.specs.declared.field.Field.{Field}
-use Rattle.value_ops.specs.declared.field.Field.TheVariants as field
 use Rattle.value_ops.specs.declared.scalar.Scalar.{Scalar}
 use Rattle.value_ops.specs.declared.scalar.Scalar.TheVariants.{Number}
 use Rattle.value_ops.specs.declared.value.Value.{Value}
@@ -12,6 +11,7 @@ use Rattle.value_ops.specs.declared.value.Value.TheVariants as value
 use Rattle.value_ops.specs.Evaluation.{given, value_of}
 use Rattle.value_ops.specs.Expressions.{Expression}
 use Rattle.item_schema.specs.declared.column.Column.{Column}
+use Rattle.item_schema.specs.Items.{fields_of_value}
 use Rattle.predicate_cells.specs.Predicates.{Predicate}
 use Rattle.rate_expr.specs.Language.{In}
 use Rattle.rate_expr.specs.Words.{Word, IsWordOf, join}
@@ -60,7 +60,7 @@ emits_one columns D one word items others is emits emits' =
     elim emits [
       | inl (v, den, whole) ↦ elim emits' [
         | inl (v', den', whole') ↦
-            whole ∙ ap (λ x. (field.Val x ∷ []) ∷ []) (one word v v' is den den') ∙ sym whole'
+            whole ∙ ap (λ x. fields_of_value x ∷ []) (one word v v' is den den') ∙ sym whole'
         | inr (none, empty) ↦ absurd (none v den)
       ]
       | inr (none, empty) ↦ elim emits' [

@@ -1,5 +1,8 @@
 -- Statement. How many starts of a query may live at one time, and how much is kept for them.
 use Rattle.std.specs.Prelude.{ℕ, ◌+◌, ◌*◌}
+use Rattle.value_ops.specs.declared.expr.Var.TheVariants as var
+use Rattle.value_ops.specs.Expressions as expr
+use Rattle.value_ops.specs.Expressions.{Expression, count_of}
 use Rattle.rate_expr.specs.Rates.{size_of}
 use Rattle.query_model.specs.Queries.{Qre, atom, eps, choice, split, iter, combine, apply, compose}
 use Rattle.query_model.specs.Queries.{collect}
@@ -16,22 +19,40 @@ places_of (apply f expression) = places_of f
 places_of (compose f g) = places_of f
 places_of (collect column sync rate f) = size_of rate + 1
 
--- what a node of the query keeps; one that follows a word keeps two more, its position
--- and its answer
+-- the width of an expression, from those of its left and its right value
+abbrev pub width_with : ℕ → ℕ → Expression → ℕ
+width_with left right (expr.read var.Left) = left
+width_with left right (expr.read var.Right) = right
+width_with left right (expr.rec parts) = count_of parts
+width_with left right _ = 1
+
+-- the width of a query: how many numbers its values have as records, and 1 where they are none
+abbrev pub width_of : Qre → ℕ
+width_of (atom pred expression) = width_with 1 1 expression
+width_of (eps number) = 1
+width_of (choice f g) = width_of f
+width_of (split f g expression) = width_with (width_of f) (width_of g) expression
+width_of (iter f number expression) = 1
+width_of (combine f g expression) = width_with (width_of f) (width_of g) expression
+width_of (apply f expression) = width_with (width_of f) 1 expression
+width_of (compose f g) = width_of g
+width_of (collect column sync rate f) = 1
+
+-- what a node of the query keeps; one that follows a word keeps its position and its answer besides
 abbrev pub inner_of : Qre → ℕ
 inner_of (atom pred expression) = 1
 inner_of (eps number) = 0
 inner_of (choice f g) = inner_of f + inner_of g
-inner_of (split f g expression) = inner_of f + inner_of g + 3 * places_of g
+inner_of (split f g expression) = inner_of f + inner_of g + (2 + width_of f) * places_of g
 inner_of (iter f number expression) = inner_of f + 3 * places_of f
 inner_of (combine f g expression) = inner_of f + inner_of g
 inner_of (apply f expression) = inner_of f
-inner_of (compose f g) = inner_of f + (places_of f + 1) * (1 + (inner_of g + 2))
+inner_of (compose f g) = inner_of f + (places_of f + 1) * (1 + (inner_of g + 1 + width_of g))
 inner_of (collect column sync rate f) =
-    (size_of rate + 1) * (1 + size_of rate + (inner_of f + 2))
+    (size_of rate + 1) * (1 + size_of rate + (inner_of f + 1 + width_of f))
 
 abbrev pub slots_of : Qre → ℕ
-slots_of query = inner_of query + 2
+slots_of query = inner_of query + 1 + width_of query
 
 -- the nodes of the query
 abbrev pub nodes_of : Qre → ℕ

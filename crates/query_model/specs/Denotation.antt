@@ -10,10 +10,10 @@ use Rattle.value_ops.specs.declared.scalar.Scalar.{Scalar}
 use Rattle.value_ops.specs.declared.scalar.Scalar.TheVariants.{Number}
 use Rattle.value_ops.specs.declared.value.Value.{Value}
 use Rattle.value_ops.specs.declared.value.Value.TheVariants as value
-use Rattle.value_ops.specs.declared.field.Field.TheVariants as field
 use Rattle.value_ops.specs.Evaluation.{given, value_of}
 use Rattle.value_ops.specs.Expressions.{Expression}
 use Rattle.value_ops.specs.Fields.{text_of}
+use Rattle.item_schema.specs.Items.{fields_of_value}
 use Rattle.predicate_cells.specs.Predicates.{Predicate}
 use Rattle.predicate_cells.specs.Truth.{holds}
 use Rattle.rate_expr.specs.Language.{In}
@@ -38,7 +38,7 @@ Folds D expression so_far (piece ∷ pieces) value =
 
 -- the value on a word as an item of a stream of values, if there is one
 abbrev pub Emits : (Word → Value → Type 0) → Word → Word → Type 0
-Emits D word items = ((value : Value) × D word value × (items ≡ (field.Val value ∷ []) ∷ []))
+Emits D word items = ((value : Value) × D word value × (items ≡ fields_of_value value ∷ []))
     ⊎ (((value : Value) → D word value → ⊥) × (items ≡ []))
 
 -- the values on the prefixes of a word, from the empty one to the whole, after a first part

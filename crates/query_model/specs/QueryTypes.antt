@@ -1,9 +1,9 @@
 -- Statement. The types of queries.
 use Rattle.std.specs.Prelude.{ℕ, List, [], map, Option, Some, None}
 use Rattle.value_ops.specs.declared.value.ValueType.{ValueType}
-use Rattle.value_ops.specs.declared.value.ValueType.TheVariants.{Number, Table}
+use Rattle.value_ops.specs.declared.value.ValueType.TheVariants.{Number, Rec, Table}
 use Rattle.value_ops.specs.Expressions as expr
-use Rattle.value_ops.specs.Expressions.{Expression}
+use Rattle.value_ops.specs.Expressions.{Expression, count_of}
 use Rattle.value_ops.specs.Typing.{Types, type_named}
 use Rattle.item_schema.specs.declared.column.Column.{Column}
 use Rattle.item_schema.specs.declared.column.Kind.{Kind}
@@ -35,14 +35,15 @@ of_one left = record { fields = []; left = Some left; right = None }
 abbrev pub of_two : ValueType → ValueType → Types
 of_two left right = record { fields = []; left = Some left; right = Some right }
 
--- a table where this says so
-abbrev pub table_or_number : Option ValueType → ValueType
-table_or_number (Some Table) = Table
-table_or_number _ = Number
+-- the type that a name has if it has one
+abbrev pub type_or_number : Option ValueType → ValueType
+type_or_number (Some type) = type
+type_or_number None = Number
 
 -- the type that an expression has if it is well typed
 abbrev pub type_of_expression : Types → Expression → ValueType
-type_of_expression types (expr.read name) = table_or_number (type_named types name)
+type_of_expression types (expr.read name) = type_or_number (type_named types name)
+type_of_expression types (expr.rec parts) = Rec (count_of parts)
 type_of_expression types _ = Number
 
 -- the columns of a stream of values

@@ -1,10 +1,13 @@
 -- Terms that fit, one by one.
 use Rattle.std.proofs.Common.{◌≡◌, inl, inr, ℕ, ◌==◌, ◌&&◌, Bool, true, false, zero, suc, ◌+◌, ◌<◌}
-use Rattle.std.proofs.Common.{List, [], ◌∷◌, length, get_or, Option, Some, None, Result, Ok, Err}
-use Rattle.std.proofs.Common.{IfOk, refl, sym, ap, ◌∙◌, subst, arith}
+use Rattle.std.proofs.Common.{List, [], ◌∷◌, length, replicate, get_or, All, Option, Some, None}
+use Rattle.std.proofs.Common.{Result, Ok, Err, IfOk, refl, sym, ap, ◌∙◌, subst, arith}
 use Rattle.std.specs.Str.{bytes_eq}
 use Rattle.std.proofs.lemmas.Bool.Decides.{nat_tests}
+use Rattle.std.proofs.lemmas.List.{length-replicate}
+use Rattle.std.proofs.lemmas.List.Elements.{All-nil, All-cons}
 use Rattle.language_base.specs.declared.span.Span.{Span}
+use Rattle.few_parts.specs.Sizes.{IsRecordSize}
 use Rattle.query_forms.specs.declared.term_place.TermPlace.{TermPlace}
 use Rattle.query_forms.specs.Terms.{Terms, none, call, count_of}
 use Rattle.query_forms.specs.Forms.{Form, first_unfit, forms_at, places_in, places_of, unfit_in}
@@ -77,6 +80,30 @@ item_fits (p ∷ places) (first ∷ list) one (suc index) place all within is at
       fit = (first_fits p places first (terms_of list) all.fit).1;
     })
     (omega arith) is at
+
+-- terms at one place each, none of which is unfit
+pub each_fits : (place : TermPlace) (list : List Term) (n : ℕ) → length list ≡ n
+    → first_unfit (replicate n place) (terms_of list) ≡ None → All (Fits place) list
+each_fits place [] n many fit = All-nil (Fits place)
+each_fits place (first ∷ list) n many fit =
+    let same : n ≡ suc (length list) = sym many in
+    let at = first_fits place (replicate (length list) place) first (terms_of list)
+    (subst (λ m. first_unfit (replicate m place) (term_before first (terms_of list)) ≡ None) same
+    fit) in
+    All-cons (Fits place) first list (record { fit = at.0 })
+    (each_fits place list (length list) refl at.1)
+
+-- so do those of a call whose arguments all stand at that place
+pub all_fit : (place : TermPlace) (count : ℕ) (list : List Term)
+    → AllFit (replicate count place) list → All (Fits place) list
+all_fit place count list all =
+    each_fits place list count (all.as_many ∙ length-replicate count place) all.fit
+
+-- and are as many, so of this many places as a record has parts
+pub as_many_fit : (place : TermPlace) (count : ℕ) (list : List Term)
+    → AllFit (replicate count place) list → IsRecordSize count → IsRecordSize (length list)
+as_many_fit place count list all size =
+    subst IsRecordSize (sym (all.as_many ∙ length-replicate count place)) size
 
 -- where a call is not unfit, it has a form
 pub form_at : (place : TermPlace) (head : List ℕ) (span : Span) (inner : Terms)

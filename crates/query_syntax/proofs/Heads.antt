@@ -86,6 +86,20 @@ module _ (H : Type 0) (word_of : H → List ℕ) (places_of : H → List TermPla
         ap (λ forms. places_in forms word (length arguments)) table ∙ some in
         absurd (cc)
 
+-- what is found is what one of the rows is
+pub one_of_rows : {H : Type 0} (P : H → Type 0) (rows : List (Row H)) (word : List ℕ)
+    (count : ℕ) (head : H) → AllByRecursion (λ (row : Row H). P row.is) rows
+    → head_in rows word count ≡ Some head → P head
+one_of_rows {H} P [] word count head all found = absurd (cc)
+one_of_rows {H} P (first ∷ rest) word count head all found =
+    at_first (bytes_eq first.word word && (length first.places == count)) found
+    (λ after. one_of_rows P rest word count head all.1 after)
+  where
+    at_first : (test : Bool) → cond test (Some first.is) (head_in rest word count) ≡ Some head
+        → (head_in rest word count ≡ Some head → P head) → P head
+    at_first true here later = let same : first.is ≡ head = cc in subst P same all.0
+    at_first false after later = later after
+
 -- what is found by a test, or else
 found_or : {H : Type 0} (test : Bool) (is : H) (rest others more : Option H)
     → more ≡ option_or rest others

@@ -3,6 +3,7 @@ pub mod Heads
 pub mod Lists
 pub mod OneProgram
 pub mod Readings
+pub mod Records
 pub mod SomeProgram
 pub mod SomeTrees
 pub mod TableRows

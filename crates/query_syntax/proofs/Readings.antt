@@ -1,10 +1,14 @@
 -- What each term says at each place, so that no two trees are written alike.
-use Rattle.std.proofs.Common.{◌≡◌, ℕ, zero, suc, pos, List, [], ◌∷◌, length, codes, Option, Some}
-use Rattle.std.proofs.Common.{None, refl, sym, ap, ◌∙◌}
+use Rattle.std.proofs.Common.{◌≡◌, ℕ, zero, suc, ◌==◌, ◌&&◌, ℤ, pos, negsuc, Bool, true, false}
+use Rattle.std.proofs.Common.{cond, List, [], ◌∷◌, length, codes, Option, Some, None, refl, sym, ap}
+use Rattle.std.proofs.Common.{◌∙◌}
+use Rattle.std.specs.List.{AllByRecursion}
+use Rattle.std.specs.Str.{bytes_eq}
 use Rattle.language_base.specs.declared.span.Span.{Span}
 use Rattle.query_forms.specs.Terms.{Terms, none, word, number, string, call}
 use Rattle.query_syntax.specs.declared.expression_head.ExpressionHead.{ExpressionHead}
 use Rattle.query_syntax.specs.declared.expression_head.ExpressionHead.TheVariants as expression
+use Rattle.query_syntax.specs.declared.leaf.Index.{Index}
 use Rattle.query_syntax.specs.declared.leaf.Literal.{Literal}
 use Rattle.query_syntax.specs.declared.leaf.Literal.TheVariants as literal
 use Rattle.query_syntax.specs.declared.leaf.Name.{Name}
@@ -35,9 +39,9 @@ use Rattle.query_syntax.specs.declared.query_head.QueryHead.{QueryHead}
 use Rattle.query_syntax.specs.declared.query_head.QueryHead.TheVariants as query
 use Rattle.query_syntax.specs.declared.rate_head.RateHead.{RateHead}
 use Rattle.query_syntax.specs.declared.rate_head.RateHead.TheVariants as rate
-use Rattle.query_syntax.specs.ExpressionHeads.{expressions, comparisons}
+use Rattle.query_syntax.specs.ExpressionHeads.{expressions, comparisons, records}
 use Rattle.query_syntax.specs.Expressions as e
-use Rattle.query_syntax.specs.Expressions.{Expression}
+use Rattle.query_syntax.specs.Expressions.{Expression, Expressions}
 use Rattle.query_syntax.specs.PredicateHeads.{predicates}
 use Rattle.query_syntax.specs.Predicates as p
 use Rattle.query_syntax.specs.Predicates.{Predicate}
@@ -47,18 +51,20 @@ use Rattle.query_syntax.specs.QueryHeads.{queries}
 use Rattle.query_syntax.specs.RateHeads.{rates}
 use Rattle.query_syntax.specs.Rates as r
 use Rattle.query_syntax.specs.Rates.{Rate}
-use Rattle.query_syntax.specs.Rows.{head_in}
+use Rattle.query_syntax.specs.Rows.{Row, head_in}
 use Rattle.query_syntax.specs.Words.{unary_word, binary_word, compare_word, summary_word}
 use Rattle.query_syntax.specs.Words.{extremum_word, equality_word, order_word, connective_word}
 use Rattle.query_syntax.specs.Words.{join_word}
 use Rattle.query_syntax.specs.Written.{number_before, literal_before, expression_before}
-use Rattle.query_syntax.specs.Written.{predicate_before, rate_before, query_before}
+use Rattle.query_syntax.specs.Written.{expressions_terms, predicate_before, rate_before}
+use Rattle.query_syntax.specs.Written.{query_before}
 use Rattle.query_syntax.proofs.SomeTrees.{Comparison}
 
 -- a term read at each place; where it has no form of one, anything
 pub record Reading : Type 0 where
   pub name : Name
   pub number : Number
+  pub index : Index
   pub text : Text
   pub literal : Literal
   pub comparison : Comparison
@@ -67,7 +73,7 @@ pub record Reading : Type 0 where
   pub rate : Rate
   pub query : Query
 
--- a name, a number, a string and a comparison that are nowhere
+-- a name, a number, an index, a string and a comparison that are nowhere
 abbrev no_place : Span
 no_place = record { from = 0; to = 0 }
 
@@ -76,6 +82,9 @@ no_name = record { bytes = []; span = no_place }
 
 abbrev no_number : Number
 no_number = record { value = pos 0; span = no_place }
+
+abbrev no_index : Index
+no_index = record { value = 0; span = no_place }
 
 abbrev no_text : Text
 no_text = record { bytes = []; span = no_place }
@@ -89,6 +98,7 @@ abbrev name_reading : Name → Reading
 name_reading n = record {
   name = n;
   number = no_number;
+  index = no_index;
   text = no_text;
   literal = literal.Number no_number;
   comparison = no_comparison;
@@ -98,9 +108,17 @@ name_reading n = record {
   query = q.name n;
 }
 
+abbrev index_from : ℤ → Span → Index
+index_from (pos n) span = record { value = n; span = span }
+index_from (negsuc n) span = no_index
+
 abbrev number_reading : Number → Reading
-number_reading n = record (name_reading no_name)
-    { number = n; literal = literal.Number n; expression = e.number n }
+number_reading n = record (name_reading no_name) {
+  number = n;
+  index = index_from n.value n.span;
+  literal = literal.Number n;
+  expression = e.number n;
+}
 
 abbrev text_reading : Text → Reading
 text_reading t = record (name_reading no_name) { text = t; literal = literal.Text t }
@@ -111,9 +129,14 @@ at n [] = name_reading no_name
 at zero (first ∷ others) = first
 at (suc n) (first ∷ others) = at n others
 
--- a call, by what it is
+-- all of the arguments as expressions
+abbrev all_expressions : List Reading → Expressions
+all_expressions [] = e.none
+all_expressions (first ∷ others) = e.more first.expression (all_expressions others)
+
+-- a call, by what it is; a record may have any number of parts
 abbrev expression_from : Option ExpressionHead → List Reading → Span → Expression
-expression_from None rs span = e.name no_name
+expression_from None rs span = e.rec (all_expressions rs) span
 expression_from (Some (expression.Unary op)) rs span = e.unary op (at 0 rs).expression span
 expression_from (Some (expression.Binary op)) rs span =
     e.binary op (at 0 rs).expression (at 1 rs).expression span
@@ -125,6 +148,8 @@ expression_from (Some (expression.Extremum op)) rs span =
     e.extremum op (at 0 rs).name (at 1 rs).expression span
 expression_from (Some expression.Get) rs span =
     e.get (at 0 rs).name (at 1 rs).text (at 2 rs).expression span
+expression_from (Some expression.Part) rs span = e.part (at 0 rs).name (at 1 rs).index span
+expression_from (Some (expression.Record count)) rs span = e.rec (all_expressions rs) span
 
 abbrev comparison_from : Option Compare → List Reading → Span → Comparison
 comparison_from None rs span = no_comparison
@@ -274,51 +299,106 @@ literal_back : (l : Literal) (rest : Terms)
 literal_back (literal.Number n) rest = record { reading = number_reading n; is = refl; says = refl }
 literal_back (literal.Text t) rest = record { reading = text_reading t; is = refl; says = refl }
 
--- an expression reads back
-pub expression_back : (v : Expression) (rest : Terms)
-    → Back (λ (x : Reading). x.expression) v (expression_before v rest) rest
-expression_back (e.number n) rest = record { reading = number_reading n; is = refl; says = refl }
-expression_back (e.name n) rest = record { reading = name_reading n; is = refl; says = refl }
-expression_back (e.unary op a span) rest =
-    let x = expression_back a none in
-    call_back _ _ _ _ span rest (x.reading ∷ []) x.is
-    (ap (λ h. expression_from h (x.reading ∷ []) span) (unary_found op)
-    ∙ ap (λ t. e.unary op t span) x.says)
-expression_back (e.binary op a b span) rest =
-    let x = expression_back a (expression_before b none) in
-    let y = expression_back b none in
-    call_back _ _ _ _ span rest (x.reading ∷ y.reading ∷ []) (before _ _ _ _ _ x y.is)
-    (ap (λ h. expression_from h (x.reading ∷ y.reading ∷ []) span) (binary_found op)
-    ∙ (λ i. e.binary op (x.says i) (y.says i) span))
-expression_back (e.choice op a b place c d span) rest =
-    let x = expression_back a (expression_before b none) in
-    let y = expression_back b none in
-    let test : Comparison = record { compare = op; left = a; right = b; span = place } in
-    let after = expression_before c (expression_before d none) in
-    let t = call_back (λ (x : Reading). x.comparison) test (compare_word op) _ place after
-    (x.reading ∷ y.reading ∷ []) (before _ _ _ _ _ x y.is)
-    (ap (λ h. comparison_from h (x.reading ∷ y.reading ∷ []) place) (compare_found op)
-    ∙ (λ i. record { compare = op; left = x.says i; right = y.says i; span = place })) in
-    let z = expression_back c (expression_before d none) in
-    let w = expression_back d none in
-    call_back _ _ _ _ span rest (t.reading ∷ z.reading ∷ w.reading ∷ [])
-    (before (λ (x : Reading). x.comparison) test _ _ _ t (before _ _ _ _ _ z w.is))
-    (λ i. e.choice (t.says i).compare (t.says i).left (t.says i).right (t.says i).span (z.says i)
-    (w.says i) span)
-expression_back (e.summary op table span) rest =
-    call_back _ _ _ _ span rest (name_reading table ∷ []) refl
-    (ap (λ h. expression_from h (name_reading table ∷ []) span) (summary_found op))
-expression_back (e.extremum op table a span) rest =
-    let x = expression_back a none in
-    call_back _ _ _ _ span rest (name_reading table ∷ x.reading ∷ [])
-    (ap (λ (l : List Reading). name_reading table ∷ l) x.is)
-    (ap (λ h. expression_from h (name_reading table ∷ x.reading ∷ []) span) (extremum_found op)
-    ∙ ap (λ t. e.extremum op table t span) x.says)
-expression_back (e.get table key a span) rest =
-    let x = expression_back a none in
-    call_back _ _ _ _ span rest (name_reading table ∷ text_reading key ∷ x.reading ∷ [])
-    (ap (λ (l : List Reading). name_reading table ∷ text_reading key ∷ l) x.is)
-    (ap (λ t. e.get table key t span) x.says)
+-- the row is that of a record
+abbrev IsRecord : Row ExpressionHead → Type 0
+IsRecord first = (count : ℕ) × (first.is ≡ expression.Record count)
+
+-- it says what the others say
+record_row : (test : Bool) (is : ExpressionHead) (count : ℕ) (others : Option ExpressionHead)
+    (rs : List Reading) (span : Span) → is ≡ expression.Record count
+    → expression_from others rs span ≡ e.rec (all_expressions rs) span
+    → expression_from (cond test (Some is) others) rs span ≡ e.rec (all_expressions rs) span
+record_row true is count others rs span same after =
+    ap (λ (h : ExpressionHead). expression_from (Some h) rs span) same
+record_row false is count others rs span same after = after
+
+record_in : (rows : List (Row ExpressionHead)) (head : List ℕ) (count : ℕ) (rs : List Reading)
+    (span : Span) → AllByRecursion IsRecord rows
+    → expression_from (head_in rows head count) rs span ≡ e.rec (all_expressions rs) span
+record_in [] head count rs span are = refl
+record_in (first ∷ rest) head count rs span are =
+    record_row (bytes_eq first.word head && (length first.places == count)) first.is are.0.0
+    (head_in rest head count) rs span are.0.1 (record_in rest head count rs span are.1)
+
+-- so a call of their word is a record, whatever its number of arguments
+record_read : (rs : List Reading) (span : Span)
+    → expression_from (head_in expressions (codes "rec") (length rs)) rs span
+    ≡ e.rec (all_expressions rs) span
+record_read rs span =
+    record_in records (codes "rec") (length rs) rs span
+    ((2, refl), ((3, refl), ((4, refl), ((5, refl), ((6, refl), ((7, refl), ((8, refl), tt)))))))
+
+-- the terms of expressions read as these
+record AreBack (parts : Expressions) : Type 0 where
+  reads : List Reading
+  are : readings (expressions_terms parts) ≡ reads
+  say : all_expressions reads ≡ parts
+
+mutual
+  -- an expression reads back
+  pub expression_back : (v : Expression) (rest : Terms)
+      → Back (λ (x : Reading). x.expression) v (expression_before v rest) rest
+  expression_back (e.number n) rest = record { reading = number_reading n; is = refl; says = refl }
+  expression_back (e.name n) rest = record { reading = name_reading n; is = refl; says = refl }
+  expression_back (e.unary op a span) rest =
+      let x = expression_back a none in
+      call_back _ _ _ _ span rest (x.reading ∷ []) x.is
+      (ap (λ h. expression_from h (x.reading ∷ []) span) (unary_found op)
+      ∙ ap (λ t. e.unary op t span) x.says)
+  expression_back (e.binary op a b span) rest =
+      let x = expression_back a (expression_before b none) in
+      let y = expression_back b none in
+      call_back _ _ _ _ span rest (x.reading ∷ y.reading ∷ []) (before _ _ _ _ _ x y.is)
+      (ap (λ h. expression_from h (x.reading ∷ y.reading ∷ []) span) (binary_found op)
+      ∙ (λ i. e.binary op (x.says i) (y.says i) span))
+  expression_back (e.choice op a b place c d span) rest =
+      let x = expression_back a (expression_before b none) in
+      let y = expression_back b none in
+      let test : Comparison = record { compare = op; left = a; right = b; span = place } in
+      let after = expression_before c (expression_before d none) in
+      let t = call_back (λ (x : Reading). x.comparison) test (compare_word op) _ place after
+      (x.reading ∷ y.reading ∷ []) (before _ _ _ _ _ x y.is)
+      (ap (λ h. comparison_from h (x.reading ∷ y.reading ∷ []) place) (compare_found op)
+      ∙ (λ i. record { compare = op; left = x.says i; right = y.says i; span = place })) in
+      let z = expression_back c (expression_before d none) in
+      let w = expression_back d none in
+      call_back _ _ _ _ span rest (t.reading ∷ z.reading ∷ w.reading ∷ [])
+      (before (λ (x : Reading). x.comparison) test _ _ _ t (before _ _ _ _ _ z w.is))
+      (λ i. e.choice (t.says i).compare (t.says i).left (t.says i).right (t.says i).span (z.says i)
+      (w.says i) span)
+  expression_back (e.summary op table span) rest =
+      call_back _ _ _ _ span rest (name_reading table ∷ []) refl
+      (ap (λ h. expression_from h (name_reading table ∷ []) span) (summary_found op))
+  expression_back (e.extremum op table a span) rest =
+      let x = expression_back a none in
+      call_back _ _ _ _ span rest (name_reading table ∷ x.reading ∷ [])
+      (ap (λ (l : List Reading). name_reading table ∷ l) x.is)
+      (ap (λ h. expression_from h (name_reading table ∷ x.reading ∷ []) span) (extremum_found op)
+      ∙ ap (λ t. e.extremum op table t span) x.says)
+  expression_back (e.get table key a span) rest =
+      let x = expression_back a none in
+      call_back _ _ _ _ span rest (name_reading table ∷ text_reading key ∷ x.reading ∷ [])
+      (ap (λ (l : List Reading). name_reading table ∷ text_reading key ∷ l) x.is)
+      (ap (λ t. e.get table key t span) x.says)
+  expression_back (e.rec parts span) rest =
+      let xs = expressions_back parts in
+      call_back _ _ _ _ span rest xs.reads xs.are
+      (record_read xs.reads span ∙ ap (λ (es : Expressions). e.rec es span) xs.say)
+  expression_back (e.part whole index span) rest =
+      let n : Number = record { value = pos index.value; span = index.span } in
+      call_back _ _ _ _ span rest (name_reading whole ∷ number_reading n ∷ []) refl refl
+
+  -- so do expressions, one after the other
+  expressions_back : (parts : Expressions) → AreBack parts
+  expressions_back e.none = record { reads = []; are = refl; say = refl }
+  expressions_back (e.more first others) =
+      let x = expression_back first (expressions_terms others) in
+      let xs = expressions_back others in
+      record {
+        reads = x.reading ∷ xs.reads;
+        are = before _ _ _ _ _ x xs.are;
+        say = λ i. e.more (x.says i) (xs.say i);
+      }
 
 -- a predicate reads back
 pub predicate_back : (f : Predicate) (rest : Terms)

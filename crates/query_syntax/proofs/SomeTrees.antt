@@ -1,6 +1,7 @@
 -- Terms that have forms of their places are written by trees.
-use Rattle.std.proofs.Common.{◌≡◌, ℕ, ℤ, pos, negsuc, ◌||◌, Bool, true, false, List, [], ◌∷◌}
-use Rattle.std.proofs.Common.{length, map, codes, Some, None, refl, ap, ◌∙◌, subst, arith}
+use Rattle.std.proofs.Common.{◌≡◌, ℕ, zero, suc, ℤ, pos, negsuc, ◌||◌, Bool, true, false, List, []}
+use Rattle.std.proofs.Common.{◌∷◌, length, replicate, map, codes, Some, None, refl, ap, ◌∙◌, subst}
+use Rattle.std.proofs.Common.{arith}
 use Rattle.std.specs.List.{AllByRecursion}
 use Rattle.std.specs.Str.{bytes_eq}
 use Rattle.std.proofs.lemmas.Slice.Eq.{bytes_eq-Decides}
@@ -13,6 +14,7 @@ use Rattle.query_forms.specs.Forms.{fits_word, fits_number, fits_string}
 use Rattle.query_parser.proofs.OptionCases.{chosen-none, first_of_two-none}
 use Rattle.query_syntax.specs.declared.expression_head.ExpressionHead.{ExpressionHead}
 use Rattle.query_syntax.specs.declared.expression_head.ExpressionHead.TheVariants as expression
+use Rattle.query_syntax.specs.declared.leaf.Index.{Index}
 use Rattle.query_syntax.specs.declared.leaf.Literal.{Literal}
 use Rattle.query_syntax.specs.declared.leaf.Literal.TheVariants as literal
 use Rattle.query_syntax.specs.declared.leaf.Name.{Name}
@@ -34,7 +36,7 @@ use Rattle.query_syntax.specs.declared.stream.Mode.TheVariants as mode
 use Rattle.query_syntax.specs.ExpressionHeads.{expression_word, expression_places, expressions}
 use Rattle.query_syntax.specs.ExpressionHeads.{compare_places, comparisons}
 use Rattle.query_syntax.specs.Expressions as e
-use Rattle.query_syntax.specs.Expressions.{Expression}
+use Rattle.query_syntax.specs.Expressions.{Expression, Expressions}
 use Rattle.query_syntax.specs.Files.{column_before, digits_before, kind_before, mode_before}
 use Rattle.query_syntax.specs.PredicateHeads.{predicate_word, predicate_places, predicates}
 use Rattle.query_syntax.specs.Predicates as p
@@ -47,9 +49,9 @@ use Rattle.query_syntax.specs.Rates as r
 use Rattle.query_syntax.specs.Rates.{Rate}
 use Rattle.query_syntax.specs.Rows.{Row}
 use Rattle.query_syntax.specs.Words.{compare_word}
-use Rattle.query_syntax.specs.Written.{name_before, number_before, text_before, literal_before}
-use Rattle.query_syntax.specs.Written.{expression_before, predicate_before, rate_before}
-use Rattle.query_syntax.specs.Written.{query_before}
+use Rattle.query_syntax.specs.Written.{index_before, name_before, number_before, text_before}
+use Rattle.query_syntax.specs.Written.{literal_before, expression_before, expressions_terms}
+use Rattle.query_syntax.specs.Written.{predicate_before, rate_before, query_before}
 use Rattle.query_syntax.proofs.Fitting.{form_at, places_count}
 use Rattle.query_syntax.proofs.Heads.{form_of, IsOf, form_found}
 use Rattle.query_syntax.proofs.TableRows.{expressions_are, comparisons_are, predicates_are}
@@ -82,6 +84,7 @@ IsTree place.Name terms rest = (tree : Name) × (terms ≡ name_before tree rest
 IsTree place.Number terms rest = (tree : Number) × (terms ≡ number_before tree rest)
 IsTree place.Text terms rest = (tree : Text) × (terms ≡ text_before tree rest)
 IsTree place.Digits terms rest = (tree : Digits) × (terms ≡ digits_before tree rest)
+IsTree place.Index terms rest = (tree : Index) × (terms ≡ index_before tree rest)
 
 -- trees of these places, one after the other
 abbrev pub AreTrees : List TermPlace → Terms → Type 0
@@ -129,6 +132,8 @@ number_tree place.Expr value span rest fits =
 number_tree place.Number value span rest fits = (record { value = value; span = span }, refl)
 number_tree place.Digits (pos n) span rest fits = (record { count = n; span = span }, refl)
 number_tree place.Digits (negsuc n) span rest fits = absurd (cc)
+number_tree place.Index (pos n) span rest fits = (record { value = n; span = span }, refl)
+number_tree place.Index (negsuc n) span rest fits = absurd (cc)
 number_tree _ value span rest fits = absurd (cc)
 
 -- a string that fits
@@ -148,6 +153,14 @@ Makes Tree before head_word arguments span =
 with : (head_word : List ℕ) (span : Span) (arguments inner : Terms) → arguments ≡ inner
     → (rest : Terms) → call head_word arguments span rest ≡ call head_word inner span rest
 with head_word span arguments inner is rest = ap (λ (a : Terms). call head_word a span rest) is
+
+-- expressions, one after the other
+some_expressions : (n : ℕ) (terms : Terms) → AreTrees (replicate n place.Expr) terms
+    → (parts : Expressions) × (terms ≡ expressions_terms parts)
+some_expressions zero terms is = (e.none, is)
+some_expressions (suc n) terms (rest, (first, is-first), others) =
+    let more = some_expressions n rest others in
+    (e.more first more.0, is-first ∙ ap (expression_before first) more.1)
 
 -- the calls that are expressions
 expression_tree : (head : ExpressionHead) (arguments : Terms) (span : Span)
@@ -179,6 +192,15 @@ expression_tree expression.Get arguments span
       with _ span arguments _ (is-table ∙ ap (name_before table)
           (is-key ∙ ap (text_before key) (is-a ∙ ap (expression_before a) end))),
     )
+expression_tree expression.Part arguments span
+    (_, (whole, is-whole), (_, (index, is-index), end)) = (
+      e.part whole index span,
+      with _ span arguments _
+          (is-whole ∙ ap (name_before whole) (is-index ∙ ap (index_before index) end)),
+    )
+expression_tree (expression.Record count) arguments span trees =
+    let parts = some_expressions count arguments trees in
+    (e.rec parts.0 span, with _ span arguments _ parts.1)
 
 -- those that are comparisons
 comparison_tree : (compare : Compare) (arguments : Terms) (span : Span)

@@ -24,7 +24,7 @@ use Rattle.query_parser.proofs.OptionCases.{Some-no_none, chosen-none, first_of_
 use Rattle.query_parser.proofs.Rows.{call_before}
 use Rattle.query_syntax.specs.Fits.{Fits, AllFit}
 use Rattle.query_syntax.specs.Tops.{FitsTop, FitsStream, FitsLet, AreBody, AreTops}
-use Rattle.query_syntax.proofs.Fitting.{both_tests, count_of_terms, first_fits}
+use Rattle.query_syntax.proofs.Fitting.{both_tests, count_of_terms, each_fits, first_fits}
 
 -- a term before others is some term
 some_term : (term : Term) (rest : Terms) → term_before term rest ≡ none → ⊥
@@ -172,18 +172,6 @@ stream_call term word arguments span fits is =
       few = let t = tests.1 in grind (arith, nat_tests);
     }
 
--- each of the terms is a column
-pub columns_fit : (columns : List Term) (n : ℕ) → length columns ≡ n
-    → first_unfit (replicate n Column) (terms_of columns) ≡ None → All (Fits Column) columns
-columns_fit [] n many fit = All-nil (Fits Column)
-columns_fit (first ∷ columns) n many fit =
-    let same : n ≡ suc (length columns) = sym many in
-    let at = first_fits Column (replicate (length columns) Column) first (terms_of columns)
-    (subst (λ m. first_unfit (replicate m Column) (term_before first (terms_of columns)) ≡ None)
-    same fit) in
-    All-cons (Fits Column) first columns (record { fit = at.0 })
-    (columns_fit columns (length columns) refl at.1)
-
 -- the mode and the columns of a stream
 pub record Splits (list : List Term) (mode : Term) (columns : List Term) : Type 0 where
   pub mode_fits : Fits Mode mode
@@ -201,7 +189,7 @@ stream_split (first ∷ list) mode some fit is =
     (terms_of list) fit.fit in
     rw (rest, is) (record {
       mode_fits = record { fit = at.0 };
-      columns_fit_all = columns_fit list (length list) refl
+      columns_fit_all = each_fits Column list (length list) refl
           (subst (λ n. first_unfit (replicate n Column) (terms_of list) ≡ None) many at.1);
       terms = refl;
     })

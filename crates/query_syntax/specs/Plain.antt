@@ -1,5 +1,5 @@
 -- Statement. The plain trees that those of the program are.
-use Rattle.std.specs.Prelude.{map}
+use Rattle.std.specs.Prelude.{List, [], ◌∷◌, map}
 use Rattle.query_syntax.specs.declared.expression.Expression as expression
 use Rattle.query_syntax.specs.declared.predicate.Predicate as predicate
 use Rattle.query_syntax.specs.declared.rate.Rate as rate
@@ -14,20 +14,34 @@ use Rattle.query_syntax.specs.Rates as r
 use Rattle.query_syntax.specs.Queries as q
 use Rattle.query_syntax.specs.Programs as plain
 
--- an expression
-abbrev pub plain_expression : expression.Expression → e.Expression
-plain_expression (expression.Number n) = e.number n
-plain_expression (expression.Name n) = e.name n
-plain_expression (expression.Unary' op _ a span) = e.unary op (plain_expression a) span
-plain_expression (expression.Binary' op _ a _ b span) =
-    e.binary op (plain_expression a) (plain_expression b) span
-plain_expression (expression.If' op _ a _ b at _ c _ d span) =
-    e.choice op (plain_expression a) (plain_expression b) at (plain_expression c)
-    (plain_expression d) span
-plain_expression (expression.Summary op table span) = e.summary op table span
-plain_expression (expression.Extremum' op table _ a span) =
-    e.extremum op table (plain_expression a) span
-plain_expression (expression.Get' table key _ a span) = e.get table key (plain_expression a) span
+abbrev mutual
+  -- an expression
+  pub plain_expression : expression.Expression → e.Expression
+  plain_expression (expression.Number n) = e.number n
+  plain_expression (expression.Name n) = e.name n
+  plain_expression (expression.Unary' op _ a span) = e.unary op (plain_expression a) span
+  plain_expression (expression.Binary' op _ a _ b span) =
+      e.binary op (plain_expression a) (plain_expression b) span
+  plain_expression (expression.If' op _ a _ b at _ c _ d span) =
+      e.choice op (plain_expression a) (plain_expression b) at (plain_expression c)
+      (plain_expression d) span
+  plain_expression (expression.Summary op table span) = e.summary op table span
+  plain_expression (expression.Extremum' op table _ a span) =
+      e.extremum op table (plain_expression a) span
+  plain_expression (expression.Get' table key _ a span) = e.get table key (plain_expression a) span
+  plain_expression (expression.Record' shape parts span) = e.rec (row_expressions parts) span
+  plain_expression (expression.Part whole index span) = e.part whole index span
+
+  -- the parts of a record
+  pub row_expressions : {n : _} → expression.Row_of-Expression n → e.Expressions
+  row_expressions expression.end_of-Expression = e.none
+  row_expressions (expression.more_of-Expression first rest) =
+      e.more (plain_expression first) (row_expressions rest)
+
+-- the expressions of a list
+abbrev pub plain_expressions : List expression.Expression → e.Expressions
+plain_expressions [] = e.none
+plain_expressions (first ∷ rest) = e.more (plain_expression first) (plain_expressions rest)
 
 -- a predicate
 abbrev pub plain_predicate : predicate.Predicate → p.Predicate

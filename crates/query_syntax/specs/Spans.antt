@@ -19,6 +19,8 @@ expression_span (e.choice op a b at c d span) = span
 expression_span (e.summary op table span) = span
 expression_span (e.extremum op table a span) = span
 expression_span (e.get table key a span) = span
+expression_span (e.rec parts span) = span
+expression_span (e.part whole index span) = span
 
 -- the place of a predicate
 abbrev pub predicate_span : Predicate → Span

@@ -1,14 +1,15 @@
 -- Statement. The terms that expressions, predicates, rates and queries are written as.
-use Rattle.std.specs.Prelude.{codes}
+use Rattle.std.specs.Prelude.{pos, codes}
 use Rattle.query_forms.specs.Terms.{Terms, none, word, string, call}
 use Rattle.query_forms.specs.Terms as terms
+use Rattle.query_syntax.specs.declared.leaf.Index.{Index}
 use Rattle.query_syntax.specs.declared.leaf.Literal.{Literal}
 use Rattle.query_syntax.specs.declared.leaf.Literal.TheVariants as literal
 use Rattle.query_syntax.specs.declared.leaf.Name.{Name}
 use Rattle.query_syntax.specs.declared.leaf.Number.{Number}
 use Rattle.query_syntax.specs.declared.leaf.Text.{Text}
 use Rattle.query_syntax.specs.Expressions as e
-use Rattle.query_syntax.specs.Expressions.{Expression}
+use Rattle.query_syntax.specs.Expressions.{Expression, Expressions}
 use Rattle.query_syntax.specs.Predicates as p
 use Rattle.query_syntax.specs.Predicates.{Predicate}
 use Rattle.query_syntax.specs.Rates as r
@@ -19,12 +20,15 @@ use Rattle.query_syntax.specs.Words.{unary_word, binary_word, compare_word, summ
 use Rattle.query_syntax.specs.Words.{extremum_word, equality_word, order_word, connective_word}
 use Rattle.query_syntax.specs.Words.{join_word}
 
--- names, numbers, strings and literals before other terms
+-- names, numbers, indices, strings and literals before other terms
 abbrev pub name_before : Name → Terms → Terms
 name_before n rest = word n.bytes n.span rest
 
 abbrev pub number_before : Number → Terms → Terms
 number_before n rest = terms.number n.value n.span rest
+
+abbrev pub index_before : Index → Terms → Terms
+index_before n rest = terms.number (pos n.value) n.span rest
 
 abbrev pub text_before : Text → Terms → Terms
 text_before t rest = string t.bytes t.span rest
@@ -33,24 +37,33 @@ abbrev pub literal_before : Literal → Terms → Terms
 literal_before (literal.Number n) rest = number_before n rest
 literal_before (literal.Text t) rest = text_before t rest
 
--- an expression before other terms
-abbrev pub expression_before : Expression → Terms → Terms
-expression_before (e.number n) rest = number_before n rest
-expression_before (e.name n) rest = name_before n rest
-expression_before (e.unary op a span) rest =
-    call (unary_word op) (expression_before a none) span rest
-expression_before (e.binary op a b span) rest =
-    call (binary_word op) (expression_before a (expression_before b none)) span rest
-expression_before (e.choice op a b at c d span) rest = call (codes "if")
-    (call (compare_word op) (expression_before a (expression_before b none)) at
-    (expression_before c (expression_before d none)))
-    span rest
-expression_before (e.summary op table span) rest =
-    call (summary_word op) (name_before table none) span rest
-expression_before (e.extremum op table a span) rest =
-    call (extremum_word op) (name_before table (expression_before a none)) span rest
-expression_before (e.get table key a span) rest =
-    call (codes "tget") (name_before table (text_before key (expression_before a none))) span rest
+abbrev mutual
+  -- an expression before other terms
+  pub expression_before : Expression → Terms → Terms
+  expression_before (e.number n) rest = number_before n rest
+  expression_before (e.name n) rest = name_before n rest
+  expression_before (e.unary op a span) rest =
+      call (unary_word op) (expression_before a none) span rest
+  expression_before (e.binary op a b span) rest =
+      call (binary_word op) (expression_before a (expression_before b none)) span rest
+  expression_before (e.choice op a b at c d span) rest = call (codes "if")
+      (call (compare_word op) (expression_before a (expression_before b none)) at
+      (expression_before c (expression_before d none)))
+      span rest
+  expression_before (e.summary op table span) rest =
+      call (summary_word op) (name_before table none) span rest
+  expression_before (e.extremum op table a span) rest =
+      call (extremum_word op) (name_before table (expression_before a none)) span rest
+  expression_before (e.get table key a span) rest =
+      call (codes "tget") (name_before table (text_before key (expression_before a none))) span rest
+  expression_before (e.rec parts span) rest = call (codes "rec") (expressions_terms parts) span rest
+  expression_before (e.part whole index span) rest =
+      call (codes "part") (name_before whole (index_before index none)) span rest
+
+  -- expressions, one after the other
+  pub expressions_terms : Expressions → Terms
+  expressions_terms e.none = none
+  expressions_terms (e.more first others) = expression_before first (expressions_terms others)
 
 -- a predicate before other terms
 abbrev pub predicate_before : Predicate → Terms → Terms

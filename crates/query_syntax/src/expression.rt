@@ -1,5 +1,6 @@
 //! Expressions and comparisons.
-use crate::{BinaryOp, Compare, Extremum, Name, Number, Summary, Text, UnaryOp};
+use crate::{BinaryOp, Compare, Extremum, Index, Name, Number, Summary, Text, UnaryOp};
+use few_parts::Few;
 use language_base::Span;
 
 /// An expression, with its names as they are written.
@@ -40,6 +41,17 @@ pub enum Expression {
         table: Name,
         key: Text,
         absent: Box<Expression>,
+        span: Span,
+    },
+    /// The record of these parts.
+    Record {
+        parts: Few<Expression>,
+        span: Span,
+    },
+    /// A part of the record that the name stands for.
+    Part {
+        whole: Name,
+        index: Index,
         span: Span,
     },
 }

@@ -1,5 +1,6 @@
 //! The expressions that calls write, from their arguments.
-ghost use Rattle.std.specs.Prelude.{◌≡◌, [], ◌∷◌, IfOk, codes};
+ghost use Rattle.std.specs.Prelude.{◌≡◌, [], ◌∷◌, All, IfOk, codes, length};
+ghost use Rattle.few_parts.specs.Sizes.{IsRecordSize};
 ghost use Rattle.query_forms.specs.declared.term_place.TermPlace.TheVariants as place;
 ghost use Rattle.query_forms.specs.Terms.{Terms, call, none};
 ghost use Rattle.query_parser.specs.Plain.{term_before, terms_of};
@@ -11,9 +12,10 @@ ghost use Rattle.query_syntax.specs.Words.{unary_word};
 ghost use Rattle.query_syntax.specs.Written.{expression_before};
 
 use crate::expression_head::comparison_head;
-use crate::expression_reading::boxed_expression;
-use crate::leaf_reading::{name_of, text_of};
+use crate::expression_reading::{boxed_expression, expression_of};
+use crate::leaf_reading::{index_of, name_of, text_of};
 use crate::{BinaryOp, Comparison, Expression, Extremum, Summary, UnaryOp};
+use few_parts::Few;
 use language_base::Span;
 use query_parser::Term;
 use std::alloc::{AllocError, Global};
@@ -145,6 +147,49 @@ pub(crate) fn get_of(
         table,
         key: text_of(alloc, key)?,
         absent,
+        span,
+    })
+}
+
+pub(crate) fn part_of(
+    alloc: Global,
+    arguments: &[Term],
+    span: Span,
+) -> Result<Expression, AllocError>
+    requires { AllFit (place.Name ∷ place.Index ∷ []) arguments.now }
+    ensures { IfOk result (λ expression.
+        IsCall (codes "part") arguments.now span
+        (expression_before (plain_expression expression))) }
+{
+    let [whole, index] = arguments else {
+        unreachable!();
+    };
+    let index = index_of(index);
+    Ok(Expression::Part {
+        whole: name_of(alloc, whole)?,
+        index,
+        span,
+    })
+}
+
+#[cycle(read_expression)]
+pub(crate) fn record_of(
+    alloc: Global,
+    arguments: &[Term],
+    span: Span,
+) -> Result<Expression, AllocError>
+    requires fit { All (Fits place.Expr) arguments.now }
+    requires size { IsRecordSize (length arguments.now) }
+    ensures { IfOk result (λ expression.
+        IsCall (codes "rec") arguments.now span
+        (expression_before (plain_expression expression))) }
+{
+    let mut parts = Vec::new(alloc);
+    'arguments: for argument in arguments {
+        parts.push(expression_of(alloc, argument)?)?;
+    }
+    Ok(Expression::Record {
+        parts: Few::of(parts),
         span,
     })
 }

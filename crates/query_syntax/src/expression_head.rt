@@ -4,6 +4,7 @@ ghost use Rattle.query_forms.specs.declared.term_place.TermPlace.TheVariants as 
 ghost use Rattle.query_syntax.specs.ExpressionHeads.{binaries, comparisons, compare_places};
 ghost use Rattle.query_syntax.specs.ExpressionHeads.{expression_places, expression_word};
 ghost use Rattle.query_syntax.specs.ExpressionHeads.{expressions, extrema};
+ghost use Rattle.query_syntax.specs.ExpressionHeads.{HasRecordSize, of_records, without_records};
 ghost use Rattle.query_syntax.specs.Fits.{AllFit, HasForm};
 ghost use Rattle.query_syntax.specs.Rows.{head_in};
 ghost use Rattle.query_syntax.specs.Words.{compare_word};
@@ -20,10 +21,35 @@ pub(crate) enum ExpressionHead {
     Summary(Summary),
     Extremum(Extremum),
     Get,
+    Part,
+    /// A record of this many parts.
+    Record(usize),
 }
 
 fn expression_named(word: &[u8], count: usize) -> Option<ExpressionHead>
     ensures { result ≡ head_in expressions word.now count }
+{
+    match named_without_records(word, count) {
+        Some(head) => Some(head),
+        None => record_named(word, count),
+    }
+}
+
+// The record or the part of one that a call is.
+fn record_named(word: &[u8], count: usize) -> Option<ExpressionHead>
+    ensures { result ≡ head_in of_records word.now count }
+{
+    if word == b"part".as_slice() && count == 2 {
+        Some(ExpressionHead::Part)
+    } else if word == b"rec".as_slice() && 2 <= count && count <= 8 {
+        Some(ExpressionHead::Record(count))
+    } else {
+        None
+    }
+}
+
+fn named_without_records(word: &[u8], count: usize) -> Option<ExpressionHead>
+    ensures { result ≡ head_in without_records word.now count }
 {
     match count {
         1 => named_with_one(word),
@@ -35,7 +61,7 @@ fn expression_named(word: &[u8], count: usize) -> Option<ExpressionHead>
 
 // The expression that a call with one argument is.
 fn named_with_one(word: &[u8]) -> Option<ExpressionHead>
-    ensures { result ≡ head_in expressions word.now 1 }
+    ensures { result ≡ head_in without_records word.now 1 }
 {
     match word {
         b"neg" => Some(ExpressionHead::Unary(UnaryOp::Neg)),
@@ -47,7 +73,7 @@ fn named_with_one(word: &[u8]) -> Option<ExpressionHead>
 }
 
 fn named_with_two(word: &[u8]) -> Option<ExpressionHead>
-    ensures { result ≡ head_in expressions word.now 2 }
+    ensures { result ≡ head_in without_records word.now 2 }
 {
     match binary_named(word) {
         Some(head) => Some(head),
@@ -83,7 +109,7 @@ fn extremum_named(word: &[u8]) -> Option<ExpressionHead>
 }
 
 fn named_with_three(word: &[u8]) -> Option<ExpressionHead>
-    ensures { result ≡ head_in expressions word.now 3 }
+    ensures { result ≡ head_in without_records word.now 3 }
 {
     match word {
         b"if" => Some(ExpressionHead::If),
@@ -96,6 +122,7 @@ pub(crate) fn expression_head(word: &[u8], arguments: &[Term]) -> ExpressionHead
     requires { HasForm place.Expr word.now arguments.now }
     ensures word { word.now ≡ expression_word result }
     ensures places { AllFit (expression_places result) arguments.now }
+    ensures size { HasRecordSize result }
 {
     match expression_named(word, arguments.len()) {
         Some(head) => head,

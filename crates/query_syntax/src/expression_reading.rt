@@ -8,7 +8,9 @@ ghost use Rattle.query_syntax.specs.Fits.{Fits, HasForm};
 ghost use Rattle.query_syntax.specs.Plain.{plain_expression};
 ghost use Rattle.query_syntax.specs.Written.{expression_before};
 
-use crate::expression_calls::{binary_of, extremum_of, get_of, if_of, summary_of, unary_of};
+use crate::expression_calls::{
+    binary_of, extremum_of, get_of, if_of, part_of, record_of, summary_of, unary_of,
+};
 use crate::expression_head::{ExpressionHead, expression_head};
 use crate::{Expression, Name, Number};
 use language_base::Span;
@@ -16,7 +18,7 @@ use query_parser::Term;
 use std::alloc::{AllocError, Global};
 
 #[cycle(read_expression)]
-fn expression_of(alloc: Global, term: &Term) -> Result<Expression, AllocError>
+pub(crate) fn expression_of(alloc: Global, term: &Term) -> Result<Expression, AllocError>
     requires { Fits place.Expr term.now }
     ensures { IfOk result (λ expression. (rest : Terms)
         → term_before term.now rest ≡ expression_before (plain_expression expression) rest) }
@@ -55,6 +57,8 @@ fn expression_call(
         ExpressionHead::Summary(summary) => summary_of(alloc, summary, arguments, span),
         ExpressionHead::Extremum(extremum) => extremum_of(alloc, extremum, arguments, span),
         ExpressionHead::Get => get_of(alloc, arguments, span),
+        ExpressionHead::Part => part_of(alloc, arguments, span),
+        ExpressionHead::Record(_) => record_of(alloc, arguments, span),
     }
 }
 

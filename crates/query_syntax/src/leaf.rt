@@ -14,6 +14,13 @@ pub struct Number {
     pub span: Span,
 }
 
+/// Which part of a record, from 1 to 8.
+#[derive(Clone, Copy, Debug, PartialEq, Eq)]
+pub struct Index {
+    pub value: u8,
+    pub span: Span,
+}
+
 /// A string, as the bytes that it stands for.
 #[derive(Drop)]
 pub struct Text {

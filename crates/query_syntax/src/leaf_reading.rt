@@ -4,10 +4,10 @@ ghost use Rattle.query_forms.specs.declared.term_place.TermPlace.TheVariants as 
 ghost use Rattle.query_forms.specs.Terms.{Terms};
 ghost use Rattle.query_parser.specs.Plain.{term_before};
 ghost use Rattle.query_syntax.specs.Fits.{Fits};
-ghost use Rattle.query_syntax.specs.Written.{literal_before, name_before, number_before};
-ghost use Rattle.query_syntax.specs.Written.{text_before};
+ghost use Rattle.query_syntax.specs.Written.{index_before, literal_before, name_before};
+ghost use Rattle.query_syntax.specs.Written.{number_before, text_before};
 
-use crate::{Literal, Name, Number, Text};
+use crate::{Index, Literal, Name, Number, Text};
 use query_parser::Term;
 use std::alloc::{AllocError, Global};
 
@@ -33,6 +33,19 @@ pub(crate) fn number_of(term: &Term) -> Number
         Term::Number(value, span) => Number {
             value: *value,
             span: *span,
+        },
+        Term::Word(_, _) | Term::Text(_, _) | Term::Call(_, _, _) => unreachable!(),
+    }
+}
+
+pub(crate) fn index_of(term: &Term) -> Index
+    requires { Fits place.Index term.now }
+    ensures { (rest : Terms) → term_before term.now rest ≡ index_before result rest }
+{
+    match term {
+        Term::Number(value, span) => match u8::try_from(*value) {
+            Ok(value) => Index { value, span: *span },
+            Err(_) => unreachable!(),
         },
         Term::Word(_, _) | Term::Text(_, _) | Term::Call(_, _, _) => unreachable!(),
     }

@@ -30,7 +30,7 @@ mod syntax;
 pub use expression::{Comparison, Expression};
 pub use language_base::{BinaryOp, Compare, UnaryOp};
 pub use laws::{one_program, streams_are_within_the_limits};
-pub use leaf::{Literal, Name, Number, Text};
+pub use leaf::{Index, Literal, Name, Number, Text};
 pub use operator::{Connective, Equality, Extremum, Join, Order, Summary};
 pub use predicate::Predicate;
 pub use program::{Let, Main, Program};

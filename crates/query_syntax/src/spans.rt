@@ -18,7 +18,9 @@ impl Expression {
             | Expression::If { span, .. }
             | Expression::Summary { span, .. }
             | Expression::Extremum { span, .. }
-            | Expression::Get { span, .. } => *span,
+            | Expression::Get { span, .. }
+            | Expression::Record { span, .. }
+            | Expression::Part { span, .. } => *span,
         }
     }
 }

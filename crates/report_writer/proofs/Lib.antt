@@ -1,3 +1,4 @@
 mod Begins
 mod Joined
+pub mod Records
 pub mod Tables

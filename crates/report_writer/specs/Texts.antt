@@ -3,7 +3,7 @@ use Rattle.std.specs.Prelude.{ℕ, zero, suc, ◌+◌, ◌/◌, ◌%◌, ◌==�
 use Rattle.std.specs.Prelude.{List, [], ◌∷◌, ◌++◌, codes, decimal, Option, Some, None}
 use Rattle.std.specs.Prelude.{if◌then◌else◌}
 use Rattle.std.specs.Fmt.{signed_decimal}
-use Rattle.std.specs.List.{flat_map}
+use Rattle.std.specs.List.{flat_map, join_by}
 use Rattle.value_ops.specs.declared.scalar.Scalar.{Scalar}
 use Rattle.value_ops.specs.declared.scalar.Scalar.TheVariants.{Number, Overflow, DivZero}
 use Rattle.value_ops.specs.declared.value.Value.{Value}
@@ -53,9 +53,18 @@ entries_text (entry ∷ others) = entry_text entry ++ codes "," ++ entries_text 
 abbrev pub table_text : List (List ℕ × Scalar) → List ℕ
 table_text entries = codes "{" ++ entries_text entries ++ codes "}"
 
--- a scalar or a table
+-- the parts of a record, with a comma between them
+abbrev pub parts_text : List Scalar → List ℕ
+parts_text parts = join_by scalar_text (codes ",") parts
+
+-- the same between parentheses
+abbrev pub record_text : List Scalar → List ℕ
+record_text parts = codes "(" ++ parts_text parts ++ codes ")"
+
+-- a scalar, a record or a table
 abbrev pub value_text : Value → List ℕ
 value_text (value.Scalar scalar) = scalar_text scalar
+value_text (value.Rec parts) = record_text parts
 value_text (value.Table entries) = table_text entries
 
 -- a value, or that there is none

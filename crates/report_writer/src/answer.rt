@@ -4,6 +4,7 @@ ghost use Rattle.std.specs.Option.{option_copied};
 ghost use Rattle.std.specs.Prelude.{◌≡◌, ◌++◌, OnOk, OnErr};
 ghost use Rattle.report_writer.specs.Texts.{answer_text, scalar_text, value_text};
 
+use crate::record_text::push_record;
 use crate::table_text::push_table;
 use itoa::Buffer;
 use std::alloc::AllocError;
@@ -30,6 +31,7 @@ pub(crate) fn push_value(value: &Value, text: &mut Vec<u8>) -> Result<(), AllocE
 {
     match value {
         Value::Scalar(scalar) => push_scalar(*scalar, text),
+        Value::Rec(parts) => push_record(parts, text),
         Value::Table(table) => push_table(table, text),
     }
 }

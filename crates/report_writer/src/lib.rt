@@ -5,6 +5,7 @@ mod answer;
 mod command;
 mod example;
 mod key_text;
+mod record_text;
 mod refusal;
 mod skip;
 mod table_text;

@@ -38,7 +38,7 @@ fn push_entry(table: &Table, place: usize, text: &mut Vec<u8>) -> Result<(), All
 }
 
 // A comma stands before each entry but the first.
-fn push_comma(place: usize, text: &mut Vec<u8>) -> Result<(), AllocError>
+pub(crate) fn push_comma(place: usize, text: &mut Vec<u8>) -> Result<(), AllocError>
     ensures ok { OnOk result (text.new.items ≡ text.old.items ++ comma_at place) }
     ensures err { OnErr result (StartsWith text.new.items text.old.items) }
 {

@@ -52,7 +52,7 @@ fn items_of(
     alloc: Global,
     schema: &Schema,
     lines: &[Bytes],
-) -> Result<Option<Vec<Item>>, AllocError>
+) -> Result<Option<Vec<Item<'static>>>, AllocError>
     ensures read { IfOk result (λ items.
         IfSome items (λ word. AreRead schema.now.columns lines.now word.items)) }
     ensures word { IfOk result (λ items.

@@ -7,12 +7,13 @@ use Rattle.std.specs.Str.{bytes_eq}
 use Rattle.std.proofs.lemmas.List.{length-map, map-append, take-map, take_more}
 use Rattle.value_ops.specs.declared.value.Value.{Value}
 use Rattle.value_ops.specs.declared.value.Value.TheVariants as value
+use Rattle.value_ops.specs.declared.value.ValueType.TheVariants.{Number}
 use Rattle.value_ops.specs.Types.{IsValueOf}
 use Rattle.predicate_cells.specs.Predicates.{Predicate}
 use Rattle.rate_expr.specs.Language.{In}
 use Rattle.rate_expr.specs.Rates as rate
 use Rattle.rate_expr.specs.Words.{Word}
-use Rattle.query_model.specs.Denotation.{AreEntries, keys_after, projection}
+use Rattle.query_model.specs.Denotation.{AreEntries, Den, keys_after, projection}
 use Rattle.query_model.specs.Following.{IsAnswer}
 use Rattle.query_model.specs.Queries.{Qre, collect}
 use Rattle.query_model.specs.Rules.{bound}
@@ -126,6 +127,13 @@ module _ (f : Qre) (column : ℕ) (sync : Predicate) (r : rate.Regex) (word : Wo
       by (get_or one.answers.items place None) (each.0.each place inside)
       (entries_are place inside some each.1)
     where
+      is_number : (v : Value) → Den f (projection column sync one.key (take place word)) v
+          → IsValueOf Number v
+      is_number v den = subst (λ ty. IsValueOf ty v) can.clear.1
+          (den_typed bound can.columns f (projection column sync one.key (take place word)) v
+          can.clear.0 (kept_word can.columns _ (take place word)
+          (front_word can.columns word place can.is_word)) den)
+
       by : (answer : Option Value)
           → IsAnswer f (projection column sync one.key (take place word)) answer
           → AreEntries (on_keys f column sync (take place word)) (keys_in some)
@@ -135,12 +143,8 @@ module _ (f : Qre) (column : ℕ) (sync : Predicate) (r : rate.Regex) (word : Wo
       by None none rest = inr (none, rest)
       by (Some (value.Scalar scalar)) den rest =
           inl (scalar, entries_at place some, den, rest, refl)
-      by (Some (value.Table entries)) den rest =
-          absurd (subst (λ ty. IsValueOf ty (value.Table entries)) can.clear.1
-          (den_typed bound can.columns f (projection column sync one.key (take place word))
-          (value.Table entries)
-          can.clear.0 (kept_word can.columns _ (take place word)
-          (front_word can.columns word place can.is_word)) den))
+      by (Some (value.Rec parts)) den rest = absurd (is_number (value.Rec parts) den)
+      by (Some (value.Table entries)) den rest = absurd (is_number (value.Table entries) den)
 
   -- those of the keys of the front
   table_is : (place : ℕ) → place ≤ length word

@@ -92,6 +92,7 @@ no_entry key place (one ∷ all) differ =
     by None rest = rest
     by (Some (value.Scalar scalar)) rest =
         ap (λ b. cond b (Some scalar) (value_at key (entries_at place all))) differ.0 ∙ rest
+    by (Some (value.Rec parts)) rest = rest
     by (Some (value.Table entries)) rest = rest
 
 -- no entry stands under a key before it is put
@@ -132,12 +133,14 @@ pub entry_some : (key : List ℕ) (answer : Option Value) (scalar : Scalar)
 entry_some key None scalar is = let no : None ≡ Some scalar = is in cc
 entry_some key (Some (value.Scalar other)) scalar is =
     ap (λ s. Some (key, s)) (let e : Some other ≡ Some scalar = is in cc)
+entry_some key (Some (value.Rec parts)) scalar is = let no : None ≡ Some scalar = is in cc
 entry_some key (Some (value.Table entries)) scalar is = let no : None ≡ Some scalar = is in cc
 
 pub entry_none : (key : List ℕ) (answer : Option Value) → scalar_of answer ≡ None
     → entry_with key answer ≡ None
 entry_none key None is = refl
 entry_none key (Some (value.Scalar other)) is = let no : Some other ≡ None = is in cc
+entry_none key (Some (value.Rec parts)) is = refl
 entry_none key (Some (value.Table entries)) is = refl
 
 -- the key at a place has an answer

@@ -30,6 +30,7 @@ is_lost slow = slow.failed
 abbrev pub size_of_answer : Option Value → ℕ
 size_of_answer None = 0
 size_of_answer (Some (value.Scalar scalar)) = 1
+size_of_answer (Some (value.Rec parts)) = 1
 size_of_answer (Some (value.Table entries)) = length entries + 1
 
 -- how much the engine keeps: one for each item, and the answer

@@ -3,14 +3,14 @@ use Rattle.std.specs.Prelude.{◌≡◌, ◌<◌, ℕ, ◌+◌, List, [], ◌∷
 use Rattle.std.specs.Option.{option_and, option_map}
 use Rattle.std.specs.List.{filter_map}
 use Rattle.value_ops.specs.declared.field.Field.{Field}
-use Rattle.value_ops.specs.declared.field.Field.TheVariants as field
 use Rattle.value_ops.specs.declared.value.Value.{Value}
+use Rattle.item_schema.specs.Items.{fields_of_value}
 use Rattle.rate_expr.specs.Words.{Word}
 use Rattle.slow_eval.specs.Rows.{answer_at}
 
 -- a value as an item of a stream of values
 abbrev pub item_of : Value → List Field
-item_of value = field.Val value ∷ []
+item_of value = fields_of_value value
 
 -- the stream of the answers, where there are any
 abbrev pub stream_of : List (Option Value) → Word

@@ -25,12 +25,14 @@ pub record IsKeyed (query : Qre) (column : ℕ) (sync : Predicate) (word : Word)
 abbrev pub scalar_of : Option Value → Option Scalar
 scalar_of None = None
 scalar_of (Some (value.Scalar scalar)) = Some scalar
+scalar_of (Some (value.Rec parts)) = None
 scalar_of (Some (value.Table entries)) = None
 
 -- the entry of the key, if its answer is a scalar
 abbrev pub entry_with : List ℕ → Option Value → Option (List ℕ × Scalar)
 entry_with key None = None
 entry_with key (Some (value.Scalar scalar)) = Some (key, scalar)
+entry_with key (Some (value.Rec parts)) = None
 entry_with key (Some (value.Table entries)) = None
 
 -- the entries of the keys that have a scalar at the place

@@ -74,7 +74,7 @@ impl Follower for Slow<'_> {
     ghost follows_sound = { follows_sound };
 }
 
-fn copied(alloc: Global, items: &[Item]) -> Result<Vec<Item>, AllocError>
+fn copied(alloc: Global, items: &[Item]) -> Result<Vec<Item<'static>>, AllocError>
     ensures { IfOk result (λ copy. copy.items ≡ items.now) }
 {
     let mut copy = Vec::with_capacity(alloc, items.len())?;
@@ -90,7 +90,7 @@ fn size_of(answer: &Option<Value>) -> u64
 {
     match answer {
         None => 0,
-        Some(Value::Scalar(_)) => 1,
+        Some(Value::Scalar(_) | Value::Rec(_)) => 1,
         Some(Value::Table(table)) => (table.len() as u64).saturating_add(1),
     }
 }

@@ -59,7 +59,7 @@ fn has_key(keys: &[Bytes], key: &[u8]) -> bool
     keys.iter().any(|other| key == other.as_slice())
 }
 
-fn key_of(item: &Item, column: u32) -> &[u8]
+fn key_of<'i>(item: &'i Item<'_>, column: u32) -> &'i [u8]
     ensures { result.now ≡ key_of column item.now }
 {
     match item.fields().get(column as usize) {
@@ -83,7 +83,7 @@ pub(crate) fn projection(
     sync: &Pred,
     key: &[u8],
     word: &[Item],
-) -> Result<Vec<Item>, AllocError>
+) -> Result<Vec<Item<'static>>, AllocError>
     ensures { IfOk result (λ items.
         items.items ≡ projection column (plain_of sync.now) key.now word.now) }
 {

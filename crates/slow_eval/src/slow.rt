@@ -12,7 +12,7 @@ use value_ops::Value;
 #[derive(Drop)]
 pub struct Slow<'q> {
     pub(crate) checked: &'q Checked,
-    pub(crate) items: Vec<Item>,
+    pub(crate) items: Vec<Item<'static>>,
     pub(crate) answer: Option<Value>,
     pub(crate) failed: bool,
 }

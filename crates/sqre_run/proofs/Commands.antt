@@ -7,7 +7,7 @@ use Rattle.std.proofs.KnownBytes.{Appends-nil}
 use Rattle.std.proofs.lemmas.Nat.{mul-le}
 use Rattle.io_edge.specs.Written.{AppendsSome}
 use Rattle.language_base.specs.declared.refusal.Refusal.{Refusal}
-use Rattle.query_model.specs.Bounds.{inner_of, places_of, slots_of}
+use Rattle.query_model.specs.Bounds.{inner_of, places_of, slots_of, width_of}
 use Rattle.query_model.specs.Monitors.{Monitor}
 use Rattle.query_model.specs.Queries.{Qre, atom, eps, choice, split, iter, combine, apply, compose}
 use Rattle.query_model.specs.Queries.{collect}
@@ -279,7 +279,10 @@ places_are_kept (combine f g expression) = let a = places_are_kept f in
 places_are_kept (apply f expression) = let a = places_are_kept f in omega arith
 places_are_kept (compose f g) = let a = places_are_kept f in omega arith
 places_are_kept (collect column sync rate f) =
-    omega (arith, at_least (size_of rate + 1) (1 + size_of rate + (inner_of f + 2)) (omega arith))
+    omega (
+      arith,
+      at_least (size_of rate + 1) (1 + size_of rate + (inner_of f + 1 + width_of f)) (omega arith),
+    )
 
 -- the bounds of a small query are reported as they are
 pub bounds_are_small : (q : Qre) → slots_of q ≤ max_slots

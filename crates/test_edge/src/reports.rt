@@ -6,7 +6,7 @@ use report_writer::{bound_text, check_text, drill_text, push_answer, push_skip, 
 use std::alloc::{AllocError, Global};
 use std::process::Abort;
 use std::test::Fail;
-use value_ops::{Scalar, Table, Value};
+use value_ops::{Rec, Scalar, Table, Value};
 
 fn boxed(alloc: Global, value: Value) -> Result<Box<Value>, AllocError> {
     Ok(Box::new(alloc, value)?)
@@ -38,6 +38,18 @@ fn answers_are_scalars(rt: HostRuntime) -> Result<(), Fail> {
         let value = boxed(rt.alloc(), Value::Scalar(scalar))?;
         is_written(&rt, rt.alloc(), &value, wanted)?;
     }
+    Ok(())
+}
+
+#[test]
+fn a_record_has_its_parts_between_parentheses(rt: HostRuntime) -> Result<(), Fail> {
+    let pair = Rec::new(&[Scalar::Number(5), Scalar::Number(1)]);
+    let pair = boxed(rt.alloc(), Value::Rec(pair))?;
+    is_written(&rt, rt.alloc(), &pair, b"(5,1)\n")?;
+    let triple = Rec::new(&[Scalar::Number(i64::MIN), Scalar::Overflow, Scalar::DivZero]);
+    let triple = boxed(rt.alloc(), Value::Rec(triple))?;
+    let wanted = b"(-9223372036854775808,overflow,divzero)\n";
+    is_written(&rt, rt.alloc(), &triple, wanted)?;
     Ok(())
 }
 

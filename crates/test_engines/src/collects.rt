@@ -79,7 +79,7 @@ fn checked(alloc: Global) -> Result<Box<Checked>, AllocError>
     Ok(Box::new(alloc, Checked::new(columns, main))?)
 }
 
-fn item(alloc: Global, key: &[u8], number: i64) -> Result<Item, AllocError>
+fn item(alloc: Global, key: &[u8], number: i64) -> Result<Item<'static>, AllocError>
     ensures { IfOk result (λ item. item ≡ Field.Text key.now ∷ Field.Int number ∷ []) }
 {
     let mut fields = Vec::new(alloc);

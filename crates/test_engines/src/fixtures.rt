@@ -89,7 +89,7 @@ pub fn numbers(alloc: Global) -> Result<Schema, AllocError>
     Ok(Schema::new(false, columns))
 }
 
-pub fn item(alloc: Global, number: i64) -> Result<Item, AllocError>
+pub fn item(alloc: Global, number: i64) -> Result<Item<'static>, AllocError>
     ensures { IfOk result (λ item. item ≡ Field.Int number ∷ []) }
 {
     let mut fields = Vec::new(alloc);

@@ -92,7 +92,7 @@ fn collection(alloc: Global) -> Result<Box<Query>, AllocError>
     query(alloc, Shape::Collect(0, sync, Rate::Star(any), inner))
 }
 
-fn item(alloc: Global, name: &[u8]) -> Result<Item, AllocError>
+fn item(alloc: Global, name: &[u8]) -> Result<Item<'static>, AllocError>
     ensures { IfOk result (λ item. item ≡ Field.Text name.now ∷ []) }
 {
     let mut fields = Vec::new(alloc);
@@ -100,7 +100,7 @@ fn item(alloc: Global, name: &[u8]) -> Result<Item, AllocError>
     Ok(Item::from_fields(fields))
 }
 
-fn two_items(alloc: Global) -> Result<Vec<Item>, AllocError>
+fn two_items(alloc: Global) -> Result<Vec<Item<'static>>, AllocError>
     ensures { IfOk result (λ items. items.items
         ≡ (Field.Text (codes "b") ∷ []) ∷ (Field.Text (codes "a") ∷ []) ∷ []) }
 {

@@ -46,17 +46,17 @@ fn cells_of(alloc: Global, pred: &Pred) -> Result<Box<Cells>, CellStop> {
     cells_under(alloc, &preds)
 }
 
-fn item(alloc: Global, field: Field) -> Result<Item, AllocError> {
+fn item(alloc: Global, field: Field) -> Result<Item<'static>, AllocError> {
     let mut fields = Vec::new(alloc);
     fields.push(field)?;
     Ok(Item::from_fields(fields))
 }
 
-fn number(alloc: Global, number: i64) -> Result<Item, AllocError> {
+fn number(alloc: Global, number: i64) -> Result<Item<'static>, AllocError> {
     item(alloc, Field::Int(number))
 }
 
-fn text(alloc: Global, text: &[u8]) -> Result<Item, AllocError> {
+fn text(alloc: Global, text: &[u8]) -> Result<Item<'static>, AllocError> {
     item(alloc, Field::Text(Bytes::from_slice(alloc, text)?))
 }
 

@@ -2,11 +2,11 @@
 ghost use Rattle.std.specs.Prelude.{◌≡◌, IfOk};
 
 use crate::assertions::{same, same_at};
-use item_schema::{Column, Item, Kind, Schema};
+use item_schema::{Column, Item, Kind, Room, Schema};
 use std::alloc::{AllocError, Global};
 use std::process::Abort;
 use std::test::Fail;
-use value_ops::{Bytes, Field, Scalar, Table, Value, ValueType};
+use value_ops::{Bytes, Field, Rec, Scalar, Table, Value, ValueType};
 
 // The type of the values of its only column.
 fn has_one_column(rt: &impl Abort, schema: &Schema, kind: Kind) {
@@ -21,8 +21,9 @@ fn has_one_column(rt: &impl Abort, schema: &Schema, kind: Kind) {
     );
 }
 
-fn item_of(alloc: Global, value: Value) -> Result<Box<Item>, AllocError> {
-    Ok(Box::new(alloc, Item::from_value(value))?)
+fn item_of(alloc: Global, value: Value) -> Result<Box<Item<'static>>, AllocError> {
+    let mut room = Room::new();
+    Ok(Box::new(alloc, Item::from_value(value, &mut room).into_owned(alloc)?)?)
 }
 
 fn boxed(alloc: Global, schema: Schema) -> Result<Box<Schema>, AllocError> {
@@ -53,7 +54,30 @@ fn a_derived_stream_has_values_alone(rt: HostRuntime) -> Result<(), Fail> {
     Ok(())
 }
 
-fn item_with(alloc: Global, kinds: &[Kind]) -> Result<Box<Item>, AllocError> {
+// Whether the columns have these names and hold numbers.
+fn has_numbers(schema: &Schema, names: &[&[u8]]) -> bool {
+    let columns = schema.columns();
+    let mut pairs = columns.iter().zip(names);
+    columns.len() == names.len()
+        && pairs.all(|(column, name)| {
+            column.name.as_slice() == *name && column.kind == Kind::Number
+        })
+}
+
+#[test]
+fn a_stream_of_records_has_a_column_for_each_part(rt: HostRuntime) -> Result<(), Fail> {
+    let alloc = rt.alloc();
+    let pairs = boxed(alloc, Schema::derived(alloc, ValueType::Rec(2))?)?;
+    same(&rt, has_numbers(&pairs, &[b"value1", b"value2"]), true);
+    let parts = Rec::new(&[Scalar::DivZero, Scalar::Number(4)]);
+    let pair = item_of(alloc, Value::Rec(parts))?;
+    same(&rt, pairs.has_item(&pair), true);
+    let triples = boxed(alloc, Schema::derived(alloc, ValueType::Rec(3))?)?;
+    same(&rt, triples.has_item(&pair), false);
+    Ok(())
+}
+
+fn item_with(alloc: Global, kinds: &[Kind]) -> Result<Box<Item<'static>>, AllocError> {
     let mut fields = Vec::new(alloc);
     for kind in kinds {
         fields.push(match kind {

@@ -9,7 +9,7 @@ use plain_items::plain_item;
 use predicate_cells::{Cells, Pred, Preds};
 use std::alloc::{AllocError, Global};
 use std::test::Fail;
-use value_ops::{Scalar, Table, Value, ValueType};
+use value_ops::{Field, Scalar, Table, Value, ValueType};
 
 fn is_line(line: &Option<Bytes>, wanted: Option<&[u8]>) -> bool {
     match (line, wanted) {
@@ -107,7 +107,7 @@ fn one_entry(alloc: Global) -> Result<Box<Table>, AllocError> {
 // Whether the value that a query reads is shown so.
 fn value_shows(alloc: Global, ty: ValueType, value: Value, wanted: &[u8]) -> Result<bool, Fail> {
     let schema = Schema::derived(alloc, ty)?;
-    let item = Box::new(alloc, Item::from_value(value))?;
+    let item = Box::new(alloc, Item::from_field(Field::Val(value)))?;
     let shown = shown_line(alloc, &schema, &item)?;
     Ok(is_line(&shown, Some(wanted)))
 }
@@ -163,7 +163,7 @@ fn cells_under(alloc: Global, schema: &Schema) -> Result<Option<Box<Cells>>, Fai
 }
 
 // The plainest item of the line's cell.
-fn plainest(alloc: Global, cells: &Cells, line: &[u8]) -> Result<Box<Item>, Fail> {
+fn plainest(alloc: Global, cells: &Cells, line: &[u8]) -> Result<Box<Item<'static>>, Fail> {
     let item = Box::new(alloc, read_item(alloc, cells.schema(), line)?)?;
     Ok(Box::new(alloc, plain_item(alloc, cells, cells.of(&item))?)?)
 }

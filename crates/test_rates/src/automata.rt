@@ -58,7 +58,7 @@ fn copied(rt: &impl Abort, alloc: Global) -> Result<Nfa, CellStop> {
     Ok(nfa.try_copy(alloc)?)
 }
 
-fn item_of(alloc: Global, number: i64) -> Result<Item, AllocError> {
+fn item_of(alloc: Global, number: i64) -> Result<Item<'static>, AllocError> {
     let mut fields = Vec::new(alloc);
     fields.push(Field::Int(number))?;
     Ok(Item::from_fields(fields))

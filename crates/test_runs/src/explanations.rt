@@ -88,17 +88,22 @@ const HINTS: &[(Rule, &str, &str)] = &[
     (
         Rule::Mismatch,
         "or(a, b)",
-        "One of the two queries gives a table, and the other one a number.",
+        "Both queries give numbers, or both tables, or both records with equally many parts.",
     ),
     (
         Rule::Mismatch,
         "apply(a, x)",
-        "tsum, tcount, tmax, tmin and tget take a table, and all operators take numbers.",
+        "tsum, tcount, tmax, tmin and tget take a table, part a record with that part, others numbers.",
+    ),
+    (
+        Rule::Mismatch,
+        "iter(a, 0, x)",
+        "An iter carries a number and takes numbers: two are joined by combine(F, G, rec(x, y)).",
     ),
     (
         Rule::Cells,
         "compose(a, b)",
-        "The tests on its right side tell too many values of its left side apart.",
+        "The tests on its right side tell too many of the left's values apart; eight parts always do.",
     ),
     (
         Rule::Empty,
@@ -191,12 +196,12 @@ const FORMS: &[(&str, (u32, u32), &str)] = &[
     (
         "main(or(a, atom(any, mod(n, 2))))",
         (21, 30),
-        "This term has none of the forms of its place.\nmod is rem(EXPR, EXPR).\nAn expression is NUM, NAME, neg or abs of (EXPR), add, sub, mul, div, rem, min or max of (EXPR, EXPR), if(CMP, EXPR, EXPR), tsum or tcount of (NAME), tmax or tmin of (NAME, EXPR) or tget(NAME, STR, EXPR).",
+        "This term has none of the forms of its place.\nmod is rem(EXPR, EXPR).\nAn expression is NUM, NAME, neg or abs of (EXPR), add, sub, mul, div, rem, min or max of (EXPR, EXPR), if(CMP, EXPR, EXPR), tsum or tcount of (NAME), tmax or tmin of (NAME, EXPR), tget(NAME, STR, EXPR), rec(EXPR, ..) with 2 to 8 EXPR or part(NAME, N) with N from 1 to 8.",
     ),
     (
         "main(atom(any, if(eq(n, mod(n, 2)), 1, 0)))",
         (24, 33),
-        "This term has none of the forms of its place.\nmod is rem(EXPR, EXPR).\nAn expression is NUM, NAME, neg or abs of (EXPR), add, sub, mul, div, rem, min or max of (EXPR, EXPR), if(CMP, EXPR, EXPR), tsum or tcount of (NAME), tmax or tmin of (NAME, EXPR) or tget(NAME, STR, EXPR).",
+        "This term has none of the forms of its place.\nmod is rem(EXPR, EXPR).\nAn expression is NUM, NAME, neg or abs of (EXPR), add, sub, mul, div, rem, min or max of (EXPR, EXPR), if(CMP, EXPR, EXPR), tsum or tcount of (NAME), tmax or tmin of (NAME, EXPR), tget(NAME, STR, EXPR), rec(EXPR, ..) with 2 to 8 EXPR or part(NAME, N) with N from 1 to 8.",
     ),
     (
         "main(atom(any, if(and(1, 2), 1, 0)))",
@@ -333,7 +338,43 @@ const NAMES: &[(Rule, &str, (u32, u32), &str)] = &[
         Rule::Name,
         "stream(plain, col(t, text), col(n, int))\nmain(compose(atom(any, n), atom(any, n)))",
         (68, 80),
-        "The right side of a compose reads values of the left, in one column called value.\nNot known here: n",
+        "The right side of a compose reads the left's values in value, a record's parts in value1, ..\nNot known here: n",
+    ),
+    (
+        Rule::Name,
+        "stream(plain, col(t, text), col(n, int))\nmain(compose(atom(any, rec(n, 1)), atom(any, value)))",
+        (76, 92),
+        "A record is read in a column for each part, value1 and value2 and so on, others in value.\nOf the names here one is not known; the first is: value",
+    ),
+    (
+        Rule::Name,
+        "stream(plain, col(t, text), col(n, int))\nmain(compose(atom(any, rec(n, 1)), atom(any, part(value9, 1))))",
+        (76, 102),
+        "Not known here: value9",
+    ),
+    (
+        Rule::Name,
+        "stream(plain, col(t, text), col(n, int))\nmain(apply(eps(1), rec(x, y)))",
+        (46, 70),
+        "Not known here: y",
+    ),
+    (
+        Rule::Mismatch,
+        "stream(plain, col(t, text), col(n, int))\nmain(atom(any, rec(n, t)))",
+        (46, 66),
+        "A column of texts, where a number is taken; declare it int where it has numbers: t",
+    ),
+    (
+        Rule::Mismatch,
+        "stream(plain, col(t, text), col(n, int))\nmain(atom(any, part(n, 1)))",
+        (46, 67),
+        "A column of items, where a record is taken: n",
+    ),
+    (
+        Rule::Mismatch,
+        "stream(plain, col(t, text), col(n, int))\nmain(collect(t, any, item(any), atom(any, rec(n, 1))))",
+        (46, 94),
+        "A record is collected by this key, where a number is taken, as apply(F, part(x, 1)): t",
     ),
     (
         Rule::Name,
@@ -382,7 +423,7 @@ const SECOND_PLACES: &[(Rule, &str, (u32, u32), &str)] = &[
         Rule::Name,
         "stream(plain, col(t, text), col(n, int))\nlet(top, atom(any, m))\nmain(compose(eps(1), top))",
         (50, 62),
-        "The right side of a compose reads values of the left, in one column called value.\nNot known here: m\nq:3:22 (the column in bytes): the let is used here, inside of another query\n    main(compose(eps(1), top))\n                         ^^^",
+        "The right side of a compose reads the left's values in value, a record's parts in value1, ..\nNot known here: m\nq:3:22 (the column in bytes): the let is used here, inside of another query\n    main(compose(eps(1), top))\n                         ^^^",
     ),
     (
         Rule::Mismatch,

@@ -40,6 +40,36 @@ fn a_text_has_65_536_bytes_at_the_most(rt: HostRuntime) -> Result<(), Fail> {
     Ok(())
 }
 
+// The file of an atom with this expression.
+fn with_expression(alloc: Global, expression: &[u8]) -> Result<Vec<u8>, AllocError> {
+    let mut text = Vec::from_slice(alloc, b"stream(plain,col(a,int))main(atom(any,")?;
+    text.extend_from_slice(expression)?;
+    text.extend_from_slice(b"))")?;
+    Ok(text)
+}
+
+#[test]
+fn records_have_two_to_eight_parts_which_are_counted_from_1(rt: HostRuntime) -> Result<(), Fail> {
+    let alloc = rt.alloc();
+    for (expression, refusal) in [
+        (b"rec(a,1)".as_slice(), None),
+        (b"rec(1,2,3,4,5,6,7,a)", None),
+        (b"rec(a)", Some((5, 38, 44))),
+        (b"rec(1,2,3,4,5,6,7,8,a)", Some((5, 38, 60))),
+        (b"part(x,1)", None),
+        (b"part(x,8)", None),
+        (b"part(x,0)", Some((5, 45, 46))),
+        (b"part(x,9)", Some((5, 45, 46))),
+        (b"part(x,a)", Some((5, 45, 46))),
+        (b"part(1,1)", Some((5, 43, 44))),
+        (b"part(x)", Some((5, 38, 45))),
+    ] {
+        let text = with_expression(alloc, expression)?;
+        same(&rt, refusal_of(alloc, &text), refusal);
+    }
+    Ok(())
+}
+
 /// The canonical text of what the text is read to.
 fn canonical(alloc: Global, text: &[u8]) -> Result<Option<Bytes>, AllocError> {
     match read_file(alloc, text) {
@@ -68,6 +98,10 @@ fn prints_the_canonical_text(rt: HostRuntime) -> Result<(), Fail> {
         (
             b"stream(plain,col(a,text))main(atom(eq(a,\"\\x0a\\\"\\\\~\\x7f\xff\"),-05))",
             b"stream(plain, col(a, text))\nmain(atom(eq(a, \"\\x0A\\x22\\x5C~\\x7F\\xFF\"), -5))\n",
+        ),
+        (
+            b"stream(plain,col(a,int))main(apply(atom(any,rec(a,+1)),part(x,02)))",
+            b"stream(plain, col(a, int))\nmain(apply(atom(any, rec(a, 1)), part(x, 2)))\n",
         ),
     ];
     for (text, wanted) in cases {

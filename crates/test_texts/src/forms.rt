@@ -63,7 +63,7 @@ fn call_with_both(
     Ok(call(head, arguments, to))
 }
 
-// The calls of the language, as its definition lists them.
+// The calls of the language with one number of arguments, as its definition lists them.
 const CALLS: &[(TermPlace, &[u8], &[TermPlace])] = &[
     (Column, b"col", &[Name, Kind]),
     (Kind, b"fixed", &[Digits]),
@@ -106,6 +106,7 @@ const CALLS: &[(TermPlace, &[u8], &[TermPlace])] = &[
     (Expr, b"tmax", &[Name, Expr]),
     (Expr, b"tmin", &[Name, Expr]),
     (Expr, b"tget", &[Name, Text, Expr]),
+    (Expr, b"part", &[Name, Index]),
     (Compare, b"lt", &[Expr, Expr]),
     (Compare, b"le", &[Expr, Expr]),
     (Compare, b"gt", &[Expr, Expr]),
@@ -123,6 +124,19 @@ fn each_call_has_a_form_at_its_place_alone(rt: HostRuntime) {
         same(&rt, places_of(place, b"stream", count), None);
         same(&rt, places_of(Mode, head, count), None);
     }
+}
+
+const PARTS: [TermPlace; 8] = [Expr; 8];
+
+#[test]
+fn a_record_has_two_to_eight_parts(rt: HostRuntime) {
+    for count in 2..9 {
+        same(&rt, places_of(Expr, b"rec", count), Some(&PARTS[..count]));
+    }
+    for count in [0, 1, 9, 10] {
+        same(&rt, places_of(Expr, b"rec", count), None);
+    }
+    same(&rt, places_of(Query, b"rec", 2), None);
 }
 
 fn have_words(rt: &impl Abort) {
@@ -146,7 +160,7 @@ fn have_words(rt: &impl Abort) {
 
 fn have_no_words(rt: &impl Abort) {
     for place in [
-        Mode, Column, Kind, Rate, Pred, Literal, Compare, Number, Text, Digits,
+        Mode, Column, Kind, Rate, Pred, Literal, Compare, Number, Text, Digits, Index,
     ] {
         same(rt, fits_word(place, b"fixed"), false);
     }
@@ -154,14 +168,16 @@ fn have_no_words(rt: &impl Abort) {
 }
 
 fn have_numbers(rt: &impl Abort) {
-    for (raw, fits) in [
-        (b"1".as_slice(), true),
-        (b"+9", true),
-        (b"0", false),
-        (b"10", false),
-        (b"-1", false),
+    for (raw, digits, index) in [
+        (b"1".as_slice(), true, true),
+        (b"+8", true, true),
+        (b"+9", true, false),
+        (b"0", false, false),
+        (b"10", false, false),
+        (b"-1", false, false),
     ] {
-        same(rt, fits_number(Digits, raw), fits);
+        same(rt, fits_number(Digits, raw), digits);
+        same(rt, fits_number(Index, raw), index);
         same(rt, fits_number(Number, raw), true);
         same(rt, fits_number(Literal, raw), true);
     }

@@ -43,7 +43,7 @@ fn value_on(alloc: Global, expr: &Expr, left: &Value) -> Result<Option<Box<Value
 fn scalar_on(alloc: Global, expr: &Expr, left: &Value) -> Result<Option<Scalar>, AllocError> {
     match value_on(alloc, expr, left)?.as_deref() {
         Some(Value::Scalar(scalar)) => Ok(Some(*scalar)),
-        Some(Value::Table(_)) | None => Ok(None),
+        Some(Value::Rec(_) | Value::Table(_)) | None => Ok(None),
     }
 }
 
@@ -263,7 +263,7 @@ fn entry_on(
 ) -> Result<Option<Scalar>, AllocError> {
     match value_on(alloc, expr, on)?.as_deref() {
         Some(Value::Table(table)) => Ok(table.get(key)),
-        Some(Value::Scalar(_)) | None => Ok(None),
+        Some(Value::Scalar(_) | Value::Rec(_)) | None => Ok(None),
     }
 }
 

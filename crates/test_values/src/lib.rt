@@ -13,4 +13,6 @@ mod expressions;
 #[cfg(test)]
 mod fields;
 #[cfg(test)]
+mod records;
+#[cfg(test)]
 mod tables;

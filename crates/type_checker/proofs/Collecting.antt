@@ -1,11 +1,10 @@
 -- What a collection is resolved to.
 use Rattle.std.proofs.Common.{◌≡◌, ◌&&◌, ℕ, Bool, true, false, List, Some, None, Result, Ok, Err}
-use Rattle.std.proofs.Common.{refl}
+use Rattle.std.proofs.Common.{refl, sym, subst, ◌∙◌}
 use Rattle.std.specs.List.{list_all}
 use Rattle.std.specs.Result.{IfErr, IfOk}
 use Rattle.std.proofs.lemmas.Bool.{and_parts}
 use Rattle.std.proofs.lemmas.Result.{IfErr-weaker, IfOk-weaker}
-use Rattle.item_schema.specs.Layout.{is_read}
 use Rattle.item_schema.specs.declared.column.Column.{Column}
 use Rattle.language_base.specs.declared.rule.Rule.TheVariants.{Name, Nested, Mismatch}
 use Rattle.language_base.specs.declared.span.Span.{Span}
@@ -19,26 +18,20 @@ use Rattle.query_syntax.specs.declared.leaf.Name as leaf
 use Rattle.rate_expr.specs.Rates.{Regex, preds_of}
 use Rattle.type_checker.specs.Findings.{IsUnresolved, places_at, places_in}
 use Rattle.type_checker.specs.Names.{column_named}
-use Rattle.type_checker.specs.Nestings.{MayStand}
 use Rattle.type_checker.specs.Nodes.{with_one}
 use Rattle.type_checker.specs.Rates.{rate_over}
 use Rattle.type_checker.specs.Resolutions.{IsMadeOfInner, IsMade, IsRefused, IsRefusedOverInner}
-use Rattle.type_checker.specs.Resolved.{Nesting, inside, may_collect, outside, resolved}
-use Rattle.type_checker.specs.Steps.{found, refusal}
+use Rattle.type_checker.specs.Resolved.{Nesting, inside, may_collect, resolved, same_type}
+use Rattle.type_checker.specs.Steps.{◌>>=◌, found, provided, refusal}
 use Rattle.type_checker.specs.Tests.{resolved_over}
 use Rattle.type_checker.specs.declared.query_types.Typed.{Typed}
 use Rattle.type_checker.specs.declared.stop.CheckStop.{CheckStop}
 use Rattle.type_checker.specs.declared.stop.CheckStop.TheVariants.{Refused, Memory}
 use Rattle.type_checker.proofs.Composing.{made_inside}
 use Rattle.type_checker.proofs.FromOperands.{made_of, one_place}
-use Rattle.type_checker.proofs.WithoutTables.{gives_numbers, lines_no_table}
+use Rattle.type_checker.proofs.Shaping.{same_is}
+use Rattle.value_ops.specs.declared.value.ValueType.{ValueType}
 use Rattle.value_ops.specs.declared.value.ValueType.TheVariants as type
-
--- where a collection may stand the columns are read from lines
-read_there : (nesting : Nesting) (columns : List Column) → may_collect nesting ≡ true
-    → MayStand nesting columns → list_all (λ column. is_read column.kind) columns ≡ true
-read_there outside columns may stands = stands
-read_there inside columns may stands = absurd (cc)
 
 module _ (nesting : Nesting) (columns : List Column) (key : leaf.Name)
     (sync : p.Predicate) (rate : r.Rate) (f : q.Query) (span : Span) where
@@ -75,50 +68,61 @@ module _ (nesting : Nesting) (columns : List Column) (key : leaf.Name)
         rate_refused Memory none = tt
 
         module _ (words : Regex) (rated : Some words ≡ rate_over columns rate) where
-          abbrev parts_fit : Bool
-          parts_fit = has_texts columns column
-              && (fits columns pred && list_all (fits columns) (preds_of words))
+          abbrev parts_fit : ValueType → Bool
+          parts_fit ty = same_type ty type.Number
+              && (has_texts columns column
+              && (fits columns pred && list_all (fits columns) (preds_of words)))
+
+          -- the test of what is collected, by the type that is known of it
+          abbrev asked_of : ValueType → Type 0
+          asked_of ty = resolved nesting columns (q.collect key sync rate f span)
+              ≡ (provided Nested span (may_collect nesting) >>= (λ (nested : Unit {0}).
+              provided Mismatch span (parts_fit ty) >>= (λ (typed : Unit {0}).
+              Ok (collect column pred words (plain_of operand.query.value.shape)))))
+
+          asked : asked_of operand.ty
+          unfolding resolved
+          asked =
+              subst asked_of (sym is.typed.type) (rw (is.resolved, ← keyed, ← tested, ← rated) refl)
 
           -- no collection may stand there
           pub misplaced : may_collect nesting ≡ false
               → resolved nesting columns (q.collect key sync rate f span)
               ≡ Err (refusal Nested span)
-          unfolding resolved
-          misplaced never = rw (is.resolved, ← keyed, ← tested, ← rated, never) refl
+          misplaced never = asked ∙ (rw never refl)
 
           module _ (may : may_collect nesting ≡ true) where
-            -- a column is of another kind than is asked of it
-            pub unfit_parts : parts_fit ≡ false
+            -- what is collected is no number, or a column is of another kind than is asked of it
+            pub unfit_parts : parts_fit operand.ty ≡ false
                 → resolved nesting columns (q.collect key sync rate f span)
                 ≡ Err (refusal Mismatch span)
-            unfolding resolved
-            unfit_parts unfit = rw (is.resolved, ← keyed, ← tested, ← rated, may, unfit) refl
+            unfit_parts unfit = asked ∙ (rw (may, unfit) refl)
 
-            module _ (fit : parts_fit ≡ true) where
+            module _ (fit : parts_fit operand.ty ≡ true) where
               collect_step : resolved nesting columns (q.collect key sync rate f span)
                   ≡ Ok (collect column pred words (plain_of operand.query.value.shape))
-              unfolding resolved
-              collect_step = rw (is.resolved, ← keyed, ← tested, ← rated, may, fit) refl
+              collect_step = asked ∙ (rw (may, fit) refl)
 
-              pub collect_made : (made : Typed) → MayStand nesting columns
+              pub collect_made : (made : Typed)
                   → plain_of made.query.value.shape
                   ≡ collect column pred words (plain_of operand.query.value.shape)
                   → places_at made.query.value.shape ≡ with_one (places_in operand.query.value)
                   → made.query.value.span ≡ span → made.ty ≡ type.Table
                   → IsMade nesting columns (q.collect key sync rate f span) made
-              collect_made made stands shape places at ty =
+              collect_made made shape places at ty =
                   let inner : Qre = plain_of operand.query.value.shape in
-                  let single = made_inside columns f operand is in
+                  let all = and_parts (same_type operand.ty type.Number)
+                  (has_texts columns column
+                  && (fits columns pred && list_all (fits columns) (preds_of words))) fit in
                   let parts = and_parts (has_texts columns column)
-                  (fits columns pred && list_all (fits columns) (preds_of words)) fit in
+                  (fits columns pred && list_all (fits columns) (preds_of words)) all.1 in
                   let tests = and_parts (fits columns pred)
                   (list_all (fits columns) (preds_of words)) parts.1 in
                   made_of nesting columns (q.collect key sync rate f span) made
                   (collect column pred words inner) shape collect_step ty (
                     is.typed.keeps,
-                    gives_numbers columns (lines_no_table columns
-                        (read_there nesting columns may stands)) inner single,
-                    single,
+                    sym is.typed.type ∙ same_is operand.ty type.Number all.0,
+                    made_inside columns f operand is,
                     parts.0,
                     tests.0,
                     tests.1,

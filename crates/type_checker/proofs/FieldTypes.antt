@@ -1,21 +1,33 @@
 -- The types of the fields of streams, and of expressions over them.
-use Rattle.std.proofs.Common.{◌≡◌, List, [], ◌∷◌, Option, Some, None, refl, ap, ap₂, ◌∙◌}
+use Rattle.std.proofs.Common.{◌≡◌, ◌≤◌, ◌++◌, ◌∙◌, ℕ, zero, suc, List, [], ◌∷◌, Option, Some, None}
+use Rattle.std.proofs.Common.{map, replicate, take, refl, ap, ap₂, sym}
+use Rattle.std.proofs.lemmas.List.{map_push, take-replicate}
+use Rattle.item_schema.specs.Layout.{part_column, part_columns}
 use Rattle.item_schema.specs.declared.column.Column.{Column}
 use Rattle.query_model.specs.QueryTypes.{derived_columns, of_columns, of_one, of_two}
-use Rattle.query_model.specs.QueryTypes.{type_of_expression}
+use Rattle.query_model.specs.QueryTypes.{type_of_expression, type_of_kind}
 use Rattle.value_ops.specs.Expressions.{Expression}
 use Rattle.value_ops.specs.Typing.{Types}
 use Rattle.value_ops.specs.declared.value.ValueType.{ValueType}
-use Rattle.value_ops.specs.declared.value.ValueType.TheVariants.{Number, Table}
+use Rattle.value_ops.specs.declared.value.ValueType.TheVariants.{Number, Rec}
 
--- the field of a stream of values has their type
-pub derived_fields : (type given : ValueType) → given ≡ type
-    → Some given ∷ [] ≡ (of_columns (derived_columns type)).fields
-derived_fields type given same = ap (λ (t : ValueType). Some t ∷ []) same ∙ here type
-  where
-    here : (t : ValueType) → Some t ∷ [] ≡ (of_columns (derived_columns t)).fields
-    here Number = refl
-    here Table = refl
+-- one more at the end of equal ones is one more
+replicate_push : {A : Type 0} (n : ℕ) (x : A) → replicate n x ++ x ∷ [] ≡ replicate (suc n) x
+replicate_push zero x = refl
+replicate_push (suc n) x = ap (λ rest. x ∷ rest) (replicate_push n x)
+
+-- the parts of a record are numbers
+parts_numbers : (size : ℕ)
+    → map (λ column. type_of_kind column.kind) (part_columns size) ≡ replicate size (Some Number)
+parts_numbers zero = refl
+parts_numbers (suc size) =
+    map_push (λ column. type_of_kind column.kind) (part_columns size) (part_column size)
+    ∙ ap (λ types. types ++ Some Number ∷ []) (parts_numbers size)
+    ∙ replicate_push size (Some Number)
+
+pub record_fields : (size : ℕ) → size ≤ 8 → take size (replicate 8 (Some Number))
+    ≡ (of_columns (derived_columns (Rec size))).fields
+record_fields size fits = take-replicate size 8 (Some Number) fits ∙ sym (parts_numbers size)
 
 -- an expression over the fields of these columns
 pub over_fields : (columns : List Column) (fields : List (Option ValueType)) (e : Expression)

@@ -20,6 +20,7 @@ pub mod OfOperands
 pub mod OverOne
 pub mod OverTwo
 mod Paired
+pub mod Parts
 pub mod PlainRules
 pub mod Questions
 pub mod Parted
@@ -38,5 +39,5 @@ mod Valued
 pub mod Verdicts
 pub mod Walked
 mod WellTyped
-mod WithoutTables
+pub mod ValueTypes
 pub mod WordVerdicts

@@ -124,8 +124,9 @@ resolved_plain nesting columns (q.collect key sync rate operand span) =
     after_name span (resolved_over columns sync) _ (λ pred.
     after_name span (rate_over columns rate) _ (λ words.
     after_test Nested (λ forbids. forbids) span (may_collect nesting) _ (λ nested.
-    after_type span
-    (has_texts columns column && (fits columns pred && list_all (fits columns) (preds_of words))) _
+    after_type span (same_type (type_of columns f) Number
+    && (has_texts columns column
+    && (fits columns pred && list_all (fits columns) (preds_of words)))) _
     (λ typed. tt))))))
 
 -- positions and slots, and cells

@@ -2,6 +2,7 @@
 use Rattle.std.proofs.Common.{◌≡◌, Bool, true, false, List, Ok, Err, FitsSigned, refl, sym, ◌∙◌, ap}
 use Rattle.std.proofs.Common.{subst}
 use Rattle.std.specs.Int.{w64}
+use Rattle.std.proofs.lemmas.Bool.{eqb-true}
 use Rattle.item_schema.specs.declared.column.Column.{Column}
 use Rattle.language_base.specs.declared.rule.Rule.TheVariants.{Name, Mismatch}
 use Rattle.language_base.specs.declared.span.Span.{Span}
@@ -32,11 +33,11 @@ use Rattle.value_ops.specs.declared.value.ValueType.{ValueType}
 use Rattle.value_ops.specs.declared.value.ValueType.TheVariants as type
 
 -- types that pass the test are one
-same_is : (one other : ValueType) → same_type one other ≡ true → one ≡ other
+pub same_is : (one other : ValueType) → same_type one other ≡ true → one ≡ other
 same_is type.Number type.Number is = refl
-same_is type.Number type.Table is = cc
-same_is type.Table type.Number is = cc
+same_is (type.Rec size) (type.Rec other) is = ap type.Rec (eqb-true size other is)
 same_is type.Table type.Table is = refl
+same_is _ _ is = cc
 
 -- the types of two values
 pub two_types : (names : Types) (a b c d : ValueType) → names ≡ types.of_two a b → a ≡ c → b ≡ d

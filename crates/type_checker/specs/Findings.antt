@@ -40,6 +40,7 @@ use Rattle.type_checker.specs.declared.stop.CheckStop.TheVariants.{Refused, Memo
 use Rattle.type_checker.specs.declared.word_stop.WordStop.{WordStop}
 use Rattle.type_checker.specs.declared.word_stop.WordStop.TheVariants as word
 use Rattle.value_ops.specs.Typing.{HasType}
+use Rattle.value_ops.specs.declared.value.ValueType.{ValueType}
 use Rattle.value_ops.specs.declared.value.ValueType.TheVariants.{Number}
 
 -- the stop is the refusal that was found, or out of memory
@@ -115,6 +116,11 @@ KeepsTypes columns (collect column sync rate f) =
     KeepsTypes columns f × (type_of columns f ≡ Number) × HasNoCollect f
     × (has_texts columns column ≡ true) × (fits columns sync ≡ true)
     × AllFit columns (preds_of rate)
+
+-- the same over some columns whose fields have these types
+abbrev pub KeepsTypesOver : List (Option ValueType) → Qre → Type 0
+KeepsTypesOver fields query =
+    (columns : List Column) × (fields ≡ (of_columns columns).fields) × KeepsTypes columns query
 
 -- the cells were made with each of the predicates
 abbrev pub AreAmong : Partition → List Predicate → Type 0

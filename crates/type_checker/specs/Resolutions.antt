@@ -25,7 +25,7 @@ use Rattle.type_checker.specs.Names.{column_named}
 use Rattle.type_checker.specs.Nodes.{places_of}
 use Rattle.type_checker.specs.Rates.{rate_over}
 use Rattle.type_checker.specs.Resolved as whole
-use Rattle.type_checker.specs.Resolved.{Nesting, inside}
+use Rattle.type_checker.specs.Resolved.{Nesting, inside, same_type}
 use Rattle.type_checker.specs.Scopes.{HasFittingNumbers}
 use Rattle.type_checker.specs.Steps.{◌>>=◌, found, provided}
 use Rattle.type_checker.specs.Tests.{resolved_over}
@@ -38,6 +38,7 @@ use Rattle.value_ops.specs.Expressions as values
 use Rattle.value_ops.specs.Typing.{IsNumber, Types}
 use Rattle.value_ops.specs.declared.expr.Expr.{Expr}
 use Rattle.value_ops.specs.declared.value.ValueType.{ValueType}
+use Rattle.value_ops.specs.declared.value.ValueType.TheVariants.{Number}
 
 -- the columns of a stream
 abbrev pub columns_of : Items → List Column
@@ -74,11 +75,12 @@ pub record IsNamedCollection (columns : List Column) (key : leaf.Name) (sync : p
   pub tested : Some (predicates.plain_of parts.sync) ≡ resolved_over columns sync
   pub rated : Some (rates.plain_of parts.rate) ≡ rate_over columns rate
 
--- the key column of a collection has texts, and each test's column the test's kind
-abbrev pub parts_fit : List Column → Parts → Bool
-parts_fit columns parts =
-    has_texts columns parts.key && (fits columns (predicates.plain_of parts.sync)
-    && list_all (fits columns) (preds_of (rates.plain_of parts.rate)))
+-- what is collected is a number, the key column has texts, and each test's column the test's kind
+abbrev pub parts_fit : List Column → ValueType → Parts → Bool
+parts_fit columns type parts =
+    same_type type Number
+    && (has_texts columns parts.key && (fits columns (predicates.plain_of parts.sync)
+    && list_all (fits columns) (preds_of (rates.plain_of parts.rate))))
 
 -- the query is refused with this stop
 abbrev pub IsRefused : Nesting → List Column → q.Query → CheckStop → Type 0

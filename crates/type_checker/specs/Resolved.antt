@@ -2,13 +2,13 @@
 -- that breaks a rule of names, of nesting or of types. The operands of a node are checked from left
 -- to right, and then the node: first its names, then whether a collection may stand there, then its
 -- types.
-use Rattle.std.specs.Prelude.{Bool, ◌&&◌, true, false, List, Result, Ok, Err}
+use Rattle.std.specs.Prelude.{◌==◌, Bool, ◌&&◌, true, false, List, Result, Ok, Err}
 use Rattle.std.specs.List.{list_all}
 use Rattle.language_base.specs.declared.refusal.Refusal.{Refusal}
 use Rattle.language_base.specs.declared.rule.Rule.TheVariants.{Name, Nested, Mismatch}
 use Rattle.item_schema.specs.declared.column.Column.{Column}
 use Rattle.value_ops.specs.declared.value.ValueType.{ValueType}
-use Rattle.value_ops.specs.declared.value.ValueType.TheVariants.{Number, Table}
+use Rattle.value_ops.specs.declared.value.ValueType.TheVariants.{Number, Rec, Table}
 use Rattle.predicate_cells.specs.Fits.{fits, has_texts}
 use Rattle.rate_expr.specs.Rates.{preds_of}
 use Rattle.query_model.specs.Queries.{Qre, atom, eps, choice, split, iter, combine, apply, compose}
@@ -37,6 +37,7 @@ may_collect inside = false
 -- the types are equal
 abbrev pub same_type : ValueType → ValueType → Bool
 same_type Number Number = true
+same_type (Rec size) (Rec other) = size == other
 same_type Table Table = true
 same_type _ _ = false
 
@@ -89,6 +90,7 @@ resolved nesting columns (q.collect key sync rate operand span) = do
   pred ← found Name span (resolved_over columns sync)
   words ← found Name span (rate_over columns rate)
   nested ← provided Nested span (may_collect nesting)
-  typed ← provided Mismatch span (has_texts columns column && (fits columns pred
-      && list_all (fits columns) (preds_of words)))
+  typed ← provided Mismatch span (same_type (type_of columns f) Number
+      && (has_texts columns column && (fits columns pred
+      && list_all (fits columns) (preds_of words))))
   Ok (collect column pred words f)

@@ -96,7 +96,9 @@ fn first_after(
     second: &Query,
     span: Span,
 ) -> Result<Option<Span>, AllocError>
-    requires { KeepsTypes (derived_columns (type_of schema.now.columns (plain_of first.now.shape)))
+    requires first { KeepsTypes schema.now.columns (plain_of first.now.shape) }
+    requires second { KeepsTypes
+        (derived_columns (type_of schema.now.columns (plain_of first.now.shape)))
         (plain_of second.now.shape) }
     ensures { IfOk result (λ found. (standing : Standing) → found ≡ first_after
         (derived_columns (type_of schema.now.columns (plain_of first.now.shape))) standing

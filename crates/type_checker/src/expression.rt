@@ -1,16 +1,18 @@
 //! Expressions whose names are resolved.
-ghost use Rattle.std.specs.Prelude.{◌≡◌, IfOk, IfSome, option_map};
-ghost use Rattle.query_syntax.specs.Plain.{plain_expression};
-ghost use Rattle.type_checker.specs.Expressions.{both_of, choice_of, expression_over, extremum_of};
-ghost use Rattle.type_checker.specs.Expressions.{named_in, table_form};
-ghost use Rattle.type_checker.specs.Scopes.{HasFittingNumbers, plain_scope};
-ghost use Rattle.value_ops.specs.Expressions.{binary, choice, entry, plain_of, unary};
+ghost use Rattle.std.specs.Prelude.{◌≡◌, IfOk, IfSome, length, option_map};
+ghost use Rattle.few_parts.specs.Sizes.{IsRecordSize};
+ghost use Rattle.query_syntax.specs.Plain.{plain_expression, plain_expressions};
+ghost use Rattle.type_checker.specs.Expressions.{both_of, choice_of, expression_over};
+ghost use Rattle.type_checker.specs.Expressions.{expressions_over, extremum_of, named_in, table_form};
+ghost use Rattle.type_checker.specs.Scopes.{HasFittingNumbers, HaveFittingNumbers, plain_scope};
+ghost use Rattle.value_ops.specs.Expressions.{binary, choice, entry, plain_of, plain_parts, rec};
+ghost use Rattle.value_ops.specs.Expressions.{unary};
 
-use crate::expression_names::{extremum_with, named_in, read_over, summary_over};
+use crate::expression_names::{extremum_with, named_in, part_over, read_over, summary_over};
 use item_schema::Schema;
 use query_syntax::{BinaryOp, Comparison, Expression, Extremum, Name, Text, UnaryOp};
 use std::alloc::{AllocError, Global};
-use value_ops::Expr;
+use value_ops::{Expr, Exprs};
 
 /// What the names of an expression stand for.
 #[derive(Clone, Copy)]
@@ -75,6 +77,8 @@ pub fn expression_over(
             absent,
             ..
         } => entry_over(alloc, scope, table, key, absent),
+        Expression::Record { parts, .. } => record_over(alloc, scope, parts.as_slice()),
+        Expression::Part { whole, index, .. } => Ok(part_over(scope, whole, *index)),
     }
 }
 
@@ -239,4 +243,47 @@ fn entry_over(
     };
     let key = key.bytes.try_copy(alloc)?;
     Ok(Some(Expr::Get(table, key, absent)))
+}
+
+#[cycle(resolve)]
+fn record_over(
+    alloc: Global,
+    scope: Scope<'_>,
+    parts: &[Expression],
+) -> Result<Option<Expr>, AllocError>
+    requires { IsRecordSize (length parts.now) }
+    ensures made { IfOk result (λ found. option_map plain_of found
+        ≡ option_map rec (expressions_over (plain_scope scope.entry)
+        (plain_expressions parts.now))) }
+    ensures numbers { IfOk result (λ found.
+        IfSome found (λ made. HasFittingNumbers (plain_of made))) }
+{
+    match all_over(alloc, scope, parts)? {
+        Some(made) => Ok(Some(Expr::Rec(Exprs::of(made)))),
+        None => Ok(None),
+    }
+}
+
+// All expressions, if each name in them is known.
+#[cycle(resolve)]
+fn all_over(
+    alloc: Global,
+    scope: Scope<'_>,
+    parts: &[Expression],
+) -> Result<Option<Vec<Expr>>, AllocError>
+    ensures made { IfOk result (λ found. option_map (λ made. plain_parts made.items) found
+        ≡ expressions_over (plain_scope scope.entry) (plain_expressions parts.now)) }
+    ensures as_many { IfOk result (λ found.
+        IfSome found (λ made. length made.items ≡ length parts.now)) }
+    ensures numbers { IfOk result (λ found.
+        IfSome found (λ made. HaveFittingNumbers (plain_parts made.items))) }
+{
+    let mut made = Vec::with_capacity(alloc, parts.len())?;
+    'parts: for part in parts {
+        let Some(one) = expression_over(alloc, scope, part)? else {
+            return Ok(None);
+        };
+        made.push(one)?;
+    }
+    Ok(Some(made))
 }

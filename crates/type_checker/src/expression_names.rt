@@ -1,12 +1,12 @@
-//! Names in expressions, and the expressions that are made of the name of a table.
+//! Names in expressions, and the expressions that are made of the name of a table or a record.
 ghost use Rattle.std.specs.Prelude.{◌≡◌, IfSome, option_map};
 ghost use Rattle.type_checker.specs.Expressions.{extremum_of, named_in, summary_of};
 ghost use Rattle.type_checker.specs.Scopes.{HasFittingNumbers, plain_scope};
-ghost use Rattle.value_ops.specs.Expressions.{plain_of, read};
+ghost use Rattle.value_ops.specs.Expressions.{part, plain_of, read};
 
 use crate::columns::column_named;
 use crate::expression::Scope;
-use query_syntax::{Extremum, Name, Summary};
+use query_syntax::{Extremum, Index, Name, Summary};
 use value_ops::{Expr, Var};
 
 /// The name itself, read.
@@ -29,6 +29,18 @@ pub fn summary_over(scope: Scope<'_>, summary: Summary, table: &Name) -> Option<
 {
     match named_in(scope, table.bytes.as_slice()) {
         Some(table) => Some(summary_of(summary, table)),
+        None => None,
+    }
+}
+
+/// The part at a place of the named record.
+pub fn part_over(scope: Scope<'_>, whole: &Name, index: Index) -> Option<Expr>
+    ensures made { option_map plain_of result ≡ option_map (λ name. part name index.value)
+        (named_in (plain_scope scope.entry) whole.now.bytes) }
+    ensures numbers { IfSome result (λ made. HasFittingNumbers (plain_of made)) }
+{
+    match named_in(scope, whole.bytes.as_slice()) {
+        Some(whole) => Some(Expr::Part(whole, u32::from(index.value))),
         None => None,
     }
 }

@@ -13,7 +13,6 @@ ghost use Rattle.query_syntax.specs.Plain.{plain_program, plain_stream};
 ghost use Rattle.query_syntax.specs.Queries as syntax;
 ghost use Rattle.type_checker.specs.Findings.{IsUnresolved, KeepsTypes, places_in};
 ghost use Rattle.type_checker.specs.Judged.{limited, measured};
-ghost use Rattle.type_checker.specs.Nestings.{MayStand};
 ghost use Rattle.type_checker.specs.Nodes.{places_of};
 ghost use Rattle.type_checker.specs.Passes.{IsBeyond, IsLimited, IsMeasured, IsNamed};
 ghost use Rattle.type_checker.specs.Passes.{distinguished, values_apart};
@@ -65,8 +64,7 @@ pub fn measure(alloc: Global, program: &Program) -> Result<Measured, CheckStop>
 
 // The main query after lets, with names resolved and types that fit.
 fn query_in(alloc: Global, schema: &Schema, program: &Program) -> Result<Box<Query>, CheckStop>
-    requires stands { MayStand outside schema.now.columns }
-    requires right { wrong_name (plain_program program.now) ≡ None }
+    requires { wrong_name (plain_program program.now) ≡ None }
     ensures named { IfOk result (λ query.
         IsNamed schema.now.columns (unfolded (plain_program program.now)) query.value) }
     ensures refused { IfErr result (IsUnresolved

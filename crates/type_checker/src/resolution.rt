@@ -3,9 +3,10 @@ ghost use Rattle.std.specs.Prelude.{IfErr, IfOk};
 ghost use Rattle.query_lets.specs.Places.{IsPlaced, IsRoot, query_of, unfolded_of};
 ghost use Rattle.query_model.specs.QueryTypes.{derived_columns};
 ghost use Rattle.type_checker.specs.Forms.{IsApply, IsCollect, IsCompose, IsIter, IsPair};
-ghost use Rattle.type_checker.specs.Nestings.{MayStand, nesting_of};
+ghost use Rattle.type_checker.specs.Nestings.{nesting_of};
 ghost use Rattle.type_checker.specs.Resolutions.{HasTypes, IsMade, IsRefused, columns_of};
 ghost use Rattle.type_checker.specs.Resolved.{inside};
+ghost use Rattle.value_ops.specs.Types.{IsType};
 
 use crate::CheckStop;
 use crate::atom::atom;
@@ -28,8 +29,7 @@ pub fn resolve(
     schema: &Schema,
     scope: Scope<'_, '_>,
 ) -> Result<Typed, CheckStop>
-    requires stands { MayStand (nesting_of nesting) schema.now.columns }
-    requires placed { IsPlaced scope }
+    requires { IsPlaced scope }
     ensures made { IfOk result
         (IsMade (nesting_of nesting) schema.now.columns (unfolded_of scope.entry)) }
     ensures refused { IfErr result
@@ -51,7 +51,6 @@ fn resolve_over(
     scope: Scope<'_, '_>,
 ) -> Result<Typed, CheckStop>
     requires types { HasTypes items.now }
-    requires stands { MayStand (nesting_of nesting) (columns_of items.now) }
     requires placed { IsPlaced scope }
     ensures made { IfOk result
         (IsMade (nesting_of nesting) (columns_of items.now) (unfolded_of scope.entry)) }
@@ -70,7 +69,6 @@ fn resolve_root(
     scope: Scope<'_, '_>,
 ) -> Result<Typed, CheckStop>
     requires types { HasTypes items.now }
-    requires stands { MayStand (nesting_of nesting) (columns_of items.now) }
     requires placed { IsPlaced scope }
     requires root { IsRoot scope }
     ensures made { IfOk result
@@ -105,7 +103,6 @@ fn resolve_pair(
     scope: Scope<'_, '_>,
 ) -> Result<Typed, CheckStop>
     requires types { HasTypes items.now }
-    requires stands { MayStand (nesting_of nesting) (columns_of items.now) }
     requires placed { IsPlaced scope }
     requires form { IsPair (query_of scope) }
     ensures made { IfOk result
@@ -135,7 +132,6 @@ fn resolve_iter(
     scope: Scope<'_, '_>,
 ) -> Result<Typed, CheckStop>
     requires types { HasTypes items.now }
-    requires stands { MayStand (nesting_of nesting) (columns_of items.now) }
     requires placed { IsPlaced scope }
     requires form { IsIter (query_of scope) }
     ensures made { IfOk result
@@ -168,7 +164,6 @@ fn resolve_apply(
     scope: Scope<'_, '_>,
 ) -> Result<Typed, CheckStop>
     requires types { HasTypes items.now }
-    requires stands { MayStand (nesting_of nesting) (columns_of items.now) }
     requires placed { IsPlaced scope }
     requires form { IsApply (query_of scope) }
     ensures made { IfOk result
@@ -200,7 +195,6 @@ fn resolve_collection(
     scope: Scope<'_, '_>,
 ) -> Result<Typed, CheckStop>
     requires types { HasTypes items.now }
-    requires stands { MayStand (nesting_of nesting) (columns_of items.now) }
     requires placed { IsPlaced scope }
     requires form { IsCollect (query_of scope) }
     ensures made { IfOk result
@@ -236,7 +230,6 @@ fn resolve_fed(
     scope: Scope<'_, '_>,
 ) -> Result<Typed, CheckStop>
     requires types { HasTypes items.now }
-    requires stands { MayStand (nesting_of nesting) (columns_of items.now) }
     requires placed { IsPlaced scope }
     requires form { IsCompose (query_of scope) }
     ensures made { IfOk result
@@ -263,7 +256,8 @@ fn resolve_fed(
 // The query on the stream of values of a type.
 #[cycle(resolve)]
 fn resolve_on_values(alloc: Global, ty: ValueType, scope: Scope<'_, '_>) -> Result<Typed, CheckStop>
-    requires { IsPlaced scope }
+    requires value { IsType ty }
+    requires placed { IsPlaced scope }
     ensures made { IfOk result
         (IsMade inside (derived_columns ty) (unfolded_of scope.entry)) }
     ensures refused { IfErr result

@@ -216,7 +216,7 @@ pub fn of_two(left: ValueType, right: ValueType) -> Types<'static>
     }
 }
 
-fn same_type(one: ValueType, other: ValueType) -> bool
+pub fn same_type(one: ValueType, other: ValueType) -> bool
     ensures { result ≡ same_type one other }
 {
     one == other

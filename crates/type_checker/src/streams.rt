@@ -6,7 +6,7 @@ ghost use Rattle.query_syntax.specs.Predicates as p;
 ghost use Rattle.query_syntax.specs.Queries as q;
 ghost use Rattle.query_syntax.specs.Rates as r;
 ghost use Rattle.query_syntax.specs.declared.leaf.Name as leaf;
-ghost use Rattle.type_checker.specs.Nestings.{MayStand, nesting_of};
+ghost use Rattle.type_checker.specs.Nestings.{nesting_of};
 ghost use Rattle.type_checker.specs.Resolutions.{IsComposed, IsMadeOfInner, IsNamedCollection};
 ghost use Rattle.type_checker.specs.Resolutions.{IsRefusedOverInner, columns_of, parts_fit};
 ghost use Rattle.type_checker.specs.Resolved as placed;
@@ -18,7 +18,7 @@ use crate::nesting::Nesting;
 use crate::predicate::named_pred;
 use crate::query_types::Typed;
 use crate::rate::{all_fit, named_rate};
-use crate::shapes::Items;
+use crate::shapes::{Items, same_type};
 use item_schema::Schema;
 use language_base::{Rule, Span};
 use predicate_cells::Pred;
@@ -64,7 +64,6 @@ pub fn collect(
     operand: Typed,
     span: Span,
 ) -> Result<Typed, CheckStop>
-    requires { MayStand (nesting_of nesting) (columns_of items.now) }
     ensures made { IfOk result (IsMadeOfInner (nesting_of nesting) (columns_of items.now)
         (λ f. q.collect written.now.key.now (plain_predicate written.now.sync.now)
         (plain_rate written.now.rate.now) f span) operand) }
@@ -72,30 +71,31 @@ pub fn collect(
         (λ f. q.collect written.now.key.now (plain_predicate written.now.sync.now)
         (plain_rate written.now.rate.now) f span) operand) }
 {
-    let parts = fitting_parts(alloc, nesting, items.schema, written, span)?;
+    let parts = fitting_parts(alloc, nesting, items.schema, written, operand.ty, span)?;
     let shape = Shape::Collect(parts.key, parts.sync, parts.rate, operand.query);
     Ok(Typed::new(alloc, shape, span, ValueType::Table)?)
 }
 
-// The parts, if the node keeps all three rules.
+// The parts, if the node over an operand of the type keeps all three rules.
 fn fitting_parts(
     alloc: Global,
     nesting: Nesting,
     schema: &Schema,
     written: &Collection<'_>,
+    ty: ValueType,
     span: Span,
 ) -> Result<Parts, CheckStop>
     ensures named { IfOk result (IsNamedCollection schema.now.columns written.now.key.now
         (plain_predicate written.now.sync.now) (plain_rate written.now.rate.now)) }
     ensures stands { OnOk result (may_collect (nesting_of nesting) ≡ true) }
-    ensures fit { IfOk result (λ parts. parts_fit schema.now.columns parts ≡ true) }
-    ensures refused { IfErr result (λ stop. (operand : Typed)
+    ensures fit { IfOk result (λ parts. parts_fit schema.now.columns ty parts ≡ true) }
+    ensures refused { IfErr result (λ stop. (operand : Typed) → operand.ty ≡ ty
         → IsRefusedOverInner (nesting_of nesting) schema.now.columns
         (λ f. q.collect written.now.key.now (plain_predicate written.now.sync.now)
         (plain_rate written.now.rate.now) f span) operand stop) }
 {
     let parts = named_parts(alloc, schema, written, span)?;
-    match keep_parts(nesting, schema, &parts, span) {
+    match keep_parts(nesting, schema, ty, &parts, span) {
         Ok(()) => Ok(parts),
         Err(stop) => {
             drop(parts);
@@ -128,25 +128,34 @@ fn named_parts(
 }
 
 // Asks `nested`, and then `type`.
-fn keep_parts(nesting: Nesting, schema: &Schema, parts: &Parts, span: Span) -> Result<(), CheckStop>
+fn keep_parts(
+    nesting: Nesting,
+    schema: &Schema,
+    ty: ValueType,
+    parts: &Parts,
+    span: Span,
+) -> Result<(), CheckStop>
     ensures stands { OnOk result (may_collect (nesting_of nesting) ≡ true) }
-    ensures fit { OnOk result (parts_fit schema.now.columns parts.now ≡ true) }
+    ensures fit { OnOk result (parts_fit schema.now.columns ty parts.now ≡ true) }
     ensures refused { IfErr result (λ stop. (key : leaf.Name) (sync : p.Predicate) (rate : r.Rate)
         (operand : Typed) → IsNamedCollection schema.now.columns key sync rate parts.now
-        → IsRefusedOverInner (nesting_of nesting) schema.now.columns
+        → operand.ty ≡ ty → IsRefusedOverInner (nesting_of nesting) schema.now.columns
         (λ f. q.collect key sync rate f span) operand stop) }
 {
     if !nesting.may_collect() {
         return Err(CheckStop::refused(Rule::Nested, span));
     }
-    if !parts_fit(schema, parts) {
+    if !parts_fit(schema, ty, parts) {
         return Err(CheckStop::refused(Rule::Mismatch, span));
     }
     Ok(())
 }
 
-fn parts_fit(schema: &Schema, parts: &Parts) -> bool
-    ensures { result ≡ parts_fit schema.now.columns parts.now }
+fn parts_fit(schema: &Schema, ty: ValueType, parts: &Parts) -> bool
+    ensures { result ≡ parts_fit schema.now.columns ty parts.now }
 {
-    has_texts(schema, parts.key) && parts.sync.fits(schema) && all_fit(schema, &parts.rate)
+    same_type(ty, ValueType::Number)
+        && has_texts(schema, parts.key)
+        && parts.sync.fits(schema)
+        && all_fit(schema, &parts.rate)
 }

@@ -69,6 +69,7 @@ fn is_number(types: &Types<'_>, value: &Expr) -> bool
 {
     match value.type_in(types) {
         Some(ValueType::Number) => true,
+        Some(ValueType::Rec(_)) => false,
         Some(ValueType::Table) => false,
         None => false,
     }

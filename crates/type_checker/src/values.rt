@@ -3,10 +3,12 @@ ghost use Rattle.std.specs.Prelude.{◌≡◌, IfOk, List};
 ghost use Rattle.item_schema.specs.Layout.{derived_layout};
 ghost use Rattle.item_schema.specs.declared.column.Column.{Column};
 ghost use Rattle.query_model.specs.Queries.{plain_of};
-ghost use Rattle.query_model.specs.QueryTypes.{of_columns, table_or_number, type_of};
+ghost use Rattle.query_model.specs.QueryTypes.{derived_columns, of_columns, type_of};
 ghost use Rattle.query_model.specs.QueryTypes.{type_of_expression};
+ghost use Rattle.type_checker.specs.Findings.{KeepsTypes, KeepsTypesOver};
 ghost use Rattle.value_ops.specs.Expressions as values;
 ghost use Rattle.value_ops.specs.Shown.{shown_types};
+ghost use Rattle.value_ops.specs.Types.{IsType};
 ghost use Rattle.value_ops.specs.Typing.{type_named};
 
 use crate::query_types::types_of;
@@ -18,6 +20,7 @@ use value_ops::{Expr, Types, ValueType, Var};
 
 /// The stream of the values of a query on items of the schema.
 pub fn values_of(alloc: Global, schema: &Schema, query: &Query) -> Result<Schema, AllocError>
+    requires { KeepsTypes schema.now.columns (plain_of query.now.shape) }
     ensures { IfOk result (λ values. values
         ≡ derived_layout (type_of schema.now.columns (plain_of query.now.shape))) }
 {
@@ -27,6 +30,7 @@ pub fn values_of(alloc: Global, schema: &Schema, query: &Query) -> Result<Schema
 
 /// The type of a query's values, where the fields of its items have these types.
 fn type_of(fields: &[Option<ValueType>], query: &Query) -> ValueType
+    requires { KeepsTypesOver fields.now (plain_of query.now.shape) }
     ensures { (columns : List Column) → fields.now ≡ (of_columns columns).fields
         → result ≡ type_of columns (plain_of query.now.shape) }
 {
@@ -50,10 +54,26 @@ fn type_of(fields: &[Option<ValueType>], query: &Query) -> ValueType
             type_of_expression(&types, value)
         }
         Shape::Compose(first, second) => {
-            let values = [Some(type_of(fields, first))];
-            type_of(&values, second)
+            type_of(types_of_values(type_of(fields, first)), second)
         }
         Shape::Collect(..) => ValueType::Table,
+    }
+}
+
+// The types of the parts of the largest record, and of the only field of a table.
+const NUMBERS: &[Option<ValueType>] = &[Some(ValueType::Number); 8];
+
+const TABLE: &[Option<ValueType>] = &[Some(ValueType::Table)];
+
+// The types of the fields of an item that is a value of the type.
+fn types_of_values(ty: ValueType) -> &'static [Option<ValueType>]
+    requires { IsType ty }
+    ensures { result.now ≡ (of_columns (derived_columns ty)).fields }
+{
+    match ty {
+        ValueType::Number => &NUMBERS[..1],
+        ValueType::Rec(size) => &NUMBERS[..size as usize],
+        ValueType::Table => TABLE,
     }
 }
 
@@ -62,7 +82,8 @@ fn type_of_expression(types: &Types<'_>, value: &Expr) -> ValueType
     ensures { result ≡ type_of_expression (shown_types types.now) (values.plain_of value.now) }
 {
     match value {
-        Expr::Read(name) => table_or_number(type_named(types, *name)),
+        Expr::Read(name) => type_named(types, *name).unwrap_or(ValueType::Number),
+        Expr::Rec(parts) => ValueType::Rec(parts.as_slice().len() as u32),
         _ => ValueType::Number,
     }
 }
@@ -75,15 +96,5 @@ fn type_named(types: &Types<'_>, name: Var) -> Option<ValueType>
         Var::Field(column) => types.fields.get(column as usize).copied().flatten(),
         Var::Left => types.left,
         Var::Right => types.right,
-    }
-}
-
-// A table if the type is one, and else a number.
-fn table_or_number(ty: Option<ValueType>) -> ValueType
-    ensures { result ≡ table_or_number ty }
-{
-    match ty {
-        Some(ValueType::Table) => ValueType::Table,
-        _ => ValueType::Number,
     }
 }

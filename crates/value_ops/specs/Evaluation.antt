@@ -1,7 +1,7 @@
 -- Statement. What expressions give, on the fields of an item or on a left and a right value.
-use Rattle.std.specs.Prelude.{ℕ, pos, if◌then◌else◌, List, fold, length, Option, None, Some}
-use Rattle.std.specs.Prelude.{slice_get}
-use Rattle.std.specs.Option.{option_map}
+use Rattle.std.specs.Prelude.{ℕ, pos, ◌-◌, if◌then◌else◌, List, [], ◌∷◌, fold, length, Option, None}
+use Rattle.std.specs.Prelude.{Some, slice_get}
+use Rattle.std.specs.Option.{option_map, option_and_then}
 use Rattle.value_ops.specs.declared.expr.Var.{Var}
 use Rattle.value_ops.specs.declared.expr.Var.TheVariants as var
 use Rattle.value_ops.specs.declared.field.Field.{Field}
@@ -14,7 +14,8 @@ use Rattle.value_ops.specs.declared.value.Value.{Value}
 use Rattle.value_ops.specs.declared.value.Value.TheVariants as value
 use Rattle.value_ops.specs.Entries.{values_of, value_at}
 use Rattle.value_ops.specs.Expressions.{Expression, literal, read, unary, binary, choice, sum}
-use Rattle.value_ops.specs.Expressions.{count, most, least, entry}
+use Rattle.value_ops.specs.Expressions.{count, most, least, entry, rec, part, Expressions, none}
+use Rattle.value_ops.specs.Expressions.{more}
 use Rattle.language_base.specs.Comparisons.{compares}
 use Rattle.value_ops.specs.Operators.{binary_of, unary_of}
 use Rattle.value_ops.specs.Scalar.{in_range}
@@ -50,6 +51,15 @@ scalar_in _ = None
 abbrev pub table_in : Option Value → Option (List (List ℕ × Scalar))
 table_in (Some (value.Table entries)) = Some entries
 table_in _ = None
+
+-- the parts of the record that a value is
+abbrev pub record_in : Option Value → Option (List Scalar)
+record_in (Some (value.Rec parts)) = Some parts
+record_in _ = None
+
+-- the part at a place of a record, counted from 1
+abbrev pub part_at : ℕ → List Scalar → Option Scalar
+part_at place parts = slice_get parts (place - 1)
 
 -- of two things that are there
 abbrev pub of_both : {A B C : Type 0} → (A → B → C) → Option A → Option B → Option C
@@ -110,8 +120,18 @@ scalar_of inputs (least name first) =
     of_both least_of (scalar_of inputs first) (table_in (value_named inputs name))
 scalar_of inputs (entry name key other) =
     scalar_at key (scalar_of inputs other) (table_in (value_named inputs name))
+scalar_of inputs (rec parts) = None
+scalar_of inputs (part name place) =
+    option_and_then (part_at place) (record_in (value_named inputs name))
 
--- the value that an expression gives: a bare name may give a table
+-- the scalars that expressions give, each by itself and whatever it is
+abbrev pub scalars_of : Inputs → Expressions → Option (List Scalar)
+scalars_of inputs none = Some []
+scalars_of inputs (more first rest) =
+    of_both (λ scalar scalars. scalar ∷ scalars) (scalar_of inputs first) (scalars_of inputs rest)
+
+-- the value that an expression gives: a bare name may give a record or a table
 abbrev pub value_of : Inputs → Expression → Option Value
 value_of inputs (read name) = value_named inputs name
+value_of inputs (rec parts) = option_map value.Rec (scalars_of inputs parts)
 value_of inputs expression = option_map value.Scalar (scalar_of inputs expression)

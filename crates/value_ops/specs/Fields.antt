@@ -11,6 +11,7 @@ abbrev pub scalar_of : Field → Option Scalar
 scalar_of (Int number) = Some (Number number)
 scalar_of (Text bytes) = None
 scalar_of (Val (value.Scalar scalar)) = Some scalar
+scalar_of (Val (value.Rec parts)) = None
 scalar_of (Val (value.Table entries)) = None
 
 -- the bytes of a text

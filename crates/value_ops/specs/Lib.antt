@@ -4,6 +4,7 @@ pub mod Expressions
 pub mod Fields
 pub mod KeyBytes
 pub mod Operators
+pub mod Records
 pub mod Scalar
 pub mod Shown
 pub mod Texts

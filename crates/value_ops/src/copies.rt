@@ -1,8 +1,9 @@
 //! Copies of expressions.
-ghost use Rattle.std.specs.Prelude.{◌≡◌, IfOk};
-ghost use Rattle.value_ops.specs.Expressions.{binary, choice, entry, least, most, plain_of, unary};
+ghost use Rattle.std.specs.Prelude.{◌≡◌, IfOk, length};
+ghost use Rattle.value_ops.specs.Expressions.{binary, choice, entry, least, most, plain_of, plain_parts, rec, unary};
+ghost use Rattle.few_parts.specs.Sizes.{IsRecordSize};
 
-use crate::{BinaryOp, Bytes, Compare, Expr, UnaryOp, Var};
+use crate::{BinaryOp, Bytes, Compare, Expr, Exprs, UnaryOp, Var};
 use std::alloc::{AllocError, Global};
 
 impl Expr {
@@ -24,6 +25,8 @@ impl Expr {
             Expr::Most(name, left) => copy_of_most(alloc, *name, left),
             Expr::Least(name, left) => copy_of_least(alloc, *name, left),
             Expr::Get(name, key, other) => copy_of_entry(alloc, *name, key, other),
+            Expr::Rec(parts) => copy_of_record(alloc, parts.as_slice()),
+            Expr::Part(name, place) => Ok(Expr::Part(*name, *place)),
         }
     }
 
@@ -94,4 +97,16 @@ fn copy_of_entry(alloc: Global, name: Var, key: &Bytes, other: &Expr) -> Result<
 {
     let key = key.try_copy(alloc)?;
     Ok(Expr::Get(name, key, other.boxed_copy(alloc)?))
+}
+
+#[cycle(copy)]
+fn copy_of_record(alloc: Global, parts: &[Expr]) -> Result<Expr, AllocError>
+    requires { IsRecordSize (length parts.now) }
+    ensures { IfOk result (λ copy. plain_of copy ≡ rec (plain_parts parts.now)) }
+{
+    let mut copies = Vec::new(alloc);
+    'parts: for part in parts {
+        copies.push(part.try_copy(alloc)?)?;
+    }
+    Ok(Expr::Rec(Exprs::of(copies)))
 }

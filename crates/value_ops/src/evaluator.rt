@@ -1,19 +1,22 @@
 //! What expressions give.
-ghost use Rattle.std.specs.Prelude.{◌≡◌, Some, IsOk, IfOk, fold, length, pos};
+ghost use Rattle.std.specs.Prelude.{◌≡◌, ◌≢◌, Some, IsOk, IfOk, IfSome, fold, length, pos};
 ghost use Rattle.std.specs.Option.{option_copied};
+ghost use Rattle.value_ops.specs.declared.value.Value.TheVariants as value;
 ghost use Rattle.value_ops.specs.declared.value.ValueType.{ValueType};
 ghost use Rattle.value_ops.specs.declared.value.ValueType.TheVariants as type;
 ghost use Rattle.value_ops.specs.Entries.{values_of};
-ghost use Rattle.value_ops.specs.Evaluation.{given, of_both, scalar_at, scalar_of, table_in};
+ghost use Rattle.value_ops.specs.Evaluation.{given, of_both, scalar_at, scalar_of, scalars_of, table_in};
 ghost use Rattle.value_ops.specs.Evaluation.{value_named, value_of};
-ghost use Rattle.value_ops.specs.Expressions.{binary, choice, plain_of};
+ghost use Rattle.value_ops.specs.Expressions.{binary, choice, plain_of, plain_parts};
 ghost use Rattle.value_ops.specs.Operators.{binary_of};
 ghost use Rattle.value_ops.specs.Scalar.{in_range};
 ghost use Rattle.value_ops.specs.Shown.{inputs_of};
-ghost use Rattle.value_ops.specs.Typing.{HasType, IsNumber, type_named, types_of};
+ghost use Rattle.few_parts.specs.Sizes.{IsRecordSize};
+ghost use Rattle.value_ops.specs.Typing.{AreNumbers, HasType, IsNumber, type_named, types_of};
 
 use crate::inputs::Inputs;
-use crate::{BinaryOp, Bytes, Compare, Expr, Field, Scalar, Table, Value, Var};
+use crate::rec::ROOM;
+use crate::{BinaryOp, Bytes, Compare, Expr, Field, Rec, Scalar, Table, Value, Var};
 use std::alloc::{AllocError, Global};
 
 impl Expr {
@@ -40,6 +43,33 @@ impl Expr {
         )
     }
 
+    /// The scalar that the expression gives, if it gives one. It comes in registers, where a value
+    /// would be moved through memory.
+    #[inline(always)]
+    pub fn eval_scalar(
+        &self,
+        fields: &[Field],
+        left: Option<&Value>,
+        right: Option<&Value>,
+    ) -> Option<Scalar>
+        requires { let inputs = given fields.now (option_copied left) (option_copied right) in
+            (type : ValueType) × HasType (types_of inputs) (plain_of self.now) type }
+        ensures { let inputs = given fields.now (option_copied left.entry)
+            (option_copied right.entry) in IfSome result (λ found.
+            value_of inputs (plain_of self.now) ≡ Some (value.Scalar found)) }
+    {
+        let inputs = Inputs {
+            fields,
+            left,
+            right,
+        };
+        match self {
+            Expr::Read(name) => inputs.scalar(*name),
+            Expr::Rec(_) => None,
+            _ => Some(scalar(self, &inputs)),
+        }
+    }
+
     /// The value that an expression gives. Only a table takes memory.
     #[inline(always)]
     pub fn eval(
@@ -56,19 +86,19 @@ impl Expr {
             IfOk result (λ value. value_of inputs (plain_of self.now) ≡ Some value) }
         ensures no_memory { let inputs = given fields.now (option_copied left.entry)
             (option_copied right.entry) in
-            IsNumber (types_of inputs) (plain_of self.now) → IsOk result }
+            (ty : ValueType) → ty ≢ type.Table
+            → HasType (types_of inputs) (plain_of self.now) ty → IsOk result }
     {
         let inputs = Inputs {
             fields,
             left,
             right,
         };
-        if let Expr::Read(name) = self {
-            if let Some(table) = inputs.table(*name) {
-                return Ok(Value::Table(table.try_copy(alloc)?));
-            }
+        match self {
+            Expr::Read(name) => inputs.copy_of(alloc, *name),
+            Expr::Rec(parts) => Ok(Value::Rec(record(parts.as_slice(), &inputs))),
+            _ => Ok(Value::Scalar(scalar(self, &inputs))),
         }
-        Ok(Value::Scalar(scalar(self, &inputs)))
     }
 }
 
@@ -91,6 +121,8 @@ fn scalar(expr: &Expr, inputs: &Inputs) -> Scalar
         Expr::Most(name, left) => extremum(BinaryOp::Max, *name, left, inputs),
         Expr::Least(name, left) => extremum(BinaryOp::Min, *name, left, inputs),
         Expr::Get(name, key, other) => scalar_under(inputs.known_table(*name), key, other, inputs),
+        Expr::Rec(_) => unreachable!(),
+        Expr::Part(name, place) => inputs.known_part(*name, *place),
     }
 }
 
@@ -181,4 +213,17 @@ fn folded(op: BinaryOp, first: Scalar, table: &Table) -> Scalar
         so_far = so_far.binary(op, table.value(i));
     }
     so_far
+}
+
+// The record of what the expressions give.
+fn record(parts: &[Expr], inputs: &Inputs) -> Rec
+    requires size { IsRecordSize (length parts.now) }
+    requires numbers { AreNumbers (types_of (inputs_of inputs.now)) (plain_parts parts.now) }
+    ensures { scalars_of (inputs_of inputs.now) (plain_parts parts.now) ≡ Some result }
+{
+    let mut scalars = [Scalar::DivZero; ROOM];
+    'parts: for (place, part) in parts.iter().enumerate() {
+        scalars[place] = scalar(part, inputs);
+    }
+    Rec::new(&scalars[..parts.len()])
 }

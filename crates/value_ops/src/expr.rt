@@ -1,5 +1,6 @@
 //! Expressions over the fields of an item, or over two values.
 use crate::{BinaryOp, Bytes, Compare, UnaryOp};
+use few_parts::Few;
 
 /// What a name stands for.
 #[derive(Clone, Copy, Debug, PartialEq, Eq)]
@@ -12,7 +13,7 @@ pub enum Var {
     Right,
 }
 
-/// An expression of a scalar, or the name of a table.
+/// An expression of a scalar, a record of such expressions, or the name of a record or a table.
 #[derive(Drop)]
 pub enum Expr {
     Literal(i64),
@@ -31,4 +32,11 @@ pub enum Expr {
     Least(Var, Box<Expr>),
     /// The scalar under a key of a table, or the expression where there is none.
     Get(Var, Bytes, Box<Expr>),
+    /// The record of what the expressions give.
+    Rec(Exprs),
+    /// The part at a place of a record, counted from 1.
+    Part(Var, u32),
 }
+
+/// Two to eight expressions.
+pub type Exprs = Few<Expr>;

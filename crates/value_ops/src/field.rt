@@ -14,6 +14,13 @@ pub enum Field {
     Val(Value),
 }
 
+// What stands at a place that is kept for a field.
+impl Default for Field {
+    fn default() -> Field {
+        Field::Int(0)
+    }
+}
+
 impl Field {
     ghost use Rattle.value_ops.specs.Fields.{scalar_of, text_of};
     ghost use Rattle.value_ops.specs.Values.{TakesNoMemory};
@@ -25,7 +32,7 @@ impl Field {
         match self {
             Field::Int(number) => Some(Scalar::Number(*number)),
             Field::Val(Value::Scalar(scalar)) => Some(*scalar),
-            Field::Text(_) | Field::Val(Value::Table(_)) => None,
+            Field::Text(_) | Field::Val(Value::Rec(_) | Value::Table(_)) => None,
         }
     }
 

@@ -1,12 +1,14 @@
 //! What the names of an expression stand for.
-ghost use Rattle.std.specs.Prelude.{◌≡◌, Some};
+ghost use Rattle.std.specs.Prelude.{◌≡◌, ◌≢◌, Some, IsOk, IfOk, option_and_then};
 ghost use Rattle.std.specs.Option.{option_copied};
-ghost use Rattle.value_ops.specs.Evaluation.{scalar_in, table_in, value_named};
+ghost use Rattle.value_ops.specs.Evaluation.{part_at, record_in, scalar_in, table_in, value_named};
 ghost use Rattle.value_ops.specs.Shown.{inputs_of};
-ghost use Rattle.value_ops.specs.Typing.{type_named, types_of};
+ghost use Rattle.value_ops.specs.Typing.{HasPart, type_named, types_of};
+ghost use Rattle.value_ops.specs.declared.value.ValueType.{ValueType};
 ghost use Rattle.value_ops.specs.declared.value.ValueType.TheVariants as type;
 
-use crate::{Field, Scalar, Table, Value, Var};
+use crate::{Field, Rec, Scalar, Table, Value, Var};
+use std::alloc::{AllocError, Global};
 
 /// The fields of an item, and a left and a right value.
 #[derive(Drop)]
@@ -66,6 +68,49 @@ impl<'a> Inputs<'a> {
             Var::Right => table_of(self.right),
         }
     }
+
+    /// The record that a name stands for.
+    fn record(&self, name: Var) -> Option<&'a Rec>
+        ensures { option_copied result ≡ record_in (value_named (inputs_of self.now) name) }
+    {
+        match name {
+            Var::Field(column) => match self.fields.get(column as usize) {
+                Some(Field::Val(value)) => record_of(Some(value)),
+                Some(Field::Int(_) | Field::Text(_)) | None => None,
+            },
+            Var::Left => record_of(self.left),
+            Var::Right => record_of(self.right),
+        }
+    }
+
+    /// The part at a place of the record that a name stands for.
+    pub(crate) fn known_part(&self, name: Var, place: u32) -> Scalar
+        requires { HasPart (type_named (types_of (inputs_of self.now)) name) place }
+        ensures { option_and_then (part_at place) (record_in (value_named (inputs_of self.now) name))
+            ≡ Some result }
+    {
+        match self.record(name) {
+            Some(record) => record.part(place as usize - 1),
+            None => unreachable!(),
+        }
+    }
+
+    /// A copy of what the name stands for. Only a table takes memory.
+    pub(crate) fn copy_of(&self, alloc: Global, name: Var) -> Result<Value, AllocError>
+        requires { (type : ValueType) × (type_named (types_of (inputs_of self.now)) name ≡ Some type) }
+        ensures value { IfOk result (λ value. value_named (inputs_of self.now) name ≡ Some value) }
+        ensures no_memory { type_named (types_of (inputs_of self.now)) name ≢ Some type.Table
+            → IsOk result }
+    {
+        if let Some(scalar) = self.scalar(name) {
+            return Ok(Value::Scalar(scalar));
+        }
+        if let Some(record) = self.record(name) {
+            return Ok(Value::Rec(*record));
+        }
+        let table = self.known_table(name);
+        Ok(Value::Table(table.try_copy(alloc)?))
+    }
 }
 
 fn scalar_of(value: Option<&Value>) -> Option<Scalar>
@@ -73,7 +118,7 @@ fn scalar_of(value: Option<&Value>) -> Option<Scalar>
 {
     match value {
         Some(Value::Scalar(scalar)) => Some(*scalar),
-        Some(Value::Table(_)) | None => None,
+        Some(Value::Rec(_) | Value::Table(_)) | None => None,
     }
 }
 
@@ -82,6 +127,15 @@ fn table_of(value: Option<&Value>) -> Option<&Table>
 {
     match value {
         Some(Value::Table(table)) => Some(table),
-        Some(Value::Scalar(_)) | None => None,
+        Some(Value::Scalar(_) | Value::Rec(_)) | None => None,
+    }
+}
+
+fn record_of(value: Option<&Value>) -> Option<&Rec>
+    ensures { option_copied result ≡ record_in (option_copied value.entry) }
+{
+    match value {
+        Some(Value::Rec(record)) => Some(record),
+        Some(Value::Scalar(_) | Value::Table(_)) | None => None,
     }
 }

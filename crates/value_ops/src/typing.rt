@@ -1,8 +1,9 @@
 //! The types of expressions.
-ghost use Rattle.std.specs.Prelude.{◌≡◌, ◌↔◌, IsTrue, IfSome, IfNone, Some};
-ghost use Rattle.value_ops.specs.Expressions.{plain_of};
+ghost use Rattle.std.specs.Prelude.{◌≡◌, ◌↔◌, IsTrue, IfSome, IfNone, Some, length};
+ghost use Rattle.value_ops.specs.Expressions.{plain_of, plain_parts, rec};
 ghost use Rattle.value_ops.specs.Shown.{shown_types};
-ghost use Rattle.value_ops.specs.Typing.{HasType, IsNumber, type_named, type_of_field};
+ghost use Rattle.few_parts.specs.Sizes.{IsRecordSize};
+ghost use Rattle.value_ops.specs.Typing.{AreNumbers, HasPart, HasType, IsNumber, type_named, type_of_field};
 ghost use Rattle.value_ops.specs.declared.value.ValueType.{ValueType};
 
 use crate::{Expr, Field, ValueType, Var};
@@ -31,8 +32,18 @@ impl Types<'_> {
     {
         match (self.named(name), wanted) {
             (Some(ValueType::Number), ValueType::Number) => true,
+            (Some(ValueType::Rec(size)), ValueType::Rec(wanted)) => size == wanted,
             (Some(ValueType::Table), ValueType::Table) => true,
             _ => false,
+        }
+    }
+
+    fn has_part(&self, name: Var, place: u32) -> bool
+        ensures { IsTrue result ↔ HasPart (type_named (shown_types self.now) name) place }
+    {
+        match self.named(name) {
+            Some(ValueType::Rec(size)) => 1 <= place && place <= size,
+            Some(ValueType::Number | ValueType::Table) | None => false,
         }
     }
 }
@@ -59,6 +70,7 @@ impl Expr {
     {
         match self {
             Expr::Read(name) => types.named(*name),
+            Expr::Rec(parts) => type_of_record(parts.as_slice(), types),
             _ => self.is_number(types).then_some(ValueType::Number),
         }
     }
@@ -82,6 +94,33 @@ impl Expr {
             Expr::Most(name, inner) | Expr::Least(name, inner) | Expr::Get(name, _, inner) => {
                 types.has(*name, ValueType::Table) && inner.is_number(types)
             }
+            Expr::Rec(_) => false,
+            Expr::Part(name, place) => types.has_part(*name, *place),
         }
     }
+}
+
+// The type of the record of the expressions, where each is a number.
+fn type_of_record(parts: &[Expr], types: &Types) -> Option<ValueType>
+    requires { IsRecordSize (length parts.now) }
+    ensures some { IfSome result (HasType (shown_types types.now) (rec (plain_parts parts.now))) }
+    ensures none { IfNone result ((type : ValueType)
+        → HasType (shown_types types.now) (rec (plain_parts parts.now)) type → ⊥) }
+{
+    if are_numbers(parts, types) {
+        Some(ValueType::Rec(parts.len() as u32))
+    } else {
+        None
+    }
+}
+
+fn are_numbers(parts: &[Expr], types: &Types) -> bool
+    ensures { IsTrue result ↔ AreNumbers (shown_types types.now) (plain_parts parts.now) }
+{
+    'parts: for part in parts {
+        if !part.is_number(types) {
+            return false;
+        }
+    }
+    true
 }

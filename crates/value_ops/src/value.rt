@@ -1,20 +1,23 @@
 //! A value that a query gives.
 ghost use Rattle.std.specs.Prelude.{◌≡◌, IsOk, IfOk};
 
-use crate::{Scalar, Table};
+use crate::{Rec, Scalar, Table};
 use std::alloc::{AllocError, Global};
 
-/// A scalar, or a table of them.
+/// A scalar, a record of scalars, or a table of them.
 #[derive(Drop)]
 pub enum Value {
     Scalar(Scalar),
+    Rec(Rec),
     Table(Table),
 }
 
-/// Whether values are scalars or tables.
+/// Whether values are scalars, records or tables.
 #[derive(Clone, Copy, Debug, PartialEq, Eq)]
 pub enum ValueType {
     Number,
+    /// A record of this many numbers.
+    Rec(u32),
     Table,
 }
 
@@ -31,6 +34,7 @@ impl Value {
             // Naming a number reads it, and what is read is one of 64 bits.
             &Value::Scalar(Scalar::Number(_number)) => ValueType::Number,
             Value::Scalar(_) => ValueType::Number,
+            Value::Rec(record) => record.ty(),
             Value::Table(table) => table.ty(),
         }
     }
@@ -42,6 +46,7 @@ impl Value {
     {
         match self {
             Value::Scalar(scalar) => Ok(Value::Scalar(*scalar)),
+            Value::Rec(record) => Ok(Value::Rec(*record)),
             Value::Table(table) => Ok(Value::Table(table.try_copy(alloc)?)),
         }
     }

@@ -12,7 +12,7 @@ syntax match sqreQuery "\<\%(atom\|eps\|or\|split\|iter\|combine\|apply\|compose
 syntax match sqreRate "\<\%(item\|seq\|alt\|star\)\ze\_s*("
 syntax match sqrePredicate "\<\%(eq\|ne\|lt\|le\|gt\|ge\|between\|isnum\|and\|not\)\ze\_s*("
 syntax match sqrePredicate "\<any\>"
-syntax match sqreOperator "\<\%(neg\|abs\|add\|sub\|mul\|div\|rem\|min\|max\|if\|tsum\|tcount\|tmax\|tmin\|tget\)\ze\_s*("
+syntax match sqreOperator "\<\%(neg\|abs\|add\|sub\|mul\|div\|rem\|min\|max\|if\|tsum\|tcount\|tmax\|tmin\|tget\|rec\|part\)\ze\_s*("
 syntax match sqreValue "\<\%(x\|y\|value\)\>"
 syntax region sqreString start=+"+ skip=+\\.+ end=+"+ oneline
 syntax match sqreComment "#.*$"

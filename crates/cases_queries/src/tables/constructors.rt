@@ -79,6 +79,8 @@ fn expression_constructor(expression: &Expression) -> &'static str {
             Extremum::Min => "tmin",
         },
         Expression::Get { .. } => "tget",
+        Expression::Record { .. } => "rec",
+        Expression::Part { .. } => "part",
     }
 }
 

@@ -4,7 +4,7 @@ ghost use Rattle.std.specs.Prelude.{◌≡◌, ◌<◌, ◌+◌, ◌++◌, IfOk,
 use item_schema::Item;
 use std::alloc::{AllocError, Global};
 
-pub(crate) fn copied(alloc: Global, items: &[Item]) -> Result<Vec<Item>, AllocError>
+pub(crate) fn copied(alloc: Global, items: &[Item]) -> Result<Vec<Item<'static>>, AllocError>
     ensures { IfOk result (λ copy. copy.items ≡ items.now) }
 {
     let mut copy = Vec::with_capacity(alloc, items.len())?;
@@ -15,7 +15,11 @@ pub(crate) fn copied(alloc: Global, items: &[Item]) -> Result<Vec<Item>, AllocEr
 }
 
 /// All items but the one at the place.
-pub(crate) fn without(alloc: Global, items: &[Item], place: usize) -> Result<Vec<Item>, AllocError>
+pub(crate) fn without(
+    alloc: Global,
+    items: &[Item],
+    place: usize,
+) -> Result<Vec<Item<'static>>, AllocError>
     requires { place < length items.now }
     ensures { IfOk result (λ left.
         left.items ≡ take place items.now ++ drop (place + 1) items.now) }

@@ -64,22 +64,26 @@ steps::start_only-returns = Steps.steps::start_only-returns
 pub choice::start_choice-returns : goal.choice::start_choice-returns
 choice::start_choice-returns = Choice.choice::start_choice-returns
 
-pub choice::start_choice-returns-in_err-start_into-in-Or : goal.choice::start_choice-returns-in_err-start_into-in-Or
+pub choice::start_choice-returns-in_err-start_into-in-Or :
+    goal.choice::start_choice-returns-in_err-start_into-in-Or
 choice::start_choice-returns-in_err-start_into-in-Or =
     Choice.choice::start_choice-returns-in_err-start_into-in-Or
 
-pub choice::start_choice-returns-in_err-start_into-in-Or-2 : goal.choice::start_choice-returns-in_err-start_into-in-Or-2
+pub choice::start_choice-returns-in_err-start_into-in-Or-2 :
+    goal.choice::start_choice-returns-in_err-start_into-in-Or-2
 choice::start_choice-returns-in_err-start_into-in-Or-2 =
     Choice.choice::start_choice-returns-in_err-start_into-in-Or-2
 
 pub choice::step_choice-returns : goal.choice::step_choice-returns
 choice::step_choice-returns = Choice.choice::step_choice-returns
 
-pub choice::step_choice-returns-in_err-step_into-in-Or : goal.choice::step_choice-returns-in_err-step_into-in-Or
+pub choice::step_choice-returns-in_err-step_into-in-Or :
+    goal.choice::step_choice-returns-in_err-step_into-in-Or
 choice::step_choice-returns-in_err-step_into-in-Or =
     Choice.choice::step_choice-returns-in_err-step_into-in-Or
 
-pub choice::step_choice-returns-in_err-step_into-in-Or-2 : goal.choice::step_choice-returns-in_err-step_into-in-Or-2
+pub choice::step_choice-returns-in_err-step_into-in-Or-2 :
+    goal.choice::step_choice-returns-in_err-step_into-in-Or-2
 choice::step_choice-returns-in_err-step_into-in-Or-2 =
     Choice.choice::step_choice-returns-in_err-step_into-in-Or-2
 
@@ -87,14 +91,16 @@ choice::step_choice-returns-in_err-step_into-in-Or-2 =
 pub apply::start_apply-returns : goal.apply::start_apply-returns
 apply::start_apply-returns = Apply.apply::start_apply-returns
 
-pub apply::start_apply-returns-in_err-start_into-in-Apply : goal.apply::start_apply-returns-in_err-start_into-in-Apply
+pub apply::start_apply-returns-in_err-start_into-in-Apply :
+    goal.apply::start_apply-returns-in_err-start_into-in-Apply
 apply::start_apply-returns-in_err-start_into-in-Apply =
     Apply.apply::start_apply-returns-in_err-start_into-in-Apply
 
 pub apply::step_apply-returns : goal.apply::step_apply-returns
 apply::step_apply-returns = Apply.apply::step_apply-returns
 
-pub apply::step_apply-returns-in_err-step_into-in-Apply : goal.apply::step_apply-returns-in_err-step_into-in-Apply
+pub apply::step_apply-returns-in_err-step_into-in-Apply :
+    goal.apply::step_apply-returns-in_err-step_into-in-Apply
 apply::step_apply-returns-in_err-step_into-in-Apply =
     Apply.apply::step_apply-returns-in_err-step_into-in-Apply
 
@@ -105,11 +111,13 @@ combine::start_combine-combine_with-requires = Combine.combine::start_combine-co
 pub combine::start_combine-returns : goal.combine::start_combine-returns
 combine::start_combine-returns = Combine.combine::start_combine-returns
 
-pub combine::start_combine-returns-in_err-start_into-in-Combine : goal.combine::start_combine-returns-in_err-start_into-in-Combine
+pub combine::start_combine-returns-in_err-start_into-in-Combine :
+    goal.combine::start_combine-returns-in_err-start_into-in-Combine
 combine::start_combine-returns-in_err-start_into-in-Combine =
     Combine.combine::start_combine-returns-in_err-start_into-in-Combine
 
-pub combine::start_combine-returns-in_err-start_into-in-Combine-2 : goal.combine::start_combine-returns-in_err-start_into-in-Combine-2
+pub combine::start_combine-returns-in_err-start_into-in-Combine-2 :
+    goal.combine::start_combine-returns-in_err-start_into-in-Combine-2
 combine::start_combine-returns-in_err-start_into-in-Combine-2 =
     Combine.combine::start_combine-returns-in_err-start_into-in-Combine-2
 
@@ -119,11 +127,13 @@ combine::step_combine-combine_with-requires = Combine.combine::step_combine-comb
 pub combine::step_combine-returns : goal.combine::step_combine-returns
 combine::step_combine-returns = Combine.combine::step_combine-returns
 
-pub combine::step_combine-returns-in_err-step_into-in-Combine : goal.combine::step_combine-returns-in_err-step_into-in-Combine
+pub combine::step_combine-returns-in_err-step_into-in-Combine :
+    goal.combine::step_combine-returns-in_err-step_into-in-Combine
 combine::step_combine-returns-in_err-step_into-in-Combine =
     Combine.combine::step_combine-returns-in_err-step_into-in-Combine
 
-pub combine::step_combine-returns-in_err-step_into-in-Combine-2 : goal.combine::step_combine-returns-in_err-step_into-in-Combine-2
+pub combine::step_combine-returns-in_err-step_into-in-Combine-2 :
+    goal.combine::step_combine-returns-in_err-step_into-in-Combine-2
 combine::step_combine-returns-in_err-step_into-in-Combine-2 =
     Combine.combine::step_combine-returns-in_err-step_into-in-Combine-2
 
@@ -137,7 +147,8 @@ operands::step_and_end-end_waiting-requires = Operands.operands::step_and_end-en
 pub operands::step_and_end-returns : goal.operands::step_and_end-returns
 operands::step_and_end-returns = Operands.operands::step_and_end-returns
 
-pub operands::step_and_end-returns-in_err-step_into-clause-no_memory : goal.operands::step_and_end-returns-in_err-step_into-clause-no_memory
+pub operands::step_and_end-returns-in_err-step_into-clause-no_memory :
+    goal.operands::step_and_end-returns-in_err-step_into-clause-no_memory
 operands::step_and_end-returns-in_err-step_into-clause-no_memory =
     Operands.operands::step_and_end-returns-in_err-step_into-clause-no_memory
 
@@ -150,7 +161,8 @@ operands::start_and_join-join_to-requires = Operands.operands::start_and_join-jo
 pub operands::start_and_join-returns : goal.operands::start_and_join-returns
 operands::start_and_join-returns = Operands.operands::start_and_join-returns
 
-pub operands::start_and_join-returns-in_err-start_into-clause-no_memory : goal.operands::start_and_join-returns-in_err-start_into-clause-no_memory
+pub operands::start_and_join-returns-in_err-start_into-clause-no_memory :
+    goal.operands::start_and_join-returns-in_err-start_into-clause-no_memory
 operands::start_and_join-returns-in_err-start_into-clause-no_memory =
     Operands.operands::start_and_join-returns-in_err-start_into-clause-no_memory
 
@@ -158,18 +170,21 @@ operands::start_and_join-returns-in_err-start_into-clause-no_memory =
 pub split::start_split-start_and_join-requires : goal.split::start_split-start_and_join-requires
 split::start_split-start_and_join-requires = Split.split::start_split-start_and_join-requires
 
-pub split::start_split-returns-in_ok-start_and_join-in-Some : goal.split::start_split-returns-in_ok-start_and_join-in-Some
+pub split::start_split-returns-in_ok-start_and_join-in-Some :
+    goal.split::start_split-returns-in_ok-start_and_join-in-Some
 split::start_split-returns-in_ok-start_and_join-in-Some =
     Split.split::start_split-returns-in_ok-start_and_join-in-Some
 
 pub split::start_split-returns-in-None : goal.split::start_split-returns-in-None
 split::start_split-returns-in-None = Split.split::start_split-returns-in-None
 
-pub split::start_split-returns-in_err-start_into-in-Split : goal.split::start_split-returns-in_err-start_into-in-Split
+pub split::start_split-returns-in_err-start_into-in-Split :
+    goal.split::start_split-returns-in_err-start_into-in-Split
 split::start_split-returns-in_err-start_into-in-Split =
     Split.split::start_split-returns-in_err-start_into-in-Split
 
-pub split::start_split-returns-in_err-start_and_join-in-Some : goal.split::start_split-returns-in_err-start_and_join-in-Some
+pub split::start_split-returns-in_err-start_and_join-in-Some :
+    goal.split::start_split-returns-in_err-start_and_join-in-Some
 split::start_split-returns-in_err-start_and_join-in-Some =
     Split.split::start_split-returns-in_err-start_and_join-in-Some
 
@@ -185,11 +200,13 @@ split::step_split-returns-in-Some = Split.split::step_split-returns-in-Some
 pub split::step_split-returns-in-None : goal.split::step_split-returns-in-None
 split::step_split-returns-in-None = Split.split::step_split-returns-in-None
 
-pub split::step_split-returns-in_err-step_into-in-Split : goal.split::step_split-returns-in_err-step_into-in-Split
+pub split::step_split-returns-in_err-step_into-in-Split :
+    goal.split::step_split-returns-in_err-step_into-in-Split
 split::step_split-returns-in_err-step_into-in-Split =
     Split.split::step_split-returns-in_err-step_into-in-Split
 
-pub split::step_split-returns-in_err-end_right-in-Split : goal.split::step_split-returns-in_err-end_right-in-Split
+pub split::step_split-returns-in_err-end_right-in-Split :
+    goal.split::step_split-returns-in_err-end_right-in-Split
 split::step_split-returns-in_err-end_right-in-Split =
     Split.split::step_split-returns-in_err-end_right-in-Split
 
@@ -212,11 +229,13 @@ iter::start_iter-start_only-requires = Iter.iter::start_iter-start_only-requires
 pub iter::start_iter-returns : goal.iter::start_iter-returns
 iter::start_iter-returns = Iter.iter::start_iter-returns
 
-pub iter::start_iter-returns-in_err-start_only-in-Iter : goal.iter::start_iter-returns-in_err-start_only-in-Iter
+pub iter::start_iter-returns-in_err-start_only-in-Iter :
+    goal.iter::start_iter-returns-in_err-start_only-in-Iter
 iter::start_iter-returns-in_err-start_only-in-Iter =
     Iter.iter::start_iter-returns-in_err-start_only-in-Iter
 
-pub iter::start_iter-returns-in_err-continue_if_new-in-Iter : goal.iter::start_iter-returns-in_err-continue_if_new-in-Iter
+pub iter::start_iter-returns-in_err-continue_if_new-in-Iter :
+    goal.iter::start_iter-returns-in_err-continue_if_new-in-Iter
 iter::start_iter-returns-in_err-continue_if_new-in-Iter =
     Iter.iter::start_iter-returns-in_err-continue_if_new-in-Iter
 
@@ -232,7 +251,8 @@ iter::step_iter-returns-in-Some = Iter.iter::step_iter-returns-in-Some
 pub iter::step_iter-returns-in-None : goal.iter::step_iter-returns-in-None
 iter::step_iter-returns-in-None = Iter.iter::step_iter-returns-in-None
 
-pub iter::step_iter-returns-in_err-step_and_end-in-Iter : goal.iter::step_iter-returns-in_err-step_and_end-in-Iter
+pub iter::step_iter-returns-in_err-step_and_end-in-Iter :
+    goal.iter::step_iter-returns-in_err-step_and_end-in-Iter
 iter::step_iter-returns-in_err-step_and_end-in-Iter =
     Iter.iter::step_iter-returns-in_err-step_and_end-in-Iter
 
@@ -242,7 +262,8 @@ iter::next_piece-start_only-requires = Iter.iter::next_piece-start_only-requires
 pub iter::next_piece-returns-clause-continues : goal.iter::next_piece-returns-clause-continues
 iter::next_piece-returns-clause-continues = Iter.iter::next_piece-returns-clause-continues
 
-pub iter::next_piece-returns-in_err-start_only-clause-no_memory : goal.iter::next_piece-returns-in_err-start_only-clause-no_memory
+pub iter::next_piece-returns-in_err-start_only-clause-no_memory :
+    goal.iter::next_piece-returns-in_err-start_only-clause-no_memory
 iter::next_piece-returns-in_err-start_only-clause-no_memory =
     Iter.iter::next_piece-returns-in_err-start_only-clause-no_memory
 
@@ -256,7 +277,8 @@ compose::start_compose-feed-requires = Compose.compose::start_compose-feed-requi
 pub compose::start_compose-returns : goal.compose::start_compose-returns
 compose::start_compose-returns = Compose.compose::start_compose-returns
 
-pub compose::start_compose-returns-in_err-start_into-in-Compose : goal.compose::start_compose-returns-in_err-start_into-in-Compose
+pub compose::start_compose-returns-in_err-start_into-in-Compose :
+    goal.compose::start_compose-returns-in_err-start_into-in-Compose
 compose::start_compose-returns-in_err-start_into-in-Compose =
     Compose.compose::start_compose-returns-in_err-start_into-in-Compose
 
@@ -269,11 +291,13 @@ compose::step_compose-pass_on-requires = Compose.compose::step_compose-pass_on-r
 pub compose::step_compose-returns : goal.compose::step_compose-returns
 compose::step_compose-returns = Compose.compose::step_compose-returns
 
-pub compose::step_compose-returns-in_err-step_into-in-Compose : goal.compose::step_compose-returns-in_err-step_into-in-Compose
+pub compose::step_compose-returns-in_err-step_into-in-Compose :
+    goal.compose::step_compose-returns-in_err-step_into-in-Compose
 compose::step_compose-returns-in_err-step_into-in-Compose =
     Compose.compose::step_compose-returns-in_err-step_into-in-Compose
 
-pub compose::step_compose-returns-in_err-pass_on-in-Compose : goal.compose::step_compose-returns-in_err-pass_on-in-Compose
+pub compose::step_compose-returns-in_err-pass_on-in-Compose :
+    goal.compose::step_compose-returns-in_err-pass_on-in-Compose
 compose::step_compose-returns-in_err-pass_on-in-Compose =
     Compose.compose::step_compose-returns-in_err-pass_on-in-Compose
 
@@ -290,14 +314,16 @@ right_runners::carry-step_into-requires = Runner.right_runners::carry-step_into-
 pub right_runners::carry-returns-clause-carried : goal.right_runners::carry-returns-clause-carried
 right_runners::carry-returns-clause-carried = Runner.right_runners::carry-returns-clause-carried
 
-pub right_runners::deliver-carry-requires : goal.right_runners::deliver-carry-requires
-right_runners::deliver-carry-requires = Runner.right_runners::deliver-carry-requires
+pub right_runners::deliver-carry_value-requires : goal.right_runners::deliver-carry_value-requires
+right_runners::deliver-carry_value-requires = Runner.right_runners::deliver-carry_value-requires
 
-pub right_runners::deliver-returns-in_ok-value-in-Some-clause-delivered : goal.right_runners::deliver-returns-in_ok-value-in-Some-clause-delivered
+pub right_runners::deliver-returns-in_ok-value-in-Some-clause-delivered :
+    goal.right_runners::deliver-returns-in_ok-value-in-Some-clause-delivered
 right_runners::deliver-returns-in_ok-value-in-Some-clause-delivered =
     Runner.right_runners::deliver-returns-in_ok-value-in-Some-clause-delivered
 
-pub right_runners::deliver-returns-in-None-clause-delivered : goal.right_runners::deliver-returns-in-None-clause-delivered
+pub right_runners::deliver-returns-in-None-clause-delivered :
+    goal.right_runners::deliver-returns-in-None-clause-delivered
 right_runners::deliver-returns-in-None-clause-delivered =
     Runner.right_runners::deliver-returns-in-None-clause-delivered
 
@@ -310,7 +336,8 @@ right_runners::begin-deliver-requires = Runner.right_runners::begin-deliver-requ
 pub right_runners::begin-returns-in-Some : goal.right_runners::begin-returns-in-Some
 right_runners::begin-returns-in-Some = Runner.right_runners::begin-returns-in-Some
 
-pub right_runners::begin-returns-in-None-clause-begun : goal.right_runners::begin-returns-in-None-clause-begun
+pub right_runners::begin-returns-in-None-clause-begun :
+    goal.right_runners::begin-returns-in-None-clause-begun
 right_runners::begin-returns-in-None-clause-begun =
     Runner.right_runners::begin-returns-in-None-clause-begun
 
@@ -323,39 +350,48 @@ right_runners::pass_on-returns-in-Some-place = Runner.right_runners::pass_on-ret
 pub right_runners::feed-begin-requires : goal.right_runners::feed-begin-requires
 right_runners::feed-begin-requires = Runner.right_runners::feed-begin-requires
 
-pub right_runners::feed-returns-then-idle-eq0-clause-fed : goal.right_runners::feed-returns-then-idle-eq0-clause-fed
+pub right_runners::feed-returns-then-idle-eq0-clause-fed :
+    goal.right_runners::feed-returns-then-idle-eq0-clause-fed
 right_runners::feed-returns-then-idle-eq0-clause-fed =
     Runner.right_runners::feed-returns-then-idle-eq0-clause-fed
 
-pub right_runners::feed-returns-then-live-clause-fed : goal.right_runners::feed-returns-then-live-clause-fed
+pub right_runners::feed-returns-then-live-clause-fed :
+    goal.right_runners::feed-returns-then-live-clause-fed
 right_runners::feed-returns-then-live-clause-fed =
     Runner.right_runners::feed-returns-then-live-clause-fed
 
-pub right_runners::feed-returns-else-live-clause-fed : goal.right_runners::feed-returns-else-live-clause-fed
+pub right_runners::feed-returns-else-live-clause-fed :
+    goal.right_runners::feed-returns-else-live-clause-fed
 right_runners::feed-returns-else-live-clause-fed =
     Runner.right_runners::feed-returns-else-live-clause-fed
 
-pub right_runners::renew-returns-in_err-start_into-clause-no_memory : goal.right_runners::renew-returns-in_err-start_into-clause-no_memory
+pub right_runners::renew-returns-in_err-start_into-clause-no_memory :
+    goal.right_runners::renew-returns-in_err-start_into-clause-no_memory
 right_runners::renew-returns-in_err-start_into-clause-no_memory =
     Runner.right_runners::renew-returns-in_err-start_into-clause-no_memory
 
-pub right_runners::carry-returns-in_err-step_into-clause-no_memory : goal.right_runners::carry-returns-in_err-step_into-clause-no_memory
+pub right_runners::carry-returns-in_err-step_into-clause-no_memory :
+    goal.right_runners::carry-returns-in_err-step_into-clause-no_memory
 right_runners::carry-returns-in_err-step_into-clause-no_memory =
     Runner.right_runners::carry-returns-in_err-step_into-clause-no_memory
 
-pub right_runners::deliver-returns-in_err-carry-clause-no_memory : goal.right_runners::deliver-returns-in_err-carry-clause-no_memory
-right_runners::deliver-returns-in_err-carry-clause-no_memory =
-    Runner.right_runners::deliver-returns-in_err-carry-clause-no_memory
+pub right_runners::deliver-returns-in_err-carry_value-clause-no_memory :
+    goal.right_runners::deliver-returns-in_err-carry_value-clause-no_memory
+right_runners::deliver-returns-in_err-carry_value-clause-no_memory =
+    Runner.right_runners::deliver-returns-in_err-carry_value-clause-no_memory
 
-pub right_runners::deliver-returns-in_err-value-in-Some-clause-no_memory : goal.right_runners::deliver-returns-in_err-value-in-Some-clause-no_memory
+pub right_runners::deliver-returns-in_err-value-in-Some-clause-no_memory :
+    goal.right_runners::deliver-returns-in_err-value-in-Some-clause-no_memory
 right_runners::deliver-returns-in_err-value-in-Some-clause-no_memory =
     Runner.right_runners::deliver-returns-in_err-value-in-Some-clause-no_memory
 
-pub right_runners::begin-returns-in_err-renew-clause-no_memory : goal.right_runners::begin-returns-in_err-renew-clause-no_memory
+pub right_runners::begin-returns-in_err-renew-clause-no_memory :
+    goal.right_runners::begin-returns-in_err-renew-clause-no_memory
 right_runners::begin-returns-in_err-renew-clause-no_memory =
     Runner.right_runners::begin-returns-in_err-renew-clause-no_memory
 
-pub right_runners::feed-returns-in_err-begin-clause-no_memory : goal.right_runners::feed-returns-in_err-begin-clause-no_memory
+pub right_runners::feed-returns-in_err-begin-clause-no_memory :
+    goal.right_runners::feed-returns-in_err-begin-clause-no_memory
 right_runners::feed-returns-in_err-begin-clause-no_memory =
     Runner.right_runners::feed-returns-in_err-begin-clause-no_memory
 
@@ -375,7 +411,8 @@ collect::track-returns-then-not-can_track = Collect.collect::track-returns-then-
 pub collect::track-returns : goal.collect::track-returns
 collect::track-returns = Collect.collect::track-returns
 
-pub collect::new_runner-new-requires-clause-cells : goal.collect::new_runner-new-requires-clause-cells
+pub collect::new_runner-new-requires-clause-cells :
+    goal.collect::new_runner-new-requires-clause-cells
 collect::new_runner-new-requires-clause-cells =
     Collect.collect::new_runner-new-requires-clause-cells
 
@@ -410,11 +447,13 @@ pub collect::pass_by-advance-requires : goal.collect::pass_by-advance-requires
 collect::pass_by-advance-requires = Collect.collect::pass_by-advance-requires
 
 -- its runners for keys
-pub keys::keys_push-returns-then-holds-clause-pushed : goal.keys::keys_push-returns-then-holds-clause-pushed
+pub keys::keys_push-returns-then-holds-clause-pushed :
+    goal.keys::keys_push-returns-then-holds-clause-pushed
 keys::keys_push-returns-then-holds-clause-pushed =
     Keys.keys::keys_push-returns-then-holds-clause-pushed
 
-pub keys::keys_push-returns-else-holds-clause-pushed : goal.keys::keys_push-returns-else-holds-clause-pushed
+pub keys::keys_push-returns-else-holds-clause-pushed :
+    goal.keys::keys_push-returns-else-holds-clause-pushed
 keys::keys_push-returns-else-holds-clause-pushed =
     Keys.keys::keys_push-returns-else-holds-clause-pushed
 

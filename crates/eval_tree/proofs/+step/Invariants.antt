@@ -47,17 +47,23 @@ decreases-right_runners::carry l = 8 * size-Query l.query.now + 1
 abbrev pub decreases-right_runners::renew : goal.decreases-right_runners::renew
 decreases-right_runners::renew l = 8 * size-Query l.query.now + 1
 
+abbrev pub decreases-right_runners::carry_parts : goal.decreases-right_runners::carry_parts
+decreases-right_runners::carry_parts l = 8 * size-Query l.query.now + 2
+
+abbrev pub decreases-right_runners::carry_value : goal.decreases-right_runners::carry_value
+decreases-right_runners::carry_value l = 8 * size-Query l.query.now + 3
+
 abbrev pub decreases-right_runners::deliver : goal.decreases-right_runners::deliver
-decreases-right_runners::deliver l = 8 * size-Query l.query.now + 2
+decreases-right_runners::deliver l = 8 * size-Query l.query.now + 4
 
 abbrev pub decreases-right_runners::begin : goal.decreases-right_runners::begin
-decreases-right_runners::begin l = 8 * size-Query l.query.now + 3
+decreases-right_runners::begin l = 8 * size-Query l.query.now + 5
 
 abbrev pub decreases-right_runners::pass_on : goal.decreases-right_runners::pass_on
-decreases-right_runners::pass_on l = 8 * size-Query l.query.now + 3
+decreases-right_runners::pass_on l = 8 * size-Query l.query.now + 5
 
 abbrev pub decreases-right_runners::feed : goal.decreases-right_runners::feed
-decreases-right_runners::feed l = 8 * size-Query l.query.now + 4
+decreases-right_runners::feed l = 8 * size-Query l.query.now + 6
 
 abbrev pub decreases-keys::push_to_key : goal.decreases-keys::push_to_key
 decreases-keys::push_to_key l = 8 * size-Query l.query.now + 2

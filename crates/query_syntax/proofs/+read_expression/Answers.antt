@@ -1,8 +1,22 @@
-use Rattle.std.proofs.Common.{rules, refl, sym, ap, ◌∙◌, arith}
+use Rattle.std.proofs.Common.{◌≡◌, ◌≤◌, ◌+◌, codes, rules, List, length, refl, sym, ap, ◌∙◌, subst}
+use Rattle.std.proofs.Common.{arith}
+use Rattle.std.proofs.lemmas.List.{length_push, take_all}
+use Rattle.few_parts.specs.Sizes.{IsRecordSize}
+use Rattle.query_forms.specs.declared.term_place.TermPlace.TheVariants.{Expr}
+use Rattle.query_forms.specs.Terms.{Terms}
+use Rattle.query_parser.specs.declared.term.Term.{Term}
 use Rattle.query_parser.specs.declared.term.Term.TheViews.{the_lemmas}
-use Rattle.query_parser.specs.Plain.{terms_of}
-use Rattle.query_syntax.proofs.Fitting.{item_fits, call_form, call_written, is_call, term_read}
-use Rattle.query_syntax.proofs.Fitting.{three_terms}
+use Rattle.query_parser.specs.Plain.{term_before, terms_of}
+use Rattle.query_syntax.specs.Calls.{IsCall}
+use Rattle.query_syntax.specs.declared.expression.Expression.{Expression, Record}
+use Rattle.query_syntax.specs.Files.{all_before}
+use Rattle.query_syntax.specs.Fits.{Fits}
+use Rattle.query_syntax.specs.Plain.{plain_expression}
+use Rattle.query_syntax.specs.Written.{expression_before}
+use Rattle.query_syntax.proofs.Fitting.{all_fit, as_many_fit, item_fits, call_form, call_written}
+use Rattle.query_syntax.proofs.Fitting.{is_call, term_read, three_terms}
+use Rattle.query_syntax.proofs.Lists.{more_before}
+use Rattle.query_syntax.proofs.Records.{as_many_read, none_read, record_written}
 use Rattle.query_syntax.proofs.+read_expression.Goals as goal
 
 pub expression_reading::expression_of-expression_call-requires :
@@ -105,3 +119,55 @@ expression_calls::extremum_of-boxed_expression-requires t c = (
   search (rules, the_lemmas),
   item_fits _ _ _ 1 _ c.requires (omega (arith, c.requires.as_many)) c.first-item.is refl,
 )
+
+pub expression_reading::expression_call-record_of-requires :
+    goal.expression_reading::expression_call-record_of-requires
+expression_reading::expression_call-record_of-requires t c =
+    let fit = rw c.in-Record.is at c.expression_head.ensures.places in
+    let size = rw c.in-Record.is at c.expression_head.ensures.size in
+    (search (rules, the_lemmas), (all_fit Expr _ _ fit, as_many_fit Expr _ _ fit size))
+
+pub expression_calls::record_of-expression_of-requires :
+    goal.expression_calls::record_of-expression_of-requires
+expression_calls::record_of-expression_of-requires t c = (
+  search (rules, the_lemmas),
+  subst (Fits Expr) (sym c.argument-item.is)
+      (c.requires.fit c.arguments.argument-index c.argument-item.result c.arguments-test.true),
+)
+
+pub expression_calls::record_of-arguments-preserved :
+    goal.expression_calls::record_of-arguments-preserved
+expression_calls::record_of-arguments-preserved t c =
+    let before = c.arguments.invariant in
+    let inside = c.arguments-test.true in record {
+      within = omega arith;
+      written = more_before (λ part. expression_before (plain_expression part)) c.args.arguments.now
+          c.arguments.argument-index c.argument-item.result c.arguments.parts.items
+          c.push.new.self.items c.in_ok-expression_of.field-0 c.arguments-test.true
+          c.argument-item.is c.in_ok-push.ensures.items before.written
+          c.in_ok-expression_of.ensures;
+      as_many = ap length c.in_ok-push.ensures.items
+          ∙ length_push c.arguments.parts.items c.in_ok-expression_of.field-0
+          ∙ ap (λ n. n + 1) before.as_many;
+    }
+
+pub expression_calls::record_of-arguments-init : goal.expression_calls::record_of-arguments-init
+expression_calls::record_of-arguments-init t c = none_read c.args.arguments.now _ (search rules)
+
+pub expression_calls::record_of-of-requires : goal.expression_calls::record_of-of-requires
+expression_calls::record_of-of-requires t c =
+    let end : length c.args.arguments.now ≤ c.arguments.argument-index = omega arith in
+    subst IsRecordSize
+    (sym (as_many_read c.args.arguments.now c.arguments.parts.items c.arguments.argument-index end
+    c.arguments.invariant))
+    c.requires.size
+
+pub expression_calls::record_of-returns : goal.expression_calls::record_of-returns
+expression_calls::record_of-returns t c =
+    let end : length c.args.arguments.now ≤ c.arguments.argument-index = omega arith in
+    subst (λ (parts : List Expression). IsCall (codes "rec") c.args.arguments.now c.args.span
+    (expression_before (plain_expression (Record parts c.args.span)))) (sym c.of.ensures)
+    (record_written c.arguments.parts.items c.args.span c.args.arguments.now
+    (subst (λ (list : List Term). (rest : Terms) → all_before term_before list rest
+    ≡ all_before (λ part. expression_before (plain_expression part)) c.arguments.parts.items rest)
+    (take_all c.arguments.argument-index c.args.arguments.now end) c.arguments.invariant.written))

@@ -1,5 +1,6 @@
-use Rattle.std.proofs.Common.{◌+◌, ◌*◌, max}
+use Rattle.std.proofs.Common.{◌≡◌, ◌+◌, ◌*◌, max, map, take}
 use Rattle.value_ops.specs.declared.expr.Expr.{size-Expr}
+use Rattle.value_ops.specs.Expressions.{plain_of}
 use Rattle.value_ops.proofs.+copy.Given as goal
 
 -- how deep the expression is; at one expression those that call others stand above them
@@ -28,3 +29,11 @@ decreases-copies::copy_of_least l = 3 * size-Expr l.first.now + 2
 
 abbrev pub decreases-copies::copy_of_entry : goal.decreases-copies::copy_of_entry
 decreases-copies::copy_of_entry l = 3 * size-Expr l.other.now + 2
+
+abbrev pub decreases-copies::copy_of_record : goal.decreases-copies::copy_of_record
+decreases-copies::copy_of_record l = 3 * goal.size-copies::copy_of_record l + 2
+
+-- this many parts are copied
+abbrev pub invariant-copies::copy_of_record-parts : goal.invariant-copies::copy_of_record-parts
+invariant-copies::copy_of_record-parts l =
+    map plain_of l.copies.items ≡ map plain_of (take l.part-index l.parts)

@@ -50,7 +50,7 @@ right_runners::renew-returns-clause-renewed t c =
     begun_anew seen_of (plain_of c.args.query.now.shape) c.args.runner.now _
     (holding_of c.clear.new.node.state) c.start_into.new.hit c.requires.columns
     c.requires.no_collect c.requires.sound c.clear.ensures
-    c.in_ok-start_into.ensures.word c.in_ok-start_into.ensures.sound refl c.value_of.ensures
+    c.in_ok-start_into.ensures.word c.in_ok-start_into.ensures.sound refl c.put_answer.ensures
 
 pub right_runners::carry-step_into-requires : goal.right_runners::carry-step_into-requires
 right_runners::carry-step_into-requires t c = (
@@ -66,26 +66,25 @@ pub right_runners::carry-returns-clause-carried : goal.right_runners::carry-retu
 right_runners::carry-returns-clause-carried t c =
     carried_on seen_of (plain_of c.args.query.now.shape) c.args.runner.now _ c.args.item.now
     c.step_into.new.hit c.in_ok-step_into.ensures.word c.in_ok-step_into.ensures.sound refl
-    c.value_of.ensures
+    c.put_answer.ensures
 
-pub right_runners::deliver-carry-requires : goal.right_runners::deliver-carry-requires
-right_runners::deliver-carry-requires t c = (
+pub right_runners::deliver-carry_value-requires : goal.right_runners::deliver-carry_value-requires
+right_runners::deliver-carry_value-requires t c = (
   search rules,
   subst (CanCarry seen_of (plain_of c.args.query.now.shape) c.args.runner.now)
-      (sym (c.from_value.ensures ∙ ap item_of c.into_parts-start.ensures.value)) c.requires.can,
+      (ap item_of (sym c.into_parts-start.ensures.value)) c.requires.can,
 )
 
 pub right_runners::deliver-returns-in_ok-value-in-Some-clause-delivered :
     goal.right_runners::deliver-returns-in_ok-value-in-Some-clause-delivered
 right_runners::deliver-returns-in_ok-value-in-Some-clause-delivered t c = record {
   carried = subst (λ (item : List Field). IsCarried seen_of (plain_of c.args.query.now.shape)
-      c.args.runner.now item
-      c.carry-2.new.runner) (c.from_value.ensures ∙ ap item_of c.into_parts-start.ensures.value)
-      c.in_ok-carry.ensures.carried;
+      c.args.runner.now item c.carry_value.new.runner) (ap item_of c.into_parts-start.ensures.value)
+      c.in_ok-carry_value.ensures.carried;
   answers = ap (λ (v : Value). Some (record { start = c.into_parts-start.result.0; value = v }))
       c.in_ok-value-in-Some.ensures.equal
       ∙ ap (hit_at c.into_parts-start.result.0) (sym c.in-Some.is)
-      ∙ ap (λ (start : ℕ). hit_at start c.carry-2.new.runner.answer)
+      ∙ ap (λ (start : ℕ). hit_at start c.carry_value.new.runner.answer)
       c.into_parts-start.ensures.start;
 }
 
@@ -93,9 +92,8 @@ pub right_runners::deliver-returns-in-None-clause-delivered :
     goal.right_runners::deliver-returns-in-None-clause-delivered
 right_runners::deliver-returns-in-None-clause-delivered t c = record {
   carried = subst (λ (item : List Field). IsCarried seen_of (plain_of c.args.query.now.shape)
-      c.args.runner.now item
-      c.carry-2.new.runner) (c.from_value.ensures ∙ ap item_of c.into_parts-start.ensures.value)
-      c.in_ok-carry.ensures.carried;
+      c.args.runner.now item c.carry_value.new.runner) (ap item_of c.into_parts-start.ensures.value)
+      c.in_ok-carry_value.ensures.carried;
   answers = c.requires.none ∙ ap (hit_at c.args.left.start) (sym c.in-None.is);
 }
 
@@ -253,23 +251,23 @@ right_runners::carry-returns-in_err-step_into-clause-no_memory t c = λ free.
     (runner_steps seen_of (plain_of c.args.query.now.shape) c.args.runner.now
     c.args.item.now free)))
 
-pub right_runners::deliver-returns-in_err-carry-clause-no_memory :
-    goal.right_runners::deliver-returns-in_err-carry-clause-no_memory
-right_runners::deliver-returns-in_err-carry-clause-no_memory t c = λ free.
-    absurd (false≢true (c.in_err-carry.ensures.no_memory
+pub right_runners::deliver-returns-in_err-carry_value-clause-no_memory :
+    goal.right_runners::deliver-returns-in_err-carry_value-clause-no_memory
+right_runners::deliver-returns-in_err-carry_value-clause-no_memory t c = λ free.
+    absurd (false≢true (c.in_err-carry_value.ensures.no_memory
     (subst (CarriesNumbers seen_of (plain_of c.args.query.now.shape) c.args.runner.now)
-    (sym (c.from_value.ensures ∙ ap item_of c.into_parts-start.ensures.value)) free)))
+    (ap item_of (sym c.into_parts-start.ensures.value)) free)))
 
 pub right_runners::deliver-returns-in_err-value-in-Some-clause-no_memory :
     goal.right_runners::deliver-returns-in_err-value-in-Some-clause-no_memory
 right_runners::deliver-returns-in_err-value-in-Some-clause-no_memory t c = λ free.
     absurd (false≢true (c.in_err-value-in-Some.ensures.no_memory
     (answer_no_table seen_of (plain_of c.args.query.now.shape) c.args.runner.now
-    c.carry-2.new.runner (item_of c.args.left.value) _ free
+    c.carry_value.new.runner (item_of c.args.left.value) _ free
     (subst (λ (item : List Field). IsCarried seen_of (plain_of c.args.query.now.shape)
-    c.args.runner.now item c.carry-2.new.runner)
-    (c.from_value.ensures ∙ ap item_of c.into_parts-start.ensures.value)
-    c.in_ok-carry.ensures.carried) c.in-Some.is)))
+    c.args.runner.now item c.carry_value.new.runner)
+    (ap item_of c.into_parts-start.ensures.value)
+    c.in_ok-carry_value.ensures.carried) c.in-Some.is)))
 
 pub right_runners::begin-returns-in_err-renew-clause-no_memory :
     goal.right_runners::begin-returns-in_err-renew-clause-no_memory

@@ -30,6 +30,13 @@ returns-in-Some-Val-Scalar-DivZero c =
     (found.field-0-is ∙ ap field.Val (found.field-0-0-is ∙ ap value.Scalar found.field-0-0-0-is)))
     refl refl
 
+pub returns-in-Some-Val-Rec : goal.returns-in-Some-Val-Rec
+returns-in-Some-Val-Rec c =
+    let found = c.in-Some-Val-Rec in
+    becomes_nothing c.args.cells.now c.args.item.now c.args.column _ c.requires
+    (found_in _ _ c.args.column _ _ c.fields.ensures found.ensures.lookup.3.0 found.ensures.lookup.1
+    (found.field-0-is ∙ ap field.Val found.field-0-0-is)) refl refl
+
 pub returns-in-Some-Val-Table : goal.returns-in-Some-Val-Table
 returns-in-Some-Val-Table c =
     let found = c.in-Some-Val-Table in

@@ -114,18 +114,21 @@ first_composed-returns t c = λ standing.
     ∙ sym c.or.ensures
 
 -- after the first operand of a composition
+pub first_after-values_of-requires : goal.first_after-values_of-requires
+first_after-values_of-requires t c = c.requires.first
+
 pub first_after-first_apart-requires : goal.first_after-first_apart-requires
 first_after-first_apart-requires t c = (
   search (rules, the_lemmas),
   on_stream c.in_ok-values.values c.args.schema.now.columns c.args.first.now c.in_ok-values.ensures
-      (λ cs. KeepsTypes cs (plain_of c.args.second.now.shape)) c.requires,
+      (λ cs. KeepsTypes cs (plain_of c.args.second.now.shape)) c.requires.second,
 )
 
 pub first_after-place_of_many-requires : goal.first_after-place_of_many-requires
 first_after-place_of_many-requires t c =
     on_stream c.in_ok-values.values c.args.schema.now.columns c.args.first.now
     c.in_ok-values.ensures (λ cs. AllFit cs (predicates_of (plain_of c.args.second.now.shape)))
-    (all_fit _ (plain_of c.args.second.now.shape) c.requires)
+    (all_fit _ (plain_of c.args.second.now.shape) c.requires.second)
 
 pub first_after-returns : goal.first_after-returns
 first_after-returns t c = λ standing.

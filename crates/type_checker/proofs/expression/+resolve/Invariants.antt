@@ -1,5 +1,7 @@
 use Rattle.std.proofs.Common.{◌+◌, ◌*◌, max}
 use Rattle.query_syntax.specs.declared.expression.Expression.{size-Expression}
+use Rattle.type_checker.specs.Scopes.{plain_scope}
+use Rattle.type_checker.proofs.Parts.{AreResolved}
 use Rattle.type_checker.proofs.expression.+resolve.Given as goal
 
 abbrev pub decreases-expression_over : goal.decreases-expression_over
@@ -27,3 +29,13 @@ decreases-entry_over l = 4 * size-Expression l.absent.now + 2
 
 abbrev pub decreases-unary_over : goal.decreases-unary_over
 decreases-unary_over l = 4 * size-Expression l.operand.now + 2
+
+abbrev pub decreases-record_over : goal.decreases-record_over
+decreases-record_over l = 4 * goal.size-record_over l + 3
+
+abbrev pub decreases-all_over : goal.decreases-all_over
+decreases-all_over l = 4 * goal.size-all_over l + 2
+
+-- this many parts are resolved
+abbrev pub invariant-all_over-parts : goal.invariant-all_over-parts
+invariant-all_over-parts l = AreResolved (plain_scope l.scope) l.parts l.made.items l.part-index

@@ -1,11 +1,7 @@
-use Rattle.std.proofs.Common.{subst, sym}
 use Rattle.std.proofs.lemmas.Result.{err_from_is_err_and}
-use Rattle.item_schema.specs.Layout.{Layout}
 use Rattle.query_syntax.specs.Plain.{plain_program}
-use Rattle.type_checker.specs.Nestings.{MayStand}
-use Rattle.type_checker.specs.Resolved.{outside}
-use Rattle.type_checker.proofs.Measuring.{beyond_refused, columns_read, columns_right}
-use Rattle.type_checker.proofs.Measuring.{count_refused, measured_by, names_refused}
+use Rattle.type_checker.proofs.Measuring.{beyond_refused, columns_right, count_refused, measured_by}
+use Rattle.type_checker.proofs.Measuring.{names_refused}
 use Rattle.type_checker.proofs.measurement.measure.Goals as goal
 
 pub returns-in_err-keep_nodes-clause-refused : goal.returns-in_err-keep_nodes-clause-refused
@@ -17,11 +13,6 @@ returns-in_err-keep_nodes-clause-refused c =
 pub schema_of-requires-clause-distinct : goal.schema_of-requires-clause-distinct
 schema_of-requires-clause-distinct c =
     columns_right (plain_program c.args.program.now) c.in_ok-keep_nodes.ensures.counted.right
-
-pub query_in-requires-clause-stands : goal.query_in-requires-clause-stands
-query_in-requires-clause-stands c =
-    subst (λ (layout : Layout). MayStand outside layout.columns) (sym c.in_ok-schema.ensures)
-    (columns_read (plain_program c.args.program.now).stream.columns)
 
 pub returns-in_err-query-clause-refused : goal.returns-in_err-query-clause-refused
 returns-in_err-query-clause-refused c =

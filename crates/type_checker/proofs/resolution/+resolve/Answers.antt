@@ -1,4 +1,4 @@
-use Rattle.std.proofs.Common.{List, ap, arith}
+use Rattle.std.proofs.Common.{List, ap, arith, rules}
 use Rattle.std.proofs.lemmas.Result.{IfErr-weaker, IfOk-weaker, err_from_is_err_and}
 use Rattle.std.specs.Result.{IfErr, IfOk}
 use Rattle.item_schema.specs.declared.column.Column.{Column}
@@ -14,6 +14,7 @@ use Rattle.type_checker.proofs.FromOperands.{apply_first, iter_first, made_there
 use Rattle.type_checker.proofs.FromOperands.{one_made, one_refused, refused_there}
 use Rattle.type_checker.proofs.Paired.{pair_first, pair_made, pair_nodes, pair_refused, pair_second}
 use Rattle.type_checker.proofs.Shaping.{name_refused}
+use Rattle.type_checker.proofs.ValueTypes.{made_value}
 use Rattle.type_checker.proofs.resolution.+resolve.Goals as goal
 
 -- after names
@@ -21,7 +22,7 @@ pub resolve_over-resolve_root-requires : goal.resolve_over-resolve_root-requires
 resolve_over-resolve_root-requires t c =
     let fewer = c.root.ensures.leads.fewer in (
       omega (arith, c.decreases),
-      (c.requires.types, (c.requires.stands, (c.root.ensures.placed, c.root.ensures.root))),
+      (c.requires.types, (c.root.ensures.placed, c.root.ensures.root)),
     )
 
 pub resolve_over-returns-clause-made : goal.resolve_over-returns-clause-made
@@ -73,7 +74,7 @@ pub resolve_pair-resolve_over-requires : goal.resolve_pair-resolve_over-requires
 resolve_pair-resolve_over-requires t c =
     let nodes = pair_nodes c.args.scope c.pair_of-pair.result c.pair_of-pair.ensures in (
       omega (arith, c.decreases, nodes),
-      (c.requires.types, (c.requires.stands, c.requires.placed)),
+      (c.requires.types, c.requires.placed),
     )
 
 pub resolve_pair-returns-in_err-first-clause-refused :
@@ -194,6 +195,12 @@ resolve_collection-returns-clause-refused t c =
     c.collect.result (rw (c.deref-2.ensures, c.deref-3.ensures) at c.collect.ensures.refused))
 
 -- a composition
+pub resolve_fed-resolve_on_values-requires : goal.resolve_fed-resolve_on_values-requires
+resolve_fed-resolve_on_values-requires t c = (
+  first_of (search rules, omega (arith, c.decreases)),
+  (made_value _ _ _ c.in_ok-first.first c.in_ok-first.ensures.made, search rules),
+)
+
 pub resolve_fed-returns-in_err-first-clause-refused :
     goal.resolve_fed-returns-in_err-first-clause-refused
 resolve_fed-returns-in_err-first-clause-refused t c =

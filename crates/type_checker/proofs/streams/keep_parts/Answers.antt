@@ -1,9 +1,11 @@
-use Rattle.std.proofs.Common.{◌≡◌, false, true, rules}
+use Rattle.std.proofs.Common.{◌≡◌, ◌∙◌, false, true, ap, rules}
 use Rattle.predicate_cells.specs.Plain as predicates
 use Rattle.rate_expr.specs.Plain as rates
 use Rattle.type_checker.specs.Nestings.{nesting_of}
+use Rattle.type_checker.specs.Resolutions.{parts_fit}
 use Rattle.type_checker.specs.Resolved.{may_collect}
 use Rattle.type_checker.proofs.Collecting.{misplaced, unfit_parts}
+use Rattle.value_ops.specs.declared.value.ValueType.{ValueType}
 use Rattle.type_checker.proofs.streams.keep_parts.Goals as goal
 
 pub returns-then-not-may_collect-clause-refused : goal.returns-then-not-may_collect-clause-refused
@@ -11,7 +13,7 @@ returns-then-not-may_collect-clause-refused c =
     let parts = c.args.parts.now in
     let never : may_collect (nesting_of c.args.nesting) ≡ false = first_of (cc, search rules) in
     rw c.refused.ensures
-    (λ key sync rate operand are f is. misplaced (nesting_of c.args.nesting)
+    (λ key sync rate operand are same f is. misplaced (nesting_of c.args.nesting)
     c.args.schema.now.columns key sync rate f c.args.span operand is parts.key are.keyed
     (predicates.plain_of parts.sync) are.tested (rates.plain_of parts.rate) are.rated never)
 
@@ -19,8 +21,10 @@ pub returns-then-not-parts_fit-clause-refused : goal.returns-then-not-parts_fit-
 returns-then-not-parts_fit-clause-refused c =
     let parts = c.args.parts.now in
     let may : may_collect (nesting_of c.args.nesting) ≡ true = first_of (cc, search rules) in
+    let unfit : parts_fit c.args.schema.now.columns c.args.ty parts ≡ false =
+    first_of (cc, search rules) in
     rw c.refused-then-not-parts_fit.ensures
-    (λ key sync rate operand are f is. unfit_parts (nesting_of c.args.nesting)
+    (λ key sync rate operand are same f is. unfit_parts (nesting_of c.args.nesting)
     c.args.schema.now.columns key sync rate f c.args.span operand is parts.key are.keyed
     (predicates.plain_of parts.sync) are.tested (rates.plain_of parts.rate) are.rated may
-    (first_of (cc, search rules)))
+    (ap (λ (ty : ValueType). parts_fit c.args.schema.now.columns ty parts) same ∙ unfit))

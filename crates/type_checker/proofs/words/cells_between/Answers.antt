@@ -5,6 +5,9 @@ use Rattle.type_checker.specs.Findings.{CanBeAsked}
 use Rattle.type_checker.proofs.Asked.{asked_values, values_fit}
 use Rattle.type_checker.proofs.words.cells_between.Goals as goal
 
+pub values_of-requires : goal.values_of-requires
+values_of-requires c = rw c.schema.ensures c.requires.types.0
+
 pub cells_of-requires : goal.cells_of-requires
 cells_of-requires c =
     let made = rw c.schema.ensures at c.in_ok-values.ensures in

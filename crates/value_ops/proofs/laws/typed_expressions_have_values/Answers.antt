@@ -1,5 +1,5 @@
 -- By induction on the expression.
-use Rattle.value_ops.proofs.TypedExpressions.{typed_value, typed_range}
+use Rattle.value_ops.proofs.TypedValues.{typed_value, typed_range}
 use Rattle.value_ops.proofs.laws.typed_expressions_have_values.Goals as goal
 
 pub returns-clause-value : goal.returns-clause-value
