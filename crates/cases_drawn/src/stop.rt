@@ -1,9 +1,9 @@
 //! Why a case is not judged to the end.
 
 use query_parser::ReadStop;
+use query_resolver::CheckStop;
 use std::alloc::{AllocError, AllocFailed};
 use std::fmt;
-use type_checker::CheckStop;
 
 #[derive(Clone, Copy)]
 pub(crate) enum Stop {

@@ -5,7 +5,7 @@ use Rattle.ambiguity_example.specs.Shows.{Shown}
 use Rattle.drawn_example.specs.Drawings.{drawing, readers_of}
 use Rattle.sqre_run.specs.Stops.{IsShownFor}
 use Rattle.type_checker.specs.Blames.{IsBlameAt}
-use Rattle.type_checker.specs.Nodes.{Node}
+use Rattle.query_resolver.specs.Nodes.{Node}
 use Rattle.type_checker.specs.declared.blame.Blame.{Blame}
 
 -- it draws a shortest word of two readings such as the rule forbids at the node that is blamed

@@ -28,7 +28,7 @@ use Rattle.query_tokens.specs.Raw.{IsRaw, IsWord, is_word_byte, is_word_start}
 use Rattle.query_trees.specs.Trees as trees
 use Rattle.query_trees.specs.Trees.{Trees}
 use Rattle.type_checker.specs.Judged.{IsJudged, Verdict, accepted, sound, unmeasured, ambiguous}
-use Rattle.type_checker.specs.Layouts.{column_of, kind_of, layout_of}
+use Rattle.query_resolver.specs.Layouts.{column_of, kind_of, layout_of}
 use Rattle.sqre_run.specs.Drilling.{IsDrillable}
 
 -- each word among the terms is one

@@ -16,10 +16,11 @@ use Rattle.query_syntax.specs.Programs.{Program}
 use Rattle.report_writer.specs.Examples.{example_text}
 use Rattle.report_writer.specs.Texts.{check_text, refusal_text}
 use Rattle.type_checker.specs.Blames.{ForbidsTwoReadings, IsFirstBroken, question_of}
-use Rattle.type_checker.specs.Judged.{Verdict, accepted, measured, refused}
-use Rattle.type_checker.specs.Layouts.{layout_of}
-use Rattle.type_checker.specs.Nodes.{Node, nodes_in, places_of}
-use Rattle.type_checker.specs.Steps.{refusal}
+use Rattle.type_checker.specs.Judged.{Verdict, accepted, refused}
+use Rattle.query_resolver.specs.Measures.{measured}
+use Rattle.query_resolver.specs.Layouts.{layout_of}
+use Rattle.query_resolver.specs.Nodes.{Node, nodes_in, places_of}
+use Rattle.query_resolver.specs.Steps.{refusal}
 use Rattle.sqre_run.specs.Compiled.{Compiles, KeepsRulesIfAccepted}
 use Rattle.sqre_run.specs.Meanings.{KeepsRules}
 use Rattle.sqre_run.specs.declared.status.Status.{Status}

@@ -11,7 +11,7 @@ use Rattle.report_writer.specs.Examples.{example_text}
 use Rattle.report_writer.specs.Texts.{refusal_text}
 use Rattle.type_checker.specs.Blames.{ForbidsTwoReadings, IsBlameAt, IsBlameOf, refusal_of}
 use Rattle.type_checker.specs.Judged.{accepted, refused}
-use Rattle.type_checker.specs.Nodes.{Node}
+use Rattle.query_resolver.specs.Nodes.{Node}
 use Rattle.type_checker.specs.declared.blame.Blame.{Blame}
 use Rattle.type_checker.specs.declared.judgment.Judgment.{Judgment}
 use Rattle.type_checker.specs.declared.judgment.Judgment.TheVariants as judgment

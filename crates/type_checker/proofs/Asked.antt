@@ -23,9 +23,10 @@ use Rattle.query_model.specs.Sizes.{HasFewPositions, HaveFewCells, predicates_of
 use Rattle.query_model.specs.declared.query.Query.{Query}
 use Rattle.query_model.specs.declared.query.Shape.{Shape}
 use Rattle.query_model.specs.Members.{HaveSameMembers}
-use Rattle.type_checker.specs.Findings.{AreAmong, AreOperands, CanBeAsked, KeepsTypes}
+use Rattle.query_resolver.specs.Findings.{AreAmong, CanBeAsked, KeepsTypes}
+use Rattle.type_checker.specs.Breaches.{AreOperands}
 use Rattle.type_checker.specs.declared.blame.Operands.{Operands}
-use Rattle.type_checker.proofs.Fitting.{all_fit}
+use Rattle.query_resolver.proofs.Fitting.{all_fit}
 
 -- the same, one by one
 abbrev AllAmong : Partition → List Predicate → Type 0

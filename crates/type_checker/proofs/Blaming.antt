@@ -18,8 +18,8 @@ use Rattle.ambiguity_example.specs.Shows.{Question}
 use Rattle.ambiguity_example.specs.declared.question.Ask.{Ask}
 use Rattle.ambiguity_example.specs.declared.question.Ask.TheVariants as ask
 use Rattle.type_checker.specs.Blames.{IsAskOf, ambiguity_of, question_of, refusal_of}
-use Rattle.type_checker.specs.Findings.{AreOperands, IsAutomatonOf, IsBrokenAt}
-use Rattle.type_checker.specs.Steps.{refusal}
+use Rattle.type_checker.specs.Breaches.{AreOperands, IsAutomatonOf, IsBrokenAt}
+use Rattle.query_resolver.specs.Steps.{refusal}
 use Rattle.type_checker.specs.WordRules.{BreaksAt}
 use Rattle.type_checker.specs.declared.blame.Ambiguity.{Ambiguity}
 use Rattle.type_checker.specs.declared.blame.Ambiguity.TheVariants.{Choice, Split, Iter}

@@ -14,8 +14,8 @@ use Rattle.query_model.specs.QueryTypes.{derived_columns, type_of}
 use Rattle.query_model.specs.Rates.{rate_of}
 use Rattle.query_model.specs.Rules.{CanBeMet, IsClear, IsFedWell, Standing, bound, free}
 use Rattle.rate_expr.specs.Rates.{preds_of}
-use Rattle.type_checker.specs.Findings.{KeepsTypes}
-use Rattle.type_checker.specs.Nodes.{Node, Places, first_places, nodes_in, root, second_places}
+use Rattle.query_resolver.specs.Findings.{KeepsTypes}
+use Rattle.query_resolver.specs.Nodes.{Node, Places, first_places, nodes_in, root, second_places}
 use Rattle.type_checker.specs.WordRules.{Breaks, BreaksFed, FirstBroken}
 
 -- the node breaks no rule of words

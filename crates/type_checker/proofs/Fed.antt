@@ -9,15 +9,17 @@ use Rattle.query_model.specs.QueryTypes.{derived_columns, type_of}
 use Rattle.query_model.specs.Rates.{rate_of}
 use Rattle.query_model.specs.Rules.{Standing}
 use Rattle.query_model.specs.declared.query.Query.{Query}
-use Rattle.type_checker.specs.Findings.{IsBrokenBy, IsUnfed, nodes_after, places_in}
-use Rattle.type_checker.specs.Nodes.{Node, nodes_in, with_two}
+use Rattle.type_checker.specs.Breaches.{IsBrokenBy, IsUnfed, nodes_after}
+use Rattle.query_resolver.specs.Findings.{places_in}
+use Rattle.query_resolver.specs.Nodes.{Node, nodes_in, with_two}
 use Rattle.type_checker.specs.WordRules.{Breaks, BreaksFed, FirstBroken}
 use Rattle.type_checker.specs.declared.word_stop.WordStop.{WordStop}
 use Rattle.type_checker.specs.declared.word_stop.WordStop.TheVariants.{Broken, Ambiguous, Memory}
 use Rattle.type_checker.proofs.FirstNodes.{first_alone, first_after_kept}
-use Rattle.type_checker.proofs.Placed.{broken_after}
+use Rattle.type_checker.proofs.FirstNodes.{broken_after}
 use Rattle.type_checker.proofs.PlainRules.{fed_plain}
-use Rattle.type_checker.proofs.Walked.{nodes_at, stops_before, stops_after}
+use Rattle.query_resolver.specs.Findings.{nodes_at}
+use Rattle.type_checker.proofs.Walked.{stops_before, stops_after}
 
 -- the second operand, on the stream of these values
 module _ (columns : List Column) (standing : Standing) (f : Qre) (second : Query) (layout : Layout)

@@ -1,11 +1,12 @@
 -- The first node that breaks a rule of words, among nodes with others before or after them.
 use Rattle.std.proofs.Common.{inl, inr, List, [], ◌∷◌, ◌++◌, Some, None, refl, sym, ap, subst, ◌∙◌}
-use Rattle.std.proofs.Common.{append_assoc}
+use Rattle.std.proofs.Common.{append_assoc, Option}
 use Rattle.std.specs.List.{AllByRecursion}
+use Rattle.language_base.specs.declared.refusal.Refusal.{Refusal}
 use Rattle.language_base.specs.declared.rule.Rule.{Rule}
 use Rattle.type_checker.specs.Blames.{IsFirstBroken}
-use Rattle.type_checker.specs.Nodes.{Node}
-use Rattle.type_checker.specs.Steps.{refusal}
+use Rattle.query_resolver.specs.Nodes.{Node}
+use Rattle.query_resolver.specs.Steps.{refusal}
 use Rattle.type_checker.specs.WordRules.{Breaks, FirstBroken}
 
 module _ (node : Node) (rule : Rule) where
@@ -51,3 +52,11 @@ module _ (node : Node) (rule : Rule) where
         kept = (here, later.kept);
         breaks = later.breaks;
       }
+
+-- none of the first nodes breaks a rule, and the first of the others that does decides
+pub broken_after : (nodes others : List Node) (why : Option Refusal) → FirstBroken nodes None
+    → FirstBroken others why → FirstBroken (nodes ++ others) why
+broken_after [] others why kept later = later
+broken_after (node ∷ nodes) others why (inl (rule, broken, is)) later = absurd (cc)
+broken_after (node ∷ nodes) others why (inr (here, kept)) later =
+    inr (here, broken_after nodes others why kept later)

@@ -9,19 +9,21 @@ use Rattle.query_model.specs.Queries.{Qre, plain_of}
 use Rattle.query_model.specs.Rules.{IsClear, free}
 use Rattle.query_syntax.specs.Programs.{Program}
 use Rattle.type_checker.specs.Blames.{IsBlameOf, IsFirstBroken, refusal_of}
-use Rattle.type_checker.specs.Findings.{IsBrokenBy, places_in}
-use Rattle.type_checker.specs.Judged.{BreaksFirst, IsJudged, accepted, ambiguous, measured, refused}
+use Rattle.type_checker.specs.Breaches.{IsBrokenBy}
+use Rattle.query_resolver.specs.Findings.{places_in}
+use Rattle.type_checker.specs.Judged.{BreaksFirst, IsJudged, accepted, ambiguous, refused}
+use Rattle.query_resolver.specs.Measures.{measured}
 use Rattle.type_checker.specs.Judged.{sound, unmeasured}
-use Rattle.type_checker.specs.Layouts.{layout_of}
-use Rattle.type_checker.specs.Nodes.{Node, Places, nodes_in, places_of}
-use Rattle.type_checker.specs.Passes.{IsMeasured}
+use Rattle.query_resolver.specs.Layouts.{layout_of}
+use Rattle.query_resolver.specs.Nodes.{Node, Places, nodes_in, places_of}
+use Rattle.query_resolver.specs.Passes.{IsMeasured}
 use Rattle.type_checker.specs.WordRules.{FirstBroken}
 use Rattle.type_checker.specs.declared.blame.Blame.{Blame}
-use Rattle.type_checker.specs.declared.measurement.Measured.{Measured}
+use Rattle.query_resolver.specs.declared.measurement.Measured.{Measured}
 use Rattle.type_checker.specs.declared.word_stop.WordStop.TheVariants.{Broken}
 use Rattle.type_checker.proofs.Clear.{clear_from}
 use Rattle.type_checker.proofs.FirstNodes.{first_refused}
-use Rattle.type_checker.proofs.Measuring.{columns_read}
+use Rattle.query_resolver.proofs.Measuring.{columns_read}
 use Rattle.type_checker.proofs.PlainRules.{IsPlain, StopsPlainly, measured_plain}
 
 -- a program of which no query was made is refused for it

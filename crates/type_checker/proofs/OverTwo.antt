@@ -5,8 +5,8 @@ use Rattle.predicate_cells.specs.Cells.{Partition}
 use Rattle.query_model.specs.Queries.{Qre}
 use Rattle.query_model.specs.Rules.{Standing}
 use Rattle.rate_expr.specs.Sets.{Sets}
-use Rattle.type_checker.specs.Findings.{AreOperands, IsBrokenAt, IsBrokenBy, IsKept, operand_nodes}
-use Rattle.type_checker.specs.Nodes.{Places, nodes_in, own_place}
+use Rattle.type_checker.specs.Breaches.{AreOperands, IsBrokenAt, IsBrokenBy, IsKept, operand_nodes}
+use Rattle.query_resolver.specs.Nodes.{Places, nodes_in, own_place}
 use Rattle.type_checker.specs.WordRules.{FirstBroken}
 use Rattle.type_checker.specs.declared.blame.Operands.{Operands}
 use Rattle.type_checker.specs.declared.word_stop.WordStop.{WordStop}

@@ -28,18 +28,19 @@ use Rattle.query_syntax.specs.Spans.{query_span}
 use Rattle.rate_expr.specs.Rates.{Regex, preds_of}
 use Rattle.value_ops.specs.declared.value.ValueType.TheVariants.{Number}
 use Rattle.type_checker.specs.Blames.{ForbidsTwoReadings, question_of}
-use Rattle.type_checker.specs.Expressions.{expression_over, is_number, is_typed, of_item, of_one}
-use Rattle.type_checker.specs.Expressions.{of_two}
-use Rattle.type_checker.specs.Judged.{limited, measured, parted}
-use Rattle.type_checker.specs.Layouts.{layout_of}
-use Rattle.type_checker.specs.Names.{column_named}
-use Rattle.type_checker.specs.Nodes.{places_of}
-use Rattle.type_checker.specs.Rates.{rate_over}
-use Rattle.type_checker.specs.Resolved.{Nesting, inside, may_collect, outside, resolved, same_type}
-use Rattle.type_checker.specs.Sizes.{derives_many_cells, first_node, has_few_nodes, has_few_slots}
-use Rattle.type_checker.specs.Sizes.{has_many_positions}
-use Rattle.type_checker.specs.Steps.{◌>>=◌, because, found, provided, unless}
-use Rattle.type_checker.specs.Tests.{resolved_over}
+use Rattle.query_resolver.specs.Expressions.{expression_over, is_number, is_typed, of_item, of_one}
+use Rattle.query_resolver.specs.Expressions.{of_two}
+use Rattle.query_resolver.specs.Measures.{limited, measured, parted}
+use Rattle.query_resolver.specs.Layouts.{layout_of}
+use Rattle.query_resolver.specs.Names.{column_named}
+use Rattle.query_resolver.specs.Nodes.{places_of}
+use Rattle.query_resolver.specs.Rates.{rate_over}
+use Rattle.query_resolver.specs.Resolved.{Nesting, inside, may_collect, outside, resolved}
+use Rattle.query_resolver.specs.Resolved.{same_type}
+use Rattle.query_resolver.specs.Sizes.{derives_many_cells, first_node, has_few_nodes, has_few_slots}
+use Rattle.query_resolver.specs.Sizes.{has_many_positions}
+use Rattle.query_resolver.specs.Steps.{◌>>=◌, because, found, provided, unless}
+use Rattle.query_resolver.specs.Tests.{resolved_over}
 use Rattle.type_checker.specs.WordRules.{BreaksAt, BreaksEqual, BreaksFed, BreaksMet}
 
 -- the rule forbids no word with two readings

@@ -10,7 +10,7 @@ use Rattle.query_model.specs.Rules.{Standing}
 use Rattle.ambiguity_example.specs.Shows as shows
 use Rattle.ambiguity_example.specs.Shows.{IsBroken, IsKept, Question}
 use Rattle.type_checker.specs.Blames.{question_of}
-use Rattle.type_checker.specs.Nodes.{Node}
+use Rattle.query_resolver.specs.Nodes.{Node}
 use Rattle.type_checker.specs.WordRules.{Breaks, BreaksAt}
 use Rattle.type_checker.proofs.WordVerdicts.{broken_or_kept}
 

@@ -13,8 +13,8 @@ use Rattle.rate_expr.specs.Sets.{Sets}
 use Rattle.rate_expr.proofs.SetsOf.{sets_spell}
 use Rattle.symbolic_nfa.specs.Automata.{Automaton}
 use Rattle.type_checker.specs.Blames.{question_of}
-use Rattle.type_checker.specs.Findings.{AreOperands, IsAutomatonOf, IsBrokenAt, IsKept, IsUnfed}
-use Rattle.type_checker.specs.Steps.{refusal}
+use Rattle.type_checker.specs.Breaches.{AreOperands, IsAutomatonOf, IsBrokenAt, IsKept, IsUnfed}
+use Rattle.query_resolver.specs.Steps.{refusal}
 use Rattle.type_checker.specs.WordRules.{BreaksAt, BreaksFed}
 use Rattle.type_checker.specs.declared.blame.Operands.{Operands}
 use Rattle.type_checker.specs.declared.word_stop.WordStop.{WordStop}

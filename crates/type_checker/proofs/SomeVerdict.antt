@@ -27,11 +27,12 @@ use Rattle.query_model.specs.QueryTypes.{derived_columns, type_of}
 use Rattle.query_model.specs.Rates.{rate_of}
 use Rattle.query_model.specs.Rules.{Standing, free, bound}
 use Rattle.query_syntax.specs.Programs.{Program}
-use Rattle.type_checker.specs.Judged.{BreaksFirst, IsJudged, Verdict, ambiguous, measured, refused}
+use Rattle.type_checker.specs.Judged.{BreaksFirst, IsJudged, Verdict, ambiguous, refused}
+use Rattle.query_resolver.specs.Measures.{measured}
 use Rattle.type_checker.specs.Judged.{sound, unmeasured}
-use Rattle.type_checker.specs.Layouts.{layout_of}
-use Rattle.type_checker.specs.Nodes.{Node, nodes_in, places_of}
-use Rattle.type_checker.specs.Steps.{refusal}
+use Rattle.query_resolver.specs.Layouts.{layout_of}
+use Rattle.query_resolver.specs.Nodes.{Node, nodes_in, places_of}
+use Rattle.query_resolver.specs.Steps.{refusal}
 use Rattle.type_checker.specs.WordRules.{BreaksAt, BreaksEqual, BreaksFed, BreaksMet, FirstBroken}
 
 -- parts of one list that are as long are alike

@@ -5,10 +5,11 @@ use Rattle.query_lets.specs.Unfolded.{unfolded}
 use Rattle.query_model.specs.Queries.{Qre}
 use Rattle.query_model.specs.Rules.{free}
 use Rattle.query_syntax.specs.Programs.{Program}
-use Rattle.type_checker.specs.Judged.{BreaksFirst, IsJudged, Verdict, accepted, ambiguous, measured}
+use Rattle.type_checker.specs.Judged.{BreaksFirst, IsJudged, Verdict, accepted, ambiguous}
+use Rattle.query_resolver.specs.Measures.{measured}
 use Rattle.type_checker.specs.Judged.{refused, sound, unmeasured}
-use Rattle.type_checker.specs.Layouts.{layout_of}
-use Rattle.type_checker.specs.Nodes.{nodes_in, places_of}
+use Rattle.query_resolver.specs.Layouts.{layout_of}
+use Rattle.query_resolver.specs.Nodes.{nodes_in, places_of}
 use Rattle.type_checker.proofs.WordVerdicts.{one_refusal}
 
 module _ (program : Program) where

@@ -4,18 +4,17 @@ use Rattle.std.proofs.Common.{Result, Ok, Err, OnOk, IfErr, IfOk, refl, subst}
 use Rattle.item_schema.specs.declared.column.Column.{Column}
 use Rattle.language_base.specs.declared.rule.Rule.{Rule}
 use Rattle.query_model.specs.Queries as q
-use Rattle.query_model.specs.Queries.{Qre, plain_of}
+use Rattle.query_model.specs.Queries.{Qre}
 use Rattle.query_model.specs.Rules.{Standing}
-use Rattle.query_model.specs.declared.query.Query.{Query}
 use Rattle.rate_expr.specs.Sets.{Sets}
 use Rattle.type_checker.specs.Blames.{IsFirstBroken}
-use Rattle.type_checker.specs.Findings.{IsBrokenAt, IsBrokenBy, IsKept, operand_nodes, places_in}
-use Rattle.type_checker.specs.Nodes.{Node, Places, nodes_in, own_place, root}
+use Rattle.type_checker.specs.Breaches.{IsBrokenAt, IsBrokenBy, IsKept, operand_nodes}
+use Rattle.query_resolver.specs.Nodes.{Node, Places, nodes_in, own_place, root}
 use Rattle.type_checker.specs.WordRules.{BreaksAt, FirstBroken}
 use Rattle.type_checker.specs.declared.word_stop.WordStop.{WordStop}
 use Rattle.type_checker.specs.declared.word_stop.WordStop.TheVariants.{Broken, Ambiguous, Memory}
 use Rattle.type_checker.proofs.FirstNodes.{first_alone, first_after_kept, first_with_more}
-use Rattle.type_checker.proofs.Placed.{broken_after}
+use Rattle.type_checker.proofs.FirstNodes.{broken_after}
 
 -- what stops among some nodes stops among them and others
 pub stops_before : (nodes others : List Node) (stop : WordStop) → IsBrokenBy nodes stop
@@ -34,10 +33,6 @@ stops_after nodes others (Broken why) kept (node, rule, first, is) =
 stops_after nodes others (Ambiguous blame) kept (node, rule, first, is) =
     (node, rule, first_after_kept node rule nodes others kept first, is)
 stops_after nodes others Memory kept broken = tt
-
--- the nodes of a query in memory
-abbrev pub nodes_at : List Column → Standing → Query → List Node
-nodes_at columns standing query = nodes_in columns standing (plain_of query.shape) (places_in query)
 
 -- the root stands after the nodes of its operands
 root_last : (columns : List Column) (standing : Standing) (query : Qre) (places : Places)

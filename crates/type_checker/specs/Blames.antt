@@ -15,10 +15,10 @@ use Rattle.query_model.specs.Queries.{Qre, choice, split, iter}
 use Rattle.query_model.specs.Rates.{rate_of}
 use Rattle.query_model.specs.Rules.{free}
 use Rattle.query_syntax.specs.Programs.{Program}
-use Rattle.type_checker.specs.Judged.{measured}
-use Rattle.type_checker.specs.Layouts.{layout_of}
-use Rattle.type_checker.specs.Nodes.{Node, nodes_in, places_of}
-use Rattle.type_checker.specs.Steps.{refusal}
+use Rattle.query_resolver.specs.Measures.{measured}
+use Rattle.query_resolver.specs.Layouts.{layout_of}
+use Rattle.query_resolver.specs.Nodes.{Node, nodes_in, places_of}
+use Rattle.query_resolver.specs.Steps.{refusal}
 use Rattle.type_checker.specs.WordRules.{Breaks}
 use Rattle.type_checker.specs.declared.blame.Ambiguity.{Ambiguity}
 use Rattle.type_checker.specs.declared.blame.Ambiguity.TheVariants.{Choice, Split, Iter}

@@ -1,8 +1,8 @@
 -- Statement. Why no query is made of a program.
 use Rattle.query_syntax.specs.Programs.{Program}
 use Rattle.type_checker.specs.Judged.{IsJudged, refused}
-use Rattle.type_checker.specs.declared.stop.CheckStop.{CheckStop}
-use Rattle.type_checker.specs.declared.stop.CheckStop.TheVariants.{Refused, Memory}
+use Rattle.query_resolver.specs.declared.stop.CheckStop.{CheckStop}
+use Rattle.query_resolver.specs.declared.stop.CheckStop.TheVariants.{Refused, Memory}
 
 -- the program is refused so; out of memory, nothing is said of it
 abbrev pub IsStopOf : Program → CheckStop → Type 0

@@ -21,8 +21,8 @@ use Rattle.query_model.specs.Queries.{collect}
 use Rattle.query_model.specs.QueryTypes.{derived_columns, type_of}
 use Rattle.query_model.specs.Rates.{rate_of}
 use Rattle.query_model.specs.Rules.{Standing, free, bound}
-use Rattle.type_checker.specs.Nodes.{Node}
-use Rattle.type_checker.specs.Steps.{refusal}
+use Rattle.query_resolver.specs.Nodes.{Node}
+use Rattle.query_resolver.specs.Steps.{refusal}
 
 -- words lead to too many pairs of states of the automata of two rates
 abbrev pub ReachManyPairs : List Column → Regex → Regex → Type 0

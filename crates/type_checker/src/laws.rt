@@ -5,8 +5,8 @@ ghost use Rattle.language_base.specs.declared.rule.Rule.{Rule};
 ghost use Rattle.query_syntax.specs.Programs.{Program};
 ghost use Rattle.type_checker.specs.Blames.{IsBlameOf, IsFirstBroken, question_of, refusal_of};
 ghost use Rattle.type_checker.specs.Judged.{IsJudged, Verdict, refused};
-ghost use Rattle.type_checker.specs.Nodes.{Node};
-ghost use Rattle.type_checker.specs.Steps.{refusal};
+ghost use Rattle.query_resolver.specs.Nodes.{Node};
+ghost use Rattle.query_resolver.specs.Steps.{refusal};
 ghost use Rattle.type_checker.specs.WordRules.{Breaks, FirstBroken};
 ghost use Rattle.type_checker.specs.declared.blame.Blame.{Blame};
 

@@ -15,8 +15,9 @@ ghost use Rattle.rate_expr.specs.Rates.{preds_of, size_of};
 ghost use Rattle.symbolic_nfa.specs.Automata.{AreDecided};
 ghost use Rattle.value_ops.specs.Expressions.{Expression};
 ghost use Rattle.type_checker.specs.Blames.{ambiguity_of, refusal_of};
-ghost use Rattle.type_checker.specs.Findings.{AreAmong, AreOperands, IsAutomatonOf, IsBrokenAt};
-ghost use Rattle.type_checker.specs.Findings.{IsKept, IsUnfed};
+ghost use Rattle.query_resolver.specs.Findings.{AreAmong};
+ghost use Rattle.type_checker.specs.Breaches.{AreOperands, IsAutomatonOf, IsBrokenAt};
+ghost use Rattle.type_checker.specs.Breaches.{IsKept, IsUnfed};
 ghost use Rattle.type_checker.specs.Standings.{standing_of};
 ghost use Rattle.type_checker.specs.WordRules.{BreaksFed};
 

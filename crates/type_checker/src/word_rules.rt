@@ -9,7 +9,8 @@ ghost use Rattle.rate_expr.specs.Plain as rates;
 ghost use Rattle.rate_expr.specs.Rates as rate;
 ghost use Rattle.rate_expr.specs.Rates.{preds_of};
 ghost use Rattle.value_ops.specs.Expressions.{Expression};
-ghost use Rattle.type_checker.specs.Findings.{AreAmong, IsAutomatonOf};
+ghost use Rattle.query_resolver.specs.Findings.{AreAmong};
+ghost use Rattle.type_checker.specs.Breaches.{IsAutomatonOf};
 ghost use Rattle.type_checker.specs.WordRules.{BreaksAt, BreaksFed, BreaksMet};
 
 use ambiguity_check::{disjoint, one_factoring, one_split};

@@ -1,8 +1,8 @@
 //! Why a table cannot be run.
 
+use query_resolver::CheckStop;
 use std::alloc::AllocError;
 use std::fmt;
-use type_checker::CheckStop;
 
 #[derive(Clone, Copy)]
 pub(crate) enum Stop {

@@ -4,7 +4,7 @@ ghost use Rattle.query_syntax.specs.Programs as syntax;
 ghost use Rattle.std.specs.Prelude.{IfOk};
 ghost use Rattle.type_checker.specs.Blames.{IsBlameAt};
 ghost use Rattle.type_checker.specs.Judgments.{IsJudgmentOf};
-ghost use Rattle.type_checker.specs.Nodes.{Node};
+ghost use Rattle.query_resolver.specs.Nodes.{Node};
 
 use crate::why::case::Case;
 use crate::why::confirmation::push_confirmed;

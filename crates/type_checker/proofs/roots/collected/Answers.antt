@@ -4,7 +4,7 @@ use Rattle.predicate_cells.specs.Cells.{Partition}
 use Rattle.query_model.specs.Queries.{collect}
 use Rattle.rate_expr.specs.Plain.{plain_of}
 use Rattle.rate_expr.specs.Rates.{preds_of}
-use Rattle.type_checker.specs.Findings.{AreAmong}
+use Rattle.query_resolver.specs.Findings.{AreAmong}
 use Rattle.type_checker.proofs.Ruled.{broken_by, kept_by, on_same}
 use Rattle.type_checker.proofs.roots.collected.Goals as goal
 

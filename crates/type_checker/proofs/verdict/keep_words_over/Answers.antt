@@ -4,10 +4,11 @@ use Rattle.predicate_cells.specs.Cells.{Partition}
 use Rattle.query_model.specs.Queries.{plain_of}
 use Rattle.query_model.specs.Rules.{free}
 use Rattle.query_model.specs.declared.query.Query.{Query}
-use Rattle.type_checker.specs.Findings.{CanBeAsked, IsBrokenBy}
+use Rattle.query_resolver.specs.Findings.{CanBeAsked}
+use Rattle.type_checker.specs.Breaches.{IsBrokenBy}
 use Rattle.type_checker.specs.WordRules.{FirstBroken}
 use Rattle.type_checker.specs.declared.word_stop.WordStop.{WordStop}
-use Rattle.type_checker.proofs.Walked.{nodes_at}
+use Rattle.query_resolver.specs.Findings.{nodes_at}
 use Rattle.type_checker.proofs.verdict.keep_words_over.Goals as goal
 
 -- what is broken over cells that are shared

@@ -7,7 +7,7 @@ use Rattle.rate_expr.specs.declared.rate.Rate.{Rate}
 use Rattle.rate_expr.specs.declared.rate.Rate.TheViews.{the_lemmas}
 use Rattle.value_ops.specs.Expressions.{read}
 use Rattle.value_ops.specs.declared.expr.Var.TheVariants.{Left}
-use Rattle.type_checker.specs.Findings.{AreAmong}
+use Rattle.query_resolver.specs.Findings.{AreAmong}
 use Rattle.type_checker.proofs.Asked.{among_back}
 use Rattle.type_checker.proofs.SomeMet.{both_met, one_met}
 use Rattle.type_checker.proofs.word_rules.+met_rule.Goals as goal

@@ -1,7 +1,7 @@
 use Rattle.std.proofs.Common.{◌∙◌, sym, subst}
 use Rattle.predicate_cells.specs.Cells.{Partition}
 use Rattle.query_model.specs.Queries.{plain_of}
-use Rattle.type_checker.specs.Findings.{CanBeAsked}
+use Rattle.query_resolver.specs.Findings.{CanBeAsked}
 use Rattle.type_checker.proofs.Asked.{asked_values, values_fit}
 use Rattle.type_checker.proofs.words.cells_between.Goals as goal
 

@@ -4,7 +4,7 @@ use Rattle.std.proofs.lemmas.Result.{err_from_is_err_and}
 use Rattle.query_model.specs.Queries.{plain_of}
 use Rattle.symbolic_nfa.specs.Automata.{Automaton}
 use Rattle.type_checker.proofs.Asked.{positions_decided}
-use Rattle.type_checker.proofs.Placed.{broken_after}
+use Rattle.type_checker.proofs.FirstNodes.{broken_after}
 use Rattle.type_checker.proofs.Ruled.{automaton_of}
 use Rattle.type_checker.proofs.Walked.{stops_before, stops_after}
 use Rattle.type_checker.proofs.words.+words.Goals as goal

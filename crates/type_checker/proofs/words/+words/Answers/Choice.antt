@@ -4,8 +4,8 @@ use Rattle.std.proofs.lemmas.Result.{err_from_is_err_and}
 use Rattle.query_model.specs.Queries as q
 use Rattle.query_model.specs.Queries.{plain_of}
 use Rattle.query_model.specs.declared.query.Shape.TheViews.{the_lemmas}
-use Rattle.type_checker.specs.Findings.{places_in}
-use Rattle.type_checker.specs.Nodes.{with_two}
+use Rattle.query_resolver.specs.Findings.{places_in}
+use Rattle.query_resolver.specs.Nodes.{with_two}
 use Rattle.type_checker.specs.Standings.{standing_of}
 use Rattle.type_checker.proofs.Asked.{asked_as, asked_choice, asked_of, few_together}
 use Rattle.type_checker.proofs.OverTwo.{two_kept, two_refused}

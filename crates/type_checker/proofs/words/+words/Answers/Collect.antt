@@ -7,8 +7,9 @@ use Rattle.query_model.specs.Queries as q
 use Rattle.query_model.specs.Queries.{plain_of}
 use Rattle.query_model.specs.declared.query.Shape.TheViews.{the_lemmas}
 use Rattle.rate_expr.specs.Plain as rates
-use Rattle.type_checker.specs.Findings.{IsBrokenAt, IsKept, places_in}
-use Rattle.type_checker.specs.Nodes.{with_one}
+use Rattle.type_checker.specs.Breaches.{IsBrokenAt, IsKept}
+use Rattle.query_resolver.specs.Findings.{places_in}
+use Rattle.query_resolver.specs.Nodes.{with_one}
 use Rattle.type_checker.specs.Standings.{standing_of}
 use Rattle.type_checker.proofs.Asked.{asked_as, asked_collect, asked_of, asked_rate}
 use Rattle.type_checker.proofs.Answered.{answered_err, answered_ok}

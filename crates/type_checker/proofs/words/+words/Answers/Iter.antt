@@ -6,8 +6,8 @@ use Rattle.query_model.specs.Queries.{plain_of}
 use Rattle.query_model.specs.declared.query.Shape.TheViews.{the_lemmas}
 use Rattle.symbolic_nfa.specs.Automata.{Automaton}
 use Rattle.value_ops.specs.Expressions as values
-use Rattle.type_checker.specs.Findings.{places_in}
-use Rattle.type_checker.specs.Nodes.{with_one}
+use Rattle.query_resolver.specs.Findings.{places_in}
+use Rattle.query_resolver.specs.Nodes.{with_one}
 use Rattle.type_checker.specs.Standings.{standing_of}
 use Rattle.type_checker.proofs.Asked.{asked_as, asked_iter, asked_of, positions_decided}
 use Rattle.type_checker.proofs.OverOne.{iter_kept, iter_refused}

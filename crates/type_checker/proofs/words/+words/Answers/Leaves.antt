@@ -5,8 +5,8 @@ use Rattle.query_model.specs.Queries as q
 use Rattle.query_model.specs.Rates.{rate_of}
 use Rattle.rate_expr.specs.FirstLastFollow.{AreSetsOf}
 use Rattle.value_ops.specs.Expressions as values
-use Rattle.type_checker.specs.Findings.{IsBrokenAt, IsKept}
-use Rattle.type_checker.specs.Nodes.{alone}
+use Rattle.type_checker.specs.Breaches.{IsBrokenAt, IsKept}
+use Rattle.query_resolver.specs.Nodes.{alone}
 use Rattle.type_checker.specs.Standings.{standing_of}
 use Rattle.type_checker.proofs.Answered.{answered_err, answered_ok}
 use Rattle.type_checker.proofs.Walked.{kept_at, root_kept, root_refused}

@@ -1,0 +1,17 @@
+pub mod Expressions
+pub mod Findings
+pub mod Forms
+pub mod Joints
+pub mod Layouts
+pub mod Measures
+pub mod Names
+pub mod Nestings
+pub mod Nodes
+pub mod Passes
+pub mod Rates
+pub mod Resolutions
+pub mod Resolved
+pub mod Scopes
+pub mod Sizes
+pub mod Steps
+pub mod Tests

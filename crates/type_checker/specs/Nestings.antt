@@ -1,9 +1,0 @@
--- For the prover. Whether a collection may stand at a place, as it lies in memory.
-use Rattle.type_checker.specs.Resolved.{Nesting, inside, outside}
-use Rattle.type_checker.specs.declared.nesting.Nesting as memory
-use Rattle.type_checker.specs.declared.nesting.Nesting.TheVariants.{Inside, Outside}
-
--- whether it may
-abbrev pub nesting_of : memory.Nesting → Nesting
-nesting_of Outside = outside
-nesting_of Inside = inside
