@@ -60,7 +60,7 @@ fn reads_parts(nfa: &Nfa, items: &[Item], cuts: &[u32]) -> bool
         (PartsFrom rate 0 items.now cuts.now → ⊥) }
 {
     let mut begin = 0;
-    let mut rest = items;
+    let (_, mut rest) = items.split_at(0);
     'cuts: for &cut in cuts {
         if cut < begin || rest.len() < (cut - begin) as usize {
             return false;

@@ -95,7 +95,7 @@ fn ends_of(first: &Positions, second: &Positions) -> Moves
 
 fn in_one_piece(alloc: Global, items: Vec<Item<'static>>) -> Result<Example, AllocError>
     requires { length items.items < 2 ^ 32 }
-    ensures { IfOk result (λ example. example ≡ twice_whole items.items) }
+    ensures { IfOk result (λ example. example ≡ twice_whole items.entry.items) }
 {
     let whole = [0, items.len() as u32];
     let first = Cuts::new(alloc, &whole)?;

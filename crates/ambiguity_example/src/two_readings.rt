@@ -23,7 +23,7 @@ impl Model for Example {
 
 impl Example {
     pub fn new(items: Vec<Item<'static>>, first: Cuts, second: Cuts) -> Example
-        ensures { result ≡ record { items = items.items; first = first; second = second } }
+        ensures { result ≡ record { items = items.entry.items; first = first; second = second } }
     {
         Example {
             items,

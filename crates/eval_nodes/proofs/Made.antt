@@ -1,5 +1,5 @@
 -- New nodes.
-use Rattle.std.proofs.Common.{◌≡◌, ◌≤◌, ℕ, ◌+◌, ◌-◌, ◌^◌, min, List, [], sym, subst, arith}
+use Rattle.std.proofs.Common.{◌≡◌, ◌≤◌, ℕ, ◌-◌, ◌^◌, min, List, [], sym, subst, arith}
 use Rattle.std.specs.Prelude.{ℤ}
 use Rattle.std.proofs.lemmas.Option.{none-some}
 use Rattle.value_ops.specs.declared.value.Value.{Value}
@@ -9,7 +9,7 @@ use Rattle.rate_expr.specs.Language.{In}
 use Rattle.rate_expr.specs.Rates as rate
 use Rattle.rate_expr.specs.Readings.{HasExtension}
 use Rattle.rate_expr.specs.Words.{Word}
-use Rattle.query_model.specs.Bounds.{inner_of, nodes_of, places_of, slots_of, width_of}
+use Rattle.query_model.specs.Bounds.{inner_of, nodes_of, places_of}
 use Rattle.query_model.specs.Denotation.{Den}
 use Rattle.query_model.specs.Following.{composes_of}
 use Rattle.query_model.specs.Rates.{rate_of}
@@ -48,12 +48,12 @@ composes_few (collect column sync rate f) = let a = composes_few f in omega (ari
 
 -- a query that keeps little has few places, so that the room for what waits is as large
 -- as it is to be
-pub all_places : (q : Qre) (room : ℕ) → slots_of q ≤ max_slots
+pub all_places : (q : Qre) (room : ℕ) → inner_of q ≤ max_slots
     → room ≡ min (places_of q) (2 ^ 32 - 1) → room ≡ places_of q
 all_places q room small is =
     let few = places_few q in
-    let slots : inner_of q + 1 + width_of q ≤ 2 ^ 20 = small in
-    omega (arith, few, slots, is)
+    let kept : inner_of q ≤ 2 ^ 20 = small in
+    omega (arith, few, kept, is)
 
 -- nothing is reached and nothing waits without a start
 pub none_reached : (A : Word → Type 0) → AreReached A [] [] []

@@ -3,7 +3,7 @@ use Rattle.std.proofs.Common.{◌≡◌, ◌≤◌, ℕ, ◌+◌, ◌-◌, ◌*�
 use Rattle.std.proofs.Common.{subst, arith}
 use Rattle.std.specs.List.{AllByRecursion, Contains}
 use Rattle.item_schema.specs.declared.column.Column.{Column}
-use Rattle.query_model.specs.Bounds.{inner_of, places_of, slots_of, width_of}
+use Rattle.query_model.specs.Bounds.{inner_of, places_of, slots_of}
 use Rattle.query_model.specs.Queries.{Qre, compose}
 use Rattle.query_model.specs.QueryTypes.{derived_columns, type_of}
 use Rattle.query_model.specs.Sizes.{max_slots}
@@ -24,13 +24,13 @@ use Rattle.eval_nodes.proofs.Members.{no_member}
 use Rattle.eval_nodes.proofs.StoredNone.{silent_few}
 
 -- there are as many runners as there are to be
-pub runners_fit : (f : Qre) (places count : ℕ) → slots_of f ≤ max_slots
+pub runners_fit : (f : Qre) (places count : ℕ) → inner_of f ≤ max_slots
     → places ≡ min (places_of f) (2 ^ 32 - 1) → count ≡ min (places + 1) (2 ^ 32 - 1)
     → count ≡ places_of f + 1
 runners_fit f places count small is all =
     let few = places_few f in
-    let slots : inner_of f + 1 + width_of f ≤ 2 ^ 20 = small in
-    omega (arith, few, slots, is, all)
+    let kept : inner_of f ≤ 2 ^ 20 = small in
+    omega (arith, few, kept, is, all)
 
 module _ {R : Type 0} (seen : R → Seen R) where
   pub new_compose : (columns : List Column) (f g : Qre) (a : Holding R) (held : Contents R)

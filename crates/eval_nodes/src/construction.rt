@@ -4,7 +4,7 @@ ghost use Rattle.std.specs.List.{AllByRecursion};
 ghost use Rattle.std.specs.Option.{option_copied, option_map};
 ghost use Rattle.std.specs.Rc.{rc_value};
 ghost use Rattle.item_schema.specs.declared.column.Column.{Column};
-ghost use Rattle.query_model.specs.Bounds.{slots_of};
+ghost use Rattle.query_model.specs.Bounds.{inner_of, slots_of};
 ghost use Rattle.query_model.specs.Queries.{plain_of};
 ghost use Rattle.query_model.specs.Sizes.{max_slots};
 ghost use Rattle.eval_nodes.specs.Counts.{stored_in};
@@ -31,7 +31,7 @@ impl Node {
     pub fn new(alloc: Global, query: &Query, cells: Option<&Rc<Cells>>) -> Result<Node, AllocError>
         requires cells { CanBeMade (option_map rc_value (option_copied cells))
             (plain_of query.now.shape) }
-        requires small { slots_of (plain_of query.now.shape) ≤ max_slots }
+        requires small { inner_of (plain_of query.now.shape) ≤ max_slots }
         ensures word { IfOk result (λ node. (columns : List Column)
             → AreColumnsOf (option_map rc_value (option_copied cells.entry)) columns
             → Represents seen_of columns (plain_of query.now.shape) (holding_of node.state) [] []) }
@@ -78,7 +78,7 @@ pub(crate) fn idle_runners(
     count: u32,
 ) -> Result<Instances<Progress>, AllocError>
     requires cells { CanBeMade None (plain_of query.now.shape) }
-    requires small { slots_of (plain_of query.now.shape) ≤ max_slots }
+    requires small { inner_of (plain_of query.now.shape) ≤ max_slots }
     ensures live { IfOk result (λ runners. runners.live ≡ []) }
     ensures count { IfOk result (λ runners. length runners.idle ≡ count) }
     ensures sound { IfOk result (λ runners. (columns : List Column)

@@ -7,7 +7,7 @@ ghost use Rattle.predicate_cells.specs.Predicates.{Predicate};
 ghost use Rattle.rate_expr.specs.Plain as rates;
 ghost use Rattle.query_model.specs.Queries.{Qre, apply, choice, collect, combine, compose, iter};
 ghost use Rattle.query_model.specs.Queries.{plain_of, split};
-ghost use Rattle.query_model.specs.Bounds.{slots_of};
+ghost use Rattle.query_model.specs.Bounds.{inner_of};
 ghost use Rattle.query_model.specs.Sizes.{max_slots};
 ghost use Rattle.eval_nodes.specs.NewNodes.{CanBeNew, IsNewNode};
 ghost use Rattle.eval_nodes.specs.Plain.{holding_of, seen_of};
@@ -163,7 +163,7 @@ pub(crate) fn new_collect(
 ) -> Result<Node, AllocError>
     requires { CanReadWith (option_map rc_value (option_copied cells)) (rates.plain_of rate.now) }
     ensures { IfOk result (λ node. (column : ℕ) (sync : Predicate) (f : Qre)
-        → slots_of (collect column sync (rates.plain_of rate.now) f) ≤ max_slots
+        → inner_of (collect column sync (rates.plain_of rate.now) f) ≤ max_slots
         → IsNewNode seen_of (option_map rc_value (option_copied cells.entry))
         (collect column sync (rates.plain_of rate.now) f) (holding_of node.state)) }
 {

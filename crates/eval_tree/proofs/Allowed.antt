@@ -15,9 +15,9 @@ use Rattle.query_model.proofs.ItemFields.{atom_types}
 use Rattle.split_eval.specs.Entries.{Contents}
 use Rattle.eval_nodes.specs.Holdings.{Holding, atom_held, choice_held, apply_held, split_held, Seen}
 use Rattle.eval_tree.specs.declared.hit.Hit.{Hit}
-use Rattle.eval_tree.specs.Lefts.{AreTypedWith, IsTypedWith}
+use Rattle.eval_tree.specs.Lefts.{AreTypedWith, IsTypedOnHit, IsTypedWith}
 use Rattle.eval_tree.specs.Steps.{CanStart, CanStep, StartsSoundly, StepsSoundly}
-use Rattle.eval_tree.proofs.Typed.{all_typed_with, hit_of, typed_with}
+use Rattle.eval_tree.proofs.Typed.{all_typed_with, hit_of, typed_on_hit, typed_with}
 
 module _ {R : Type 0} (seen : R → Seen R) where
   -- starts
@@ -53,6 +53,14 @@ module _ {R : Type 0} (seen : R → Seen R) where
     sound = can.sound;
     room = can.room;
   }
+
+  pub started_apply : (f : Qre) (e : Expression) (a a' : Holding R) (at : ℕ) (hit : Option Hit)
+      → CanStart seen (apply f e) (apply_held a) at → StartsSoundly seen f a at a' hit
+      → IsTypedOnHit e hit
+  started_apply f e a a' at hit can first =
+      let x = first bound can.columns can.clear.0 can.sound in
+      typed_on_hit (type_of can.columns f) _ e hit (hit_of (type_of can.columns f) at hit x.hit)
+      can.clear.1
 
   unfoldable pub start_left : (f g : Qre) (e : Expression) (a b : Holding R)
       (held : Contents Value) (at : ℕ) → CanStart seen (split f g e) (split_held a b held) at
@@ -131,6 +139,14 @@ module _ {R : Type 0} (seen : R → Seen R) where
     is_item = can.is_item;
     room = can.room;
   }
+
+  pub stepped_apply : (f : Qre) (e : Expression) (a a' : Holding R) (now : ℕ) (item : List Field)
+      (hit : Option Hit) → CanStep seen (apply f e) (apply_held a) now item
+      → StepsSoundly seen f a now item a' hit → IsTypedOnHit e hit
+  stepped_apply f e a a' now item hit can first =
+      let x = first bound can.columns can.position can.is_next can.clear.0
+      can.is_item can.sound in
+      typed_on_hit (type_of can.columns f) _ e hit x.hit can.clear.1
 
   unfoldable pub step_left : (f g : Qre) (e : Expression) (a b : Holding R)
       (held : Contents Value) (now : ℕ) (item : List Field)

@@ -15,7 +15,7 @@ use Rattle.value_ops.specs.declared.value.ValueType.TheVariants.{Number}
 use Rattle.predicate_cells.specs.Predicates.{Predicate}
 use Rattle.item_schema.specs.declared.column.Column.{Column}
 use Rattle.rate_expr.specs.Words.{Word, IsWordOf}
-use Rattle.query_model.specs.Denotation.{AreEntries, projection}
+use Rattle.query_model.specs.Denotation.{AreEntries, Den, projection}
 use Rattle.query_model.specs.Following.{IsAnswer}
 use Rattle.query_model.specs.Queries.{Qre}
 use Rattle.query_model.specs.QueryTypes.{type_of}

@@ -5,9 +5,7 @@ use Rattle.std.proofs.Common.{subst, append_assoc, append-nil, inl, inr}
 use Rattle.value_ops.specs.declared.field.Field.{Field}
 use Rattle.value_ops.specs.declared.value.Value.{Value}
 use Rattle.value_ops.specs.declared.value.ValueType.{ValueType}
-use Rattle.value_ops.specs.Types.{IsValueOf}
 use Rattle.item_schema.specs.declared.column.Column.{Column}
-use Rattle.item_schema.specs.Items.{IsItemOf}
 use Rattle.rate_expr.specs.Words.{Word, IsWordOf}
 use Rattle.query_model.specs.Denotation.{Den, Emits, Outputs}
 use Rattle.query_model.specs.Queries.{Qre}

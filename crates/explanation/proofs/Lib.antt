@@ -1,4 +1,4 @@
 mod Counting
 mod Known
 mod LetPlaces
-pub mod Parts
+pub mod SearchedParts

@@ -103,5 +103,5 @@ abbrev mutual
   -- in the parts of a record
   pub misfit_part : List Column → Expressions → Option Culprit
   misfit_part columns e.none = None
-  misfit_part columns (e.more part others) =
-      first_of (misfit_read columns part) (misfit_part columns others)
+  misfit_part columns (e.more first others) =
+      first_of (misfit_read columns first) (misfit_part columns others)

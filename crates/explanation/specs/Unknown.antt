@@ -56,5 +56,5 @@ abbrev mutual
   -- in the parts of a record
   pub unknown_part : Scope → Expressions → Option Culprit
   unknown_part scope e.none = None
-  unknown_part scope (e.more part others) =
-      first_of (unknown_name scope part) (unknown_part scope others)
+  unknown_part scope (e.more first others) =
+      first_of (unknown_name scope first) (unknown_part scope others)

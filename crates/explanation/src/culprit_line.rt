@@ -14,8 +14,9 @@ const QUERY_NAMES: &str =
 const COLUMN_NAMES: &str =
     "These names are columns of the stream: one is not declared as it is spelled here.\n";
 
-const VALUE_NAME: &str =
-    "The right side of a compose reads the left's values in value, a record's parts in value1, ..\n";
+const VALUE_NAME: &str = "\
+    The right side of a compose reads the left's values in value, a record's parts in \
+    value1, ..\n";
 
 const VALUE_NAMES: &str =
     "A record is read in a column for each part, value1 and value2 and so on, others in value.\n";

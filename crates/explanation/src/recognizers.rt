@@ -182,10 +182,14 @@ fn piece_hint(byte: u8) -> Option<Hint>
 fn type_hint(head: &[u8]) -> Option<Hint>
     ensures { result ≡ type_hint head.now }
 {
-    match head {
-        b"or" => Some(Hint::TwoTypes),
-        b"iter" => Some(Hint::Iterated),
-        b"split" | b"combine" | b"apply" => Some(Hint::OtherType),
-        _ => None,
+    if head == b"or".as_slice() {
+        return Some(Hint::TwoTypes);
     }
+    if head == b"iter".as_slice() {
+        return Some(Hint::Iterated);
+    }
+    let takes_values = head == b"split".as_slice()
+        || head == b"combine".as_slice()
+        || head == b"apply".as_slice();
+    takes_values.then_some(Hint::OtherType)
 }

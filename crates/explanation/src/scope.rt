@@ -1,5 +1,7 @@
 //! Which names are known at a node.
+ghost use Rattle.std.specs.List.{list_any};
 ghost use Rattle.std.specs.Prelude.{◌≡◌};
+ghost use Rattle.std.specs.Str.{bytes_eq};
 ghost use Rattle.explanation.specs.Scopes.{has_name, is_known, is_of_values, plain_scope};
 ghost use Rattle.explanation.specs.Scopes.{unknown_in, unless_known};
 
@@ -55,7 +57,13 @@ const VALUE_NAMES: [&[u8]; 9] = [
 fn is_of_values(name: &[u8]) -> bool
     ensures { result ≡ is_of_values name.now }
 {
-    VALUE_NAMES.iter().any(|known| name == *known)
+    is_one_of(&VALUE_NAMES, name)
+}
+
+fn is_one_of(names: &[&[u8]], name: &[u8]) -> bool
+    ensures { result ≡ list_any (λ known. bytes_eq name.now known.now) names.now }
+{
+    names.iter().any(|known| name == *known)
 }
 
 pub(crate) fn has_name(columns: &[Column], name: &[u8]) -> bool

@@ -41,7 +41,8 @@ fn has_words(place: TermPlace) -> bool
         | TermPlace::Number
         | TermPlace::Literal
         | TermPlace::Text
-        | TermPlace::Digits => false,
+        | TermPlace::Digits
+        | TermPlace::Index => false,
         _ => true,
     }
 }

@@ -1,8 +1,10 @@
 //! The first name that is not known where it stands.
 ghost use Rattle.std.specs.Prelude.{◌≡◌};
-ghost use Rattle.query_syntax.specs.Plain.{plain_expression, plain_expressions, plain_predicate, plain_rate};
+ghost use Rattle.query_syntax.specs.Plain.{plain_expression, plain_expressions, plain_predicate};
+ghost use Rattle.query_syntax.specs.Plain.{plain_rate};
 ghost use Rattle.explanation.specs.Scopes.{plain_scope};
-ghost use Rattle.explanation.specs.Unknown.{unknown_column, unknown_item, unknown_name, unknown_part};
+ghost use Rattle.explanation.specs.Unknown.{unknown_column, unknown_item, unknown_name};
+ghost use Rattle.explanation.specs.Unknown.{unknown_part};
 
 use crate::culprit::Culprit;
 use crate::scope::{Scope, unless_known};

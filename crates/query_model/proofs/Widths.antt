@@ -25,7 +25,7 @@ use Rattle.query_model.specs.Rules.{Standing, IsClear}
 use Rattle.query_model.proofs.Typed.{den_typed}
 
 -- how many numbers the values of a type have as records, and 1 where they are none
-width_of_type : ValueType → ℕ
+abbrev pub width_of_type : ValueType → ℕ
 width_of_type type.Number = 1
 width_of_type (type.Rec size) = size
 width_of_type type.Table = 1

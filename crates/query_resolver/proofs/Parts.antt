@@ -109,9 +109,9 @@ module _ (scope : Scope) where
       → i < length parts → part ≡ get_or parts i part
       → None ≡ expression_over scope (plain_expression part)
       → AreResolved parts made i → None ≡ expressions_over scope (plain_expressions parts)
-  none_left parts made i part within is none so_far =
+  none_left parts made i part within is without so_far =
       ap (λ (first : Option Expression). front_with (map plain_of made)
-      (more_of first (left_from parts (i + 1)))) none
+      (more_of first (left_from parts (i + 1)))) without
       ∙ ap (front_with (map plain_of made)) (sym (next parts i part within is))
       ∙ so_far.all
 

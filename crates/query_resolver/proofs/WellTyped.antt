@@ -250,12 +250,13 @@ not_true false never = refl
 -- what has no type does not pass
 pub untyped : (types : Types) (e : Expression) → HasFittingNumbers e
     → ((type : ValueType) → HasType types e type → ⊥) → is_typed types e ≡ false
-untyped types e fits none = not_true (is_typed types e)
-    (λ is. none (type_of_expression types e) (typed_is types e fits is))
+untyped types e fits without = not_true (is_typed types e)
+    (λ is. without (type_of_expression types e) (typed_is types e fits is))
 
 pub no_number : (types : Types) (e : Expression) → HasFittingNumbers e → (IsNumber types e → ⊥)
     → is_number types e ≡ false
-no_number types e fits none = not_true (is_number types e) (λ is. none (number_is types e fits is))
+no_number types e fits without =
+    not_true (is_number types e) (λ is. without (number_is types e fits is))
 
 -- a table is no number
 pub table_is_no_number : (types : Types) (e : Expression) → HasType types e Table

@@ -76,7 +76,8 @@ pub record AreRead (arguments : List Term) (parts : List Expression) (index : �
 -- none are before the first
 pub none_read : (arguments : List Term) (parts : List Expression) → parts ≡ []
     → AreRead arguments parts 0
-none_read arguments parts none = subst (λ (ps : List Expression). AreRead arguments ps 0) (sym none)
+none_read arguments parts is =
+    subst (λ (ps : List Expression). AreRead arguments ps 0) (sym is)
     (record { within = omega arith; written = λ rest. refl; as_many = refl })
 
 -- at the end all are, and as many as there are arguments

@@ -1,5 +1,5 @@
 -- For the prover. The stream of the values of a query, and answers on its fronts.
-use Rattle.std.specs.Prelude.{◌≡◌, ◌<◌, ℕ, ◌+◌, List, [], ◌∷◌, Option, length, take}
+use Rattle.std.specs.Prelude.{◌≡◌, ◌<◌, ℕ, ◌+◌, List, Option, length, take}
 use Rattle.std.specs.Option.{option_and, option_map}
 use Rattle.std.specs.List.{filter_map}
 use Rattle.value_ops.specs.declared.field.Field.{Field}

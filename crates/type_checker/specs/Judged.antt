@@ -8,6 +8,7 @@ use Rattle.query_model.specs.Rules.{free}
 use Rattle.query_lets.specs.Unfolded.{unfolded}
 use Rattle.query_syntax.specs.Programs.{Program}
 use Rattle.query_resolver.specs.Layouts.{layout_of}
+use Rattle.query_resolver.specs.Measures.{measured}
 use Rattle.query_resolver.specs.Nodes.{nodes_in, places_of}
 use Rattle.type_checker.specs.WordRules.{FirstBroken}
 

@@ -5,7 +5,7 @@ use Rattle.std.proofs.lemmas.Option.{none-some}
 use Rattle.value_ops.specs.declared.value.Value.{Value}
 use Rattle.value_ops.specs.Expressions as values
 use Rattle.query_model.specs.declared.query.Shape.{Shape}
-use Rattle.query_model.specs.Bounds.{slots_of}
+use Rattle.query_model.specs.Bounds.{inner_of, slots_of}
 use Rattle.query_model.specs.Queries.{apply, choice, combine, compose, iter, plain_of, split}
 use Rattle.query_model.specs.Sizes.{max_slots}
 use Rattle.split_eval.specs.Entries.{Contents}
@@ -139,7 +139,7 @@ pub node::Node::new-returns-in-Collect-clause-word :
     goal.node::Node::new-returns-in-Collect-clause-word
 node::Node::new-returns-in-Collect-clause-word t c =
     new_word _ _ _ _ (λ node is. is _ _ _
-    (subst (λ (shape : Shape). slots_of (plain_of shape) ≤ max_slots) c.in-Collect.is
+    (subst (λ (shape : Shape). inner_of (plain_of shape) ≤ max_slots) c.in-Collect.is
     c.requires.small))
     (ap plain_of c.in-Collect.is) c.new_collect.result c.new_collect.ensures
 
@@ -147,7 +147,7 @@ pub node::Node::new-returns-in-Collect-clause-sound :
     goal.node::Node::new-returns-in-Collect-clause-sound
 node::Node::new-returns-in-Collect-clause-sound t c =
     new_sound _ _ _ _ (λ node is. is _ _ _
-    (subst (λ (shape : Shape). slots_of (plain_of shape) ≤ max_slots) c.in-Collect.is
+    (subst (λ (shape : Shape). inner_of (plain_of shape) ≤ max_slots) c.in-Collect.is
     c.requires.small))
     (ap plain_of c.in-Collect.is) c.new_collect.result c.new_collect.ensures
 

@@ -88,6 +88,9 @@ choice::step_choice-returns-in_err-step_into-in-Or-2 =
     Choice.choice::step_choice-returns-in_err-step_into-in-Or-2
 
 -- an expression on a value
+pub apply::start_apply-apply_to-requires : goal.apply::start_apply-apply_to-requires
+apply::start_apply-apply_to-requires = Apply.apply::start_apply-apply_to-requires
+
 pub apply::start_apply-returns : goal.apply::start_apply-returns
 apply::start_apply-returns = Apply.apply::start_apply-returns
 
@@ -95,6 +98,9 @@ pub apply::start_apply-returns-in_err-start_into-in-Apply :
     goal.apply::start_apply-returns-in_err-start_into-in-Apply
 apply::start_apply-returns-in_err-start_into-in-Apply =
     Apply.apply::start_apply-returns-in_err-start_into-in-Apply
+
+pub apply::step_apply-apply_to-requires : goal.apply::step_apply-apply_to-requires
+apply::step_apply-apply_to-requires = Apply.apply::step_apply-apply_to-requires
 
 pub apply::step_apply-returns : goal.apply::step_apply-returns
 apply::step_apply-returns = Apply.apply::step_apply-returns
@@ -313,6 +319,14 @@ right_runners::carry-step_into-requires = Runner.right_runners::carry-step_into-
 
 pub right_runners::carry-returns-clause-carried : goal.right_runners::carry-returns-clause-carried
 right_runners::carry-returns-clause-carried = Runner.right_runners::carry-returns-clause-carried
+
+pub right_runners::carry_parts-returns-clause-no_memory :
+    goal.right_runners::carry_parts-returns-clause-no_memory
+right_runners::carry_parts-returns-clause-no_memory =
+    Runner.right_runners::carry_parts-returns-clause-no_memory
+
+pub right_runners::carry_value-returns-in-Scalar : goal.right_runners::carry_value-returns-in-Scalar
+right_runners::carry_value-returns-in-Scalar = Runner.right_runners::carry_value-returns-in-Scalar
 
 pub right_runners::deliver-carry_value-requires : goal.right_runners::deliver-carry_value-requires
 right_runners::deliver-carry_value-requires = Runner.right_runners::deliver-carry_value-requires

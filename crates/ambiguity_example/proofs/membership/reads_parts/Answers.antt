@@ -12,13 +12,13 @@ cuts-preserved c =
     let at = c.cuts.cut-index in
     let here : drop at cuts ≡ get_or cuts at 0 ∷ drop (at + 1) cuts =
     rw add-one (drop-cons cuts at 0 c.cuts-test.true) in record {
-      on = λ rate are parts. piece_on rate _ _ _ _ _ _ c.split_at.ensures.front
-          c.split_at.ensures.back (subst (PartsFrom rate c.cuts.begin c.cuts.rest.now) here
+      on = λ rate are parts. piece_on rate _ _ _ _ _ _ c.split_at-in-cuts.ensures.front
+          c.split_at-in-cuts.ensures.back (subst (PartsFrom rate c.cuts.begin c.cuts.rest.now) here
           (c.cuts.invariant.on rate are parts));
       back = λ rate are parts. c.cuts.invariant.back rate are
           (subst (PartsFrom rate c.cuts.begin c.cuts.rest.now) (sym here)
-          (piece_back rate _ _ _ _ _ _ c.split_at.ensures.front c.split_at.ensures.back
+          (piece_back rate _ _ _ _ _ _ c.split_at-in-cuts.ensures.front c.split_at-in-cuts.ensures.back
           (omega arith) (omega arith) (rw c.if-not-reads.false at c.reads.ensures rate are) parts));
-      word = subst (IsWordOf c.args.nfa.now.cells.layout.columns) (sym c.split_at.ensures.back)
+      word = subst (IsWordOf c.args.nfa.now.cells.layout.columns) (sym c.split_at-in-cuts.ensures.back)
           (word_rest c.args.nfa.now.cells.layout.columns c.cuts.rest.now _ c.cuts.invariant.word);
     }

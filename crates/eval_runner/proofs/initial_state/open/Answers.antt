@@ -1,9 +1,10 @@
-use Rattle.std.proofs.Common.{[], arith, option_copied, option_map, refl, subst, sym}
+use Rattle.std.proofs.Common.{◌≤◌, ◌+◌, [], arith, option_copied, option_map, refl, subst, sym}
 use Rattle.std.specs.Rc.{rc_value}
 use Rattle.query_model.specs.declared.query.Query.{Query}
+use Rattle.query_model.specs.Bounds.{inner_of, width_of}
 use Rattle.query_model.specs.Queries.{plain_of}
 use Rattle.query_model.specs.Rules.{free, IsClear}
-use Rattle.query_model.specs.Sizes.{IsSmall}
+use Rattle.query_model.specs.Sizes.{IsSmall, max_slots}
 use Rattle.eval_nodes.specs.Runners.{IsAt}
 use Rattle.eval_nodes.specs.Plain.{holding_of}
 use Rattle.eval_nodes.specs.Streams.{AreColumnsOf, CanBeMade}
@@ -57,3 +58,12 @@ new-requires-clause-cells c =
     (option_copied c.as_ref.result) c.in_ok-cells.cells c.as_ref.ensures.value
     (subst (λ (q : Query). CanBeMade (option_map rc_value c.in_ok-cells.cells) (plain_of q.shape))
     (sym c.main-query.ensures.main) c.in_ok-cells.ensures.made)
+
+pub new-requires-clause-small : goal.new-requires-clause-small
+new-requires-clause-small c =
+    let query = plain_of c.main-query.result.now.shape in
+    let small : IsSmall c.args.checked.now.layout.columns query =
+    subst (λ (q : Query). IsSmall c.args.checked.now.layout.columns (plain_of q.shape))
+    (sym c.main-query.ensures.main) c.main-query.ensures.checked.small in
+    let few : inner_of query + 1 + width_of query ≤ max_slots = small.slots in
+    omega (arith, few)

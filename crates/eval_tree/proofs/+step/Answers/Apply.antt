@@ -6,13 +6,26 @@ use Rattle.query_model.specs.Queries.{plain_of}
 use Rattle.eval_nodes.specs.Holdings.{apply_held}
 use Rattle.eval_nodes.specs.Plain.{holding_of, seen_of}
 use Rattle.eval_nodes.specs.declared.node.State.TheViews.{out-State, roll-State}
-use Rattle.eval_tree.proofs.Arms.{numbers_start_as, numbers_step_as, start_fails, started_as}
+use Rattle.eval_tree.proofs.Allowed.{started_apply, stepped_apply}
+use Rattle.eval_tree.proofs.Arms.{can_start_as, can_step_as, numbers_start_as, numbers_step_as}
+use Rattle.eval_tree.proofs.Arms.{soundly_started_as, soundly_stepped_as, start_fails, started_as}
 use Rattle.eval_tree.proofs.Arms.{started_from, step_fails, stepped_as, stepped_from, when_started}
 use Rattle.eval_tree.proofs.Arms.{when_stepped}
 use Rattle.eval_tree.proofs.NumbersAllowed.{operand_starts, operand_steps}
 use Rattle.eval_tree.proofs.NumbersTyped.{applied_started, applied_stepped}
 use Rattle.eval_tree.proofs.PlainArms.{apply_starts, apply_steps}
 use Rattle.eval_tree.proofs.+step.Goals as goal
+
+pub apply::start_apply-apply_to-requires : goal.apply::start_apply-apply_to-requires
+apply::start_apply-apply_to-requires t c =
+    let s = c.in-Apply in
+    started_apply seen_of (plain_of c.args.inner.now.shape) (values.plain_of c.args.expression.now)
+    (holding_of s.a.value.state) (holding_of c.start_into.new.node.state) c.args.at
+    c.start_into.new.hit
+    (can_start_as _ _ _ _ c.args.at refl (sym (ap holding_of s.is)) c.requires.can)
+    (soundly_started_as _ _ (holding_of c.deref_mut.result.now.state)
+    (holding_of s.a.value.state) _ _ c.args.at _ _ refl
+    (search rules) refl refl c.in_ok-start_into-in-Apply.ensures.sound)
 
 pub apply::start_apply-returns : goal.apply::start_apply-returns
 unfolding roll-State out-State denote.Hole.Carrier.roll denote.Hole.Carrier.out
@@ -46,6 +59,17 @@ apply::start_apply-returns-in_err-start_into-in-Apply t c =
     (numbers_start_as _ _ _ _ c.args.at refl (sym same)
     (operand_starts seen_of (plain_of c.args.inner.now.shape)
     (values.plain_of c.args.expression.now) (holding_of s.a.value.state) c.args.at free))))
+
+pub apply::step_apply-apply_to-requires : goal.apply::step_apply-apply_to-requires
+apply::step_apply-apply_to-requires t c =
+    let s = c.in-Apply in
+    stepped_apply seen_of (plain_of c.args.inner.now.shape) (values.plain_of c.args.expression.now)
+    (holding_of s.a.value.state) (holding_of c.step_into.new.node.state) c.args.now
+    c.args.item.now c.step_into.new.hit
+    (can_step_as _ _ _ _ c.args.now c.args.item.now refl (sym (ap holding_of s.is)) c.requires.can)
+    (soundly_stepped_as _ _ (holding_of c.deref_mut.result.now.state)
+    (holding_of s.a.value.state) _ _ c.args.now c.args.item.now _ _ refl
+    (search rules) refl refl c.in_ok-step_into-in-Apply.ensures.sound)
 
 pub apply::step_apply-returns : goal.apply::step_apply-returns
 unfolding roll-State out-State denote.Hole.Carrier.roll denote.Hole.Carrier.out

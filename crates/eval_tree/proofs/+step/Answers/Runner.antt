@@ -1,7 +1,7 @@
 -- Runners of the right operand of a compose.
 use Rattle.std.proofs.Common.{List, None, Option, Some, ap, arith, false, inl, refl, rules, subst}
 use Rattle.std.proofs.Common.{sym, true, ℕ, ◌-◌, ◌∙◌, ◌≡◌}
-use Rattle.std.specs.Prelude.{IfNone, IfSome}
+use Rattle.std.specs.Prelude.{IfNone, IfOk, IfSome}
 use Rattle.std.specs.Option.{is_some}
 use Rattle.std.proofs.lemmas.Bool.{false≢true}
 use Rattle.query_model.specs.Queries.{plain_of}
@@ -67,6 +67,24 @@ right_runners::carry-returns-clause-carried t c =
     carried_on seen_of (plain_of c.args.query.now.shape) c.args.runner.now _ c.args.item.now
     c.step_into.new.hit c.in_ok-step_into.ensures.word c.in_ok-step_into.ensures.sound refl
     c.put_answer.ensures
+
+pub right_runners::carry_parts-returns-clause-no_memory :
+    goal.right_runners::carry_parts-returns-clause-no_memory
+right_runners::carry_parts-returns-clause-no_memory t c = λ free.
+    c.carry.ensures.no_memory
+    (subst (CarriesNumbers seen_of (plain_of c.args.query.now.shape) c.args.runner.now)
+    (sym c.from_value-item.ensures) free)
+
+pub right_runners::carry_value-returns-in-Scalar : goal.right_runners::carry_value-returns-in-Scalar
+right_runners::carry_value-returns-in-Scalar t c =
+    let same : c.from_field.result ≡ item_of c.args.value = search rules in record {
+      carried = subst (λ (item : List Field). IfOk c.carry-in-Scalar.result
+          (λ done. IsCarried seen_of (plain_of c.args.query.now.shape) c.args.runner.now item
+          c.carry-in-Scalar.new.runner)) same c.carry-in-Scalar.ensures.carried;
+      no_memory = λ free. c.carry-in-Scalar.ensures.no_memory
+          (subst (CarriesNumbers seen_of (plain_of c.args.query.now.shape) c.args.runner.now)
+          (sym same) free);
+    }
 
 pub right_runners::deliver-carry_value-requires : goal.right_runners::deliver-carry_value-requires
 right_runners::deliver-carry_value-requires t c = (

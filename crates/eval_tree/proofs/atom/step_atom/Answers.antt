@@ -10,7 +10,7 @@ use Rattle.eval_nodes.specs.Plain.{holding_of, seen_of}
 use Rattle.eval_nodes.specs.declared.node.State.TheViews.{out-State, roll-State}
 use Rattle.eval_tree.specs.Lefts.{GivesNoTable}
 use Rattle.eval_tree.proofs.Allowed.{stepped_atom}
-use Rattle.eval_tree.proofs.Arms.{can_step_as, stepped_as, when_stepped}
+use Rattle.eval_tree.proofs.Arms.{can_step_as, numbers_step_as, stepped_as, when_stepped}
 use Rattle.eval_tree.proofs.NumbersTyped.{given_stepped}
 use Rattle.eval_tree.proofs.PlainArms.{atom_steps, atom_steps_none, atom_steps_other}
 use Rattle.eval_tree.proofs.atom.step_atom.Goals as goal
@@ -36,16 +36,17 @@ returns-in-Some c =
     λ now. when_stepped _ _ _ now c.args.item.now c.put_value.result c.put_value.new.hit _ (λ put.
     stepped_as _ _ _ _ (atom_held None) _ now c.args.item.now _ _ refl
     (ap holding_of s.is ∙ ap (λ (start : Option ℕ). atom_held start) found)
-    (rw s.is (ap (λ (start : Option ℕ). atom_held start) c.take.ensures.after)) (ap Ok put.1.0)
+    (rw s.is (ap (λ (start : Option ℕ). atom_held start) c.take.ensures.after)) (ap Ok put.1)
     (atom_steps (predicates.plain_of c.args.pred.now) e c.in-Some.start now c.args.item.now put.0
     (sym c.holds.ensures ∙ c.if-holds.true)
     (subst (λ (fields : List Field). value_of (given fields None None) e ≡ Some put.0)
-    c.fields.ensures put.1.1)))
+    c.fields.ensures put.2)))
     c.put_value.ensures.put
     (λ free. c.put_value.ensures.no_memory
     (subst (λ (fields : List Field). GivesNoTable (types_of (given fields None None)) e)
     (sym c.fields.ensures)
-    (given_stepped seen_of (predicates.plain_of c.args.pred.now) e _ now c.args.item.now free)))
+    (given_stepped seen_of (predicates.plain_of c.args.pred.now) e s.found now c.args.item.now
+    (numbers_step_as _ _ _ _ now c.args.item.now refl (sym (ap holding_of s.is)) free))))
 
 pub returns-in_default-take : goal.returns-in_default-take
 unfolding roll-State out-State denote.Hole.Carrier.roll denote.Hole.Carrier.out

@@ -3,7 +3,7 @@ use Rattle.query_syntax.specs.Expressions as e
 use Rattle.query_syntax.specs.Plain.{plain_expression}
 use Rattle.query_syntax.proofs.Records.{shown_record}
 use Rattle.explanation.specs.Misfits.{misfit_read, misfit_part}
-use Rattle.explanation.proofs.Parts.{found_here, none_found, passed}
+use Rattle.explanation.proofs.SearchedParts.{found_here, none_found, passed}
 use Rattle.explanation.proofs.misfit.+misfit.Goals as goal
 
 pub misfit_read-returns-in-Record : goal.misfit_read-returns-in-Record

@@ -1,7 +1,7 @@
 use Rattle.std.proofs.Common.{◌+◌, ◌*◌, refl}
 use Rattle.query_syntax.specs.declared.expression.Expression.{size-Expression}
 use Rattle.explanation.specs.Misfits.{misfit_read, misfit_part}
-use Rattle.explanation.proofs.Parts.{IsLeft}
+use Rattle.explanation.proofs.SearchedParts.{IsLeft}
 use Rattle.explanation.proofs.misfit.+misfit.Given as goal
 
 abbrev pub decreases-misfit_read : goal.decreases-misfit_read

@@ -4,7 +4,7 @@ use Rattle.query_syntax.specs.Plain.{plain_expression}
 use Rattle.query_syntax.proofs.Records.{shown_record}
 use Rattle.explanation.specs.Scopes.{plain_scope}
 use Rattle.explanation.specs.Unknown.{unknown_name, unknown_part}
-use Rattle.explanation.proofs.Parts.{found_here, none_found, passed}
+use Rattle.explanation.proofs.SearchedParts.{found_here, none_found, passed}
 use Rattle.explanation.proofs.unknown_names.+unknown.Goals as goal
 
 pub unknown_name-returns-in-Record : goal.unknown_name-returns-in-Record

@@ -2,7 +2,7 @@ use Rattle.std.proofs.Common.{◌+◌, ◌*◌, refl}
 use Rattle.query_syntax.specs.declared.expression.Expression.{size-Expression}
 use Rattle.explanation.specs.Scopes.{plain_scope}
 use Rattle.explanation.specs.Unknown.{unknown_name, unknown_part}
-use Rattle.explanation.proofs.Parts.{IsLeft}
+use Rattle.explanation.proofs.SearchedParts.{IsLeft}
 use Rattle.explanation.proofs.unknown_names.+unknown.Given as goal
 
 abbrev pub decreases-unknown_name : goal.decreases-unknown_name

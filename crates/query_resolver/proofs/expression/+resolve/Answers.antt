@@ -45,25 +45,25 @@ expression_over-returns-in-Record-clause-made t c =
 pub record_over-of-requires : goal.record_over-of-requires
 record_over-of-requires t c =
     let many : length c.in-Some.made.items ≡ length c.args.parts.now =
-    rw c.in-Some.is at c.in_ok-all_over.ensures.as_many in
+    rw c.in-Some.is at c.in_ok-made.ensures.as_many in
     subst IsRecordSize (sym many) c.requires
 
 pub record_over-returns-in-Some-clause-made : goal.record_over-returns-in-Some-clause-made
 record_over-returns-in-Some-clause-made t c =
-    let made = rw c.in-Some.is at c.in_ok-all_over.ensures.made in
+    let made = rw c.in-Some.is at c.in_ok-made.ensures.made in
     ap Some (ap plain_of (ap Rec c.of.ensures) ∙ rec_of c.in-Some.made.items)
     ∙ ap (λ (parts : Option Expressions). option_map rec parts) made
 
 pub record_over-returns-in-Some-clause-numbers : goal.record_over-returns-in-Some-clause-numbers
 record_over-returns-in-Some-clause-numbers t c =
-    let fit = rw c.in-Some.is at c.in_ok-all_over.ensures.numbers in
+    let fit = rw c.in-Some.is at c.in_ok-made.ensures.numbers in
     subst HasFittingNumbers
     (sym (ap plain_of (ap Rec c.of.ensures) ∙ rec_of c.in-Some.made.items)) fit
 
 pub record_over-returns-in-None-clause-made : goal.record_over-returns-in-None-clause-made
 record_over-returns-in-None-clause-made t c =
     ap (λ (parts : Option Expressions). option_map rec parts)
-    (rw c.in-None.is at c.in_ok-all_over.ensures.made)
+    (rw c.in-None.is at c.in_ok-made.ensures.made)
 
 pub all_over-parts-init : goal.all_over-parts-init
 all_over-parts-init t c =
@@ -77,14 +77,14 @@ all_over-parts-preserved t c =
     (sym c.in_ok-push.ensures.items)
     (more_resolved (plain_scope c.args.scope) c.args.parts.now c.parts.made.items c.parts.part-index
     c.part-item.result c.in-Some.one c.parts-test.true c.part-item.is
-    (rw c.in-Some.is at c.in_ok-expression_over.ensures.made)
-    (rw c.in-Some.is at c.in_ok-expression_over.ensures.numbers) c.parts.invariant)
+    (rw c.in-Some.is at c.in_ok-one.ensures.made)
+    (rw c.in-Some.is at c.in_ok-one.ensures.numbers) c.parts.invariant)
 
 pub all_over-returns-in_default-clause-made : goal.all_over-returns-in_default-clause-made
 all_over-returns-in_default-clause-made t c =
     none_left (plain_scope c.args.scope) c.args.parts.now c.parts.made.items c.parts.part-index
     c.part-item.result c.parts-test.true c.part-item.is
-    (rw c.in_default.is at c.in_ok-expression_over.ensures.made) c.parts.invariant
+    (rw c.in_default.is at c.in_ok-one.ensures.made) c.parts.invariant
 
 pub all_over-returns-clause-made : goal.all_over-returns-clause-made
 all_over-returns-clause-made t c =
