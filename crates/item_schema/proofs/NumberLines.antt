@@ -1,5 +1,5 @@
 -- A line that writes a number is the only text in it.
-use Rattle.std.proofs.Common.{◌≡◌, ℕ, ◌<◌, ◌==◌, Bool, true, false, ◌||◌, not, nat_lt, List, []}
+use Rattle.std.proofs.Common.{◌≡◌, ℕ, ◌<◌, ◌==◌, Bool, true, false, ◌||◌, nat_lt, List, []}
 use Rattle.std.proofs.Common.{◌∷◌, ◌++◌, length, length-append, Option, Some, None, Ok, refl, sym}
 use Rattle.std.proofs.Common.{ap, ◌∙◌, inl, inr, arith}
 use Rattle.std.specs.Char.{is_ascii_digit}
@@ -17,7 +17,7 @@ use Rattle.item_schema.specs.declared.column.Kind.TheVariants.{Int, Fixed}
 use Rattle.item_schema.specs.declared.stop.Cause.TheVariants as cause
 use Rattle.item_schema.specs.CutLines.{is_comma, mark, texts_in}
 use Rattle.item_schema.specs.LineParts.{is_special}
-use Rattle.item_schema.specs.Reading.{field_of, fields_of, fraction_of, is_decimal, is_numeral}
+use Rattle.item_schema.specs.Reading.{field_of, fraction_of, is_decimal, is_numeral}
 use Rattle.item_schema.specs.Reading.{is_point, item_of, stored, whole_of}
 use Rattle.item_schema.specs.Written.{IsFraction, Sign, sign_bytes}
 use Rattle.item_schema.specs.Written.Sign.{Absent, Plus, Minus}

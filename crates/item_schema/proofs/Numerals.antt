@@ -1,6 +1,6 @@
 -- The tests of numbers, and the parts that their texts have.
 use Rattle.std.proofs.Common.{◌≡◌, ℕ, ◌-◌, ◌*◌, ◌^◌, ◌<◌, ◌≤◌, ◌==◌, inl, inr, Bool, true, false}
-use Rattle.std.proofs.Common.{◌||◌, not, nat_lt, if◌then◌else◌, Option, Some, None, List, [], ◌∷◌}
+use Rattle.std.proofs.Common.{◌||◌, not, nat_lt, if◌then◌else◌, Some, None, List, [], ◌∷◌}
 use Rattle.std.proofs.Common.{◌++◌, length, get_or, slice_index, refl, sym, ap, ◌∙◌, arith, rules}
 use Rattle.std.specs.Char.{is_ascii_digit}
 use Rattle.std.specs.List.{list_all, list_any, before_first, after_first, position_or_len}

@@ -1,10 +1,10 @@
 -- What is shown of the two sides of a place.
 use Rattle.std.proofs.Common.{◌≡◌, ◌≢◌, ◌≤◌, ℕ, ◌+◌, ◌-◌, Bool, true, false, List, [], ◌++◌, length}
-use Rattle.std.proofs.Common.{take, drop, refl, sym, ap, ◌∙◌, append_assoc, append-nil, length-drop}
+use Rattle.std.proofs.Common.{take, drop, sym, ap, ◌∙◌, append_assoc, append-nil, length-drop}
 use Rattle.std.proofs.Common.{arith}
 use Rattle.std.specs.Prelude.{if◌then◌else◌}
 use Rattle.std.specs.Io.BufRead.{ends_with_byte, strip_last}
-use Rattle.std.specs.List.{All, after_last, before_first, position_or_len, suffix_len}
+use Rattle.std.specs.List.{All, before_first, position_or_len, suffix_len}
 use Rattle.std.specs.Prelude.{not}
 use Rattle.std.proofs.lemmas.List.{drop-drop, length-take, take-append-drop, take_all}
 use Rattle.std.proofs.lemmas.List.Elements.{All-drop, All-take}

@@ -1,5 +1,5 @@
 -- Whether a query has a value on a word is decided.
-use Rattle.std.proofs.Common.{◌≡◌, List, [], subst, ◌⊎◌, inl, inr}
+use Rattle.std.proofs.Common.{List, [], subst, ◌⊎◌, inl, inr}
 use Rattle.value_ops.specs.declared.value.Value.{Value}
 use Rattle.item_schema.specs.declared.column.Column.{Column}
 use Rattle.rate_expr.specs.Words.{Word, IsWordOf}

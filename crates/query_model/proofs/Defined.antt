@@ -1,8 +1,7 @@
 -- A query has a value on each word of its rate, where it is bound.
-use Rattle.std.proofs.Common.{append-nil, append_assoc, ◌≡◌, ◌≢◌, ℕ, ◌++◌, ◌∙◌, List, [], ◌∷◌, Some}
-use Rattle.std.proofs.Common.{None, refl, sym, subst, ap, ◌⊎◌, inl, inr}
+use Rattle.std.proofs.Common.{append-nil, append_assoc, ◌≡◌, ℕ, ◌++◌, ◌∙◌, List, [], ◌∷◌}
+use Rattle.std.proofs.Common.{refl, sym, subst, ◌⊎◌, inl, inr}
 use Rattle.std.specs.List.{AllByRecursion}
-use Rattle.value_ops.specs.declared.field.Field.{Field}
 use Rattle.value_ops.specs.declared.scalar.Scalar.{Scalar}
 use Rattle.value_ops.specs.declared.scalar.Scalar.TheVariants.{Number}
 use Rattle.value_ops.specs.declared.value.Value.{Value}
@@ -26,9 +25,9 @@ use Rattle.query_model.specs.Queries.{Qre, atom, eps, choice, split, iter, combi
 use Rattle.query_model.specs.Queries.{collect}
 use Rattle.query_model.specs.QueryTypes.{derived_columns, of_two, type_of}
 use Rattle.query_model.specs.Rates.{rate_of}
-use Rattle.query_model.specs.Rules.{Standing, free, bound, IsClear}
+use Rattle.query_model.specs.Rules.{bound, IsClear}
 use Rattle.query_model.proofs.Expressed.{atom_gives, one_gives, two_gives, two_ranges}
-use Rattle.query_model.proofs.InRates.{OnValues, den_in}
+use Rattle.query_model.proofs.InRates.{den_in}
 use Rattle.query_model.proofs.Keys.{kept_word}
 use Rattle.query_model.proofs.Typed.{den_typed, on_keys, outputs_word}
 

@@ -1,5 +1,5 @@
 -- A query has values on words of its rate alone.
-use Rattle.std.proofs.Common.{◌≡◌, ◌++◌, List, [], ◌∷◌, refl, sym, subst, ◌⊎◌, inl, inr}
+use Rattle.std.proofs.Common.{List, [], ◌∷◌, subst, inl, inr}
 use Rattle.std.specs.List.{AllByRecursion}
 use Rattle.value_ops.specs.Expressions.{Expression}
 use Rattle.value_ops.specs.declared.value.Value.{Value}
@@ -11,7 +11,7 @@ use Rattle.query_model.specs.Denotation.{Den, Folds}
 use Rattle.query_model.specs.Queries.{Qre, atom, eps, choice, split, iter, combine, apply, compose}
 use Rattle.query_model.specs.Queries.{collect}
 use Rattle.query_model.specs.Rates.{rate_of}
-use Rattle.query_model.specs.Rules.{Standing, free, bound, IsClear}
+use Rattle.query_model.specs.Rules.{Standing, bound, IsClear}
 
 -- what is said of all words of a stream on which there is a value
 abbrev pub OnValues : List Column → (Word → Value → Type 0) → (Word → Value → Type 0) → Type 0

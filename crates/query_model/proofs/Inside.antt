@@ -1,5 +1,5 @@
 -- What is inside an option.
-use Rattle.std.proofs.Common.{◌≡◌, Option, Some, ap}
+use Rattle.std.proofs.Common.{◌≡◌, Some, ap}
 use Rattle.std.specs.Prelude.{unwrap_or}
 
 -- equal options hold the same

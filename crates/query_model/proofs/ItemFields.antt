@@ -10,9 +10,8 @@ use Rattle.value_ops.specs.declared.value.Value.{Value}
 use Rattle.value_ops.specs.declared.value.Value.TheVariants as value
 use Rattle.value_ops.specs.declared.value.ValueType.{ValueType}
 use Rattle.value_ops.specs.declared.value.ValueType.TheVariants as type
-use Rattle.value_ops.specs.declared.expr.Var.{Var}
 use Rattle.value_ops.specs.declared.expr.Var.TheVariants as var
-use Rattle.value_ops.specs.Evaluation.{Inputs, given, value_of_field, value_named}
+use Rattle.value_ops.specs.Evaluation.{given, value_of_field}
 use Rattle.value_ops.specs.Fields.{text_of}
 use Rattle.value_ops.specs.Texts.{IsText}
 use Rattle.value_ops.specs.Types.{IsValueOf, type_of}

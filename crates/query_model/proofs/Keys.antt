@@ -1,6 +1,6 @@
 -- The keys of a word: they are texts that differ, and so are those that have an entry.
-use Rattle.std.proofs.Common.{◌≡◌, ℕ, ◌++◌, Bool, true, false, cond, List, [], ◌∷◌, map, refl, sym}
-use Rattle.std.proofs.Common.{subst, ◌⊎◌, inl, inr}
+use Rattle.std.proofs.Common.{◌≡◌, ℕ, ◌++◌, Bool, true, false, cond, List, [], ◌∷◌, refl, sym}
+use Rattle.std.proofs.Common.{subst, inl, inr}
 use Rattle.std.specs.Prelude.{All, filter}
 use Rattle.std.proofs.lemmas.List.Elements.{All-cons, All-nil}
 use Rattle.std.specs.List.{AllByRecursion, IsDistinct, list_any}
@@ -18,7 +18,7 @@ use Rattle.item_schema.specs.declared.column.Column.{Column}
 use Rattle.predicate_cells.specs.Predicates.{Predicate}
 use Rattle.predicate_cells.specs.Truth.{holds}
 use Rattle.rate_expr.specs.Words.{Word, IsWordOf}
-use Rattle.query_model.specs.Denotation.{AreEntries, key_of, keys_after, projection, with_key}
+use Rattle.query_model.specs.Denotation.{AreEntries, key_of, keys_after, with_key}
 use Rattle.query_model.proofs.ItemFields.{key_is_text}
 
 -- a part of a word that a test keeps is a word of the same items

@@ -1,7 +1,5 @@
 -- Values have the types of their queries.
-use Rattle.std.proofs.Common.{◌≡◌, ℕ, ◌++◌, List, [], ◌∷◌, refl, sym, subst, ◌⊎◌, inl, inr, ap}
-use Rattle.std.specs.Prelude.{All}
-use Rattle.std.specs.List.{AllByRecursion}
+use Rattle.std.proofs.Common.{ℕ, ◌++◌, List, [], ◌∷◌, sym, subst, inl, inr}
 use Rattle.value_ops.specs.declared.scalar.Scalar.{Scalar}
 use Rattle.value_ops.specs.declared.value.Value.{Value}
 use Rattle.value_ops.specs.declared.value.Value.TheVariants as value
@@ -13,20 +11,19 @@ use Rattle.value_ops.specs.Texts.{IsText}
 use Rattle.value_ops.specs.Types.{IsScalar, IsTable, IsValueOf}
 use Rattle.value_ops.specs.Typing.{HasType}
 use Rattle.item_schema.specs.declared.column.Column.{Column}
-use Rattle.item_schema.specs.Items.{IsItemOf}
 use Rattle.predicate_cells.specs.Predicates.{Predicate}
 use Rattle.rate_expr.specs.Words.{Word, IsWordOf, join}
 use Rattle.rate_expr.proofs.Wording.{word_parts, word_more}
-use Rattle.query_model.specs.Denotation.{AreEntries, Den, Emits, Folds, Outputs, keys_after}
+use Rattle.query_model.specs.Denotation.{Den, Emits, Folds, Outputs, keys_after}
 use Rattle.query_model.specs.Denotation.{projection}
 use Rattle.query_model.specs.Queries.{Qre, atom, eps, choice, split, iter, combine, apply, compose}
 use Rattle.query_model.specs.Queries.{collect}
 use Rattle.query_model.specs.QueryTypes.{derived_columns, of_two, type_of}
-use Rattle.query_model.specs.Rules.{Standing, free, bound, IsClear}
+use Rattle.query_model.specs.Rules.{Standing, bound, IsClear}
 use Rattle.query_model.proofs.DerivedItems.{derived_item}
 use Rattle.query_model.proofs.Expressed.{atom_ranges, one_ranges, two_ranges}
 use Rattle.query_model.proofs.InRates.{OnValues}
-use Rattle.query_model.proofs.Keys.{AreKeys, all_elements, entry_keys, entry_keys_differ}
+use Rattle.query_model.proofs.Keys.{all_elements, entry_keys, entry_keys_differ}
 use Rattle.query_model.proofs.Keys.{entry_values, kept_word, keys_are}
 
 -- a fold of numbers gives a number

@@ -1,9 +1,7 @@
 -- Each word has at most one value.
-use Rattle.std.proofs.Common.{◌≡◌, ℕ, ◌++◌, ◌∙◌, List, [], ◌∷◌, Some, None, refl, sym, subst, ap}
-use Rattle.std.proofs.Common.{◌⊎◌, inl, inr}
-use Rattle.std.specs.List.{AllByRecursion}
+use Rattle.std.proofs.Common.{◌≡◌, ℕ, ◌++◌, ◌∙◌, List, [], ◌∷◌, None, sym, subst, ap}
+use Rattle.std.proofs.Common.{inl, inr}
 use Rattle.std.proofs.lemmas.List.{append_cancel_left}
-use Rattle.value_ops.specs.declared.field.Field.{Field}
 use Rattle.value_ops.specs.declared.scalar.Scalar.{Scalar}
 use Rattle.value_ops.specs.declared.scalar.Scalar.TheVariants.{Number}
 use Rattle.value_ops.specs.declared.value.Value.{Value}
@@ -12,7 +10,6 @@ use Rattle.value_ops.specs.Evaluation.{given, value_of}
 use Rattle.value_ops.specs.Expressions.{Expression}
 use Rattle.item_schema.specs.declared.column.Column.{Column}
 use Rattle.item_schema.specs.Items.{fields_of_value}
-use Rattle.predicate_cells.specs.Predicates.{Predicate}
 use Rattle.rate_expr.specs.Language.{In}
 use Rattle.rate_expr.specs.Words.{Word, IsWordOf, join}
 use Rattle.rate_expr.proofs.Wording.{word_parts, word_more}
@@ -22,7 +19,7 @@ use Rattle.query_model.specs.Queries.{Qre, atom, eps, choice, split, iter, combi
 use Rattle.query_model.specs.Queries.{collect}
 use Rattle.query_model.specs.QueryTypes.{derived_columns, type_of}
 use Rattle.query_model.specs.Rates.{rate_of}
-use Rattle.query_model.specs.Rules.{Standing, free, bound, IsClear}
+use Rattle.query_model.specs.Rules.{Standing, bound, IsClear}
 use Rattle.query_model.proofs.Inside.{same_inside}
 use Rattle.query_model.proofs.InRates.{den_in, pieces_in}
 use Rattle.query_model.proofs.Keys.{kept_word}

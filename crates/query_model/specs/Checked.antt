@@ -1,5 +1,5 @@
 -- Statement. A query that keeps the rules, on the stream that it was made for.
-use Rattle.std.specs.Prelude.{◌&&◌, IsTrue}
+use Rattle.std.specs.Prelude.{IsTrue}
 use Rattle.std.specs.List.{list_all}
 use Rattle.item_schema.specs.Layout.{Layout, is_read}
 use Rattle.query_model.specs.declared.query.Query.{Query}

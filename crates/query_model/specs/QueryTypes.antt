@@ -1,5 +1,5 @@
 -- Statement. The types of queries.
-use Rattle.std.specs.Prelude.{ℕ, List, [], map, Option, Some, None}
+use Rattle.std.specs.Prelude.{List, [], map, Option, Some, None}
 use Rattle.value_ops.specs.declared.value.ValueType.{ValueType}
 use Rattle.value_ops.specs.declared.value.ValueType.TheVariants.{Number, Rec, Table}
 use Rattle.value_ops.specs.Expressions as expr

@@ -1,11 +1,10 @@
 -- Statement. The rules that make queries mean one thing: types, one reading, and words on which
 -- operands agree. They are asked at every node, over all words of items of the node's stream.
-use Rattle.std.specs.Prelude.{◌≡◌, ℕ, true, List, [], ◌∷◌, FitsSigned}
+use Rattle.std.specs.Prelude.{◌≡◌, true, List, FitsSigned}
 use Rattle.std.specs.Int.{w64}
 use Rattle.std.specs.List.{AllByRecursion}
 use Rattle.value_ops.specs.declared.field.Field.{Field}
-use Rattle.value_ops.specs.declared.value.ValueType.{ValueType}
-use Rattle.value_ops.specs.declared.value.ValueType.TheVariants.{Number, Table}
+use Rattle.value_ops.specs.declared.value.ValueType.TheVariants.{Number}
 use Rattle.value_ops.specs.Expressions.{Expression}
 use Rattle.value_ops.specs.Typing.{Types, HasType}
 use Rattle.item_schema.specs.declared.column.Column.{Column}

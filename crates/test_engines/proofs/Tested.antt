@@ -1,14 +1,12 @@
 -- The query of the tests keeps the rules.
 use Rattle.std.proofs.Common.{◌≡◌, ◌<◌, ℕ, ◌+◌, ◌^◌, ◌∙◌, List, [], ◌∷◌, ◌++◌, Option, None, ap}
 use Rattle.std.proofs.Common.{arith, refl, rules, sym, subst}
-use Rattle.std.specs.Prelude.{IsTrue, ℤ, codes, pos, FitsSigned}
+use Rattle.std.specs.Prelude.{IsTrue, pos, FitsSigned}
 use Rattle.std.specs.Int.{w64}
 use Rattle.std.specs.List.{list_all}
-use Rattle.language_base.specs.declared.binary.BinaryOp.TheVariants as op
-use Rattle.value_ops.specs.declared.expr.Var.TheVariants as var
 use Rattle.value_ops.specs.declared.field.Field.{Field}
 use Rattle.value_ops.specs.declared.field.Field.TheVariants as field
-use Rattle.value_ops.specs.Expressions.{binary, read}
+use Rattle.value_ops.specs.Expressions.{read}
 use Rattle.item_schema.specs.declared.column.Column.{Column}
 use Rattle.item_schema.specs.declared.column.Kind.TheVariants as kind
 use Rattle.item_schema.specs.Items.{IsItemOf}
@@ -19,7 +17,7 @@ use Rattle.rate_expr.specs.Readings.{HaveOneSplit}
 use Rattle.rate_expr.specs.Words.{Word}
 use Rattle.query_model.specs.Following.{composes_of}
 use Rattle.query_model.specs.Checked.{IsChecked, CheckedQuery}
-use Rattle.query_model.specs.Queries.{Qre, atom, plain_of, split}
+use Rattle.query_model.specs.Queries.{Qre, plain_of}
 use Rattle.query_model.specs.Rules.{CanBeMet, IsClear, Standing, bound, free}
 use Rattle.query_model.specs.Sizes.{IsSmall}
 use Rattle.test_engines.specs.TestedQueries.{difference, numbers}

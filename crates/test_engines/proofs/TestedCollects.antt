@@ -2,7 +2,6 @@
 use Rattle.std.proofs.Common.{◌≡◌, List, [], ◌∷◌, arith, refl, rules, subst, sym}
 use Rattle.std.specs.Prelude.{IsTrue, codes, pos}
 use Rattle.std.specs.List.{list_all}
-use Rattle.value_ops.specs.declared.expr.Var.TheVariants as var
 use Rattle.value_ops.specs.declared.field.Field.{Field}
 use Rattle.value_ops.specs.declared.field.Field.TheVariants as field
 use Rattle.value_ops.specs.Expressions.{read}
@@ -10,10 +9,9 @@ use Rattle.value_ops.specs.Texts.{IsText}
 use Rattle.item_schema.specs.declared.column.Column.{Column}
 use Rattle.item_schema.specs.declared.column.Kind.TheVariants as kind
 use Rattle.item_schema.specs.Layout.{is_read}
-use Rattle.predicate_cells.specs.Predicates.{Predicate, any, eq_text}
-use Rattle.rate_expr.specs.Rates.{one, sequence, star}
+use Rattle.predicate_cells.specs.Predicates.{any}
 use Rattle.query_model.specs.Checked.{IsChecked, CheckedQuery}
-use Rattle.query_model.specs.Queries.{Qre, collect, plain_of}
+use Rattle.query_model.specs.Queries.{plain_of}
 use Rattle.query_model.specs.Rules.{CanBeMet, IsClear, free}
 use Rattle.query_model.specs.Sizes.{IsSmall}
 use Rattle.test_engines.specs.TestedQueries.{keyed, tick, totals_by_key}

@@ -1,16 +1,14 @@
 -- The query of the test on a compose keeps the rules.
-use Rattle.std.proofs.Common.{◌≡◌, arith, refl, rules, subst, sym, ◌∷◌, []}
+use Rattle.std.proofs.Common.{◌≡◌, arith, refl, rules, ◌∷◌, []}
 use Rattle.std.specs.Prelude.{pos, FitsSigned}
 use Rattle.std.specs.Int.{w64}
-use Rattle.value_ops.specs.declared.expr.Var.TheVariants as var
 use Rattle.value_ops.specs.declared.field.Field.TheVariants as field
 use Rattle.value_ops.specs.declared.scalar.Scalar.TheVariants.{Number}
 use Rattle.value_ops.specs.declared.value.Value.TheVariants as value
 use Rattle.value_ops.specs.declared.value.ValueType.TheVariants as type
-use Rattle.value_ops.specs.Expressions.{read}
 use Rattle.predicate_cells.specs.Predicates.{any}
 use Rattle.query_model.specs.Checked.{IsChecked, CheckedQuery}
-use Rattle.query_model.specs.Queries.{Qre, compose, plain_of}
+use Rattle.query_model.specs.Queries.{plain_of}
 use Rattle.query_model.specs.QueryTypes.{derived_columns}
 use Rattle.query_model.specs.Rules.{CanBeMet, IsClear, free}
 use Rattle.query_model.specs.Sizes.{IsSmall}

@@ -1,12 +1,9 @@
 -- The query of the test on two iterations keeps the rules.
-use Rattle.std.proofs.Common.{◌≡◌, ◌∙◌, List, [], ◌∷◌, ◌++◌, ap, arith, refl, rules, sym, subst}
+use Rattle.std.proofs.Common.{◌≡◌, ◌∙◌, List, [], ◌∷◌, ◌++◌, ap, arith, refl, rules, sym}
 use Rattle.std.specs.Prelude.{pos, FitsSigned}
 use Rattle.std.specs.Int.{w64}
 use Rattle.std.specs.List.{AllByRecursion}
-use Rattle.language_base.specs.declared.binary.BinaryOp.TheVariants as op
-use Rattle.value_ops.specs.declared.expr.Var.TheVariants as var
 use Rattle.value_ops.specs.declared.field.Field.{Field}
-use Rattle.value_ops.specs.Expressions.{binary, literal, read, Expression}
 use Rattle.item_schema.specs.declared.column.Column.{Column}
 use Rattle.predicate_cells.specs.Predicates.{any}
 use Rattle.rate_expr.specs.Language.{In}
@@ -14,10 +11,10 @@ use Rattle.rate_expr.specs.Rates.{one}
 use Rattle.rate_expr.specs.Readings.{HasOneFactoring}
 use Rattle.rate_expr.specs.Words.{Word, join}
 use Rattle.query_model.specs.Checked.{IsChecked, CheckedQuery}
-use Rattle.query_model.specs.Queries.{Qre, atom, combine, iter, plain_of}
+use Rattle.query_model.specs.Queries.{plain_of}
 use Rattle.query_model.specs.Rules.{IsClear, Standing, free}
 use Rattle.query_model.specs.Sizes.{IsSmall}
-use Rattle.test_engines.specs.TestedQueries.{excess, numbers, total}
+use Rattle.test_engines.specs.TestedQueries.{excess, numbers}
 use Rattle.test_engines.proofs.Tested.{checked_as, met}
 
 pub zero_fits : FitsSigned w64 (pos 0)

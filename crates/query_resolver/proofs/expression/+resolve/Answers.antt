@@ -1,4 +1,4 @@
-use Rattle.std.proofs.Common.{◌≡◌, ◌≤◌, ◌+◌, ◌∙◌, List, IfOk, IfSome, Option, Some, None, length}
+use Rattle.std.proofs.Common.{◌≡◌, ◌≤◌, ◌+◌, ◌∙◌, List, IfOk, Option, Some, None, length}
 use Rattle.std.proofs.Common.{ap, subst, sym, arith}
 use Rattle.std.specs.Option.{option_map}
 use Rattle.few_parts.specs.Sizes.{IsRecordSize}

@@ -1,4 +1,4 @@
-use Rattle.std.proofs.Common.{◌≡◌, ◌∙◌, ap, inl, inr, rules, subst, sym}
+use Rattle.std.proofs.Common.{◌∙◌, ap, inl, inr, rules, subst, sym}
 use Rattle.query_model.specs.Queries.{plain_of}
 use Rattle.query_model.specs.QueryTypes.{derived_columns, of_columns, type_of}
 use Rattle.query_model.specs.declared.query.Shape.TheViews.{the_lemmas}

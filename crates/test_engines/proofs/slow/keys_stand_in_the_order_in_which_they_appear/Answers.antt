@@ -1,4 +1,4 @@
-use Rattle.std.proofs.Common.{rules, arith, ◌≡◌, ℕ, List, [], ◌∷◌, refl, sym, subst}
+use Rattle.std.proofs.Common.{rules, arith, ℕ, List, [], ◌∷◌, refl, sym, subst}
 use Rattle.std.specs.Prelude.{codes, pos, FitsSigned}
 use Rattle.std.specs.Int.{w64}
 use Rattle.value_ops.specs.Expressions.{literal}

@@ -1,4 +1,4 @@
-use Rattle.std.proofs.Common.{rules, ◌≡◌, [], ◌∷◌, refl, sym, subst}
+use Rattle.std.proofs.Common.{rules, [], ◌∷◌, refl, sym, subst}
 use Rattle.std.specs.Prelude.{pos, FitsSigned}
 use Rattle.std.specs.Int.{w64}
 use Rattle.value_ops.specs.Expressions.{read}
