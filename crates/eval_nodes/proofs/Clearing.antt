@@ -24,7 +24,8 @@ use Rattle.split_eval.specs.Entries as entries
 use Rattle.split_eval.specs.declared.entry.Entry.{Entry}
 use Rattle.compose_eval.specs.Followers.{Contents, live_instances, outers_of, retired}
 use Rattle.compose_eval.specs.declared.instance.Instance.{Instance}
-use Rattle.eval_nodes.specs.Counts.{size_of_answer, stored_in}
+use Rattle.value_ops.specs.Sizes.{size_of_answer}
+use Rattle.eval_nodes.specs.Counts.{stored_in}
 use Rattle.eval_nodes.specs.Cleared.{AreCleared, IsCleared, IsClearedIn}
 use Rattle.eval_nodes.specs.Runners.{IsSoundOf}
 use Rattle.eval_nodes.specs.Holdings.{Holding, atom_held, eps_held, choice_held, combine_held}

@@ -11,7 +11,8 @@ use Rattle.memory_bound.specs.KeysMet.{keys_met}
 use Rattle.compose_eval.specs.Followers.{Contents, outers_of}
 use Rattle.compose_eval.specs.declared.instance.Instance.{Instance}
 use Rattle.eval_nodes.specs.declared.progress.Progress.{Progress}
-use Rattle.eval_nodes.specs.Counts.{size_of_answer, stored_in}
+use Rattle.value_ops.specs.Sizes.{size_of_answer}
+use Rattle.eval_nodes.specs.Counts.{stored_in}
 use Rattle.eval_nodes.specs.Runners.{IsSoundOf}
 use Rattle.eval_nodes.specs.Holdings.{Holding, compose_held, Seen}
 use Rattle.eval_nodes.specs.Plain.{holding_of, seen_of}

@@ -7,7 +7,8 @@ use Rattle.std.proofs.lemmas.List.Sums.{sum_by_more}
 use Rattle.std.proofs.lemmas.Option.{get_or_from_slice_get, slice_get_within}
 use Rattle.value_ops.specs.declared.value.Value.{Value}
 use Rattle.split_eval.specs.declared.entry.Entry.{Entry}
-use Rattle.eval_nodes.specs.Counts.{size_of_value, sizes_of}
+use Rattle.value_ops.specs.Sizes.{size_of_value}
+use Rattle.eval_nodes.specs.Counts.{sizes_of}
 use Rattle.eval_nodes.specs.Live.{is_outer}
 
 pub outer_there : (es : List (Entry Value)) (i : ℕ) (e : Entry Value) (start : ℕ)

@@ -24,7 +24,8 @@ use Rattle.memory_bound.proofs.Growth.{AreAmong, among_all, keys_mono}
 use Rattle.split_eval.specs.Entries.{entry_at, AreDistinct}
 use Rattle.split_eval.specs.declared.entry.Entry.{Entry}
 use Rattle.split_eval.proofs.Found.{first_differs, found_after, found_first, none_after}
-use Rattle.eval_nodes.specs.Counts.{size_of_value, sizes_of}
+use Rattle.value_ops.specs.Sizes.{size_of_value}
+use Rattle.eval_nodes.specs.Counts.{sizes_of}
 use Rattle.eval_nodes.specs.Represents.{AreReached, AreWaiting}
 use Rattle.eval_nodes.specs.Starts.{AreApart, AreDifferent, ArePositions, IsPiece}
 use Rattle.eval_nodes.proofs.Apart.{apart_right}

@@ -2,10 +2,10 @@
 -- the value takes. A runner of a compose, idle or not, counts one and what the runner keeps. A
 -- start of a collect counts one, the positions of its state and what its runners keep, and one for
 -- each key.
-use Rattle.std.specs.Prelude.{ℕ, ◌+◌, List, Option, None, Some, count_ones, length}
+use Rattle.std.specs.Prelude.{ℕ, ◌+◌, List, Option, None, Some, count_ones}
 use Rattle.std.specs.List.{sum_by}
 use Rattle.value_ops.specs.declared.value.Value.{Value}
-use Rattle.value_ops.specs.declared.value.Value.TheVariants as value
+use Rattle.value_ops.specs.Sizes.{size_of_answer, size_of_value}
 use Rattle.rate_expr.specs.declared.state.State.{State}
 use Rattle.rate_expr.specs.declared.state.State.TheVariants.{Initial, At}
 use Rattle.query_model.specs.Queries.{Qre, atom, choice, split, iter, combine, apply, compose}
@@ -17,16 +17,6 @@ use Rattle.map_collect.specs.declared.keys.Keys.{Keys}
 use Rattle.map_collect.specs.declared.track.Track.{Track}
 use Rattle.eval_nodes.specs.Holdings.{Holding, atom_held, choice_held, combine_held, apply_held}
 use Rattle.eval_nodes.specs.Holdings.{split_held, iter_held, compose_held, collect_held, Seen}
-
--- a scalar counts one, a record its parts, and a table one and one for each of its entries
-abbrev pub size_of_value : Value → ℕ
-size_of_value (value.Scalar scalar) = 1
-size_of_value (value.Rec parts) = length parts
-size_of_value (value.Table entries) = length entries + 1
-
-abbrev pub size_of_answer : Option Value → ℕ
-size_of_answer None = 0
-size_of_answer (Some found) = size_of_value found
 
 -- values with an inner and an outer start
 abbrev pub sizes_of : List (Entry Value) → ℕ

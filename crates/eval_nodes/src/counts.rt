@@ -3,9 +3,8 @@ ghost use Rattle.std.specs.Prelude.{◌≡◌, ◌+◌, ◌-◌, ◌^◌, min};
 ghost use Rattle.std.specs.List.{sum_by};
 ghost use Rattle.compose_eval.specs.Followers.{followers_of};
 ghost use Rattle.query_model.specs.Queries.{plain_of};
-ghost use Rattle.eval_nodes.specs.Counts.{size_of_answer, size_of_keys, size_of_runner};
-ghost use Rattle.eval_nodes.specs.Counts.{size_of_state, size_of_track, size_of_value, sizes_of};
-ghost use Rattle.eval_nodes.specs.Counts.{stored_in};
+ghost use Rattle.eval_nodes.specs.Counts.{size_of_keys, size_of_runner, size_of_state};
+ghost use Rattle.eval_nodes.specs.Counts.{size_of_track, sizes_of, stored_in};
 ghost use Rattle.eval_nodes.specs.Plain.{holding_of, seen_of};
 
 use crate::node_counts::{
@@ -17,7 +16,7 @@ use compose_eval::Instances;
 use map_collect::{Keys, Tracks};
 use query_model::{Query, Shape};
 use split_eval::Pending;
-use value_ops::Value;
+use value_ops::{Value, size_of_answer, size_of_value};
 
 /// How much is kept for the query, or 2^64 - 1 if it is more.
 #[cycle(stored)]
@@ -128,23 +127,4 @@ pub(crate) fn size_of_entries(held: &Pending<Value>) -> u64
             .saturating_add(size_of_value(&held.entry(i).value));
     }
     sum
-}
-
-fn size_of_answer(answer: &Option<Value>) -> u64
-    ensures { result ≡ min (size_of_answer answer.now) (2 ^ 64 - 1) }
-{
-    match answer {
-        None => 0,
-        Some(value) => size_of_value(value),
-    }
-}
-
-fn size_of_value(value: &Value) -> u64
-    ensures { result ≡ min (size_of_value value.now) (2 ^ 64 - 1) }
-{
-    match value {
-        Value::Scalar(_) => 1,
-        Value::Rec(parts) => parts.len() as u64,
-        Value::Table(table) => (table.len() as u64).saturating_add(1),
-    }
 }

@@ -21,7 +21,8 @@ use Rattle.compose_eval.specs.Followers.{Contents, followers_of}
 use Rattle.symbolic_nfa.specs.Automata.{Automaton}
 use Rattle.memory_bound.specs.KeysMet.{keys_met}
 use Rattle.eval_nodes.specs.Copies.{AreAlike, IsCopy, IsCopyOf}
-use Rattle.eval_nodes.specs.Counts.{size_of_answer, size_of_runner, sizes_of, stored_in}
+use Rattle.value_ops.specs.Sizes.{size_of_answer}
+use Rattle.eval_nodes.specs.Counts.{size_of_runner, sizes_of, stored_in}
 use Rattle.eval_nodes.specs.Runners.{FollowsWord, IsSoundOf}
 use Rattle.eval_nodes.specs.Holdings.{Holding, atom_held, eps_held, choice_held, combine_held}
 use Rattle.eval_nodes.specs.Holdings.{apply_held, split_held, iter_held, compose_held, collect_held}

@@ -31,7 +31,8 @@ use Rattle.map_collect.specs.Keys.{fallback_of, followers_of as keyed_followers,
 use Rattle.map_collect.specs.Tracks.{starts_of}
 use Rattle.map_collect.specs.declared.keys.Keys.{Keys}
 use Rattle.map_collect.specs.declared.track.Track.{Track}
-use Rattle.eval_nodes.specs.Counts.{size_of_answer, size_of_keys, size_of_runner, size_of_track}
+use Rattle.value_ops.specs.Sizes.{size_of_answer}
+use Rattle.eval_nodes.specs.Counts.{size_of_keys, size_of_runner, size_of_track}
 use Rattle.eval_nodes.specs.Counts.{stored_in}
 use Rattle.eval_nodes.specs.Runners.{FollowsWord}
 use Rattle.eval_nodes.specs.Holdings.{Holding, atom_held, eps_held, choice_held, combine_held}

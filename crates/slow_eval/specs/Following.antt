@@ -1,8 +1,6 @@
 -- Statement. What the engine follows, and what it keeps.
-use Rattle.std.specs.Prelude.{◌≡◌, ℕ, ◌+◌, Bool, false, List, Option, Some, None, length}
-use Rattle.std.specs.Prelude.{MatchOption}
-use Rattle.value_ops.specs.declared.value.Value.{Value}
-use Rattle.value_ops.specs.declared.value.Value.TheVariants as value
+use Rattle.std.specs.Prelude.{◌≡◌, ℕ, ◌+◌, Bool, false, List, length, MatchOption}
+use Rattle.value_ops.specs.Sizes.{size_of_answer}
 use Rattle.value_ops.specs.Types.{IsValueOf}
 use Rattle.item_schema.specs.declared.column.Column.{Column}
 use Rattle.rate_expr.specs.Words.{Word, IsWordOf}
@@ -25,13 +23,6 @@ position_of slow = length slow.items.items
 -- it was out of memory
 abbrev pub is_lost : Slow → Bool
 is_lost slow = slow.failed
-
--- how much is kept for an answer: one for the value, and one for each entry of a table
-abbrev pub size_of_answer : Option Value → ℕ
-size_of_answer None = 0
-size_of_answer (Some (value.Scalar scalar)) = 1
-size_of_answer (Some (value.Rec parts)) = 1
-size_of_answer (Some (value.Table entries)) = length entries + 1
 
 -- how much the engine keeps: one for each item, and the answer
 abbrev pub kept_of : Slow → ℕ

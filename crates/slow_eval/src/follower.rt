@@ -1,12 +1,11 @@
 //! The engine as a follower.
 ghost use Rattle.std.specs.Prelude.{◌≡◌, ◌-◌, ◌^◌, min, IfOk};
-ghost use Rattle.slow_eval.specs.Following.{size_of_answer};
 
 use crate::Slow;
 use item_schema::Item;
 use query_model::Follower;
 use std::alloc::{AllocError, Global};
-use value_ops::Value;
+use value_ops::{Value, size_of_answer};
 
 impl Follower for Slow<'_> {
     ghost use Rattle.slow_eval.specs.Following.{columns_of, Follows, is_lost, IsSound, kept_of};
@@ -64,7 +63,7 @@ impl Follower for Slow<'_> {
     }
 
     fn stored(&self) -> u64 {
-        (self.items.len() as u64).saturating_add(size_of(&self.answer))
+        (self.items.len() as u64).saturating_add(size_of_answer(&self.answer))
     }
 
     ghost lost_follows = { follows_found };
@@ -82,15 +81,4 @@ fn copied(alloc: Global, items: &[Item]) -> Result<Vec<Item<'static>>, AllocErro
         copy.push(item.try_copy(alloc)?)?;
     }
     Ok(copy)
-}
-
-/// How much is kept for an answer, at most 2^64 - 1.
-fn size_of(answer: &Option<Value>) -> u64
-    ensures { result ≡ min (size_of_answer answer.now) (2 ^ 64 - 1) }
-{
-    match answer {
-        None => 0,
-        Some(Value::Scalar(_) | Value::Rec(_)) => 1,
-        Some(Value::Table(table)) => (table.len() as u64).saturating_add(1),
-    }
 }

@@ -3,7 +3,9 @@ use crate::assertions::same;
 use std::alloc::{AllocError, Global};
 use std::test::Fail;
 use value_ops::Scalar::{DivZero, Number, Overflow};
-use value_ops::{BinaryOp, Expr, Exprs, Rec, Scalar, Types, Value, Var};
+use value_ops::{
+    BinaryOp, Expr, Exprs, Rec, Scalar, Table, Types, Value, Var, size_of_answer, size_of_value,
+};
 
 // How many parts the record has, and the first two.
 fn parts_of(record: &Rec) -> (usize, Scalar, Scalar) {
@@ -74,4 +76,14 @@ fn a_failed_part_is_a_part(rt: HostRuntime) -> Result<(), Fail> {
     same(&rt, part_on(alloc, &record, 0)?, None);
     same(&rt, part_on(alloc, &seven, 1)?, None);
     Ok(())
+}
+
+#[test]
+fn a_record_counts_its_parts_where_it_is_kept(rt: HostRuntime) {
+    let record = Value::Rec(Rec::new(&[Overflow, Number(-3), DivZero]));
+    same(&rt, size_of_value(&record), 3);
+    same(&rt, size_of_value(&Value::Scalar(Overflow)), 1);
+    same(&rt, size_of_value(&Value::Table(Table::new(rt.alloc()))), 1);
+    same(&rt, size_of_answer(&Some(record)), 3);
+    same(&rt, size_of_answer(&None), 0);
 }

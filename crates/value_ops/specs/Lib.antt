@@ -7,6 +7,7 @@ pub mod Operators
 pub mod Records
 pub mod Scalar
 pub mod Shown
+pub mod Sizes
 pub mod Texts
 pub mod Types
 pub mod Typing
