@@ -2,9 +2,10 @@
 
 use query_model::Checked;
 use query_parser::ReadStop;
+use query_resolver::CheckStop;
 use query_syntax::read_syntax;
 use std::alloc::Global;
-use type_checker::{CheckStop, check};
+use type_checker::check;
 
 /// The query of a text, if it is accepted.
 pub(crate) fn checked(alloc: Global, query: &[u8]) -> Result<Checked, CheckStop> {

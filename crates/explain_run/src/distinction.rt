@@ -16,10 +16,11 @@ use crate::part_text::alone;
 use language_base::{Refusal, Rule, Span};
 use query_model::Checked;
 use query_parser::ReadStop;
+use query_resolver::CheckStop;
 use query_syntax::{Program, Query, read_syntax};
 use separating_word::{Separation, distinguish};
 use std::alloc::{AllocError, Global};
-use type_checker::{CheckStop, check};
+use type_checker::check;
 
 /// Lines that distinguish the operands of a combination, if it is refused because the operands do
 /// not have the same words.

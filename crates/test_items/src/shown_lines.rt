@@ -1,5 +1,7 @@
 // What no clause says: that the lines of items and the plainest items of cells are made at all.
 // Expected lines are worked out by hand.
+ghost use Rattle.value_ops.specs.Types.{IsType};
+
 use crate::assertions::same;
 use crate::lines::two_columns;
 use item_lines::{is_shown, shown_line, shown_lines_are_read_to_their_items};
@@ -105,7 +107,9 @@ fn one_entry(alloc: Global) -> Result<Box<Table>, AllocError> {
 }
 
 // Whether the value that a query reads is shown so.
-fn value_shows(alloc: Global, ty: ValueType, value: Value, wanted: &[u8]) -> Result<bool, Fail> {
+fn value_shows(alloc: Global, ty: ValueType, value: Value, wanted: &[u8]) -> Result<bool, Fail>
+    requires { IsType ty }
+{
     let schema = Schema::derived(alloc, ty)?;
     let item = Box::new(alloc, Item::from_field(Field::Val(value)))?;
     let shown = shown_line(alloc, &schema, &item)?;

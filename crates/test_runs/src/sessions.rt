@@ -10,6 +10,8 @@ use value_ops::{Scalar, Value};
 
 const FIRST: &[u8] = b"stream(header, col(a, int))\nmain(or(eps(7), atom(gt(a, 0), a)))\n";
 
+const THREE_NUMBERS: &[u8] = b"stream(plain, col(a, int))\nmain(atom(any, rec(a, 0, a)))\n";
+
 // The number that is the answer, if one is.
 fn number(answer: Option<&Value>) -> Option<i64> {
     match answer {
@@ -56,5 +58,16 @@ fn a_second_header_is_an_item(rt: HostRuntime) -> Result<(), Fail> {
     same(&rt, session.long_line(), Reply::Silent);
     same(&rt, session.line(alloc, b"0")?, Reply::Answered);
     assert!(rt; session.answer().is_none());
+    Ok(())
+}
+
+// The item counts one, and the record three.
+#[test]
+fn a_kept_record_counts_its_parts(rt: HostRuntime) -> Result<(), Fail> {
+    let alloc = rt.alloc();
+    let checked = compiled(alloc, THREE_NUMBERS)?;
+    let mut session = Session::begin(&checked, Slow::new(alloc, &checked)?);
+    same(&rt, session.line(alloc, b"5")?, Reply::Answered);
+    same(&rt, session.follower().stored(), 4);
     Ok(())
 }

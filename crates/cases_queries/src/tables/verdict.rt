@@ -2,8 +2,8 @@
 
 use crate::acceptance::checked;
 use crate::tables::refusal::refused;
+use query_resolver::CheckStop;
 use std::alloc::{AllocError, Global};
-use type_checker::CheckStop;
 
 /// That the query is accepted, or its refusal.
 pub(crate) fn verdict(alloc: Global, query: &[u8]) -> Result<String, AllocError> {
