@@ -65,6 +65,7 @@ pub(crate) fn apply_to(
 
 /// The hit of a combine, if both operands have one, from the same start. It replaces the hit of the
 /// left operand.
+#[inline(always)]
 pub(crate) fn combine_with(
     alloc: Global,
     expression: &Expr,
