@@ -13,7 +13,7 @@ printf '%s\n' 'stream(plain, col(pulses, int))' 'main(iter(atom(any, pulses), 0,
 sed 's/any, pulses/any, pulse/' query >refused
 cp refused 'a "name" with \ in it'
 name='a "name" with \ in it'
-rest='"line": 2, "column": 11, "length": 16, "rule": "name", "sentence": "A column or a let is declared twice, or a name is not known where it stands.", "help": ["An atom'\''s names are those in col; apply has x, and split, iter and combine x and y.", "These names are columns of the stream: one is not declared as it is spelled here.", "Not known here: pulse"], "also": []}]'
+rest='"line": 2, "column": 11, "length": 16, "rule": "name", "sentence": "A name is declared twice or stands twice in a key, or is not known where it stands.", "help": ["An atom'\''s names are those in col; apply has x, and split, iter and combine x and y.", "These names are columns of the stream: one is not declared as it is spelled here.", "Not known here: pulse"], "also": []}]'
 
 # What the words write, and their status.
 written() {

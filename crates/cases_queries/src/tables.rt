@@ -4,6 +4,7 @@
 
 mod constructors;
 mod csv_lines;
+mod keys_met;
 mod pair;
 mod refusal;
 mod run;

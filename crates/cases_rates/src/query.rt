@@ -5,8 +5,8 @@ use crate::rate::rate_over;
 use crate::scope::Scope;
 use crate::stop::Stop;
 use predicate_cells::Pred;
-use query_model::{Query, Shape, Span};
-use query_syntax::{Name, Predicate};
+use query_model::{KeyColumns, Query, Shape, Span};
+use query_syntax::{Key, Name, Predicate};
 use rate_expr::Rate;
 use std::alloc::Global;
 use value_ops::{Expr, Var};
@@ -137,15 +137,23 @@ fn application_over(
 fn collection_over(
     alloc: Global,
     scope: &Scope,
-    key: &Name,
+    key: &Key,
     sync: &Predicate,
     rate: &query_syntax::Rate,
     body: &query_syntax::Query,
 ) -> Result<Shape, Stop> {
-    let key = scope.column(key)?;
+    let columns = columns_of(alloc, scope, key)?;
     let inner = query_over(alloc, scope, body)?;
     let (sync, rate) = keys_over(alloc, scope, sync, rate)?;
-    Ok(Shape::Collect(key, sync, rate, inner))
+    Ok(Shape::Collect(columns, sync, rate, inner))
+}
+
+fn columns_of(alloc: Global, scope: &Scope, key: &Key) -> Result<KeyColumns, Stop> {
+    let mut at = Vec::new(alloc);
+    'names: for name in key.names() {
+        at.push(scope.column(name)?)?;
+    }
+    Ok(KeyColumns::of(at))
 }
 
 /// The predicate for items of all keys, and the rate.

@@ -65,9 +65,9 @@ module _ {R : Type 0} (seen : R → Seen R) where
   clear_eps number held = λ no_collect columns position sound. absurd sound
 
   -- no collect is cleared
-  pub clear_collect : (column : ℕ) (sync : Predicate) (rate : rates.Regex) (f : Qre)
-      (held : Holding R) → IsCleared seen (collect column sync rate f) held held
-  clear_collect column sync rate f held = λ no_collect columns position sound. absurd no_collect
+  pub clear_collect : (chosen : List ℕ) (sync : Predicate) (rate : rates.Regex) (f : Qre)
+      (held : Holding R) → IsCleared seen (collect chosen sync rate f) held held
+  clear_collect chosen sync rate f held = λ no_collect columns position sound. absurd no_collect
 
   pub clear_choice : (f g : Qre) (a b a' b' : Holding R) → IsCleared seen f a a'
       → IsCleared seen g b b' → IsCleared seen (choice f g) (choice_held a b) (choice_held a' b')

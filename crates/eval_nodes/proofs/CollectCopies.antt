@@ -53,23 +53,23 @@ module _ {R : Type 0} (seen : R → Seen R) (is_copy : Holding R → Holding R �
   zip_alike P [] (x ∷ old) (y ∷ new) each alike zip = absurd zip
   zip_alike P (name ∷ names) [] [] each alike zip = absurd zip
 
-  keys_stand : (follows : Word → R → Type 0) (column : ℕ) (sync : Predicate) (word : Word)
+  keys_stand : (follows : Word → R → Type 0) (chosen : List ℕ) (sync : Predicate) (word : Word)
       (old new : Keys R)
       → ((u : Word) (was runner : R) → IsCopyOf seen is_copy was runner → follows u was
       → follows u runner)
-      → AreCopiedKeys seen is_copy old new → StandFor follows column sync word old
-      → StandFor follows column sync word new
-  keys_stand follows column sync word old new each copied stands = record {
+      → AreCopiedKeys seen is_copy old new → StandFor follows chosen sync word old
+      → StandFor follows chosen sync word new
+  keys_stand follows chosen sync word old new each copied stands = record {
     fallback = each (filter (holds sync) word) (fallback_of old) (fallback_of new) copied.fallback
         stands.fallback;
     names = copied.names ∙ stands.names;
     each = subst (λ (names : List (List ℕ)).
-        AllZip (λ key runner. follows (projection column sync key word) runner) names
+        AllZip (λ key runner. follows (projection chosen sync key word) runner) names
         (followers_of new)) (sym copied.names)
-        (zip_alike (λ key runner. follows (projection column sync key word) runner) (names_of old)
+        (zip_alike (λ key runner. follows (projection chosen sync key word) runner) (names_of old)
         (followers_of old)
         (followers_of new)
-        (λ key was runner one is. each (projection column sync key word) was runner one is)
+        (λ key was runner one is. each (projection chosen sync key word) was runner one is)
         copied.keyed stands.each);
   }
 
@@ -93,21 +93,21 @@ module _ {R : Type 0} (seen : R → Seen R) (is_copy : Holding R → Holding R �
       }
 
   -- the state and the keys after a piece
-  pub track_stands : (follows : Word → R → Type 0) (column : ℕ) (sync : Predicate) (sets : _)
+  pub track_stands : (follows : Word → R → Type 0) (chosen : List ℕ) (sync : Predicate) (sets : _)
       (word : ℕ → Word) (was track : Track R)
       → ((u : Word) (was runner : R) → IsCopyOf seen is_copy was runner → follows u was
       → follows u runner)
       → IsCopiedTrack seen is_copy was track
       → IsAfter sets (word was.start) was.state
-      × StandFor follows column sync (word was.start) was.keys
+      × StandFor follows chosen sync (word was.start) was.keys
       → IsAfter sets (word track.start) track.state
-      × StandFor follows column sync (word track.start) track.keys
-  track_stands follows column sync sets word was track each copied (after, stands) =
+      × StandFor follows chosen sync (word track.start) track.keys
+  track_stands follows chosen sync sets word was track each copied (after, stands) =
       subst (λ (start : ℕ). IsAfter sets (word start) track.state
-      × StandFor follows column sync (word start) track.keys)
+      × StandFor follows chosen sync (word start) track.keys)
       (sym copied.start) (
         subst (IsAfter sets (word was.start)) (sym copied.state) after,
-        keys_stand follows column sync (word was.start) was.keys track.keys each copied.keys stands,
+        keys_stand follows chosen sync (word was.start) was.keys track.keys each copied.keys stands,
       )
 
   keys_sound : (is_sound : R → Type 0) (most : ℕ) (old new : Keys R)

@@ -48,10 +48,10 @@ few_below xs n different below =
     length-le_from_distinct_below xs n (differ xs different)
     (λ x found. below x (Contains-from_any {eq = eqb} (λ a b. eqb-true a b) x xs found))
 
-module _ (columns : List Column) (column : ℕ) (sync : Predicate) (rate : rates.Regex)
+module _ (columns : List Column) (chosen : List ℕ) (sync : Predicate) (rate : rates.Regex)
     (f : Qre) (word : Word) (starts : List ℕ) where
   abbrev pub q : Qre
-  q = collect column sync rate f
+  q = collect chosen sync rate f
 
   abbrev sets : Sets
   sets = sets_of rate

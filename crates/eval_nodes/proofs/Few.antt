@@ -241,6 +241,6 @@ few_live standing columns (apply f e) word starts live clear is positions apart 
     few_live bound columns f word starts live clear.0 is positions apart different each
 few_live standing columns (compose f g) word starts live clear is positions apart different each =
     few_live standing columns f word starts live clear.0 is positions apart different each
-few_live standing columns (collect column sync rate f) word starts live clear is positions apart
+few_live standing columns (collect chosen sync rate f) word starts live clear is positions apart
     different each =
-    few_collect columns column sync rate f word starts live positions apart different each
+    few_collect columns chosen sync rate f word starts live positions apart different each

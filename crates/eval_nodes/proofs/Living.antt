@@ -254,7 +254,7 @@ module _ {R : Type 0} (seen : R → Seen R) where
   living standing columns (compose f g) (compose_held a held) word starts start clear
       is positions rep =
       living standing columns f a word starts start clear.0 is positions rep.0
-  living standing columns (collect column sync rate f) (collect_held all) word starts start clear is
+  living standing columns (collect chosen sync rate f) (collect_held all) word starts start clear is
       positions rep = (
         λ live. (rep.2.there start).0 (start_there all.tracks start live),
         λ live. start_read all.tracks start ((rep.2.there start).1 live),

@@ -31,7 +31,7 @@ places_few (iter f number e) = let a = places_few f in omega (arith, a)
 places_few (combine f g e) = let a = places_few f in let b = places_few g in omega (arith, a, b)
 places_few (apply f e) = places_few f
 places_few (compose f g) = let a = places_few f in omega (arith, a)
-places_few (collect column sync rate f) = omega arith
+places_few (collect chosen sync rate f) = omega arith
 
 -- composes are nodes
 pub composes_few : (q : Qre) → composes_of q ≤ nodes_of q
@@ -44,7 +44,7 @@ composes_few (combine f g e) = let a = composes_few f in let b = composes_few g 
     omega (arith, a, b)
 composes_few (apply f e) = let a = composes_few f in omega (arith, a)
 composes_few (compose f g) = let a = composes_few f in let b = composes_few g in omega (arith, a, b)
-composes_few (collect column sync rate f) = let a = composes_few f in omega (arith, a)
+composes_few (collect chosen sync rate f) = let a = composes_few f in omega (arith, a)
 
 -- a query that keeps little has few places, so that the room for what waits is as large
 -- as it is to be

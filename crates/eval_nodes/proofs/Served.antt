@@ -26,7 +26,7 @@ without_collect (iter f number e) none = without_collect f none
 without_collect (combine f g e) none = (without_collect f none.0, without_collect g none.1)
 without_collect (apply f e) none = without_collect f none
 without_collect (compose f g) none = (without_collect f none.0, without_collect g none.1)
-without_collect (collect column sync rate f) none = absurd none
+without_collect (collect chosen sync rate f) none = absurd none
 
 -- the predicates of a query that keeps the rules fit the columns
 fit_both : (columns : List Column) (one other : List Predicate) → AllFit columns one
@@ -56,7 +56,7 @@ all_fit standing columns (combine f g e) clear =
     (all_fit bound columns g clear.1)
 all_fit standing columns (apply f e) clear = all_fit bound columns f clear.0
 all_fit standing columns (compose f g) clear = all_fit standing columns f clear.0
-all_fit standing columns (collect column sync rate f) clear =
+all_fit standing columns (collect chosen sync rate f) clear =
     let of_sync = clear.4 in
     let words = fit_both columns (preds_of rate) (predicates_of f)
     (all_met columns (preds_of rate) clear.5) (all_fit bound columns f clear.0) in
@@ -112,7 +112,7 @@ served standing columns cells (apply f e) clear few has =
     served bound columns cells f clear.0 few has
 served standing columns cells (compose f g) clear few has =
     (served standing columns cells f clear.0 few.0 has, without_collect g clear.2)
-served standing columns cells (collect column sync rate f) clear few has = record {
+served standing columns cells (collect chosen sync rate f) clear few has = record {
   few = few.1;
   decided = all_there cells (preds_of rate) (has_first cells (preds_of rate) (predicates_of f)
       (λ pred there. has pred (later_member sync pred (preds_of rate ++ predicates_of f) there)));

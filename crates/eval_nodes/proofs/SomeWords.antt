@@ -51,4 +51,4 @@ some_word standing columns (iter f number expression) clear = ([], tt, ([], refl
 some_word standing columns (combine f g expression) clear = some_word bound columns f clear.0
 some_word standing columns (apply f expression) clear = some_word bound columns f clear.0
 some_word standing columns (compose f g) clear = some_word standing columns f clear.0
-some_word standing columns (collect column sync rate f) clear = rate_word columns rate clear.5
+some_word standing columns (collect chosen sync rate f) clear = rate_word columns rate clear.5

@@ -84,7 +84,7 @@ module _ {R : Type 0} (seen : R → Seen R) where
       let fewer : length held.idle ≤ places_of f + 1 = omega (arith, full, absent) in
       let up = mul-le-mul_right (1 + slots_of g) fewer in
       omega (arith, first, none, idle, up)
-  silent_few columns (collect column sync rate f) (collect_held all) rep =
+  silent_few columns (collect chosen sync rate f) (collect_held all) rep =
       let none =
       ap (λ (tracks : List (Track R)). sum_by (size_of_track seen (stored_in seen f)) tracks)
       (none_of all.tracks (λ track there.

@@ -71,7 +71,7 @@ module _ {R : Type 0} (seen : R → Seen R) where
   IsCopy (compose f g) (compose_held a held) (compose_held a' held') =
       IsCopy f a a' × AreCopied (IsCopy g) held held'
   IsCopy (compose f g) (compose_held a held) new = ⊥
-  IsCopy (collect column sync rate f) (collect_held all) (collect_held all') =
+  IsCopy (collect chosen sync rate f) (collect_held all) (collect_held all') =
       AreCopiedTracks (IsCopy f) all all'
-  IsCopy (collect column sync rate f) (collect_held all) new = ⊥
+  IsCopy (collect chosen sync rate f) (collect_held all) new = ⊥
   IsCopy query old new = new ≡ eps_held

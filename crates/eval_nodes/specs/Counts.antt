@@ -60,6 +60,6 @@ module _ {R : Type 0} (seen : R → Seen R) where
   stored_in (compose f g) (compose_held a held) = stored_in f a
       + sum_by (λ runner. 1 + size_of_runner (stored_in g) runner) (followers_of held.live)
       + sum_by (λ runner. 1 + size_of_runner (stored_in g) runner) held.idle
-  stored_in (collect column sync rate f) (collect_held all) =
+  stored_in (collect chosen sync rate f) (collect_held all) =
       sum_by (λ track. size_of_track (stored_in f) track) all.tracks
   stored_in query holding = 0

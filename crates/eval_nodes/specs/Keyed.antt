@@ -16,11 +16,12 @@ module _ {R : Type 0} where
   -- the runner that is copied for new keys follows what the word has for all keys; the keys are
   -- those of the word, in the order in which they appear; and the runner of each key follows what
   -- the word has for it
-  pub record StandFor (follows : Word → R → Type 0) (column : ℕ) (sync : Predicate) (word : Word)
+  pub record StandFor (follows : Word → R → Type 0) (chosen : List ℕ)
+      (sync : Predicate) (word : Word)
       (keys : Keys R) : Type 0 where
     pub fallback : follows (filter (holds sync) word) (fallback_of keys)
-    pub names : names_of keys ≡ keys_after column sync [] word
-    pub each : AllZip (λ key runner. follows (projection column sync key word) runner)
+    pub names : names_of keys ≡ keys_after chosen sync [] word
+    pub each : AllZip (λ key runner. follows (projection chosen sync key word) runner)
         (names_of keys) (followers_of keys)
 
   -- each live start is there once, with the state and the keys after its piece

@@ -28,6 +28,6 @@ module _ {R : Type 0} where
   live_of (combine f g expression) (combine_held a b) start = live_of f a start
   live_of (apply f expression) (apply_held a) start = live_of f a start
   live_of (compose f g) (compose_held a held) start = live_of f a start
-  live_of (collect column sync rate f) (collect_held all) start =
+  live_of (collect chosen sync rate f) (collect_held all) start =
       list_any (begins_at start) all.tracks
   live_of query holding start = false

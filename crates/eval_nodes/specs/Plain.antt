@@ -19,7 +19,7 @@ runners_of state = record { live = []; idle = []; room = 0 }
 
 -- the starts of a collect; none in a node of another shape
 abbrev pub tracks_of : State-F State Node Progress → tracks.Contents Progress
-tracks_of (State-F.Collect all) = all
+tracks_of (State-F.Collect all joined) = all
 tracks_of state = record {
   nfa = record {
     sets = record { nullable = false; first = 0; last = 0; follow = []; preds = [] };
@@ -39,7 +39,8 @@ holding_of (Combine' p a q b) = combine_held (holding_of a) (holding_of b)
 holding_of (Iter' p a so_far) = iter_held (holding_of a) so_far
 holding_of (Compose' p a held runners) =
     compose_held (holding_of a) (runners_of (out-State (Compose' p a held runners)))
-holding_of (Collect' all tracks) = collect_held (tracks_of (out-State (Collect' all tracks)))
+holding_of (Collect' all tracks joined) =
+    collect_held (tracks_of (out-State (Collect' all tracks joined)))
 
 -- what is seen of a runner
 abbrev pub seen_of : Progress → Seen Progress

@@ -108,10 +108,10 @@ module _ {R : Type 0} (seen : R → Seen R) where
       (places_of f + 1) held
       × AllByRecursion
       (KeepsFew (stored_in seen g) (slots_of g * (1 + keys_met (compose f g) word))) held.idle
-  Represents columns (collect column sync rate f) (collect_held all) word starts =
+  Represents columns (collect chosen sync rate f) (collect_held all) word starts =
       AreSetsOf all.nfa.sets rate × (all.nfa.cells.layout.columns ≡ columns)
-      × AreTracked (IsLive columns (collect column sync rate f) word starts)
+      × AreTracked (IsLive columns (collect chosen sync rate f) word starts)
       (λ start track. IsAfter all.nfa.sets (drop start word) track.state
-      × StandFor (IsFollowing (Represents columns f) f) column sync (drop start word) track.keys)
+      × StandFor (IsFollowing (Represents columns f) f) chosen sync (drop start word) track.keys)
       all.tracks
   Represents columns query holding word starts = ⊥

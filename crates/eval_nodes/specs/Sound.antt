@@ -75,7 +75,7 @@ module _ {R : Type 0} (seen : R → Seen R) where
       (position + 1) one.follower) held.live
       × AllByRecursion (IsSoundRunner (IsSound (derived_columns (type_of columns f)) g)
       (type_of (derived_columns (type_of columns f)) g)) held.idle
-  IsSound columns (collect column sync rate f) position (collect_held all) =
+  IsSound columns (collect chosen sync rate f) position (collect_held all) =
       AreSetsOf all.nfa.sets rate × (all.nfa.cells.layout.columns ≡ columns)
       × (slots_of f ≤ max_slots) × AreDifferent (starts_of all.tracks)
       × AllByRecursion (λ track. AreSoundKeys

@@ -28,7 +28,7 @@ CanBeMade cells (iter f number expression) = CanBeMade cells f
 CanBeMade cells (combine f g expression) = CanBeMade cells f × CanBeMade cells g
 CanBeMade cells (apply f expression) = CanBeMade cells f
 CanBeMade cells (compose f g) = CanBeMade cells f × CanBeMade None g
-CanBeMade cells (collect column sync rate f) = CanReadWith cells rate
+CanBeMade cells (collect chosen sync rate f) = CanReadWith cells rate
 
 -- these are the columns of the cells; any are, if there are no cells
 abbrev pub AreColumnsOf : Option Partition → List Column → Type 0

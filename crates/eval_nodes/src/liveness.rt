@@ -1,5 +1,5 @@
 //! Which starts are live.
-ghost use Rattle.std.specs.Prelude.{◌≡◌, ℕ, ℤ, Bool};
+ghost use Rattle.std.specs.Prelude.{◌≡◌, ℕ, ℤ, Bool, List};
 ghost use Rattle.predicate_cells.specs.Predicates.{Predicate};
 ghost use Rattle.rate_expr.specs.Rates as rates;
 ghost use Rattle.value_ops.specs.Expressions.{Expression};
@@ -119,11 +119,11 @@ fn is_live_in_compose(first: &Query, node: &Node, start: u64) -> bool
 // A collect keeps only live starts.
 #[inline(always)]
 fn is_live_in_collect(node: &Node, start: u64) -> bool
-    ensures { (column : ℕ) (sync : Predicate) (rate : rates.Regex) (inner : Qre) → result
-        ≡ live_of (collect column sync rate inner) (holding_of node.now.state) start }
+    ensures { (chosen : List ℕ) (sync : Predicate) (rate : rates.Regex) (inner : Qre) → result
+        ≡ live_of (collect chosen sync rate inner) (holding_of node.now.state) start }
 {
     match &node.state {
-        State::Collect(tracks) => tracks.place(start).is_some(),
+        State::Collect(tracks, _) => tracks.place(start).is_some(),
         _ => false,
     }
 }

@@ -1,5 +1,5 @@
 //! A new node of each shape, made of the nodes of its operands.
-ghost use Rattle.std.specs.Prelude.{◌≤◌, ℕ, ℤ, IfOk, None};
+ghost use Rattle.std.specs.Prelude.{◌≤◌, ℕ, ℤ, IfOk, None, List};
 ghost use Rattle.std.specs.Option.{option_copied, option_map};
 ghost use Rattle.std.specs.Rc.{rc_value};
 ghost use Rattle.value_ops.specs.Expressions.{Expression};
@@ -17,6 +17,7 @@ use crate::automaton::no_tracks;
 use crate::construction::idle_runners;
 use crate::{Node, State};
 use iter_eval::Chain;
+use joined_texts::Joined;
 use memory_bound::places;
 use predicate_cells::Cells;
 use query_model::Query;
@@ -162,13 +163,13 @@ pub(crate) fn new_collect(
     cells: Option<&Rc<Cells>>,
 ) -> Result<Node, AllocError>
     requires { CanReadWith (option_map rc_value (option_copied cells)) (rates.plain_of rate.now) }
-    ensures { IfOk result (λ node. (column : ℕ) (sync : Predicate) (f : Qre)
-        → inner_of (collect column sync (rates.plain_of rate.now) f) ≤ max_slots
+    ensures { IfOk result (λ node. (chosen : List ℕ) (sync : Predicate) (f : Qre)
+        → inner_of (collect chosen sync (rates.plain_of rate.now) f) ≤ max_slots
         → IsNewNode seen_of (option_map rc_value (option_copied cells.entry))
-        (collect column sync (rates.plain_of rate.now) f) (holding_of node.state)) }
+        (collect chosen sync (rates.plain_of rate.now) f) (holding_of node.state)) }
 {
     let tracks = no_tracks(alloc, rate, cells)?;
     Ok(Node {
-        state: State::Collect(tracks),
+        state: State::Collect(tracks, Joined::new(alloc)),
     })
 }

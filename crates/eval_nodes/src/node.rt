@@ -3,6 +3,7 @@
 use crate::Progress;
 use compose_eval::Instances;
 use iter_eval::Chain;
+use joined_texts::Joined;
 use map_collect::Tracks;
 use split_eval::Pending;
 use value_ops::Value;
@@ -35,6 +36,6 @@ pub enum State {
     /// For a compose: the left operand, and the runners of the right one, fed or idle.
     Compose(Box<Node>, Instances<Progress>),
     /// For a collect: the live starts, each with a state of the rate's automaton, a runner for each
-    /// key, and the runner that is copied for a new key.
-    Collect(Tracks<Progress>),
+    /// key, and the runner that is copied for a new key. Also room for a key of several columns.
+    Collect(Tracks<Progress>, Joined),
 }

@@ -1,6 +1,6 @@
 //! A copy of a node of each shape, made of copies of its operands. A node that is not of the
 //! query's shape is copied as empty.
-ghost use Rattle.std.specs.Prelude.{ℕ, ℤ, IfOk};
+ghost use Rattle.std.specs.Prelude.{ℕ, ℤ, IfOk, List};
 ghost use Rattle.predicate_cells.specs.Predicates.{Predicate};
 ghost use Rattle.rate_expr.specs.Rates as rates;
 ghost use Rattle.value_ops.specs.Expressions.{Expression};
@@ -12,6 +12,7 @@ ghost use Rattle.eval_nodes.specs.Plain.{holding_of, seen_of};
 use crate::copies::{boxed_copy, copied, copied_runners, copied_tracks};
 use crate::{Node, State};
 use iter_eval::Chain;
+use joined_texts::Joined;
 use query_model::Query;
 use std::alloc::{AllocError, Global};
 
@@ -158,15 +159,15 @@ pub(crate) fn copy_of_compose(
 
 #[cycle(copy)]
 pub(crate) fn copy_of_collect(inner: &Query, node: &Node, alloc: Global) -> Result<Node, AllocError>
-    ensures { IfOk result (λ copy. (column : ℕ) (sync : Predicate) (rate : rates.Regex)
-        → IsCopy seen_of (collect column sync rate (plain_of inner.now.shape))
+    ensures { IfOk result (λ copy. (chosen : List ℕ) (sync : Predicate) (rate : rates.Regex)
+        → IsCopy seen_of (collect chosen sync rate (plain_of inner.now.shape))
         (holding_of node.now.state) (holding_of copy.state)) }
 {
     match &node.state {
-        State::Collect(tracks) => {
+        State::Collect(tracks, _) => {
             let tracks = copied_tracks(inner, tracks, alloc)?;
             Ok(Node {
-                state: State::Collect(tracks),
+                state: State::Collect(tracks, Joined::new(alloc)),
             })
         }
         _ => Ok(Node { state: State::Eps }),

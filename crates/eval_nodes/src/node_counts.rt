@@ -1,5 +1,5 @@
 //! How much is kept in a node of each shape. A node that is not of the query's shape counts as 0.
-ghost use Rattle.std.specs.Prelude.{◌≡◌, ◌-◌, ◌^◌, ℕ, ℤ, min};
+ghost use Rattle.std.specs.Prelude.{◌≡◌, ◌-◌, ◌^◌, ℕ, ℤ, min, List};
 ghost use Rattle.predicate_cells.specs.Predicates.{Predicate};
 ghost use Rattle.rate_expr.specs.Rates as rates;
 ghost use Rattle.value_ops.specs.Expressions.{Expression};
@@ -104,12 +104,12 @@ pub(crate) fn size_of_compose(first: &Query, second: &Query, node: &Node) -> u64
 
 #[cycle(stored)]
 pub(crate) fn size_of_collect(inner: &Query, node: &Node) -> u64
-    ensures { (column : ℕ) (sync : Predicate) (rate : rates.Regex) → result
-        ≡ min (stored_in seen_of (collect column sync rate (plain_of inner.now.shape))
+    ensures { (chosen : List ℕ) (sync : Predicate) (rate : rates.Regex) → result
+        ≡ min (stored_in seen_of (collect chosen sync rate (plain_of inner.now.shape))
         (holding_of node.now.state)) (2 ^ 64 - 1) }
 {
     match &node.state {
-        State::Collect(tracks) => size_of_tracks(inner, tracks),
+        State::Collect(tracks, _) => size_of_tracks(inner, tracks),
         _ => 0,
     }
 }

@@ -36,10 +36,10 @@ with_length (t ∷ tracks) (suc i) keys = ap suc (with_length tracks i keys)
 
 module _ {R : Type 0} (seen : R → Seen R) where
   -- a runner may be made for a new start
-  pub make_allowed : (column : ℕ) (sync : Predicate) (rate : rates.Regex) (f : Qre)
+  pub make_allowed : (chosen : List ℕ) (sync : Predicate) (rate : rates.Regex) (f : Qre)
       (all : Contents R) (at : ℕ)
-      → CanStart seen (collect column sync rate f) (collect_held all) at → CanMake f
-  make_allowed column sync rate f all at can =
+      → CanStart seen (collect chosen sync rate f) (collect_held all) at → CanMake f
+  make_allowed chosen sync rate f all at can =
       let room : at + composes_of f < 2 ^ 64 = can.room in
       record {
         standing = bound;
@@ -50,9 +50,9 @@ module _ {R : Type 0} (seen : R → Seen R) where
         room = omega (arith, room);
       }
 
-  module _ (column : ℕ) (sync : Predicate) (rate : rates.Regex) (f : Qre)
+  module _ (chosen : List ℕ) (sync : Predicate) (rate : rates.Regex) (f : Qre)
       (all : Contents R) (now : ℕ) (item : List Field)
-      (can : CanStep seen (collect column sync rate f) (collect_held all) now item) where
+      (can : CanStep seen (collect chosen sync rate f) (collect_held all) now item) where
     -- the states may continue by the item
     advance_allowed : IsItemOf all.nfa.cells.layout.columns item
     advance_allowed =
@@ -95,10 +95,10 @@ module _ {R : Type 0} (seen : R → Seen R) where
     room = can.room;
   }
 
-  module _ (q : Qre) (column : ℕ) (sync : Predicate) (item : List Field) where
+  module _ (q : Qre) (chosen : List ℕ) (sync : Predicate) (item : List Field) where
     -- the next one is as before
     next_pushed : (i : ℕ) (old now : List (Track R)) (x : Track R)
-        → ArePushedBelow seen q column sync item i old now → slice_get now i ≡ Some x
+        → ArePushedBelow seen q chosen sync item i old now → slice_get now i ≡ Some x
         → slice_get old i ≡ Some x
     next_pushed zero old now x below at =
         ap (λ (ts : List (Track R)). slice_get ts zero) (sym below) ∙ at
@@ -108,7 +108,7 @@ module _ {R : Type 0} (seen : R → Seen R) where
     next_pushed (suc i) (s ∷ old) [] x below at = absurd below
 
     pub push_allowed : (i : ℕ) (old now : List (Track R)) (keys : Keys R)
-        → CanPushAll seen q old item → ArePushedBelow seen q column sync item i old now
+        → CanPushAll seen q old item → ArePushedBelow seen q chosen sync item i old now
         → slice_get (keys_of now) i ≡ Some keys → CanPush seen q keys item
     push_allowed i old now keys can below at =
         let (track, read, same) = read_part (λ (t : Track R). t.keys) now i keys at in
@@ -126,8 +126,8 @@ module _ {R : Type 0} (seen : R → Seen R) where
         }
 
     first_pushed : (old now : List (Track R)) (keys new : Keys R) → now ≡ old
-        → slice_get (keys_of now) zero ≡ Some keys → IsPushed seen q column sync keys item new
-        → ArePushedBelow seen q column sync item 1 old (with_keys now zero new)
+        → slice_get (keys_of now) zero ≡ Some keys → IsPushed seen q chosen sync keys item new
+        → ArePushedBelow seen q chosen sync item 1 old (with_keys now zero new)
     first_pushed old [] keys new same at pushed = absurd (none-some keys at)
     first_pushed [] (t ∷ now) keys new same at pushed = cc
     first_pushed (s ∷ old) (t ∷ now) keys new same at pushed =
@@ -136,16 +136,16 @@ module _ {R : Type 0} (seen : R → Seen R) where
           record {
             start = ap (λ (x : Track R). x.start) heads;
             state = ap (λ (x : Track R). x.state) heads;
-            keys = subst (λ (k : Keys R). IsPushed seen q column sync k item new)
+            keys = subst (λ (k : Keys R). IsPushed seen q chosen sync k item new)
                 (sym (same_Some t.keys keys at) ∙ ap (λ (x : Track R). x.keys) heads) pushed;
           },
           tails,
         )
 
     more_pushed : (i : ℕ) (old now : List (Track R)) (keys new : Keys R)
-        → ArePushedBelow seen q column sync item i old now → slice_get (keys_of now) i ≡ Some keys
-        → IsPushed seen q column sync keys item new
-        → ArePushedBelow seen q column sync item (suc i) old (with_keys now i new)
+        → ArePushedBelow seen q chosen sync item i old now → slice_get (keys_of now) i ≡ Some keys
+        → IsPushed seen q chosen sync keys item new
+        → ArePushedBelow seen q chosen sync item (suc i) old (with_keys now i new)
     more_pushed zero old now keys new below at pushed =
         first_pushed old now keys new below at pushed
     more_pushed (suc i) [] [] keys new below at pushed = absurd (none-some keys at)
@@ -155,19 +155,19 @@ module _ {R : Type 0} (seen : R → Seen R) where
     more_pushed (suc i) (s ∷ old) [] keys new below at pushed = absurd below
 
     pub pushed_next : (i : ℕ) (old now : List (Track R)) (keys new : Keys R)
-        → ArePushedBelow seen q column sync item i old now → slice_get (keys_of now) i ≡ Some keys
-        → IsPushed seen q column sync keys item new
-        → ArePushedBelow seen q column sync item (i + 1) old (with_keys now i new)
+        → ArePushedBelow seen q chosen sync item i old now → slice_get (keys_of now) i ≡ Some keys
+        → IsPushed seen q chosen sync keys item new
+        → ArePushedBelow seen q chosen sync item (i + 1) old (with_keys now i new)
     pushed_next i old now keys new below at pushed =
         let more : suc i ≡ i + 1 = omega arith in
-        subst (λ (n : ℕ). ArePushedBelow seen q column sync item n old (with_keys now i new)) more
+        subst (λ (n : ℕ). ArePushedBelow seen q chosen sync item n old (with_keys now i new)) more
         (more_pushed i old now keys new below at pushed)
 
     pub pushed_end : (i : ℕ) (old now : List (Track R))
-        → ArePushedBelow seen q column sync item i old now → i ≡ length now
-        → ArePushed seen q column sync item old now
+        → ArePushedBelow seen q chosen sync item i old now → i ≡ length now
+        → ArePushed seen q chosen sync item old now
     pushed_end zero old [] below all =
-        subst (λ (ts : List (Track R)). ArePushed seen q column sync item ts []) below tt
+        subst (λ (ts : List (Track R)). ArePushed seen q chosen sync item ts []) below tt
     pushed_end zero old (t ∷ now) below all = absurd (omega (arith, all))
     pushed_end (suc i) [] [] below all = tt
     pushed_end (suc i) (s ∷ old) (t ∷ now) below all =

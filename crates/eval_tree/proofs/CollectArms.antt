@@ -15,27 +15,27 @@ use Rattle.eval_tree.proofs.CollectSoundness.{sound_start_collect, sound_step_co
 use Rattle.eval_tree.proofs.CollectStarts.{start_collect}
 use Rattle.eval_tree.proofs.CollectSteps.{step_collect}
 
-module _ (column : ℕ) (sync : Predicate) (rate : rates.Regex) (f : Qre)
+module _ (chosen : List ℕ) (sync : Predicate) (rate : rates.Regex) (f : Qre)
     (old new : Contents Progress) where
   pub collect_starts : (at : ℕ) (hit : Option Hit) → BeginsAt seen_of f old at new hit
-      → HasStarted seen_of (collect column sync rate f) (collect_held old) at
+      → HasStarted seen_of (collect chosen sync rate f) (collect_held old) at
       (collect_held new) (Ok hit)
   collect_starts at hit begins = record {
-    word = start_collect seen_of column sync rate f old new at hit begins.puts begins.first;
-    sound = sound_start_collect seen_of column sync rate f old new at hit begins.puts begins.first;
+    word = start_collect seen_of chosen sync rate f old new at hit begins.puts begins.first;
+    sound = sound_start_collect seen_of chosen sync rate f old new at hit begins.puts begins.first;
     no_memory = λ free. refl;
   }
 
   pub collect_steps : (now : ℕ) (item : List Field) (hit : Option Hit)
-      → PassesBy seen_of f column sync item old new hit
-      → HasStepped seen_of (collect column sync rate f) (collect_held old) now item
+      → PassesBy seen_of f chosen sync item old new hit
+      → HasStepped seen_of (collect chosen sync rate f) (collect_held old) now item
       (collect_held new) (Ok hit)
   collect_steps now item hit passes = record {
-    word = step_collect seen_of column sync rate f old
+    word = step_collect seen_of chosen sync rate f old
         (record { nfa = old.nfa; tracks = passes.advanced })
         (record { nfa = old.nfa; tracks = passes.pushed }) new now item hit passes.advances
         refl passes.pushes passes.tabled passes.keeps passes.nfa;
-    sound = sound_step_collect seen_of column sync rate f old
+    sound = sound_step_collect seen_of chosen sync rate f old
         (record { nfa = old.nfa; tracks = passes.advanced })
         (record { nfa = old.nfa; tracks = passes.pushed }) new now item hit passes.advances
         refl passes.pushes passes.tabled passes.keeps passes.nfa;

@@ -23,23 +23,24 @@ use Rattle.eval_tree.proofs.CollectSteps.{RowOf}
 more_times : (n m : ℕ) → m ≤ (n + 1) * m
 more_times n m = omega arith
 
-pub body_small : (column : ℕ) (sync : Predicate) (rate : rates.Regex) (f : Qre)
-    → slots_of (collect column sync rate f) ≤ max_slots → slots_of f ≤ max_slots
-body_small column sync rate f small =
+pub body_small : (chosen : List ℕ) (sync : Predicate) (rate : rates.Regex) (f : Qre)
+    → slots_of (collect chosen sync rate f) ≤ max_slots → slots_of f ≤ max_slots
+body_small chosen sync rate f small =
     let whole : (size_of rate + 1) * (1 + size_of rate + (inner_of f + 1 + width_of f)) + 1 + 1
     ≤ max_slots = small in
     let more = more_times (size_of rate) (1 + size_of rate + (inner_of f + 1 + width_of f)) in
     omega (arith, whole, more)
 
-module _ {R : Type 0} (seen : R → Seen R) (columns : List Column) (column : ℕ) (sync : Predicate)
+module _ {R : Type 0} (seen : R → Seen R) (columns : List Column) (chosen : List ℕ)
+    (sync : Predicate)
     (rate : rates.Regex) (f : Qre) (all : Contents R) (of_rate : AreSetsOf all.nfa.sets rate)
     (on : all.nfa.cells.layout.columns ≡ columns) (none : all.tracks ≡ []) where
-  pub new_collect : Represents seen columns (collect column sync rate f) (collect_held all) [] []
+  pub new_collect : Represents seen columns (collect chosen sync rate f) (collect_held all) [] []
   new_collect = (
     of_rate,
     on,
-    subst (RowOf seen columns column sync rate f all.nfa
-        (IsLive columns (collect column sync rate f) [] []) []) (sym none) (record {
+    subst (RowOf seen columns chosen sync rate f all.nfa
+        (IsLive columns (collect chosen sync rate f) [] []) []) (sym none) (record {
           distinct = tt;
           there = λ start.
               (λ there. absurd (no_member start there), λ live. absurd (no_member start live.0));
@@ -47,12 +48,12 @@ module _ {R : Type 0} (seen : R → Seen R) (columns : List Column) (column : �
         }),
   )
 
-  pub new_collect_sound : slots_of (collect column sync rate f) ≤ max_slots → (position : ℕ)
-      → IsSound seen columns (collect column sync rate f) position (collect_held all)
+  pub new_collect_sound : slots_of (collect chosen sync rate f) ≤ max_slots → (position : ℕ)
+      → IsSound seen columns (collect chosen sync rate f) position (collect_held all)
   new_collect_sound small position = (
     of_rate,
     on,
-    body_small column sync rate f small,
+    body_small chosen sync rate f small,
     subst (λ (ts : List (Track R)). AreDifferent (starts_of ts)) (sym none) tt,
     subst (AllByRecursion (λ (t : Track R). AreSoundOf seen columns f position t.keys)) (sym none)
         tt,

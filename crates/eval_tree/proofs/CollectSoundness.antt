@@ -45,15 +45,15 @@ module _ {R : Type 0} (seen : R → Seen R) where
     pub keys : AllByRecursion (λ (track : Track R). AreSoundOf seen columns query most track.keys)
         all
 
-  pushed_soundly : (columns : List Column) (column : ℕ) (sync : Predicate) (f : Qre)
+  pushed_soundly : (columns : List Column) (chosen : List ℕ) (sync : Predicate) (f : Qre)
       (nfa : Automaton) (most : ℕ) (item : List Field) (old advanced pushed : List (Track R))
       → IsClear bound columns f → IsItemOf columns item → AllAdvance nfa.sets item old advanced
-      → ArePushed seen f column sync item advanced pushed
+      → ArePushed seen f chosen sync item advanced pushed
       → AreSoundTracks columns f most old → AreSoundTracks columns f (most + 1) pushed
-  pushed_soundly columns column sync f nfa most item old advanced pushed clear is_item
+  pushed_soundly columns chosen sync f nfa most item old advanced pushed clear is_item
       advances pushes sound =
       let P : Track R → Track R → Type 0 = Advances nfa.sets item in
-      let Q : Track R → Track R → Type 0 = IsPushedAt seen f column sync item in
+      let Q : Track R → Track R → Type 0 = IsPushedAt seen f chosen sync item in
       let same : starts_of pushed ≡ starts_of old =
       zip_same Q (λ (t : Track R). t.start) (λ (t : Track R). t.start) advanced pushed
       (λ mid now one. one.start) pushes ∙ zip_same P (λ (t : Track R). t.start)
@@ -82,14 +82,14 @@ module _ {R : Type 0} (seen : R → Seen R) where
   tabled_typed all None none = tt
   tabled_typed all (Some found) one = table_typed found one.table one.value one.typed
 
-  pub sound_step_collect : (column : ℕ) (sync : Predicate) (rate : rates.Regex) (f : Qre)
+  pub sound_step_collect : (chosen : List ℕ) (sync : Predicate) (rate : rates.Regex) (f : Qre)
       (old advanced pushed kept : Contents R) (now : ℕ) (item : List Field) (hit : Option Hit)
       → AllAdvance old.nfa.sets item old.tracks advanced.tracks → pushed.nfa ≡ old.nfa
-      → ArePushed seen f column sync item advanced.tracks pushed.tracks → IsTabled seen pushed hit
+      → ArePushed seen f chosen sync item advanced.tracks pushed.tracks → IsTabled seen pushed hit
       → KeepsExtending pushed.nfa pushed.tracks kept.tracks → kept.nfa ≡ pushed.nfa
-      → StepsSoundly seen (collect column sync rate f) (collect_held old) now item
+      → StepsSoundly seen (collect chosen sync rate f) (collect_held old) now item
       (collect_held kept) hit
-  sound_step_collect column sync rate f old advanced pushed kept now item hit advances same pushes
+  sound_step_collect chosen sync rate f old advanced pushed kept now item hit advances same pushes
       tabled keeps same_kept =
       λ standing columns position is_next clear is_item sound.
       let before : AreSoundTracks columns f position old.tracks =
@@ -97,7 +97,7 @@ module _ {R : Type 0} (seen : R → Seen R) where
       let after : AreSoundTracks columns f now kept.tracks =
       subst (λ (n : ℕ). AreSoundTracks columns f n kept.tracks) (sym is_next)
       (kept_soundly columns f pushed.nfa (position + 1) pushed.tracks kept.tracks keeps
-      (pushed_soundly columns column sync f old.nfa position item old.tracks advanced.tracks
+      (pushed_soundly columns chosen sync f old.nfa position item old.tracks advanced.tracks
       pushed.tracks clear.0 is_item advances pushes before)) in
       record {
         node = (
@@ -142,11 +142,11 @@ module _ {R : Type 0} (seen : R → Seen R) where
   first_typed sets at (Some found) (same, is, typed, accepted) =
       (same, table_typed found [] is typed)
 
-  pub sound_start_collect : (column : ℕ) (sync : Predicate) (rate : rates.Regex) (f : Qre)
+  pub sound_start_collect : (chosen : List ℕ) (sync : Predicate) (rate : rates.Regex) (f : Qre)
       (old new : Contents R) (at : ℕ) (hit : Option Hit) → AddsStart seen f old at new
       → IsFirstTable old.nfa.sets at hit
-      → StartsSoundly seen (collect column sync rate f) (collect_held old) at (collect_held new) hit
-  sound_start_collect column sync rate f old new at hit (same, puts) first =
+      → StartsSoundly seen (collect chosen sync rate f) (collect_held old) at (collect_held new) hit
+  sound_start_collect chosen sync rate f old new at hit (same, puts) first =
       λ standing columns clear sound.
       let before : AreSoundTracks columns f at old.tracks =
       record { distinct = sound.3; keys = sound.4 } in

@@ -38,18 +38,20 @@ use Rattle.eval_tree.proofs.CollectSteps.{RowOf, TrackOf}
 
 module _ {R : Type 0} (seen : R → Seen R) where
   -- keys with no key stand for the empty word
-  pub stand_new : (columns : List Column) (f : Qre) (column : ℕ) (sync : Predicate) (keys : Keys R)
-      → IsClear bound columns f → AreNew seen f keys → StandsFor seen columns f column sync [] keys
-  stand_new columns f column sync keys clear are = record {
+  pub stand_new : (columns : List Column) (f : Qre) (chosen : List ℕ)
+      (sync : Predicate) (keys : Keys R)
+      → IsClear bound columns f → AreNew seen f keys → StandsFor seen columns f chosen sync [] keys
+  stand_new columns f chosen sync keys clear are = record {
     fallback = are.fallback.word bound columns clear;
     names = ap (λ (keyed : Followers R). keyed.names) are.keyed;
     each = subst (λ (keyed : Followers R).
-        AllZip (λ key runner. FollowsWord seen columns f (projection column sync key []) runner)
+        AllZip (λ key runner. FollowsWord seen columns f (projection chosen sync key []) runner)
         keyed.names keyed.followers)
         (sym are.keyed) tt;
   }
 
-  module _ (columns : List Column) (column : ℕ) (sync : Predicate) (rate : rates.Regex) (f : Qre)
+  module _ (columns : List Column) (chosen : List ℕ) (sync : Predicate) (rate : rates.Regex)
+      (f : Qre)
       (nfa : Automaton) (clear : IsClear bound columns f) (of_rate : AreSetsOf nfa.sets rate)
       (on : nfa.cells.layout.columns ≡ columns) (word : Word) (starts : List ℕ) (at : ℕ)
       (end : at ≡ length word) where
@@ -62,11 +64,11 @@ module _ {R : Type 0} (seen : R → Seen R) where
 
     -- it is put
     row_with : (tracks : List (Track R)) (keys : Keys R) → (Contains starts at → ⊥)
-        → RowOf seen columns column sync rate f nfa
-        (IsLive columns (collect column sync rate f) word starts) word tracks
+        → RowOf seen columns chosen sync rate f nfa
+        (IsLive columns (collect chosen sync rate f) word starts) word tracks
         → Extends nfa Initial → AreNew seen f keys
-        → RowOf seen columns column sync rate f nfa
-        (IsLive columns (collect column sync rate f) word (starts ++ at ∷ []))
+        → RowOf seen columns chosen sync rate f nfa
+        (IsLive columns (collect chosen sync rate f) word (starts ++ at ∷ []))
         word (tracks ++ record { start = at; state = Initial; keys = keys } ∷ [])
     row_with tracks keys fresh row extends are =
         let x : Track R = record { start = at; state = Initial; keys = keys } in
@@ -83,7 +85,7 @@ module _ {R : Type 0} (seen : R → Seen R) where
                       let (from, continues) = (row.there start).0 old in
                       (Contains-append_left starts (at ∷ []) start from, continues)
                   | inr same ↦ subst
-                      (IsLive columns (collect column sync rate f) word (starts ++ at ∷ [])) same
+                      (IsLive columns (collect chosen sync rate f) word (starts ++ at ∷ [])) same
                       (Contains-push starts at, begins_is.0 extends)
                 ],
             λ (from, continues). subst (λ (xs : List ℕ). Contains xs start) (sym all)
@@ -97,21 +99,21 @@ module _ {R : Type 0} (seen : R → Seen R) where
           each = λ track there. elim (Contains-push_cases tracks x track there) [
             | inl old ↦ row.each track old
             | inr same ↦ subst
-                (λ (t : Track R). TrackOf seen columns column sync rate f nfa word t.start t) same (
+                (λ (t : Track R). TrackOf seen columns chosen sync rate f nfa word t.start t) same (
                   subst (λ (u : Word). IsAfter nfa.sets u Initial) (sym (after_end word at end)) tt,
-                  subst (λ (u : Word). StandsFor seen columns f column sync u keys)
+                  subst (λ (u : Word). StandsFor seen columns f chosen sync u keys)
                       (sym (after_end word at end))
-                      (stand_new columns f column sync keys clear are),
+                      (stand_new columns f chosen sync keys clear are),
                 )
           ];
         }
 
     -- no word can begin
     row_without : (tracks : List (Track R)) → (Extends nfa Initial → ⊥)
-        → RowOf seen columns column sync rate f nfa
-        (IsLive columns (collect column sync rate f) word starts) word tracks
-        → RowOf seen columns column sync rate f nfa
-        (IsLive columns (collect column sync rate f) word (starts ++ at ∷ [])) word tracks
+        → RowOf seen columns chosen sync rate f nfa
+        (IsLive columns (collect chosen sync rate f) word starts) word tracks
+        → RowOf seen columns chosen sync rate f nfa
+        (IsLive columns (collect chosen sync rate f) word (starts ++ at ∷ [])) word tracks
     row_without tracks dead row = record {
       distinct = row.distinct;
       there = λ start. (
@@ -128,13 +130,13 @@ module _ {R : Type 0} (seen : R → Seen R) where
     }
 
   -- the empty word has no keys, and so the empty table
-  first_table : (columns : List Column) (column : ℕ) (sync : Predicate) (rate : rates.Regex)
+  first_table : (columns : List Column) (chosen : List ℕ) (sync : Predicate) (rate : rates.Regex)
       (f : Qre) (sets : Sets) (at : ℕ) (hit : Option Hit) → AreSetsOf sets rate
-      → IsFirstTable sets at hit → IsFirstHit (Den (collect column sync rate f)) at hit
-  first_table columns column sync rate f sets at None of_rate none =
+      → IsFirstTable sets at hit → IsFirstHit (Den (collect chosen sync rate f)) at hit
+  first_table columns chosen sync rate f sets at None of_rate none =
       λ v (entries, in_rate, each, same).
       none ((is_accepted-in sets rate [] Initial (sets_spell sets rate of_rate) tt).1 in_rate)
-  first_table columns column sync rate f sets at (Some found) of_rate
+  first_table columns chosen sync rate f sets at (Some found) of_rate
       (same, value, typed, accepted) = (
         same,
         (
@@ -145,22 +147,22 @@ module _ {R : Type 0} (seen : R → Seen R) where
         ),
       )
 
-  pub start_collect : (column : ℕ) (sync : Predicate) (rate : rates.Regex) (f : Qre)
+  pub start_collect : (chosen : List ℕ) (sync : Predicate) (rate : rates.Regex) (f : Qre)
       (old new : Contents R) (at : ℕ) (hit : Option Hit) → AddsStart seen f old at new
       → IsFirstTable old.nfa.sets at hit
-      → Starts seen (collect column sync rate f) (collect_held old) at (collect_held new) hit
-  start_collect column sync rate f old new at hit (same, puts) first =
+      → Starts seen (collect chosen sync rate f) (collect_held old) at (collect_held new) hit
+  start_collect chosen sync rate f old new at hit (same, puts) first =
       λ standing columns word starts clear is positions rep fresh end apart.
-      let row = (λ (tracks : List (Track R)). RowOf seen columns column sync rate f old.nfa
-      (IsLive columns (collect column sync rate f) word (starts ++ at ∷ [])) word tracks) in
-      let after : RowOf seen columns column sync rate f old.nfa
-      (IsLive columns (collect column sync rate f) word (starts ++ at ∷ [])) word new.tracks =
+      let row = (λ (tracks : List (Track R)). RowOf seen columns chosen sync rate f old.nfa
+      (IsLive columns (collect chosen sync rate f) word (starts ++ at ∷ [])) word tracks) in
+      let after : RowOf seen columns chosen sync rate f old.nfa
+      (IsLive columns (collect chosen sync rate f) word (starts ++ at ∷ [])) word new.tracks =
       elim puts [
         | inl (can, keys, are, is_put) ↦ subst row (sym is_put)
-            (row_with columns column sync rate f old.nfa clear.0 rep.0 rep.1 word starts at end
+            (row_with columns chosen sync rate f old.nfa clear.0 rep.0 rep.1 word starts at end
             old.tracks keys fresh rep.2 can.0 are)
         | inr (cannot, stays) ↦ subst row (sym stays)
-            (row_without columns column sync rate f old.nfa clear.0 rep.0 rep.1 word starts
+            (row_without columns chosen sync rate f old.nfa clear.0 rep.0 rep.1 word starts
             at end old.tracks
             (λ extends. cannot (extends, λ there. fresh ((rep.2.there at).0 there).0)) rep.2)
       ] in
@@ -168,9 +170,9 @@ module _ {R : Type 0} (seen : R → Seen R) where
         after = (
           subst (λ (a : Automaton). AreSetsOf a.sets rate) (sym same) rep.0,
           ap (λ (a : Automaton). a.cells.layout.columns) same ∙ rep.1,
-          subst (λ (a : Automaton). RowOf seen columns column sync rate f a
-              (IsLive columns (collect column sync rate f) word (starts ++ at ∷ [])) word
+          subst (λ (a : Automaton). RowOf seen columns chosen sync rate f a
+              (IsLive columns (collect chosen sync rate f) word (starts ++ at ∷ [])) word
               new.tracks) (sym same) after,
         );
-        hit = first_table columns column sync rate f old.nfa.sets at hit rep.0 first;
+        hit = first_table columns chosen sync rate f old.nfa.sets at hit rep.0 first;
       }

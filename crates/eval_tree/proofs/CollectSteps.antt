@@ -39,15 +39,16 @@ use Rattle.eval_tree.specs.Steps.{IsHit, Steps}
 use Rattle.eval_tree.proofs.Quiet.{extension_before}
 use Rattle.eval_tree.proofs.Tracked.{kept_apart, kept_track, track_kept}
 
-module _ {R : Type 0} (seen : R → Seen R) (columns : List Column) (column : ℕ) (sync : Predicate)
+module _ {R : Type 0} (seen : R → Seen R) (columns : List Column) (chosen : List ℕ)
+    (sync : Predicate)
     (rate : rates.Regex) (f : Qre) where
   abbrev pub q : Qre
-  q = collect column sync rate f
+  q = collect chosen sync rate f
 
   -- the state and the keys are those after the piece
   abbrev pub TrackOf : Automaton → Word → ℕ → Track R → Type 0
   TrackOf nfa word start track = IsAfter nfa.sets (drop start word) track.state
-      × StandsFor seen columns f column sync (drop start word) track.keys
+      × StandsFor seen columns f chosen sync (drop start word) track.keys
 
   -- the starts, whatever these are
   abbrev pub RowOf : Automaton → (ℕ → Type 0) → Word → List (Track R) → Type 0
@@ -58,7 +59,7 @@ module _ {R : Type 0} (seen : R → Seen R) (columns : List Column) (column : �
       (positions : ArePositions word starts) where
     -- the item goes by at one
     goes_by : (was mid now : Track R) → was.start ≤ length word → Advances nfa.sets item was mid
-        → IsPushedAt seen f column sync item mid now → TrackOf nfa word was.start was
+        → IsPushedAt seen f chosen sync item mid now → TrackOf nfa word was.start was
         → TrackOf nfa (word ++ item ∷ []) now.start now
     goes_by was mid now inside advances pushed (holds_after, stands) =
         let same : now.start ≡ was.start = pushed.start ∙ advances.start in
@@ -67,24 +68,24 @@ module _ {R : Type 0} (seen : R → Seen R) (columns : List Column) (column : �
         holds_after advances.state in
         let keys = pushed.keys.word bound columns (drop was.start word) clear
         (subst (IsWordOf columns) more (word_after columns (word ++ item ∷ []) was.start is))
-        (subst (λ (keys : Keys R). StandsFor seen columns f column sync (drop was.start word) keys)
+        (subst (λ (keys : Keys R). StandsFor seen columns f chosen sync (drop was.start word) keys)
         (sym advances.keys) stands)
         in
         subst (λ (start : ℕ). TrackOf nfa (word ++ item ∷ []) start now) (sym same) (
           subst (λ (u : Word). IsAfter nfa.sets u now.state) (sym more)
               (subst (IsAfter nfa.sets (drop was.start word ++ item ∷ []))
               (sym pushed.state) after),
-          subst (λ (u : Word). StandsFor seen columns f column sync u now.keys) (sym more) keys,
+          subst (λ (u : Word). StandsFor seen columns f chosen sync u now.keys) (sym more) keys,
         )
 
     -- and at all
     row_on : (old advanced pushed : List (Track R))
         → RowOf nfa (IsLive columns q word starts) word old
-        → AllAdvance nfa.sets item old advanced → ArePushed seen f column sync item advanced pushed
+        → AllAdvance nfa.sets item old advanced → ArePushed seen f chosen sync item advanced pushed
         → RowOf nfa (IsLive columns q word starts) (word ++ item ∷ []) pushed
     row_on old advanced pushed row advances pushes =
         let P : Track R → Track R → Type 0 = Advances nfa.sets item in
-        let Q : Track R → Track R → Type 0 = IsPushedAt seen f column sync item in
+        let Q : Track R → Track R → Type 0 = IsPushedAt seen f chosen sync item in
         let same : starts_of pushed ≡ starts_of old =
         zip_same Q (λ (t : Track R). t.start) (λ (t : Track R). t.start) advanced pushed
         (λ mid now one. one.start) pushes ∙ zip_same P (λ (t : Track R). t.start)
@@ -210,9 +211,9 @@ module _ {R : Type 0} (seen : R → Seen R) (columns : List Column) (column : �
       let in_rate = (is_accepted-in all.nfa.sets rate u track.state
       (sets_spell all.nfa.sets rate of_rate) holds_after).0
       (subst (IsAccepted all.nfa.sets) (sym state) first.accepted) in
-      let entries = one.entries bound columns f column sync u clear.0 clear.1
+      let entries = one.entries bound columns f chosen sync u clear.0 clear.1
       (word_after columns word track.start is)
-      (subst (λ (keys : Keys R). StandsFor seen columns f column sync u keys) keys_here stands) in
+      (subst (λ (keys : Keys R). StandsFor seen columns f chosen sync u keys) keys_here stands) in
       record {
         sound = subst (λ (start : ℕ). Contains starts start × Den q (drop start word) found.value)
             starts_here (
@@ -224,33 +225,33 @@ module _ {R : Type 0} (seen : R → Seen R) (columns : List Column) (column : �
       }
 
 module _ {R : Type 0} (seen : R → Seen R) where
-  pub step_collect : (column : ℕ) (sync : Predicate) (rate : rates.Regex) (f : Qre)
+  pub step_collect : (chosen : List ℕ) (sync : Predicate) (rate : rates.Regex) (f : Qre)
       (old advanced pushed kept : Contents R) (now : ℕ) (item : List Field) (hit : Option Hit)
       → AllAdvance old.nfa.sets item old.tracks advanced.tracks → pushed.nfa ≡ old.nfa
-      → ArePushed seen f column sync item advanced.tracks pushed.tracks → IsTabled seen pushed hit
+      → ArePushed seen f chosen sync item advanced.tracks pushed.tracks → IsTabled seen pushed hit
       → KeepsExtending pushed.nfa pushed.tracks kept.tracks → kept.nfa ≡ pushed.nfa
-      → Steps seen (collect column sync rate f) (collect_held old) now item (collect_held kept) hit
-  step_collect column sync rate f old advanced pushed kept now item hit advances same pushes tabled
+      → Steps seen (collect chosen sync rate f) (collect_held old) now item (collect_held kept) hit
+  step_collect chosen sync rate f old advanced pushed kept now item hit advances same pushes tabled
       keeps same_kept =
       λ standing columns word starts clear is positions rep end apart.
-      let whole : IsClear bound columns (collect column sync rate f) = clear in
+      let whole : IsClear bound columns (collect chosen sync rate f) = clear in
       let of_rate : AreSetsOf pushed.nfa.sets rate =
       subst (λ (a : Automaton). AreSetsOf a.sets rate) (sym same) rep.0 in
       let on : pushed.nfa.cells.layout.columns ≡ columns =
       ap (λ (a : Automaton). a.cells.layout.columns) same ∙ rep.1 in
       let row = subst (λ (a : Automaton).
-      RowOf seen columns column sync rate f a
-      (IsLive columns (collect column sync rate f) word starts) (word ++ item ∷ []) pushed.tracks)
-      (sym same) (row_on seen columns column sync rate f old.nfa clear.0 word item starts is
+      RowOf seen columns chosen sync rate f a
+      (IsLive columns (collect chosen sync rate f) word starts) (word ++ item ∷ []) pushed.tracks)
+      (sym same) (row_on seen columns chosen sync rate f old.nfa clear.0 word item starts is
       positions old.tracks advanced.tracks pushed.tracks rep.2 advances pushes) in
-      let narrowed = row_kept seen columns column sync rate f pushed.nfa clear.0 word item starts is
+      let narrowed = row_kept seen columns chosen sync rate f pushed.nfa clear.0 word item starts is
       positions of_rate on pushed.tracks kept.tracks keeps row in
       record {
         after = (
           subst (λ (a : Automaton). AreSetsOf a.sets rate) (sym same_kept) of_rate,
           ap (λ (a : Automaton). a.cells.layout.columns) same_kept ∙ on,
-          subst (λ (a : Automaton). RowOf seen columns column sync rate f a
-              (IsLive columns (collect column sync rate f) (word ++ item ∷ []) starts)
+          subst (λ (a : Automaton). RowOf seen columns chosen sync rate f a
+              (IsLive columns (collect chosen sync rate f) (word ++ item ∷ []) starts)
               (word ++ item ∷ []) kept.tracks)
               (sym same_kept) narrowed,
         );
@@ -258,17 +259,17 @@ module _ {R : Type 0} (seen : R → Seen R) where
       }
     where
       found : (hit : Option Hit) (columns : List Column) (word : Word) (starts : List ℕ)
-          → IsClear bound columns (collect column sync rate f)
+          → IsClear bound columns (collect chosen sync rate f)
           → IsWordOf columns (word ++ item ∷ []) → ArePositions word starts
           → AreSetsOf pushed.nfa.sets rate → pushed.nfa.cells.layout.columns ≡ columns
-          → RowOf seen columns column sync rate f pushed.nfa
-          (IsLive columns (collect column sync rate f) word starts)
+          → RowOf seen columns chosen sync rate f pushed.nfa
+          (IsLive columns (collect chosen sync rate f) word starts)
           (word ++ item ∷ []) pushed.tracks → IsTabled seen pushed hit
-          → IsHit (Den (collect column sync rate f)) (word ++ item ∷ []) starts hit
+          → IsHit (Den (collect chosen sync rate f)) (word ++ item ∷ []) starts hit
       found None columns word starts clear is positions of_rate on row none =
-          none_tabled seen columns column sync rate f pushed.nfa clear.0 word item starts is
+          none_tabled seen columns chosen sync rate f pushed.nfa clear.0 word item starts is
           positions of_rate on pushed.tracks row none
       found (Some one) columns word starts clear is positions of_rate on row is_table =
-          one_tabled seen columns column sync rate f pushed clear (word ++ item ∷ [])
-          (IsLive columns (collect column sync rate f) word starts) starts one is of_rate
+          one_tabled seen columns chosen sync rate f pushed clear (word ++ item ∷ [])
+          (IsLive columns (collect chosen sync rate f) word starts) starts one is of_rate
           (λ start live. live.0) row is_table

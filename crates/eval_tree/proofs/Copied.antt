@@ -93,11 +93,11 @@ module _ {R : Type 0} (seen : R → Seen R) where
       one copy.1.idle in
       omega (arith, x, lives, rests)
   copy_stored (compose f g) (compose_held a held) new copy = absurd copy
-  copy_stored (collect column sync rate f) (collect_held all) (collect_held all') copy =
+  copy_stored (collect chosen sync rate f) (collect_held all) (collect_held all') copy =
       tracks_stored seen (IsCopy seen f) (stored_in seen f) all.tracks all'.tracks
       (λ was runner copied. size_same f was runner copied
       (copy_stored f (seen was).node (seen runner).node copied.node)) copy.tracks
-  copy_stored (collect column sync rate f) (collect_held all) new copy = absurd copy
+  copy_stored (collect chosen sync rate f) (collect_held all) new copy = absurd copy
   copy_stored q old new copy = ap (stored_in seen q) copy
 
   pub copy_represents : (columns : List Column) (q : Qre) (old new : Holding R) (word : Word)
@@ -180,7 +180,7 @@ module _ {R : Type 0} (seen : R → Seen R) where
             omega (arith, few, same)) copy.1.idle rep.2,
       )
   copy_represents columns (compose f g) (compose_held a held) new word starts copy rep = absurd copy
-  copy_represents columns (collect column sync rate f) (collect_held all) (collect_held all') word
+  copy_represents columns (collect chosen sync rate f) (collect_held all) (collect_held all') word
       starts copy rep =
       let follows : (u : Word) (was runner : R) → IsCopyOf seen (IsCopy seen f) was runner
       → FollowsWord seen columns f u was → FollowsWord seen columns f u runner =
@@ -192,20 +192,20 @@ module _ {R : Type 0} (seen : R → Seen R) where
       }) in (
         subst (λ (a : Automaton). AreSetsOf a.sets rate) (sym copy.nfa) rep.0,
         ap (λ (a : Automaton). a.cells.layout.columns) copy.nfa ∙ rep.1,
-        tracks_stand seen (IsCopy seen f) (IsLive columns (collect column sync rate f) word starts)
+        tracks_stand seen (IsCopy seen f) (IsLive columns (collect chosen sync rate f) word starts)
             (λ start track. IsAfter all'.nfa.sets (drop start word) track.state
-            × StandFor (FollowsWord seen columns f) column sync (drop start word) track.keys)
+            × StandFor (FollowsWord seen columns f) chosen sync (drop start word) track.keys)
             all.tracks all'.tracks
             (λ was track copied is. track_stands seen (IsCopy seen f) (FollowsWord seen columns f)
-            column sync all'.nfa.sets (λ start. drop start word) was track follows
+            chosen sync all'.nfa.sets (λ start. drop start word) was track follows
             copied is) copy.tracks
             (subst
-            (λ (a : Automaton). AreTracked (IsLive columns (collect column sync rate f) word starts)
+            (λ (a : Automaton). AreTracked (IsLive columns (collect chosen sync rate f) word starts)
             (λ start track. IsAfter a.sets (drop start word) track.state
-            × StandFor (FollowsWord seen columns f) column sync (drop start word) track.keys)
+            × StandFor (FollowsWord seen columns f) chosen sync (drop start word) track.keys)
             all.tracks) (sym copy.nfa) rep.2),
       )
-  copy_represents columns (collect column sync rate f) (collect_held all) new word starts copy rep =
+  copy_represents columns (collect chosen sync rate f) (collect_held all) new word starts copy rep =
       absurd copy
   copy_represents columns q old new word starts copy rep = absurd rep
 
@@ -274,7 +274,7 @@ module _ {R : Type 0} (seen : R → Seen R) where
             one copy.1.idle sound.4,
       )
   copy_sound columns (compose f g) position (compose_held a held) new copy sound = absurd copy
-  copy_sound columns (collect column sync rate f) position (collect_held all)
+  copy_sound columns (collect chosen sync rate f) position (collect_held all)
       (collect_held all') copy sound =
       let (distinct, keys) = tracks_sound seen (IsCopy seen f) (IsSoundOf seen columns f) position
       all.tracks all'.tracks (λ was runner copied is. record {
@@ -289,6 +289,6 @@ module _ {R : Type 0} (seen : R → Seen R) where
         distinct,
         keys,
       )
-  copy_sound columns (collect column sync rate f) position (collect_held all) new copy sound =
+  copy_sound columns (collect chosen sync rate f) position (collect_held all) new copy sound =
       absurd copy
   copy_sound columns q position old new copy sound = absurd sound

@@ -14,7 +14,8 @@ use Rattle.predicate_cells.specs.Truth.{holds}
 use Rattle.item_schema.specs.declared.column.Column.{Column}
 use Rattle.item_schema.specs.Items.{IsItemOf}
 use Rattle.rate_expr.specs.Words.{Word, IsWordOf}
-use Rattle.query_model.specs.Denotation.{key_of, keys_after, projection, with_key}
+use Rattle.query_model.specs.Denotation.{keys_after, projection, with_key}
+use Rattle.query_model.specs.Keys.{key_of}
 use Rattle.query_model.specs.Following.{IsAnswer}
 use Rattle.query_model.specs.Queries.{Qre}
 use Rattle.query_model.specs.QueryTypes.{type_of}
@@ -151,7 +152,7 @@ module _ {R : Type 0} (seen : R → Seen R) where
     }
   ]
 
-  module _ (q : Qre) (column : ℕ) (sync : Predicate) (item : List Field) where
+  module _ (q : Qre) (chosen : List ℕ) (sync : Predicate) (item : List Field) where
     module _ (standing : Standing) (columns : List Column)
         (clear : IsClear standing columns q) where
       -- what the word has for a key that the item is of
@@ -176,69 +177,69 @@ module _ {R : Type 0} (seen : R → Seen R) where
       -- an item of all keys
       all_stand : (word : Word) (old new : Keys R) → IsWordOf columns (word ++ item ∷ [])
           → holds sync item ≡ true → AllCarried seen q item old new
-          → StandsFor seen columns q column sync word old
-          → StandsFor seen columns q column sync (word ++ item ∷ []) new
+          → StandsFor seen columns q chosen sync word old
+          → StandsFor seen columns q chosen sync (word ++ item ∷ []) new
       all_stand word old new is of_each takes stands = record {
         fallback = takes_on word (holds sync) (fallback_of old) (fallback_of new) is of_each
             takes.fallback stands.fallback;
-        names = takes.names ∙ stands.names ∙ sym (keys_of_all column sync word item of_each);
+        names = takes.names ∙ stands.names ∙ sym (keys_of_all chosen sync word item of_each);
         each = subst (λ (names : List (List ℕ)). AllZip
             (λ key runner. FollowsWord seen columns q
-            (projection column sync key (word ++ item ∷ [])) runner) names
+            (projection chosen sync key (word ++ item ∷ [])) runner) names
             (followers_of new)) (sym takes.names)
             (zip_through
-            (λ key runner. FollowsWord seen columns q (projection column sync key word) runner)
+            (λ key runner. FollowsWord seen columns q (projection chosen sync key word) runner)
             (λ runner carried. IsCarried seen q runner item carried)
             (λ key runner. FollowsWord seen columns q
-            (projection column sync key (word ++ item ∷ [])) runner)
+            (projection chosen sync key (word ++ item ∷ [])) runner)
             (names_of old) (followers_of old) (followers_of new)
-            (λ key runner carried follows takes_one. takes_on word (is_of column sync key)
+            (λ key runner carried follows takes_one. takes_on word (is_of chosen sync key)
             runner carried is
-            (of_all column sync key item of_each) takes_one follows) stands.each takes.keyed);
+            (of_all chosen sync key item of_each) takes_one follows) stands.each takes.keyed);
       }
 
       -- the keys with that of the item, before it goes by
       record WithKey (word : Word) (keys : Keys R) : Type 0 where
         fallback : FollowsWord seen columns q (filter (holds sync) word) (fallback_of keys)
-        names : names_of keys ≡ with_key (keys_after column sync [] word) (key_of column item)
+        names : names_of keys ≡ with_key (keys_after chosen sync [] word) (key_of chosen item)
         each : AllZip
-            (λ key runner. FollowsWord seen columns q (projection column sync key word) runner)
+            (λ key runner. FollowsWord seen columns q (projection chosen sync key word) runner)
             (names_of keys) (followers_of keys)
 
       has_key : (word : Word) (old mid : Keys R) (place : ℕ)
-          → HasKey seen q (key_of column item) old place mid
-          → StandsFor seen columns q column sync word old → WithKey word mid
+          → HasKey seen q (key_of chosen item) old place mid
+          → StandsFor seen columns q chosen sync word old → WithKey word mid
       has_key word old mid place has stands = elim has.made [
         | inl same ↦
-            let key = key_of column item in
-            let there : Contains (keys_after column sync [] word) key =
+            let key = key_of chosen item in
+            let there : Contains (keys_after chosen sync [] word) key =
             subst (λ (names : List (List ℕ)). Contains names key)
             (ap (λ (keys : Keys R). names_of keys) same ∙ stands.names)
             (read_there (names_of mid) place key has.there) in
             subst (WithKey word) (sym same) (record {
               fallback = stands.fallback;
               names = stands.names
-                  ∙ sym (with_old column sync (keys_after column sync [] word) key there);
+                  ∙ sym (with_old chosen sync (keys_after chosen sync [] word) key there);
               each = stands.each;
             })
         | inr (fresh, runner, copied, fallback, keyed) ↦
-            let key = key_of column item in
-            let none = (λ (there : Contains (keys_after column sync [] word) key).
+            let key = key_of chosen item in
+            let none = (λ (there : Contains (keys_after chosen sync [] word) key).
             fresh (subst (λ (names : List (List ℕ)). Contains names key)
             (sym stands.names) there)) in
             let P : List ℕ → R → Type 0 =
-            (λ key runner. FollowsWord seen columns q (projection column sync key word) runner) in
+            (λ key runner. FollowsWord seen columns q (projection chosen sync key word) runner) in
             record {
               fallback = subst (FollowsWord seen columns q (filter (holds sync) word))
                   (sym fallback) stands.fallback;
               names = ap (λ (keyed : Followers R). keyed.names) keyed
                   ∙ ap (λ (names : List (List ℕ)). names ++ key ∷ []) stands.names
-                  ∙ sym (with_new column sync (keys_after column sync [] word) key none);
+                  ∙ sym (with_new chosen sync (keys_after chosen sync [] word) key none);
               each =
                   subst (λ (keyed : Followers R). AllZip P keyed.names keyed.followers) (sym keyed)
                   (zip_push P (names_of old) (followers_of old) key runner stands.each
                   (subst (λ (u : Word). FollowsWord seen columns q u runner)
-                  (sym (new_key column sync key word none))
+                  (sym (new_key chosen sync key word none))
                   (copied_follows columns q (filter (holds sync) word) (fallback_of old) runner
                   copied stands.fallback)));
             }
@@ -247,20 +248,20 @@ module _ {R : Type 0} (seen : R → Seen R) where
       -- it takes the item, and the others have nothing more
       key_stands : (word : Word) (mid new : Keys R) (place : ℕ)
           → IsWordOf columns (word ++ item ∷ []) → holds sync item ≡ false
-          → slice_get (names_of mid) place ≡ Some (key_of column item)
+          → slice_get (names_of mid) place ≡ Some (key_of chosen item)
           → IsCarriedAt seen q place item mid new → WithKey word mid
-          → StandsFor seen columns q column sync (word ++ item ∷ []) new
+          → StandsFor seen columns q chosen sync (word ++ item ∷ []) new
       key_stands word mid new place is of_one there takes stands =
-          let key = key_of column item in
+          let key = key_of chosen item in
           let P : List ℕ → R → Type 0 =
-          (λ key runner. FollowsWord seen columns q (projection column sync key word) runner) in
+          (λ key runner. FollowsWord seen columns q (projection chosen sync key word) runner) in
           let Q : List ℕ → R → Type 0 =
           (λ key runner. FollowsWord seen columns q
-          (projection column sync key (word ++ item ∷ [])) runner) in
-          let names = stands.names ∙ sym (keys_of_key column sync word item of_one) in
+          (projection chosen sync key (word ++ item ∷ [])) runner) in
+          let names = stands.names ∙ sym (keys_of_key chosen sync word item of_one) in
           let distinct : IsDistinct bytes_eq (names_of mid) =
           subst (IsDistinct bytes_eq) (sym names)
-          (keys_are columns column sync (word ++ item ∷ []) is).distinct in
+          (keys_are columns chosen sync (word ++ item ∷ []) is).distinct in
           let (name, at, follows) = zip_first P (names_of mid) (followers_of mid) place takes.runner
           takes.read stands.each in
           let same : name ≡ key = same_Some name key (sym at ∙ there) in
@@ -273,10 +274,10 @@ module _ {R : Type 0} (seen : R → Seen R) where
                 subst (λ (keyed : Followers R). AllZip Q keyed.names keyed.followers) (sym takes.is)
                 (zip_written P Q (names_of mid) (followers_of mid) place key
                 takes.carried there distinct
-                (λ other runner differs follows_it. stays_at word (is_of column sync other) runner
-                (of_other column sync other item of_one (λ equal. differs (sym equal))) follows_it)
-                (takes_on word (is_of column sync key) takes.runner takes.carried is
-                (of_key column sync key item of_one refl) takes.takes
+                (λ other runner differs follows_it. stays_at word (is_of chosen sync other) runner
+                (of_other chosen sync other item of_one (λ equal. differs (sym equal))) follows_it)
+                (takes_on word (is_of chosen sync key) takes.runner takes.carried is
+                (of_key chosen sync key item of_one refl) takes.takes
                 (subst (λ (k : List ℕ). P k takes.runner) same follows)) stands.each);
           }
 
@@ -319,7 +320,7 @@ module _ {R : Type 0} (seen : R → Seen R) where
 
     -- an item of all keys
     pub pushed_all : (old new : Keys R) → holds sync item ≡ true → AllCarried seen q item old new
-        → IsPushed seen q column sync old item new
+        → IsPushed seen q chosen sync old item new
     pushed_all old new of_each takes = record {
       word = λ standing columns word clear is stands. all_stand standing columns clear word old new
           is of_each takes stands;
@@ -329,13 +330,13 @@ module _ {R : Type 0} (seen : R → Seen R) where
 
     -- an item of one key
     pub pushed_key : (old mid new : Keys R) (place : ℕ) → holds sync item ≡ false
-        → HasKey seen q (key_of column item) old place mid → IsCarriedAt seen q place item mid new
-        → IsPushed seen q column sync old item new
+        → HasKey seen q (key_of chosen item) old place mid → IsCarriedAt seen q place item mid new
+        → IsPushed seen q chosen sync old item new
     pushed_key old mid new place of_one has takes = record {
       word = λ standing columns word clear is stands. key_stands standing columns clear word mid new
           place is of_one has.there
           takes (has_key standing columns clear word old mid place has stands);
       sound = λ standing columns most clear is_item sound. at_soundly standing columns most clear
           is_item mid new place takes
-          (key_soundly columns q most (key_of column item) old mid place has sound);
+          (key_soundly columns q most (key_of chosen item) old mid place has sound);
     }

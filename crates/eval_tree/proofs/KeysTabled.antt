@@ -153,27 +153,27 @@ module _ {R : Type 0} (seen : R → Seen R) where
   absent names runners i name distinct at =
       no_entry name (take i names) (take i runners) (names_before names i name distinct at)
 
-  module _ (standing : Standing) (columns : List Column) (q : Qre) (column : ℕ)
+  module _ (standing : Standing) (columns : List Column) (q : Qre) (chosen : List ℕ)
       (sync : Predicate) (word : Word) (clear : IsClear standing columns q)
       (number : type_of columns q ≡ Number) (is : IsWordOf columns word) where
     entries_are : (names : List (List ℕ)) (runners : List R)
-        → AllZip (λ key runner. FollowsWord seen columns q (projection column sync key word) runner)
+        → AllZip (λ key runner. FollowsWord seen columns q (projection chosen sync key word) runner)
         names runners
-        → AreEntries (on_keys q column sync word) names (entries_in seen names runners)
+        → AreEntries (on_keys q chosen sync word) names (entries_in seen names runners)
     entries_are [] [] zip = refl
     entries_are [] (y ∷ runners) zip = absurd zip
     entries_are (x ∷ names) [] zip = absurd zip
     entries_are (x ∷ names) (y ∷ runners) zip =
         by (seen y).answer zip.0.answer (entries_are names runners zip.1)
       where
-        is_number : (v : Value) → Den q (projection column sync x word) v → IsValueOf Number v
+        is_number : (v : Value) → Den q (projection chosen sync x word) v → IsValueOf Number v
         is_number v den = subst (λ ty. IsValueOf ty v) number
-            (den_typed standing columns q (projection column sync x word) v clear
+            (den_typed standing columns q (projection chosen sync x word) v clear
             (kept_word columns _ word is) den)
 
-        by : (answer : Option Value) → IsAnswer q (projection column sync x word) answer
-            → AreEntries (on_keys q column sync word) names (entries_in seen names runners)
-            → AreEntries (on_keys q column sync word) (x ∷ names)
+        by : (answer : Option Value) → IsAnswer q (projection chosen sync x word) answer
+            → AreEntries (on_keys q chosen sync word) names (entries_in seen names runners)
+            → AreEntries (on_keys q chosen sync word) (x ∷ names)
             (cons_option (entry_with x answer) (entries_in seen names runners))
         by None none rest = inr (none, rest)
         by (Some (value.Scalar scalar)) den rest =
@@ -184,11 +184,11 @@ module _ {R : Type 0} (seen : R → Seen R) where
   -- the entries of all are the table of the word
   pub tabled : (keys : Keys R)
       → IsTableOf seen keys (entries_in seen (names_of keys) (followers_of keys))
-  tabled keys = λ standing columns q column sync word clear number is stands.
+  tabled keys = λ standing columns q chosen sync word clear number is stands.
       subst (λ (names : List (List ℕ)).
-      AreEntries (on_keys q column sync word) names
+      AreEntries (on_keys q chosen sync word) names
       (entries_in seen (names_of keys) (followers_of keys))) stands.names
-      (entries_are standing columns q column sync word clear number is (names_of keys)
+      (entries_are standing columns q chosen sync word clear number is (names_of keys)
       (followers_of keys) stands.each)
 
   -- and so are those of a number of keys that has all of them

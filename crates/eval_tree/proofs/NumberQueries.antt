@@ -102,7 +102,7 @@ number_type columns (apply f e) bare none =
 number_type columns (compose f g) bare none =
     number_type (derived_columns (type_of columns f)) g bare.1
     (derived_none (type_of columns f) (number_type columns f bare.0 none))
-number_type columns (collect column sync rate f) bare none = absurd bare
+number_type columns (collect chosen sync rate f) bare none = absurd bare
 
 -- what comes out of it is a stream without tables
 pub out_numbers : (columns : List Column) (f g : Qre) → IsNumberQuery columns (compose f g)

@@ -14,7 +14,8 @@ use Rattle.item_schema.specs.declared.column.Column.{Column}
 use Rattle.rate_expr.specs.Rates.{size_of}
 use Rattle.rate_expr.specs.Words.{Word, IsWordOf}
 use Rattle.query_model.specs.Bounds.{inner_of, places_of, slots_of, width_of}
-use Rattle.query_model.specs.Denotation.{key_of, keys_after, projection}
+use Rattle.query_model.specs.Denotation.{keys_after, projection}
+use Rattle.query_model.specs.Keys.{key_of}
 use Rattle.query_model.specs.Following.{IsAnswer}
 use Rattle.query_model.specs.Queries.{Qre, atom, eps, choice, split, iter, combine, apply, compose}
 use Rattle.query_model.specs.Queries.{collect}
@@ -53,7 +54,7 @@ use Rattle.eval_nodes.proofs.Totals.{many_parts, scaled, sum_few, three_parts, t
 use Rattle.eval_nodes.proofs.Totals.{two_parts, value_fits}
 use Rattle.eval_nodes.proofs.Zips.{whole_there, zip_long, zip_member}
 use Rattle.eval_tree.proofs.Outputs.{out_word}
-use Rattle.eval_tree.proofs.StoredTracks.{HasTextsAlone, derived_texts, state_size}
+use Rattle.eval_tree.proofs.StoredTracks.{HasTextsAlone, derived_texts, key_text, state_size}
 
 -- an answer counts as wide as the query, and one for each key that was met
 answer_size : (standing : Standing) (columns : List Column) (q : Qre) (word : Word)
@@ -115,23 +116,23 @@ module _ {R : Type 0} (seen : R → Seen R) where
       (each runner there))
 
   -- the runners for keys
-  keys_size : (f : Qre) (column : ℕ) (sync : Predicate) (word : Word) (n : ℕ) (keys : Keys R)
-      (follows : Word → R → Type 0) → StandFor follows column sync word keys
+  keys_size : (f : Qre) (chosen : List ℕ) (sync : Predicate) (word : Word) (n : ℕ) (keys : Keys R)
+      (follows : Word → R → Type 0) → StandFor follows chosen sync word keys
       → ((test : List Field → Bool) (runner : R) → follows (filter test word) runner
       → size_of_runner seen (stored_in seen f) runner ≤ slots_of f)
-      → length (keys_after column sync [] word) ≤ n
+      → length (keys_after chosen sync [] word) ≤ n
       → size_of_keys seen (stored_in seen f) keys ≤ slots_of f + n * (1 + slots_of f)
-  keys_size f column sync word n keys follows stand each few =
+  keys_size f chosen sync word n keys follows stand each few =
       let first = each (holds sync) (fallback_of keys) stand.fallback in
       let keyed = sum_few (λ (runner : R). 1 + size_of_runner seen (stored_in seen f) runner)
       (1 + slots_of f) (keyed_followers keys) (λ runner there.
       let (key, among, is) = zip_member
-      (λ (key : List ℕ) (runner : R). follows (projection column sync key word) runner)
+      (λ (key : List ℕ) (runner : R). follows (projection chosen sync key word) runner)
       (names_of keys) (keyed_followers keys) runner there stand.each in
-      let one = each (λ item. holds sync item || bytes_eq (key_of column item) key) runner is in
+      let one = each (λ item. holds sync item || bytes_eq (key_of chosen item) key) runner is in
       omega (arith, one)) in
       let long =
-      zip_long (λ (key : List ℕ) (runner : R). follows (projection column sync key word) runner)
+      zip_long (λ (key : List ℕ) (runner : R). follows (projection chosen sync key word) runner)
       (names_of keys) (keyed_followers keys) stand.each in
       let names = ap length stand.names in
       let fewer : length (keyed_followers keys) ≤ n = omega (arith, few, long, names) in
@@ -247,9 +248,9 @@ module _ {R : Type 0} (seen : R → Seen R) where
       let all = two_parts (stored_in seen f a) _ (inner_of f)
       ((places_of f + 1) * (1 + slots_of g)) n first both in
       omega (arith, all)
-  stored_few standing columns (collect column sync rate f) (collect_held all) word starts clear
+  stored_few standing columns (collect chosen sync rate f) (collect_held all) word starts clear
       texts is positions apart rep =
-      let q = collect column sync rate f in
+      let q = collect chosen sync rate f in
       let n = keys_met q word in
       let row = rep.2 in
       let few = few_live standing columns q word starts (starts_of all.tracks) clear is positions
@@ -260,9 +261,9 @@ module _ {R : Type 0} (seen : R → Seen R) where
       let u = drop track.start word in
       let u_is = word_after columns word track.start is in
       let (after, stand) = row.each track there in
-      let keys = keys_few column sync rate f u in
+      let keys = keys_few chosen sync rate f u in
       let more = keys_mono q q u word (among_all (key_columns q)) (after_among word track.start) in
-      let kept = keys_size f column sync u n track.keys (FollowsWord seen columns f) stand
+      let kept = keys_size f chosen sync u n track.keys (FollowsWord seen columns f) stand
       (λ test runner follows.
       let part = filter test u in
       let part_is = kept_word columns test u u_is in
@@ -270,7 +271,8 @@ module _ {R : Type 0} (seen : R → Seen R) where
       (first_position part) (first_apart columns f part) follows.node in
       let size = runner_size bound columns f part runner clear.0 part_is follows.answer node in
       let none : keys_met f part ≡ 0 =
-      tables_only f part clear.2 ∙ texts.none column clear.3 part part_is in
+      let first = key_text columns chosen clear.3 in
+      tables_only f part clear.2 ∙ texts.none first.0 first.1 part part_is in
       let least = subst
       (λ (k : ℕ). size_of_runner seen (stored_in seen f) runner ≤ slots_of f * (1 + k)) none size in
       omega (arith, least)) (omega (arith, keys, more)) in

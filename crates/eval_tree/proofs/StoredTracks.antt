@@ -25,6 +25,7 @@ use Rattle.rate_expr.specs.declared.state.State.TheVariants.{Initial, At}
 use Rattle.rate_expr.proofs.Meetings.{length-preds_of}
 use Rattle.rate_expr.proofs.StatesAfter.{after_exists}
 use Rattle.query_model.specs.QueryTypes.{derived_columns}
+use Rattle.query_model.specs.Rules.{AreKeyColumns}
 use Rattle.memory_bound.specs.KeysMet.{entries_in, most_entries}
 use Rattle.memory_bound.proofs.Growth.{entries_cons, of_item}
 use Rattle.eval_nodes.specs.Counts.{size_of_state}
@@ -33,6 +34,12 @@ use Rattle.eval_nodes.specs.Counts.{size_of_state}
 pub record HasTextsAlone (columns : List Column) : Type 0 where
   pub none : (column : ℕ) → has_texts columns column ≡ true → (word : Word) → IsWordOf columns word
       → most_entries word ≡ 0
+
+-- a key has texts
+pub key_text : (columns : List Column) (chosen : List ℕ) → AreKeyColumns columns chosen
+    → (column : ℕ) × (has_texts columns column ≡ true)
+key_text columns [] are = absurd (omega (arith, are.some))
+key_text columns (column ∷ others) are = (column, are.texts.0)
 
 -- one more column that is no text
 texts_before : (columns : List Column) (last : Column) (at : ℕ) → is_text last.kind ≡ false

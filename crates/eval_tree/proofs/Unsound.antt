@@ -1,5 +1,5 @@
 -- A node of another shape than the query is not sound for it: what it holds is of another shape.
-use Rattle.std.proofs.Common.{◌≡◌, ℕ, Option, refl, sym}
+use Rattle.std.proofs.Common.{◌≡◌, ℕ, Option, refl, sym, List}
 use Rattle.std.specs.Prelude.{Box}
 use Rattle.std.specs.declared.alloc.Global.{Global}
 use Rattle.value_ops.specs.declared.value.Value.{Value}
@@ -101,10 +101,11 @@ unlike_compose (Compose' p a held runners) unlike =
     (sym (roll-out-State (Compose' p a held runners))))
 unlike_compose node unlike = refl
 
-pub unlike_collect : (node : State) → ((all : tracks.Contents Progress) → node ≡ Collect all → ⊥)
+pub unlike_collect : (node : State)
+    → ((all : tracks.Contents Progress) (joined : List ℕ) → node ≡ Collect all joined → ⊥)
     → holding_of node ≡ without_collect (holding_of node)
 unfolding roll-State out-State denote.Hole.Carrier.roll denote.Hole.Carrier.out
-unlike_collect (Collect' all tracks) unlike =
-    absurd (unlike (tracks_of (out-State (Collect' all tracks)))
-    (sym (roll-out-State (Collect' all tracks))))
+unlike_collect (Collect' all tracks joined) unlike =
+    absurd (unlike (tracks_of (out-State (Collect' all tracks joined))) joined
+    (sym (roll-out-State (Collect' all tracks joined))))
 unlike_collect node unlike = refl

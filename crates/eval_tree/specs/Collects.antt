@@ -19,10 +19,10 @@ use Rattle.eval_nodes.specs.Keyed.{StandFor}
 use Rattle.eval_nodes.specs.Sound.{AreSoundKeys}
 
 module _ {R : Type 0} (seen : R → Seen R) where
-  -- the runners follow what the word has for the keys of the column
-  abbrev pub StandsFor : List Column → Qre → ℕ → Predicate → Word → Keys R → Type 0
-  StandsFor columns query column sync word keys =
-      StandFor (FollowsWord seen columns query) column sync word keys
+  -- the runners follow what the word has for the keys of the chosen columns
+  abbrev pub StandsFor : List Column → Qre → List ℕ → Predicate → Word → Keys R → Type 0
+  StandsFor columns query chosen sync word keys =
+      StandFor (FollowsWord seen columns query) chosen sync word keys
 
   -- they are sound, each after at most this many items
   abbrev pub AreSoundOf : List Column → Qre → ℕ → Keys R → Type 0
@@ -40,12 +40,12 @@ module _ {R : Type 0} (seen : R → Seen R) where
 
   -- whatever word they stood for, now they stand for the word and the item after it, and they stay
   -- sound
-  pub record IsPushed (query : Qre) (column : ℕ) (sync : Predicate) (old : Keys R)
+  pub record IsPushed (query : Qre) (chosen : List ℕ) (sync : Predicate) (old : Keys R)
       (item : List Field) (new : Keys R) : Type 0 where
     pub word : (standing : Standing) (columns : List Column) (word : Word)
         → IsClear standing columns query → IsWordOf columns (word ++ item ∷ [])
-        → StandsFor columns query column sync word old
-        → StandsFor columns query column sync (word ++ item ∷ []) new
+        → StandsFor columns query chosen sync word old
+        → StandsFor columns query chosen sync (word ++ item ∷ []) new
     pub sound : (standing : Standing) (columns : List Column) (most : ℕ)
         → IsClear standing columns query → IsItemOf columns item
         → AreSoundOf columns query most old → AreSoundOf columns query (most + 1) new
@@ -53,9 +53,10 @@ module _ {R : Type 0} (seen : R → Seen R) where
   -- whatever word they stand for, the entries are those of the keys that have a number on it, in
   -- the order in which the keys appear
   abbrev pub IsTableOf : Keys R → List (List ℕ × Scalar) → Type 0
-  IsTableOf keys table = (standing : Standing) (columns : List Column) (query : Qre) (column : ℕ)
+  IsTableOf keys table = (standing : Standing) (columns : List Column) (query : Qre)
+      (chosen : List ℕ)
       (sync : Predicate) (word : Word) → IsClear standing columns query
       → (type_of columns query ≡ Number) → IsWordOf columns word
-      → StandsFor columns query column sync word keys
-      → AreEntries (λ key value. Den query (projection column sync key word) value)
-      (keys_after column sync [] word) table
+      → StandsFor columns query chosen sync word keys
+      → AreEntries (λ key value. Den query (projection chosen sync key word) value)
+      (keys_after chosen sync [] word) table

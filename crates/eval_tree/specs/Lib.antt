@@ -5,5 +5,6 @@ pub mod Lefts
 pub mod Numbers
 pub mod Operands
 pub mod OutOfMemory
+pub mod OwnKeys
 pub mod Pushes
 pub mod Steps

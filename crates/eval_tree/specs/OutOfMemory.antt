@@ -3,7 +3,7 @@ use Rattle.std.specs.Prelude.{◌≡◌, ◌⊎◌, ℕ, List, false}
 use Rattle.value_ops.specs.declared.field.Field.{Field}
 use Rattle.predicate_cells.specs.Predicates.{Predicate}
 use Rattle.predicate_cells.specs.Truth.{holds}
-use Rattle.query_model.specs.Denotation.{key_of}
+use Rattle.query_model.specs.Keys.{key_of}
 use Rattle.query_model.specs.Queries.{Qre}
 use Rattle.map_collect.specs.Keys.{fallback_of, keyed_of}
 use Rattle.map_collect.specs.Lending.{with_follower}
@@ -27,6 +27,6 @@ module _ {R : Type 0} (seen : R → Seen R) where
   IsKeyLeft query key old new = (new ≡ old) ⊎ IsRunnerLeft query key old new
 
   -- an item of one key leaves the runners so; an item of all keys may have gone by at some of them
-  abbrev pub IsLeft : Qre → ℕ → Predicate → Keys R → List Field → Keys R → Type 0
-  IsLeft query column sync old item new =
-      (holds sync item ≡ false) → IsKeyLeft query (key_of column item) old new
+  abbrev pub IsLeft : Qre → List ℕ → Predicate → Keys R → List Field → Keys R → Type 0
+  IsLeft query chosen sync old item new =
+      (holds sync item ≡ false) → IsKeyLeft query (key_of chosen item) old new

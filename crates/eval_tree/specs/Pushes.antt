@@ -136,26 +136,26 @@ module _ {R : Type 0} (seen : R → Seen R) where
     pub keys : CanPushAll query all.tracks item
 
   -- the item goes by at the keys of one start
-  pub record IsPushedAt (query : Qre) (column : ℕ) (sync : Predicate) (item : List Field)
+  pub record IsPushedAt (query : Qre) (chosen : List ℕ) (sync : Predicate) (item : List Field)
       (old new : Track R) : Type 0 where
     pub start : new.start ≡ old.start
     pub state : new.state ≡ old.state
-    pub keys : IsPushed seen query column sync old.keys item new.keys
+    pub keys : IsPushed seen query chosen sync old.keys item new.keys
 
   -- the item goes by at the keys of all starts
-  abbrev pub ArePushed : Qre → ℕ → Predicate → List Field → List (Track R) → List (Track R)
+  abbrev pub ArePushed : Qre → List ℕ → Predicate → List Field → List (Track R) → List (Track R)
       → Type 0
-  ArePushed query column sync item old new = AllZip (IsPushedAt query column sync item) old new
+  ArePushed query chosen sync item old new = AllZip (IsPushedAt query chosen sync item) old new
 
   -- the item goes by at the starts below this number, and the others are as before
-  abbrev pub ArePushedBelow : Qre → ℕ → Predicate → List Field → ℕ → List (Track R)
+  abbrev pub ArePushedBelow : Qre → List ℕ → Predicate → List Field → ℕ → List (Track R)
       → List (Track R) → Type 0
-  ArePushedBelow query column sync item zero old new = new ≡ old
-  ArePushedBelow query column sync item (suc count) (track ∷ old) (pushed ∷ new) =
-      IsPushedAt query column sync item track pushed
-      × ArePushedBelow query column sync item count old new
-  ArePushedBelow query column sync item (suc count) [] [] = Unit {0}
-  ArePushedBelow query column sync item (suc count) old new = ⊥
+  ArePushedBelow query chosen sync item zero old new = new ≡ old
+  ArePushedBelow query chosen sync item (suc count) (track ∷ old) (pushed ∷ new) =
+      IsPushedAt query chosen sync item track pushed
+      × ArePushedBelow query chosen sync item count old new
+  ArePushedBelow query chosen sync item (suc count) [] [] = Unit {0}
+  ArePushedBelow query chosen sync item (suc count) old new = ⊥
 
   -- the start is the first one whose state is accepted, and the value is the table of its keys
   pub record IsTabledAt (all : Contents R) (found : Hit) : Type 0 where
@@ -200,12 +200,12 @@ module _ {R : Type 0} (seen : R → Seen R) where
 
   -- the item leads each state to the next and goes by at the keys; the hit is that of the first
   -- accepted start, and the live starts stay
-  pub record PassesBy (query : Qre) (column : ℕ) (sync : Predicate) (item : List Field)
+  pub record PassesBy (query : Qre) (chosen : List ℕ) (sync : Predicate) (item : List Field)
       (old new : Contents R) (hit : Option Hit) : Type 0 where
     pub advanced : List (Track R)
     pub pushed : List (Track R)
     pub advances : AllAdvance old.nfa.sets item old.tracks advanced
-    pub pushes : ArePushed query column sync item advanced pushed
+    pub pushes : ArePushed query chosen sync item advanced pushed
     pub tabled : IsTabled (record { nfa = old.nfa; tracks = pushed }) hit
     pub keeps : KeepsExtending old.nfa pushed new.tracks
     pub nfa : new.nfa ≡ old.nfa

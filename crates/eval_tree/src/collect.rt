@@ -1,5 +1,5 @@
 //! The calls of a collect, and its starts.
-ghost use Rattle.std.specs.Prelude.{◌≡◌, ◌↔◌, ℕ, None, IfOk, IsTrue};
+ghost use Rattle.std.specs.Prelude.{◌≡◌, ◌↔◌, ℕ, List, None, IfOk, IsTrue};
 ghost use Rattle.predicate_cells.specs.Plain as predicates;
 ghost use Rattle.predicate_cells.specs.Predicates.{Predicate};
 ghost use Rattle.rate_expr.specs.Rates as rates;
@@ -17,6 +17,7 @@ use crate::steps::start_into;
 use crate::tables::{first_table, tabled};
 use eval_nodes::{Node, Progress, State};
 use item_schema::Item;
+use joined_texts::Joined;
 use map_collect::{Keys, Tracks};
 use predicate_cells::Pred;
 use query_model::Query;
@@ -34,14 +35,14 @@ pub(crate) fn start_collect(
     hit: &mut Option<Hit>,
 ) -> Result<(), AllocError>
     requires none { hit.old ≡ None }
-    requires can { (column : ℕ) × (sync : Predicate) × (rate : rates.Regex) × CanStart seen_of
-        (collect column sync rate (plain_of inner.now.shape)) (holding_of node.old.state) at }
-    ensures { (column : ℕ) (sync : Predicate) (rate : rates.Regex) → HasStarted seen_of
-        (collect column sync rate (plain_of inner.now.shape)) (holding_of node.old.state) at
+    requires can { (chosen : List ℕ) × (sync : Predicate) × (rate : rates.Regex) × CanStart seen_of
+        (collect chosen sync rate (plain_of inner.now.shape)) (holding_of node.old.state) at }
+    ensures { (chosen : List ℕ) (sync : Predicate) (rate : rates.Regex) → HasStarted seen_of
+        (collect chosen sync rate (plain_of inner.now.shape)) (holding_of node.old.state) at
         (holding_of node.new.state) (found_in result hit.new) }
 {
     match &mut node.state {
-        State::Collect(tracks) => begin_at(inner, tracks, alloc, at, hit),
+        State::Collect(tracks, _) => begin_at(inner, tracks, alloc, at, hit),
         _ => unreachable!(),
     }
 }
@@ -51,7 +52,7 @@ pub(crate) fn start_collect(
 #[inline(always)]
 pub(crate) fn step_collect(
     inner: &Query,
-    column: u32,
+    columns: &[u32],
     sync: &Pred,
     node: &mut Node,
     alloc: Global,
@@ -60,15 +61,17 @@ pub(crate) fn step_collect(
 ) -> Result<(), AllocError>
     requires none { hit.old ≡ None }
     requires can { (rate : rates.Regex) × (now : ℕ) × CanStep seen_of
-        (collect column (predicates.plain_of sync.now) rate (plain_of inner.now.shape))
+        (collect columns.now (predicates.plain_of sync.now) rate (plain_of inner.now.shape))
         (holding_of node.old.state) now item.now }
     ensures { (rate : rates.Regex) (now : ℕ) → HasStepped seen_of
-        (collect column (predicates.plain_of sync.now) rate (plain_of inner.now.shape))
+        (collect columns.now (predicates.plain_of sync.now) rate (plain_of inner.now.shape))
         (holding_of node.old.state) now item.now (holding_of node.new.state)
         (found_in result hit.new) }
 {
     match &mut node.state {
-        State::Collect(tracks) => pass_by(inner, tracks, alloc, column, sync, item, hit),
+        State::Collect(tracks, joined) => {
+            pass_by(inner, tracks, alloc, columns, joined, sync, item, hit)
+        }
         _ => unreachable!(),
     }
 }
@@ -80,18 +83,19 @@ fn pass_by(
     query: &Query,
     tracks: &mut Tracks<Progress>,
     alloc: Global,
-    column: u32,
+    columns: &[u32],
+    joined: &mut Joined,
     sync: &Pred,
     item: &Item,
     hit: &mut Option<Hit>,
 ) -> Result<(), AllocError>
     requires none { hit.old ≡ None }
     requires can { CanPassBy seen_of (plain_of query.now.shape) tracks.old item.now }
-    ensures { IfOk result (λ done. PassesBy seen_of (plain_of query.now.shape) column
+    ensures { IfOk result (λ done. PassesBy seen_of (plain_of query.now.shape) columns.now
         (predicates.plain_of sync.now) item.now tracks.old tracks.new hit.new) }
 {
     tracks.advance(item);
-    push_all(query, tracks, alloc, column, sync, item)?;
+    push_all(query, tracks, alloc, columns, joined, sync, item)?;
     // A start that is no longer live may end here, so its table is made before dead starts are
     // dropped.
     *hit = tabled(tracks, alloc)?;
@@ -105,17 +109,26 @@ fn push_all(
     query: &Query,
     tracks: &mut Tracks<Progress>,
     alloc: Global,
-    column: u32,
+    columns: &[u32],
+    joined: &mut Joined,
     sync: &Pred,
     item: &Item,
 ) -> Result<(), AllocError>
     requires { CanPushAll seen_of (plain_of query.now.shape) tracks.old.tracks item.now }
-    ensures pushed { IfOk result (λ done. ArePushed seen_of (plain_of query.now.shape) column
+    ensures pushed { IfOk result (λ done. ArePushed seen_of (plain_of query.now.shape) columns.now
         (predicates.plain_of sync.now) item.now tracks.old.tracks tracks.new.tracks) }
     ensures nfa { IfOk result (λ done. tracks.new.nfa ≡ tracks.old.nfa) }
 {
     'starts: for i in 0..tracks.len() {
-        keys_push(query, tracks.keys_mut(i), alloc, column, sync, item)?;
+        keys_push(
+            query,
+            tracks.keys_mut(i),
+            alloc,
+            columns,
+            joined,
+            sync,
+            item,
+        )?;
     }
     Ok(())
 }

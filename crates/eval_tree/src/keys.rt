@@ -1,42 +1,88 @@
 //! The runners for keys, when an item goes by.
-ghost use Rattle.std.specs.Prelude.{◌≡◌, IfOk, OnErr};
+ghost use Rattle.std.specs.Prelude.{◌≡◌, IfOk, OnErr, OnOk};
 ghost use Rattle.predicate_cells.specs.Plain as predicates;
-ghost use Rattle.query_model.specs.Denotation.{key_of};
+ghost use Rattle.query_model.specs.Keys.{key_of};
 ghost use Rattle.query_model.specs.Queries.{plain_of};
 ghost use Rattle.eval_nodes.specs.Plain.{seen_of};
 ghost use Rattle.eval_tree.specs.Collects.{CanPush, IsPushed};
 ghost use Rattle.eval_tree.specs.OutOfMemory.{IsKeyLeft, IsLeft};
+ghost use Rattle.eval_tree.specs.OwnKeys.{IsKeyAtHand};
 ghost use Rattle.eval_tree.specs.Pushes.{AllCarried, HasKey, IsKeyPushed};
 
 use crate::right_runners::carry;
 use eval_nodes::{Progress, copy_of_runner};
 use item_schema::Item;
+use joined_texts::Joined;
 use map_collect::Keys;
 use predicate_cells::{Pred, holds};
-use query_model::Query;
+use query_model::{Query, join_texts, text_in};
 use std::alloc::{AllocError, Global};
 
 /// An item that meets the predicate is one of every key, also of keys that are still to come. Any
-/// other is one of its own key; for a new key, a runner is copied first.
+/// other is one of its own key; for a new key, a runner is copied first. The key of several columns
+/// is made in `joined`, whose room is kept for the next item.
 #[cycle(step)]
 pub fn keys_push(
     query: &Query,
     keys: &mut Keys<Progress>,
     alloc: Global,
-    column: u32,
+    columns: &[u32],
+    joined: &mut Joined,
     sync: &Pred,
     item: &Item,
 ) -> Result<(), AllocError>
     requires { CanPush seen_of (plain_of query.now.shape) keys.old item.now }
-    ensures pushed { IfOk result (λ done. IsPushed seen_of (plain_of query.now.shape) column
+    ensures pushed { IfOk result (λ done. IsPushed seen_of (plain_of query.now.shape) columns.now
         (predicates.plain_of sync.now) keys.old item.now keys.new) }
-    ensures left { OnErr result (IsLeft seen_of (plain_of query.now.shape) column
+    ensures left { OnErr result (IsLeft seen_of (plain_of query.now.shape) columns.now
         (predicates.plain_of sync.now) keys.old item.now keys.new) }
 {
     if holds(sync, item) {
         push_to_each(query, keys, alloc, item)
     } else {
-        push_to_key(query, keys, alloc, key_of(item, column), item)
+        push_to_own(query, keys, alloc, columns, joined, item)
+    }
+}
+
+#[cycle(step)]
+fn push_to_own(
+    query: &Query,
+    keys: &mut Keys<Progress>,
+    alloc: Global,
+    columns: &[u32],
+    joined: &mut Joined,
+    item: &Item,
+) -> Result<(), AllocError>
+    requires { CanPush seen_of (plain_of query.now.shape) keys.old item.now }
+    ensures pushed { IfOk result (λ done. IsKeyPushed seen_of (plain_of query.now.shape)
+        (key_of columns.now item.now) item.now keys.old keys.new) }
+    ensures left { OnErr result (IsKeyLeft seen_of (plain_of query.now.shape)
+        (key_of columns.now item.now) keys.old keys.new) }
+{
+    join_several(joined, columns, item)?;
+    push_to_key(query, keys, alloc, own_key(&*joined, columns, &*item), item)
+}
+
+/// Joins the texts of a key of several columns.
+#[tactic(auto, using(query_model::proofs::KeyCases::key_of_others))]
+fn join_several(joined: &mut Joined, columns: &[u32], item: &Item) -> Result<(), AllocError>
+    ensures { OnOk result (IsKeyAtHand columns.now item.now joined.new) }
+{
+    if columns.len() == 1 {
+        return Ok(());
+    }
+    join_texts(joined, columns, item)
+}
+
+/// The key of one column is the text as it lies in the item, and any other is what was joined.
+#[tactic(auto, using(query_model::proofs::KeyCases::key_of_one))]
+fn own_key<'k>(joined: &'k Joined, columns: &[u32], item: &'k Item<'_>) -> &'k [u8]
+    requires { IsKeyAtHand columns.now item.now joined.now }
+    ensures { result.now ≡ key_of columns.now item.now }
+{
+    match columns {
+        [column] => text_in(item, *column),
+        _ => joined.as_slice(),
     }
 }
 
@@ -95,15 +141,5 @@ fn place_or_new(
             keys.add(key, runner)?;
             Ok(place)
         }
-    }
-}
-
-/// The text in the key column.
-fn key_of<'i>(item: &'i Item<'_>, column: u32) -> &'i [u8]
-    ensures { result.now ≡ key_of column item.now }
-{
-    match item.fields().get(column as usize) {
-        Some(field) => field.text().unwrap_or(&[]),
-        None => &[],
     }
 }

@@ -93,8 +93,8 @@ pub(crate) fn step_into(
             inner, expression, node, alloc, now, item, hit,
         ),
         Shape::Compose(first, second) => step_compose(first, second, node, alloc, now, item, hit),
-        Shape::Collect(column, sync, _, inner) => {
-            step_collect(inner, *column, sync, node, alloc, item, hit)
+        Shape::Collect(columns, sync, _, inner) => {
+            step_collect(inner, columns.as_slice(), sync, node, alloc, item, hit)
         }
     }
 }

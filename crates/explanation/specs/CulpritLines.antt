@@ -7,13 +7,14 @@ use Rattle.explanation.specs.declared.culprit.Culprit.TheVariants.{TwiceColumn, 
 use Rattle.explanation.specs.declared.culprit.Culprit.TheVariants.{NoColumn, NoValue, OtherValue}
 use Rattle.explanation.specs.declared.culprit.Culprit.TheVariants.{OfValue, NotOne, NotTwo, Texts}
 use Rattle.explanation.specs.declared.culprit.Culprit.TheVariants.{Numbers, Key, Collected, NoTable}
-use Rattle.explanation.specs.declared.culprit.Culprit.TheVariants.{NoRecord}
+use Rattle.explanation.specs.declared.culprit.Culprit.TheVariants.{NoRecord, TwiceKey}
 use Rattle.explanation.specs.declared.culprit_line.TheConstants as words
 
 -- which names are known where it stands, if that is why it is refused
 unfoldable pub known_there : Culprit → List ℕ
 known_there (TwiceColumn span) = []
 known_there (TwiceLet span) = []
+known_there (TwiceKey span) = []
 known_there (NoLet span) = words.QUERY_NAMES.now
 known_there (NoColumn span) = words.COLUMN_NAMES.now
 known_there (NoValue span) = words.VALUE_NAME.now
@@ -32,6 +33,7 @@ known_there (NoRecord span) = []
 unfoldable pub said_of : Culprit → List ℕ
 said_of (TwiceColumn span) = words.TWICE_COLUMN.now
 said_of (TwiceLet span) = words.TWICE_LET.now
+said_of (TwiceKey span) = words.TWICE_KEY.now
 said_of (NoLet span) = words.NO_LET.now
 said_of (NoColumn span) = words.UNKNOWN.now
 said_of (NoValue span) = words.UNKNOWN.now
@@ -50,6 +52,7 @@ said_of (NoRecord span) = words.NO_RECORD.now
 abbrev pub place_of : Culprit → Span
 place_of (TwiceColumn span) = span
 place_of (TwiceLet span) = span
+place_of (TwiceKey span) = span
 place_of (NoLet span) = span
 place_of (NoColumn span) = span
 place_of (NoValue span) = span

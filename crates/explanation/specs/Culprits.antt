@@ -15,10 +15,12 @@ use Rattle.query_syntax.specs.Queries as q
 use Rattle.query_syntax.specs.Queries.{Query}
 use Rattle.query_syntax.specs.Rates.{Rate}
 use Rattle.query_syntax.specs.Spans.{query_span}
-use Rattle.query_syntax.specs.declared.leaf.Name.{Name}
-use Rattle.explanation.specs.Misfits.{misfit_item, misfit_read, misfit_test, unless_key}
+use Rattle.query_syntax.specs.Keys.{key_span, names_of}
+use Rattle.query_syntax.specs.declared.key.Key.{Key}
+use Rattle.explanation.specs.KeyNames.{misfit_name, named_twice, unknown_of}
+use Rattle.explanation.specs.Misfits.{misfit_item, misfit_read, misfit_test}
 use Rattle.explanation.specs.Scopes.{Scope, of_item, of_misread, of_mistyped, of_one, of_two}
-use Rattle.explanation.specs.Scopes.{of_value, unless_known}
+use Rattle.explanation.specs.Scopes.{of_value}
 use Rattle.explanation.specs.Spots.{has_in, is_at}
 use Rattle.explanation.specs.Unknown.{first_of, unknown_column, unknown_item, unknown_name}
 use Rattle.explanation.specs.Uses.{is_on_values}
@@ -62,18 +64,19 @@ in_fold _ scope value = None
 
 -- in the key, the predicate for items of all keys and the rate of a collection, a column whose kind
 -- does not fit; where all fit, the key, since what is collected does not
-abbrev pub kinds_in_keys : Scope → Name → Predicate → Rate → Option Culprit
+abbrev pub kinds_in_keys : Scope → Key → Predicate → Rate → Option Culprit
 kinds_in_keys (of_item columns) key sync rate = first_of
-    (first_of (unless_key columns key)
+    (first_of (misfit_name columns (names_of key))
     (first_of (misfit_test columns sync) (misfit_item columns rate)))
-    (Some (Collected key.span))
+    (Some (Collected (key_span key)))
 kinds_in_keys _ key sync rate = None
 
--- in the same parts, by the rule
-abbrev pub in_keys : Rule → Scope → Name → Predicate → Rate → Option Culprit
+-- in the same parts, by the rule; of names that are all known one that stands twice in the key
+abbrev pub in_keys : Rule → Scope → Key → Predicate → Rate → Option Culprit
 in_keys rule.Name scope key sync rate =
-    first_of (unless_known scope key)
-    (first_of (unknown_column scope sync) (unknown_item scope rate))
+    first_of (first_of (unknown_of scope (names_of key))
+    (first_of (unknown_column scope sync) (unknown_item scope rate)))
+    (named_twice (names_of key))
 in_keys rule.Mismatch scope key sync rate = kinds_in_keys scope key sync rate
 in_keys _ scope key sync rate = None
 

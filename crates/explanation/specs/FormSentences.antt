@@ -5,7 +5,7 @@ use Rattle.query_forms.specs.declared.term_place.TermPlace.{TermPlace}
 use Rattle.query_forms.specs.declared.term_place.TermPlace.TheVariants.{Mode, Column, Kind, Query}
 use Rattle.query_forms.specs.declared.term_place.TermPlace.TheVariants.{Rate, Pred, Literal, Expr}
 use Rattle.query_forms.specs.declared.term_place.TermPlace.TheVariants.{Compare, Name, Number, Text}
-use Rattle.query_forms.specs.declared.term_place.TermPlace.TheVariants.{Digits, Index}
+use Rattle.query_forms.specs.declared.term_place.TermPlace.TheVariants.{Digits, Index, Key}
 use Rattle.explanation.specs.declared.form_sentence.TheConstants as words
 use Rattle.explanation.specs.declared.expectation.Standing.{Standing}
 use Rattle.explanation.specs.declared.expectation.Standing.TheVariants.{Top, In, Nothing}
@@ -16,6 +16,7 @@ forms_of_place Mode = words.MODE.now
 forms_of_place Column = words.COLUMN.now
 forms_of_place Kind = words.KIND.now
 forms_of_place Query = words.QUERY.now
+forms_of_place Key = words.KEY.now
 forms_of_place Rate = words.RATE.now
 forms_of_place Pred = words.PREDICATE.now
 forms_of_place Literal = words.LITERAL.now

@@ -8,6 +8,7 @@ pub mod Explanations
 pub mod FormSentences
 pub mod HintSentences
 pub mod Hints
+pub mod KeyNames
 pub mod Leads
 pub mod Limits
 pub mod Misfits

@@ -25,6 +25,7 @@ shown_rows rows = map shown_row rows
 unfoldable pub rows_of : TermPlace → List (List (List ℕ))
 rows_of place.Kind = map (λ row. map (λ text. text.now) row) words.KINDS
 rows_of place.Query = map (λ row. map (λ text. text.now) row) words.QUERIES
+rows_of place.Key = map (λ row. map (λ text. text.now) row) words.KEYS
 rows_of place.Rate = map (λ row. map (λ text. text.now) row) words.RATES
 rows_of place.Pred = map (λ row. map (λ text. text.now) row) words.PREDICATES
 rows_of place.Expr = map (λ row. map (λ text. text.now) row) words.EXPRESSIONS

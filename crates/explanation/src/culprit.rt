@@ -8,6 +8,8 @@ pub(crate) enum Culprit {
     TwiceColumn(Span),
     /// A let with the name of an earlier one.
     TwiceLet(Span),
+    /// A name that stands before in the same key.
+    TwiceKey(Span),
     /// A name that stands for a query, and no earlier let has it.
     NoLet(Span),
     /// A name that is read from items, and no column has it.

@@ -34,6 +34,8 @@ const TWICE_COLUMN: &str = "An earlier col has this name, and each column has it
 
 const TWICE_LET: &str = "An earlier let has this name, and each let has its own: ";
 
+const TWICE_KEY: &str = "The key has this column already, and each column once; drop it: ";
+
 const NO_LET: &str = "No earlier let has this name: ";
 
 const UNKNOWN: &str = "Not known here: ";
@@ -96,6 +98,7 @@ fn known_there(culprit: Culprit) -> &'static str
         Culprit::NotTwo(_) => TWO_NAMES,
         Culprit::TwiceColumn(_)
         | Culprit::TwiceLet(_)
+        | Culprit::TwiceKey(_)
         | Culprit::Texts(_)
         | Culprit::Numbers(_)
         | Culprit::Key(_)
@@ -112,6 +115,7 @@ fn said_of(culprit: Culprit) -> &'static str
     match culprit {
         Culprit::TwiceColumn(_) => TWICE_COLUMN,
         Culprit::TwiceLet(_) => TWICE_LET,
+        Culprit::TwiceKey(_) => TWICE_KEY,
         Culprit::NoLet(_) => NO_LET,
         Culprit::NoColumn(_) | Culprit::NoValue(_) | Culprit::NotOne(_) | Culprit::NotTwo(_) => {
             UNKNOWN
@@ -133,6 +137,7 @@ fn place_of(culprit: Culprit) -> Span
     match culprit {
         Culprit::TwiceColumn(span)
         | Culprit::TwiceLet(span)
+        | Culprit::TwiceKey(span)
         | Culprit::NoLet(span)
         | Culprit::NoColumn(span)
         | Culprit::NoValue(span)

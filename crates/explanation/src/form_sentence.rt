@@ -19,7 +19,9 @@ const KIND: &str = "A kind is int, text or fixed(1) to fixed(9), as in col(NAME,
 const QUERY: &str = "\
     A query is atom(PRED, EXPR), eps(NUM), or(QUERY, QUERY), split(QUERY, QUERY, EXPR), \
     iter(QUERY, NUM, EXPR), combine(QUERY, QUERY, EXPR), apply(QUERY, EXPR), compose(QUERY, \
-    QUERY), collect(NAME, PRED, RATE, QUERY) or the NAME of a let.";
+    QUERY), collect(KEY, PRED, RATE, QUERY) or the NAME of a let.";
+
+const KEY: &str = "A key is the NAME of a column, or key(NAME, ..) with 2 to 4 NAME.";
 
 const RATE: &str = "A rate is eps, item(PRED), seq(RATE, RATE), alt(RATE, RATE) or star(RATE).";
 
@@ -67,6 +69,7 @@ fn forms_of_place(place: TermPlace) -> &'static str
         TermPlace::Column => COLUMN,
         TermPlace::Kind => KIND,
         TermPlace::Query => QUERY,
+        TermPlace::Key => KEY,
         TermPlace::Rate => RATE,
         TermPlace::Pred => PREDICATE,
         TermPlace::Literal => LITERAL,

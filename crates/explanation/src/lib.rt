@@ -12,6 +12,7 @@ mod expectation;
 mod form_sentence;
 mod hint;
 mod hint_sentence;
+mod key_names;
 mod limit;
 mod misfit;
 mod nearest_words;

@@ -45,13 +45,16 @@ const COMPOSE: &str =
     "compose(F, G) takes two queries: G reads the values of F, in a column called value.";
 
 const COLLECT: &str =
-    "collect(NAME, PRED, RATE, F) is a query: as in apply(T, tsum(x)) its table is read.";
+    "collect(KEY, PRED, RATE, F) is a query: as in apply(T, tsum(x)) its table is read.";
 
 const TABLES: &str =
     "Expressions have tsum(x), tcount(x), tmax(x, 0), tmin(x, 0) and tget(x, \"KEY\", 0).";
 
 const VALUE: &str =
     "An expression is the value of an atom, as in atom(any, EXPR), or joins values.";
+
+const KEY: &str =
+    "A key of several columns is key(NAME, ..), with two to four names; that of one is its NAME.";
 
 const ITEM: &str = "In a rate one item that meets P is item(P), as in star(item(any)).";
 
@@ -157,6 +160,14 @@ pub(crate) const QUERIES: [[&str; 2]; 39] = [
     ["rec", VALUE],
     ["part", VALUE],
     ["let", LET],
+];
+
+pub(crate) const KEYS: [[&str; 2]; 5] = [
+    ["key", KEY],
+    ["keys", KEY],
+    ["rec", KEY],
+    ["pair", KEY],
+    ["tuple", KEY],
 ];
 
 pub(crate) const RATES: [[&str; 2]; 11] = [

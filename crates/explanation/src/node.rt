@@ -8,11 +8,12 @@ ghost use Rattle.explanation.specs.Culprits.{node_culprit};
 ghost use Rattle.explanation.specs.Scopes.{plain_scope};
 
 use crate::culprit::Culprit;
-use crate::misfit::{misfit_item, misfit_read, misfit_test, unless_key};
-use crate::scope::{Scope, unless_known};
+use crate::key_names::{misfit_name, named_twice, unknown_of};
+use crate::misfit::{misfit_item, misfit_read, misfit_test};
+use crate::scope::Scope;
 use crate::unknown_names::{unknown_column, unknown_item, unknown_name};
 use language_base::{Rule, Span};
-use query_syntax::{Expression, Name, Predicate, Query, Rate};
+use query_syntax::{Expression, Key, Predicate, Query, Rate};
 
 /// In a node without its operands.
 pub(crate) fn node_culprit(rule: Rule, scope: Scope<'_>, query: &Query) -> Option<Culprit>
@@ -109,7 +110,7 @@ fn in_fold(rule: Rule, scope: Scope<'_>, value: &Expression) -> Option<Culprit>
 fn in_keys(
     rule: Rule,
     scope: Scope<'_>,
-    key: &Name,
+    key: &Key,
     sync: &Predicate,
     rate: &Rate,
 ) -> Option<Culprit>
@@ -119,22 +120,24 @@ fn in_keys(
     match rule {
         Rule::Name => {
             let tests = unknown_column(scope, sync).or(unknown_item(scope, rate));
-            unless_known(scope, key).or(tests)
+            unknown_of(scope, key.names())
+                .or(tests)
+                .or(named_twice(key.names()))
         }
         Rule::Mismatch => kinds_in_keys(scope, key, sync, rate),
         _ => None,
     }
 }
 
-fn kinds_in_keys(scope: Scope<'_>, key: &Name, sync: &Predicate, rate: &Rate) -> Option<Culprit>
+fn kinds_in_keys(scope: Scope<'_>, key: &Key, sync: &Predicate, rate: &Rate) -> Option<Culprit>
     ensures { result ≡ kinds_in_keys (plain_scope scope.entry) key.now
         (plain_predicate sync.now) (plain_rate rate.now) }
 {
     match scope {
         Scope::Item(columns) => {
             let tests = misfit_test(columns, sync).or(misfit_item(columns, rate));
-            let misfit = unless_key(columns, key).or(tests);
-            misfit.or(Some(Culprit::Collected(key.span)))
+            let misfit = misfit_name(columns, key.names()).or(tests);
+            misfit.or(Some(Culprit::Collected(key.span())))
         }
         _ => None,
     }

@@ -18,7 +18,7 @@ const NAME: &str =
     "An atom's names are those in col; apply has x, and split, iter and combine x and y.";
 
 const NESTED: &str =
-    "Join several keys in one column of the items; a compose may collect on its left side.";
+    "Several columns make one key by key(NAME, ..); a compose may collect on its left side.";
 
 const SIZE: &str =
     "Repeat a part less often, written out or by the name of a let, and nest fewer queries.";

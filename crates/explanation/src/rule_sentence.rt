@@ -18,7 +18,8 @@ const DEPTH: &str =
 
 const FORM: &str = "This term has none of the forms of its place.";
 
-const NAME: &str = "A column or a let is declared twice, or a name is not known where it stands.";
+const NAME: &str =
+    "A name is declared twice or stands twice in a key, or is not known where it stands.";
 
 const NESTED: &str = "A collect stands inside another, or inside the right side of a compose.";
 

@@ -6,7 +6,7 @@ ghost use Rattle.explanation.specs.Nearest.{shown_rows};
 
 use crate::expectation::Standing;
 use crate::nearest_words::{
-    COMPARISONS, EXPRESSIONS, KINDS, NUMBERS, PREDICATES, QUERIES, RATES, TOPS,
+    COMPARISONS, EXPRESSIONS, KEYS, KINDS, NUMBERS, PREDICATES, QUERIES, RATES, TOPS,
 };
 use query_forms::TermPlace;
 
@@ -93,6 +93,7 @@ fn rows_of(place: TermPlace) -> &'static [[&'static str; 2]]
     match place {
         TermPlace::Kind => &KINDS,
         TermPlace::Query => &QUERIES,
+        TermPlace::Key => &KEYS,
         TermPlace::Rate => &RATES,
         TermPlace::Pred => &PREDICATES,
         TermPlace::Expr => &EXPRESSIONS,

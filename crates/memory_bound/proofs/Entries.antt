@@ -194,7 +194,7 @@ no_columns (combine f g e) none =
     ap (λ xs. xs ++ key_columns g) (no_columns f none.0) ∙ no_columns g none.1
 no_columns (apply f e) none = no_columns f none
 no_columns (compose f g) none = no_columns f none.0
-no_columns (collect column sync rate f) none = absurd none
+no_columns (collect chosen sync rate f) none = absurd none
 
 no_keys : (word : Word) → keys_among [] word ≡ []
 no_keys [] = refl
@@ -286,12 +286,12 @@ entries_few standing columns (compose f g) word v clear (x, out, inner, outputs,
     let more = keys_mono f f u word (among_all (key_columns f)) (among_whole word u t whole) in
     omega (arith, one, more)) outputs in
     omega (arith, few, only, all)
-entries_few standing columns (collect column sync rate f) word v clear
+entries_few standing columns (collect chosen sync rate f) word v clear
     (entries, in_rate, each, same) =
     let table = ap entries_of same in
-    let few = entries_of_keys (on_keys f column sync word)
-    (keys_after column sync [] word) entries each in
-    let all = keys_few column sync rate f word in
+    let few = entries_of_keys (on_keys f chosen sync word)
+    (keys_after chosen sync [] word) entries each in
+    let all = keys_few chosen sync rate f word in
     omega (arith, table, few, all)
 
 -- what comes out of the left operand of a compose has no more

@@ -1,4 +1,4 @@
--- More items, and more columns, have no fewer keys.
+-- More items, and more lists of columns, have no fewer keys.
 use Rattle.std.proofs.Common.{◌≡◌, ◌≤◌, ◌∙◌, ℕ, zero, suc, max, true, List, [], ◌∷◌, ◌++◌, map}
 use Rattle.std.proofs.Common.{flat_map, refl, sym, ap, subst, arith, ◌⊎◌, inl, inr}
 use Rattle.std.specs.List.{Contains}
@@ -8,7 +8,7 @@ use Rattle.std.proofs.lemmas.List.Elements.{Contains-append_left, Contains-appen
 use Rattle.std.proofs.lemmas.List.Folds.{list_any-append}
 use Rattle.value_ops.specs.declared.field.Field.{Field}
 use Rattle.rate_expr.specs.Words.{Word}
-use Rattle.query_model.specs.Denotation.{key_of}
+use Rattle.query_model.specs.Keys.{key_of}
 use Rattle.query_model.specs.Queries.{Qre}
 use Rattle.memory_bound.specs.KeysMet.{Key, entries_in, greatest, is_same, key_columns, keys_among}
 use Rattle.memory_bound.specs.KeysMet.{keys_in, keys_met, most_entries}
@@ -32,59 +32,60 @@ no_member x (k, below, is) = absurd (omega (arith, below))
 pub record AreAmong {A : Type 0} (all others : List A) : Type 0 where
   pub each : (x : A) → Contains all x → Contains others x
 
--- the key stands in one of the columns of one of the items
-pub record IsMet (columns : List ℕ) (word : Word) (key : Key) : Type 0 where
-  pub column : ℕ
+-- the key is that of one of the items for one of the lists
+pub record IsMet (lists : List (List ℕ)) (word : Word) (key : Key) : Type 0 where
+  pub chosen : List ℕ
   pub item : List Field
-  pub in_columns : Contains columns column
+  pub in_columns : Contains lists chosen
   pub in_word : Contains word item
-  pub same : is_same key (record { column = column; text = key_of column item }) ≡ true
+  pub same : is_same key (record { columns = chosen; text = key_of chosen item }) ≡ true
 
--- in one of the columns of the item
-in_item : (columns : List ℕ) (item : List Field) (key : Key)
-    → is_member is_same (keys_in columns item) key ≡ true → (column : ℕ) × Contains columns column
-    × (is_same key (record { column = column; text = key_of column item }) ≡ true)
+-- that of the item for one of the lists
+in_item : (lists : List (List ℕ)) (item : List Field) (key : Key)
+    → is_member is_same (keys_in lists item) key ≡ true → (chosen : List ℕ) × Contains lists chosen
+    × (is_same key (record { columns = chosen; text = key_of chosen item }) ≡ true)
 in_item [] item key there = absurd (true≢false (sym there))
-in_item (column ∷ columns) item key there =
-    elim (either (is_same key (record { column = column; text = key_of column item }))
-    (is_member is_same (keys_in columns item) key) there) [
-      | inl same ↦ (column, first_member column columns, same)
-      | inr later ↦ let (other, among, same) = in_item columns item key later in
-          (other, later_member column other columns among, same)
+in_item (chosen ∷ lists) item key there =
+    elim (either (is_same key (record { columns = chosen; text = key_of chosen item }))
+    (is_member is_same (keys_in lists item) key) there) [
+      | inl same ↦ (chosen, first_member chosen lists, same)
+      | inr later ↦ let (other, among, same) = in_item lists item key later in
+          (other, later_member chosen other lists among, same)
     ]
 
-item_in : (columns : List ℕ) (item : List Field) (key : Key) (column : ℕ) → Contains columns column
-    → is_same key (record { column = column; text = key_of column item }) ≡ true
-    → is_member is_same (keys_in columns item) key ≡ true
-item_in [] item key column there same = absurd (no_member column there)
-item_in (x ∷ columns) item key column there same =
-    elim (member_cases x column columns there) [
-      | inl is ↦ or_first (is_same key (record { column = x; text = key_of x item }))
-          (is_member is_same (keys_in columns item) key)
-          (subst (λ c. is_same key (record { column = c; text = key_of c item }) ≡ true) (sym is)
+item_in : (lists : List (List ℕ)) (item : List Field) (key : Key) (chosen : List ℕ)
+    → Contains lists chosen
+    → is_same key (record { columns = chosen; text = key_of chosen item }) ≡ true
+    → is_member is_same (keys_in lists item) key ≡ true
+item_in [] item key chosen there same = absurd (no_member chosen there)
+item_in (x ∷ lists) item key chosen there same =
+    elim (member_cases x chosen lists there) [
+      | inl is ↦ or_first (is_same key (record { columns = x; text = key_of x item }))
+          (is_member is_same (keys_in lists item) key)
+          (subst (λ c. is_same key (record { columns = c; text = key_of c item }) ≡ true) (sym is)
           same)
-      | inr later ↦ or_second (is_same key (record { column = x; text = key_of x item }))
-          (is_member is_same (keys_in columns item) key)
-          (item_in columns item key column later same)
+      | inr later ↦ or_second (is_same key (record { columns = x; text = key_of x item }))
+          (is_member is_same (keys_in lists item) key)
+          (item_in lists item key chosen later same)
     ]
 
-pub met : (columns : List ℕ) (word : Word) (key : Key)
-    → is_member is_same (keys_among columns word) key ≡ true → IsMet columns word key
-met columns [] key there = absurd (true≢false (sym there))
-met columns (item ∷ word) key there =
-    elim (either (is_member is_same (keys_in columns item) key)
-    (is_member is_same (keys_among columns word) key)
-    (sym (list_any-append (is_same key) (keys_in columns item) (keys_among columns word))
+pub met : (lists : List (List ℕ)) (word : Word) (key : Key)
+    → is_member is_same (keys_among lists word) key ≡ true → IsMet lists word key
+met lists [] key there = absurd (true≢false (sym there))
+met lists (item ∷ word) key there =
+    elim (either (is_member is_same (keys_in lists item) key)
+    (is_member is_same (keys_among lists word) key)
+    (sym (list_any-append (is_same key) (keys_in lists item) (keys_among lists word))
     ∙ there)) [
-      | inl here ↦ let (column, among, same) = in_item columns item key here in record {
-        column = column;
+      | inl here ↦ let (chosen, among, same) = in_item lists item key here in record {
+        chosen = chosen;
         item = item;
         in_columns = among;
         in_word = first_member item word;
         same = same;
       }
-      | inr later ↦ let rest = met columns word key later in record {
-        column = rest.column;
+      | inr later ↦ let rest = met lists word key later in record {
+        chosen = rest.chosen;
         item = rest.item;
         in_columns = rest.in_columns;
         in_word = later_member item rest.item word rest.in_word;
@@ -92,22 +93,22 @@ met columns (item ∷ word) key there =
       }
     ]
 
-pub met_among : (columns : List ℕ) (word : Word) (key : Key) → IsMet columns word key
-    → is_member is_same (keys_among columns word) key ≡ true
-met_among columns [] key is = absurd (no_member is.item is.in_word)
-met_among columns (item ∷ word) key is =
-    list_any-append (is_same key) (keys_in columns item) (keys_among columns word)
+pub met_among : (lists : List (List ℕ)) (word : Word) (key : Key) → IsMet lists word key
+    → is_member is_same (keys_among lists word) key ≡ true
+met_among lists [] key is = absurd (no_member is.item is.in_word)
+met_among lists (item ∷ word) key is =
+    list_any-append (is_same key) (keys_in lists item) (keys_among lists word)
     ∙ elim (member_cases item is.item word is.in_word) [
-      | inl same ↦ or_first (is_member is_same (keys_in columns item) key)
-          (is_member is_same (keys_among columns word) key)
-          (item_in columns item key is.column is.in_columns
+      | inl same ↦ or_first (is_member is_same (keys_in lists item) key)
+          (is_member is_same (keys_among lists word) key)
+          (item_in lists item key is.chosen is.in_columns
           (subst (λ (x : List Field).
-          is_same key (record { column = is.column; text = key_of is.column x }) ≡ true)
+          is_same key (record { columns = is.chosen; text = key_of is.chosen x }) ≡ true)
           (sym same) is.same))
-      | inr later ↦ or_second (is_member is_same (keys_in columns item) key)
-          (is_member is_same (keys_among columns word) key)
-          (met_among columns word key (record {
-            column = is.column;
+      | inr later ↦ or_second (is_member is_same (keys_in lists item) key)
+          (is_member is_same (keys_among lists word) key)
+          (met_among lists word key (record {
+            chosen = is.chosen;
             item = is.item;
             in_columns = is.in_columns;
             in_word = later;
@@ -115,14 +116,14 @@ met_among columns (item ∷ word) key is =
           }))
     ]
 
-pub more_keys : (columns others : List ℕ) (u w : Word) → AreAmong columns others → AreAmong u w
-    → distinct_count is_same (keys_among columns u) ≤ distinct_count is_same (keys_among others w)
-more_keys columns others u w fewer shorter =
-    count_mono (keys_among columns u) (keys_among others w) (λ key there.
-    let is = met columns u key there in met_among others w key (record {
-      column = is.column;
+pub more_keys : (lists others : List (List ℕ)) (u w : Word) → AreAmong lists others → AreAmong u w
+    → distinct_count is_same (keys_among lists u) ≤ distinct_count is_same (keys_among others w)
+more_keys lists others u w fewer shorter =
+    count_mono (keys_among lists u) (keys_among others w) (λ key there.
+    let is = met lists u key there in met_among others w key (record {
+      chosen = is.chosen;
       item = is.item;
-      in_columns = fewer.each is.column is.in_columns;
+      in_columns = fewer.each is.chosen is.in_columns;
       in_word = shorter.each is.item is.in_word;
       same = is.same;
     }))

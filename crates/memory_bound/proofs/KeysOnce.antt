@@ -5,14 +5,14 @@ use Rattle.std.specs.Cmp.{IsEquivalence}
 use Rattle.std.specs.List.{AllByRecursion, IsDistinct}
 use Rattle.std.specs.Set.{distinct_count, is_member, unique_keys}
 use Rattle.std.proofs.lemmas.Bool.{true≢false}
-use Rattle.std.proofs.lemmas.Cmp.{and_equiv, nat_eq_equiv, nat_list_eq_equiv, on_equiv}
+use Rattle.std.proofs.lemmas.Cmp.{and_equiv, nat_list_eq_equiv, on_equiv}
 use Rattle.std.proofs.lemmas.Map.Keys.{IsDistinct-cons}
 use Rattle.std.proofs.lemmas.Map.Made.{length-le_from_is_member}
 use Rattle.std.proofs.lemmas.Map.Steps.{list_any_congr}
 use Rattle.memory_bound.specs.KeysMet.{Key, is_same}
 
 pub same_keys : IsEquivalence is_same
-same_keys = and_equiv (on_equiv (λ (key : Key). key.column) nat_eq_equiv)
+same_keys = and_equiv (on_equiv (λ (key : Key). key.columns) nat_list_eq_equiv)
     (on_equiv (λ (key : Key). key.text) nat_list_eq_equiv)
 
 -- one of the keys is another's

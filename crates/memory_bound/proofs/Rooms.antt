@@ -1,5 +1,5 @@
 -- What is kept for a part of a query is a part of what is kept for the whole.
-use Rattle.std.proofs.Common.{◌≤◌, ℕ, ◌+◌, ◌*◌, arith}
+use Rattle.std.proofs.Common.{◌≤◌, ℕ, ◌+◌, ◌*◌, arith, List}
 use Rattle.std.proofs.Math.Nat.{add-mul, mul-le-mul_left}
 use Rattle.predicate_cells.specs.Predicates.{Predicate}
 use Rattle.rate_expr.specs.Rates as rate
@@ -31,7 +31,7 @@ places_inner (combine f g e) =
 places_inner (apply f e) = places_inner f
 places_inner (compose f g) =
     let first = places_inner f in omega (arith, first)
-places_inner (collect column sync rate f) =
+places_inner (collect chosen sync rate f) =
     count_of (size_of rate) (1 + size_of rate + (inner_of f + 1 + width_of f)) (omega arith)
 
 -- a right operand of a compose is kept whole, and so is the body of a collect
@@ -39,8 +39,8 @@ pub right_inner : (f g : Qre) → inner_of g + 1 + width_of g ≤ inner_of (comp
 right_inner f g =
     let one = once_of (places_of f) (1 + (inner_of g + 1 + width_of g)) in omega (arith, one)
 
-pub body_inner : (column : ℕ) (sync : Predicate) (rate : rate.Regex) (f : Qre)
-    → inner_of f + 1 + width_of f ≤ inner_of (collect column sync rate f)
-body_inner column sync rate f =
+pub body_inner : (chosen : List ℕ) (sync : Predicate) (rate : rate.Regex) (f : Qre)
+    → inner_of f + 1 + width_of f ≤ inner_of (collect chosen sync rate f)
+body_inner chosen sync rate f =
     let one = once_of (size_of rate) (1 + size_of rate + (inner_of f + 1 + width_of f)) in
     omega (arith, one)

@@ -5,7 +5,7 @@ use Rattle.std.specs.List.{AllByRecursion, IsDistinct, list_any}
 use Rattle.std.specs.Set.{is_member}
 use Rattle.std.specs.Str.{bytes_eq}
 use Rattle.std.proofs.lemmas.Bool.{true≢false}
-use Rattle.std.proofs.lemmas.Cmp.{nat_eq_equiv, nat_list_eq_equiv}
+use Rattle.std.proofs.lemmas.Cmp.{nat_list_eq_equiv}
 use Rattle.std.proofs.lemmas.List.{length-map}
 use Rattle.std.proofs.lemmas.List.Elements.{Contains-append_left}
 use Rattle.std.proofs.lemmas.List.Folds.{list_any-append}
@@ -18,7 +18,8 @@ use Rattle.predicate_cells.specs.Predicates.{Predicate}
 use Rattle.predicate_cells.specs.Truth.{holds}
 use Rattle.rate_expr.specs.Rates as rates
 use Rattle.rate_expr.specs.Words.{Word}
-use Rattle.query_model.specs.Denotation.{AreEntries, key_of, keys_after, with_key}
+use Rattle.query_model.specs.Denotation.{AreEntries, keys_after, with_key}
+use Rattle.query_model.specs.Keys.{key_of}
 use Rattle.query_model.specs.Queries.{Qre, collect}
 use Rattle.memory_bound.specs.KeysMet.{Key, is_same, key_columns, keys_among, keys_met}
 use Rattle.memory_bound.proofs.Growth.{IsMet, first_member, later_member, met_among}
@@ -34,23 +35,23 @@ key_differs keys key differ = by (list_any (bytes_eq key) keys) refl
     by true seen = differ
     by false new = IsDistinct-push nat_list_eq_equiv keys key differ new
 
-keys_differ : (column : ℕ) (sync : Predicate) (word : Word) (keys : List (List ℕ))
-    → IsDistinct bytes_eq keys → IsDistinct bytes_eq (keys_after column sync keys word)
-keys_differ column sync [] keys differ = differ
-keys_differ column sync (item ∷ word) keys differ =
-    keys_differ column sync word _ (by (holds sync item))
+keys_differ : (chosen : List ℕ) (sync : Predicate) (word : Word) (keys : List (List ℕ))
+    → IsDistinct bytes_eq keys → IsDistinct bytes_eq (keys_after chosen sync keys word)
+keys_differ chosen sync [] keys differ = differ
+keys_differ chosen sync (item ∷ word) keys differ =
+    keys_differ chosen sync word _ (by (holds sync item))
   where
-    by : (b : Bool) → IsDistinct bytes_eq (cond b keys (with_key keys (key_of column item)))
+    by : (b : Bool) → IsDistinct bytes_eq (cond b keys (with_key keys (key_of chosen item)))
     by true = differ
-    by false = key_differs keys (key_of column item) differ
+    by false = key_differs keys (key_of chosen item) differ
 
 none_differ : IsDistinct bytes_eq []
 unfolding IsDistinct
 none_differ = tt
 
--- the text stands in the column of one of the items
-record IsText (column : ℕ) (word : Word) (text : List ℕ) : Type 0 where
-  is_met : IsMet (column ∷ []) word (record { column = column; text = text })
+-- the text is the key of one of the items
+record IsText (chosen : List ℕ) (word : Word) (text : List ℕ) : Type 0 where
+  is_met : IsMet (chosen ∷ []) word (record { columns = chosen; text = text })
 
 -- a key is one of those before, or one of the word
 with_cases : (keys : List (List ℕ)) (key text : List ℕ)
@@ -71,18 +72,18 @@ with_cases keys key text there = by (list_any (bytes_eq key) keys) there
           ]
         ]
 
--- the same column and an equal text
-same_key : (column : ℕ) (text other : List ℕ) → bytes_eq text other ≡ true
-    → is_same (record { column = column; text = text }) (record { column = column; text = other })
+-- the same columns and an equal text
+same_key : (chosen : List ℕ) (text other : List ℕ) → bytes_eq text other ≡ true
+    → is_same (record { columns = chosen; text = text }) (record { columns = chosen; text = other })
     ≡ true
-same_key column text other same =
-    ap (λ b. b && bytes_eq text other) (nat_eq_equiv.refl column) ∙ same
+same_key chosen text other same =
+    ap (λ b. b && bytes_eq text other) (nat_list_eq_equiv.refl chosen) ∙ same
 
-text_later : (column : ℕ) (item : List Field) (word : Word) (text : List ℕ)
-    → IsText column word text → IsText column (item ∷ word) text
-text_later column item word text is = record {
+text_later : (chosen : List ℕ) (item : List Field) (word : Word) (text : List ℕ)
+    → IsText chosen word text → IsText chosen (item ∷ word) text
+text_later chosen item word text is = record {
   is_met = record {
-    column = is.is_met.column;
+    chosen = is.is_met.chosen;
     item = is.is_met.item;
     in_columns = is.is_met.in_columns;
     in_word = later_member item is.is_met.item word is.is_met.in_word;
@@ -90,103 +91,104 @@ text_later column item word text is = record {
   };
 }
 
-text_cases : (column : ℕ) (sync : Predicate) (word : Word) (keys : List (List ℕ)) (text : List ℕ)
-    → list_any (bytes_eq text) (keys_after column sync keys word) ≡ true
-    → (list_any (bytes_eq text) keys ≡ true) ⊎ IsText column word text
-text_cases column sync [] keys text there = inl there
-text_cases column sync (item ∷ word) keys text there =
-    elim (text_cases column sync word _ text there) [
+text_cases : (chosen : List ℕ) (sync : Predicate) (word : Word) (keys : List (List ℕ))
+    (text : List ℕ)
+    → list_any (bytes_eq text) (keys_after chosen sync keys word) ≡ true
+    → (list_any (bytes_eq text) keys ≡ true) ⊎ IsText chosen word text
+text_cases chosen sync [] keys text there = inl there
+text_cases chosen sync (item ∷ word) keys text there =
+    elim (text_cases chosen sync word _ text there) [
       | inl before ↦ by (holds sync item) before
-      | inr later ↦ inr (text_later column item word text later)
+      | inr later ↦ inr (text_later chosen item word text later)
     ]
   where
     by : (b : Bool)
-        → list_any (bytes_eq text) (cond b keys (with_key keys (key_of column item))) ≡ true
-        → (list_any (bytes_eq text) keys ≡ true) ⊎ IsText column (item ∷ word) text
+        → list_any (bytes_eq text) (cond b keys (with_key keys (key_of chosen item))) ≡ true
+        → (list_any (bytes_eq text) keys ≡ true) ⊎ IsText chosen (item ∷ word) text
     by true before = inl before
-    by false before = elim (with_cases keys (key_of column item) text before) [
+    by false before = elim (with_cases keys (key_of chosen item) text before) [
       | inl old ↦ inl old
       | inr same ↦ inr (record {
         is_met = record {
-          column = column;
+          chosen = chosen;
           item = item;
-          in_columns = first_member column [];
+          in_columns = first_member chosen [];
           in_word = first_member item word;
-          same = same_key column text (key_of column item) same;
+          same = same_key chosen text (key_of chosen item) same;
         };
       })
     ]
 
--- texts as keys of a column
-abbrev key_at : ℕ → List ℕ → Key
-key_at column text = record { column = column; text = text }
+-- texts as keys for some columns
+abbrev key_at : List ℕ → List ℕ → Key
+key_at chosen text = record { columns = chosen; text = text }
 
-abbrev keys_at : ℕ → List (List ℕ) → List Key
-keys_at column texts = map (key_at column) texts
+abbrev keys_at : List ℕ → List (List ℕ) → List Key
+keys_at chosen texts = map (key_at chosen) texts
 
-apart_at : (column : ℕ) (text : List ℕ) (texts : List (List ℕ))
+apart_at : (chosen : List ℕ) (text : List ℕ) (texts : List (List ℕ))
     → AllByRecursion (λ other. bytes_eq text other ≡ false) texts
-    → AllByRecursion (λ other. is_same (record { column = column; text = text }) other ≡ false)
-    (keys_at column texts)
-apart_at column text [] all = tt
-apart_at column text (other ∷ texts) all = (
-  ap (λ b. b && bytes_eq text other) (nat_eq_equiv.refl column) ∙ all.0,
-  apart_at column text texts all.1,
+    → AllByRecursion (λ other. is_same (record { columns = chosen; text = text }) other ≡ false)
+    (keys_at chosen texts)
+apart_at chosen text [] all = tt
+apart_at chosen text (other ∷ texts) all = (
+  ap (λ b. b && bytes_eq text other) (nat_list_eq_equiv.refl chosen) ∙ all.0,
+  apart_at chosen text texts all.1,
 )
 
 no_keys_differ : IsDistinct is_same []
 unfolding IsDistinct
 no_keys_differ = tt
 
-differ_at : (column : ℕ) (texts : List (List ℕ)) → IsDistinct bytes_eq texts
-    → IsDistinct is_same (keys_at column texts)
-differ_at column [] differ = no_keys_differ
-differ_at column (text ∷ texts) differ =
-    IsDistinct-cons is_same (record { column = column; text = text }) (keys_at column texts)
-    (apart_at column text texts (IsDistinct-head bytes_eq text texts differ))
-    (differ_at column texts (IsDistinct-tail bytes_eq text texts differ))
+differ_at : (chosen : List ℕ) (texts : List (List ℕ)) → IsDistinct bytes_eq texts
+    → IsDistinct is_same (keys_at chosen texts)
+differ_at chosen [] differ = no_keys_differ
+differ_at chosen (text ∷ texts) differ =
+    IsDistinct-cons is_same (record { columns = chosen; text = text }) (keys_at chosen texts)
+    (apart_at chosen text texts (IsDistinct-head bytes_eq text texts differ))
+    (differ_at chosen texts (IsDistinct-tail bytes_eq text texts differ))
 
--- what is one of these is in the column, with one of the texts
-text_at : (column : ℕ) (texts : List (List ℕ)) (key : Key)
-    → is_member is_same (keys_at column texts) key ≡ true
+-- what is one of these is for the columns, with one of the texts
+text_at : (chosen : List ℕ) (texts : List (List ℕ)) (key : Key)
+    → is_member is_same (keys_at chosen texts) key ≡ true
     → (text : List ℕ) × (list_any (bytes_eq text) texts ≡ true)
-    × (is_same key (record { column = column; text = text }) ≡ true)
-text_at column [] key there = absurd (true≢false (sym there))
-text_at column (text ∷ texts) key there =
-    elim (either (is_same key (record { column = column; text = text }))
-    (is_member is_same (keys_at column texts) key) there) [
+    × (is_same key (record { columns = chosen; text = text }) ≡ true)
+text_at chosen [] key there = absurd (true≢false (sym there))
+text_at chosen (text ∷ texts) key there =
+    elim (either (is_same key (record { columns = chosen; text = text }))
+    (is_member is_same (keys_at chosen texts) key) there) [
       | inl same ↦ (
         text,
         or_first (bytes_eq text text) (list_any (bytes_eq text) texts)
             (nat_list_eq_equiv.refl text),
         same,
       )
-      | inr later ↦ let (other, among, same) = text_at column texts key later in
+      | inr later ↦ let (other, among, same) = text_at chosen texts key later in
           (other, or_second (bytes_eq other text) (list_any (bytes_eq other) texts) among, same)
     ]
 
 -- the keys that a collect distinguishes are keys that were met
-pub keys_few : (column : ℕ) (sync : Predicate) (rate : rates.Regex) (f : Qre) (word : Word)
-    → length (keys_after column sync [] word) ≤ keys_met (collect column sync rate f) word
-keys_few column sync rate f word =
-    let texts = keys_after column sync [] word in
-    let few = count_few (keys_at column texts) (keys_among (column ∷ key_columns f) word)
-    (differ_at column texts (keys_differ column sync word [] none_differ)) (λ key there.
-    let (text, among, same) = text_at column texts key there in
-    elim (text_cases column sync word [] text among) [
+pub keys_few : (chosen : List ℕ) (sync : Predicate) (rate : rates.Regex) (f : Qre) (word : Word)
+    → length (keys_after chosen sync [] word) ≤ keys_met (collect chosen sync rate f) word
+keys_few chosen sync rate f word =
+    let texts = keys_after chosen sync [] word in
+    let few = count_few (keys_at chosen texts) (keys_among (chosen ∷ key_columns f) word)
+    (differ_at chosen texts (keys_differ chosen sync word [] none_differ)) (λ key there.
+    let (text, among, same) = text_at chosen texts key there in
+    elim (text_cases chosen sync word [] text among) [
       | inl none ↦ absurd (true≢false (sym none))
       | inr is ↦
           let it = is.is_met in
-          met_among (column ∷ key_columns f) word key (record {
-            column = it.column;
+          met_among (chosen ∷ key_columns f) word key (record {
+            chosen = it.chosen;
             item = it.item;
-            in_columns = Contains-append_left (column ∷ []) (key_columns f) it.column it.in_columns;
+            in_columns = Contains-append_left (chosen ∷ []) (key_columns f) it.chosen it.in_columns;
             in_word = it.in_word;
-            same = same_keys.congr key (record { column = column; text = text })
-                (record { column = it.column; text = key_of it.column it.item }) same ∙ it.same;
+            same = same_keys.congr key (record { columns = chosen; text = text })
+                (record { columns = it.chosen; text = key_of it.chosen it.item }) same ∙ it.same;
           })
     ]) in
-    let count = length-map texts (λ (text : List ℕ). key_at column text) in
+    let count = length-map texts (λ (text : List ℕ). key_at chosen text) in
     omega (arith, few, count)
 
 -- an entry has one of the keys

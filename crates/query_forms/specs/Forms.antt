@@ -8,7 +8,7 @@ use Rattle.query_forms.specs.declared.term_place.TermPlace.{TermPlace}
 use Rattle.query_forms.specs.declared.term_place.TermPlace.TheVariants.{Mode, Column, Kind, Query}
 use Rattle.query_forms.specs.declared.term_place.TermPlace.TheVariants.{Rate, Pred, Literal, Expr}
 use Rattle.query_forms.specs.declared.term_place.TermPlace.TheVariants.{Compare, Name, Number, Text}
-use Rattle.query_forms.specs.declared.term_place.TermPlace.TheVariants.{Digits, Index}
+use Rattle.query_forms.specs.declared.term_place.TermPlace.TheVariants.{Digits, Index, Key}
 use Rattle.query_forms.specs.Terms.{Terms, word, number, string, call, count_of}
 
 -- a head word and the places of its arguments
@@ -32,7 +32,12 @@ forms_at Query =
     ∷ form (codes "combine") (Query ∷ Query ∷ Expr ∷ [])
     ∷ form (codes "apply") (Query ∷ Expr ∷ [])
     ∷ form (codes "compose") (Query ∷ Query ∷ [])
-    ∷ form (codes "collect") (Name ∷ Pred ∷ Rate ∷ Query ∷ [])
+    ∷ form (codes "collect") (Key ∷ Pred ∷ Rate ∷ Query ∷ [])
+    ∷ []
+forms_at Key =
+    form (codes "key") (replicate 2 Name)
+    ∷ form (codes "key") (replicate 3 Name)
+    ∷ form (codes "key") (replicate 4 Name)
     ∷ []
 forms_at Rate =
     form (codes "item") (Pred ∷ [])
@@ -106,6 +111,7 @@ abbrev pub fits_word : TermPlace → List ℕ → Bool
 fits_word Mode bytes = bytes_eq bytes (codes "plain") || bytes_eq bytes (codes "header")
 fits_word Kind bytes = bytes_eq bytes (codes "int") || bytes_eq bytes (codes "text")
 fits_word Query bytes = true
+fits_word Key bytes = true
 fits_word Rate bytes = bytes_eq bytes (codes "eps")
 fits_word Pred bytes = bytes_eq bytes (codes "any")
 fits_word Expr bytes = true

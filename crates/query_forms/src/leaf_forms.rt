@@ -17,7 +17,7 @@ pub fn fits_word(place: TermPlace, word: &[u8]) -> bool
         TermPlace::Kind => word == b"int".as_slice() || word == b"text".as_slice(),
         TermPlace::Rate => word == b"eps".as_slice(),
         TermPlace::Pred => word == b"any".as_slice(),
-        TermPlace::Query | TermPlace::Expr | TermPlace::Name => true,
+        TermPlace::Query | TermPlace::Key | TermPlace::Expr | TermPlace::Name => true,
         TermPlace::Column
         | TermPlace::Literal
         | TermPlace::Compare
@@ -48,6 +48,7 @@ pub fn fits_number(place: TermPlace, raw: &[u8]) -> bool
         | TermPlace::Column
         | TermPlace::Kind
         | TermPlace::Query
+        | TermPlace::Key
         | TermPlace::Rate => false,
         TermPlace::Pred | TermPlace::Compare | TermPlace::Name | TermPlace::Text => false,
     }

@@ -20,7 +20,13 @@ const QUERY: &[Form] = &[
     Form(b"combine", &[Query, Query, Expr]),
     Form(b"apply", &[Query, Expr]),
     Form(b"compose", &[Query, Query]),
-    Form(b"collect", &[Name, Pred, Rate, Query]),
+    Form(b"collect", &[Key, Pred, Rate, Query]),
+];
+
+const KEY: &[Form] = &[
+    Form(b"key", &[Name; 2]),
+    Form(b"key", &[Name; 3]),
+    Form(b"key", &[Name; 4]),
 ];
 
 const RATE: &[Form] = &[
@@ -86,6 +92,7 @@ pub fn forms_at(place: TermPlace) -> &'static [Form]
         Column => COLUMN,
         Kind => KIND,
         Query => QUERY,
+        Key => KEY,
         Rate => RATE,
         Pred => PRED,
         Expr => EXPR,

@@ -11,6 +11,8 @@ pub enum TermPlace {
     Kind,
     /// A query.
     Query,
+    /// The columns of a collect's key.
+    Key,
     /// The rate of a collect.
     Rate,
     /// A predicate on items.

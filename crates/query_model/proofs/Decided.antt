@@ -63,5 +63,5 @@ value_or_none free columns (combine f g expression) word clear is =
     bound_or_none columns (combine f g expression) word clear is
 value_or_none free columns (apply f expression) word clear is =
     bound_or_none columns (apply f expression) word clear is
-value_or_none free columns (collect column sync rate f) word clear is =
-    bound_or_none columns (collect column sync rate f) word clear is
+value_or_none free columns (collect chosen sync rate f) word clear is =
+    bound_or_none columns (collect chosen sync rate f) word clear is

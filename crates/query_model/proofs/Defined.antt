@@ -14,7 +14,6 @@ use Rattle.value_ops.specs.Typing.{HasType}
 use Rattle.item_schema.specs.declared.column.Column.{Column}
 use Rattle.item_schema.specs.Items.{fields_of_value}
 use Rattle.rate_expr.specs.Language.{In}
-use Rattle.rate_expr.specs.Rates as rate
 use Rattle.rate_expr.specs.Words.{Word, IsWordOf, join}
 use Rattle.rate_expr.specs.Readings.{HasAllButEmpty}
 use Rattle.rate_expr.proofs.Deciding.{in_or_not}
@@ -211,11 +210,11 @@ in_den columns (compose f g) word clear is in_rate =
     (fed (derived_columns (type_of columns f)) g out.0 clear.3 out_is
     (outputs_none (Den f) [] word out.0 x.0 x.1 out.1)) in
     (outer.0, (x.0, out.0, x.1, out.1, outer.1))
-in_den columns (collect column sync rate f) word clear is in_rate =
-    let entries = entries_some (on_keys f column sync word)
-    (λ key. scalar_decided columns f (projection column sync key word) clear.0 clear.1
+in_den columns (collect chosen sync rate f) word clear is in_rate =
+    let entries = entries_some (on_keys f chosen sync word)
+    (λ key. scalar_decided columns f (projection chosen sync key word) clear.0 clear.1
     (kept_word columns _ word is)
-    (λ in_part. in_den columns f (projection column sync key word) clear.0
+    (λ in_part. in_den columns f (projection chosen sync key word) clear.0
     (kept_word columns _ word is) in_part))
-    (keys_after column sync [] word) in
+    (keys_after chosen sync [] word) in
     (value.Table entries.0, (entries.0, in_rate, entries.1, refl))

@@ -62,5 +62,5 @@ den_in standing columns (apply f expression) word value clear is (x, inner, give
     den_in bound columns f word x clear.0 is inner
 den_in standing columns (compose f g) word value clear is (x, out, inner, outputs, outer) =
     den_in standing columns f word x clear.0 is inner
-den_in standing columns (collect column sync rate f) word value clear is
+den_in standing columns (collect chosen sync rate f) word value clear is
     (entries, in_rate, each, all) = in_rate

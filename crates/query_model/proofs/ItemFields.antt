@@ -20,7 +20,7 @@ use Rattle.item_schema.specs.declared.column.Column.{Column}
 use Rattle.item_schema.specs.declared.column.Kind.{Kind}
 use Rattle.item_schema.specs.declared.column.Kind.TheVariants.{Int, Fixed, Text, Number, Table}
 use Rattle.item_schema.specs.Items.{IsFieldOf, IsItemOf}
-use Rattle.query_model.specs.Denotation.{key_of}
+use Rattle.query_model.specs.Keys.{text_in}
 use Rattle.query_model.specs.QueryTypes.{of_columns, of_one, of_two, type_of_kind}
 use Rattle.query_model.proofs.Inside.{same_inside}
 
@@ -38,15 +38,15 @@ value_of_own type value is =
     subst (λ own. IsValueOf own value) (sym (type_of_value type value is)) is
 
 -- the text of a field, and nothing where there is none
-abbrev text_in : Field → List ℕ
-text_in field = unwrap_or (text_of field) []
+abbrev text_of_one : Field → List ℕ
+text_of_one field = unwrap_or (text_of field) []
 
 -- what is known of each field of an item
 record IsKnown (kind : Kind) (field : Field) : Type 0 where
   typed : type_of_field field ≡ type_of_kind kind
   value : (value : Value) → value_of_field (Some field) ≡ Some value
       → IsValueOf (type_of value) value
-  text : IsText (text_in field)
+  text : IsText (text_of_one field)
 
 the_value : (other found : Value) → IsValueOf (type_of found) found → Some found ≡ Some other
     → IsValueOf (type_of other) other
@@ -127,10 +127,10 @@ key_text : (columns : List Column) (item : List Field) (at : ℕ) → IsItemOf c
 key_text columns item at is None there = refl
 key_text columns item at is (Some found) there = (found_known columns item at found is there).1.text
 
--- the key of an item is a text
-pub key_is_text : (columns : List Column) (item : List Field) (column : ℕ) → IsItemOf columns item
-    → IsText (key_of column item)
-key_is_text columns item column is = key_text columns item column is (slice_get item column) refl
+-- what stands in a column is a text
+pub in_column : (columns : List Column) (item : List Field) (column : ℕ) → IsItemOf columns item
+    → IsText (text_in column item)
+in_column columns item column is = key_text columns item column is (slice_get item column) refl
 
 -- the types of one value, and of two
 pub one_type : (type : ValueType) (left : Value) → IsValueOf type left

@@ -18,8 +18,9 @@ use Rattle.item_schema.specs.declared.column.Column.{Column}
 use Rattle.predicate_cells.specs.Predicates.{Predicate}
 use Rattle.predicate_cells.specs.Truth.{holds}
 use Rattle.rate_expr.specs.Words.{Word, IsWordOf}
-use Rattle.query_model.specs.Denotation.{AreEntries, key_of, keys_after, with_key}
-use Rattle.query_model.proofs.ItemFields.{key_is_text}
+use Rattle.query_model.specs.Denotation.{AreEntries, keys_after, with_key}
+use Rattle.query_model.specs.Keys.{key_of}
+use Rattle.query_model.proofs.KeyTexts.{key_is_text}
 
 -- a part of a word that a test keeps is a word of the same items
 pub kept_word : (columns : List Column) (test : List Field → Bool) (word : Word)
@@ -55,25 +56,25 @@ key_added keys key are text = by (list_any (bytes_eq key) keys) refl
     }
 
 -- the keys of a word after others
-keys_more : (columns : List Column) (column : ℕ) (sync : Predicate) (word : Word)
+keys_more : (columns : List Column) (chosen : List ℕ) (sync : Predicate) (word : Word)
     (keys : List (List ℕ)) → AreKeys keys → IsWordOf columns word
-    → AreKeys (keys_after column sync keys word)
-keys_more columns column sync [] keys are is = are
-keys_more columns column sync (item ∷ word) keys are is =
-    keys_more columns column sync word _ (by (holds sync item)) is.1
+    → AreKeys (keys_after chosen sync keys word)
+keys_more columns chosen sync [] keys are is = are
+keys_more columns chosen sync (item ∷ word) keys are is =
+    keys_more columns chosen sync word _ (by (holds sync item)) is.1
   where
-    by : (b : Bool) → AreKeys (cond b keys (with_key keys (key_of column item)))
+    by : (b : Bool) → AreKeys (cond b keys (with_key keys (key_of chosen item)))
     by true = are
-    by false = key_added keys (key_of column item) are (key_is_text columns item column is.0)
+    by false = key_added keys (key_of chosen item) are (key_is_text columns item chosen is.0)
 
 no_keys : AreKeys []
 unfolding IsDistinct
 no_keys = record { texts = tt; distinct = tt }
 
 -- the keys of a word
-pub keys_are : (columns : List Column) (column : ℕ) (sync : Predicate) (word : Word)
-    → IsWordOf columns word → AreKeys (keys_after column sync [] word)
-keys_are columns column sync word is = keys_more columns column sync word [] no_keys is
+pub keys_are : (columns : List Column) (chosen : List ℕ) (sync : Predicate) (word : Word)
+    → IsWordOf columns word → AreKeys (keys_after chosen sync [] word)
+keys_are columns chosen sync word is = keys_more columns chosen sync word [] no_keys is
 
 -- what holds of all keys holds of those that have an entry
 pub entry_keys : (P : List ℕ → Type 0) (D : List ℕ → Value → Type 0) (keys : List (List ℕ))

@@ -5,7 +5,9 @@ pub mod Expressed
 pub mod Inside
 pub mod InRates
 pub mod ItemFields
+pub mod KeyCases
 pub mod Keys
+pub mod KeyTexts
 pub mod SameMembers
 pub mod Typed
 pub mod Unique

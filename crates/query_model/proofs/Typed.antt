@@ -1,6 +1,5 @@
 -- Values have the types of their queries.
 use Rattle.std.proofs.Common.{ℕ, ◌++◌, List, [], ◌∷◌, sym, subst, inl, inr}
-use Rattle.value_ops.specs.declared.scalar.Scalar.{Scalar}
 use Rattle.value_ops.specs.declared.value.Value.{Value}
 use Rattle.value_ops.specs.declared.value.Value.TheVariants as value
 use Rattle.value_ops.specs.declared.value.ValueType.{ValueType}
@@ -74,8 +73,8 @@ outputs_word columns ty D each before (item ∷ word) items is rest
     (word_more columns before item is rest.0) rest.1 more))
 
 -- the values of a query on what a word has for each key
-abbrev pub on_keys : Qre → ℕ → Predicate → Word → List ℕ → Value → Type 0
-on_keys f column sync word key v = Den f (projection column sync key word) v
+abbrev pub on_keys : Qre → List ℕ → Predicate → Word → List ℕ → Value → Type 0
+on_keys f chosen sync word key v = Den f (projection chosen sync key word) v
 
 -- a value on a word has the type of its query
 pub den_typed : (standing : Standing) (columns : List Column) (q : Qre) (word : Word) (v : Value)
@@ -113,18 +112,18 @@ den_typed standing columns (compose f g) word v clear is (x, out, inner, outputs
     (outputs_word columns (type_of columns f) (Den f)
     (λ part last part_is den. den_typed standing columns f part last clear.0 part_is den)
     [] word out tt is outputs) outer
-den_typed standing columns (collect column sync rate f) word v clear is
+den_typed standing columns (collect chosen sync rate f) word v clear is
     (entries, in_rate, each, same) =
-    let keys = keys_are columns column sync word is in
+    let keys = keys_are columns chosen sync word is in
     let table : IsTable entries = record {
-      keys = all_elements IsText (keys_of entries) (entry_keys IsText (on_keys f column sync word)
-          (keys_after column sync [] word) entries keys.texts each);
-      distinct = entry_keys_differ (on_keys f column sync word) (keys_after column sync [] word)
+      keys = all_elements IsText (keys_of entries) (entry_keys IsText (on_keys f chosen sync word)
+          (keys_after chosen sync [] word) entries keys.texts each);
+      distinct = entry_keys_differ (on_keys f chosen sync word) (keys_after chosen sync [] word)
           entries keys.distinct each;
       scalars = all_elements IsScalar (values_of entries) (entry_values IsScalar
-          (on_keys f column sync word) (keys_after column sync [] word) entries
+          (on_keys f chosen sync word) (keys_after chosen sync [] word) entries
           (λ key scalar den. subst (λ ty. IsValueOf ty (value.Scalar scalar)) clear.1
-          (den_typed bound columns f (projection column sync key word) (value.Scalar scalar) clear.0
+          (den_typed bound columns f (projection chosen sync key word) (value.Scalar scalar) clear.0
           (kept_word columns _ word is) den)) each);
     } in
     subst (IsValueOf type.Table) (sym same) table

@@ -182,9 +182,9 @@ one_value standing columns (compose f g) word v other clear is (x, out, inner, o
     (outputs_word columns (type_of columns f) (Den f)
     (λ part last part_is den. den_typed standing columns f part last clear.0 part_is den)
     [] word out' tt is outputs') (subst (λ o. Den g o v) outs outer) outer'
-one_value standing columns (collect column sync rate f) word v other clear is
+one_value standing columns (collect chosen sync rate f) word v other clear is
     (entries, in_rate, each, same) (entries', in_rate', each', same') =
-    same ∙ ap value.Table (entries_one (on_keys f column sync word)
-    (λ key a b den den'. one_value bound columns f (projection column sync key word) a b clear.0
+    same ∙ ap value.Table (entries_one (on_keys f chosen sync word)
+    (λ key a b den den'. one_value bound columns f (projection chosen sync key word) a b clear.0
     (kept_word columns _ word is) den den')
-    (keys_after column sync [] word) entries entries' each each') ∙ sym same'
+    (keys_after chosen sync [] word) entries entries' each each') ∙ sym same'

@@ -116,7 +116,7 @@ width_is columns (combine f g e) =
     of_two_width columns f g e (width_is columns f) (width_is columns g)
 width_is columns (apply f e) = of_one_width columns f e (width_is columns f)
 width_is columns (compose f g) = width_is (derived_columns (type_of columns f)) g
-width_is columns (collect column sync rate f) = refl
+width_is columns (collect chosen sync rate f) = refl
 
 -- a value on a word is as wide as the query
 pub den_width : (standing : Standing) (columns : List Column) (q : Qre) (word : Word) (v : Value)

@@ -17,7 +17,7 @@ places_of (iter f number expression) = places_of f
 places_of (combine f g expression) = places_of f + places_of g
 places_of (apply f expression) = places_of f
 places_of (compose f g) = places_of f
-places_of (collect column sync rate f) = size_of rate + 1
+places_of (collect chosen sync rate f) = size_of rate + 1
 
 -- the width of an expression, from those of its left and its right value
 abbrev pub width_with : ℕ → ℕ → Expression → ℕ
@@ -36,7 +36,7 @@ width_of (iter f number expression) = 1
 width_of (combine f g expression) = width_with (width_of f) (width_of g) expression
 width_of (apply f expression) = width_with (width_of f) 1 expression
 width_of (compose f g) = width_of g
-width_of (collect column sync rate f) = 1
+width_of (collect chosen sync rate f) = 1
 
 -- what a node of the query keeps; one that follows a word keeps its position and its answer besides
 abbrev pub inner_of : Qre → ℕ
@@ -48,7 +48,7 @@ inner_of (iter f number expression) = inner_of f + 3 * places_of f
 inner_of (combine f g expression) = inner_of f + inner_of g
 inner_of (apply f expression) = inner_of f
 inner_of (compose f g) = inner_of f + (places_of f + 1) * (1 + (inner_of g + 1 + width_of g))
-inner_of (collect column sync rate f) =
+inner_of (collect chosen sync rate f) =
     (size_of rate + 1) * (1 + size_of rate + (inner_of f + 1 + width_of f))
 
 abbrev pub slots_of : Qre → ℕ
@@ -64,4 +64,4 @@ nodes_of (iter f number expression) = nodes_of f + 1
 nodes_of (combine f g expression) = nodes_of f + nodes_of g + 1
 nodes_of (apply f expression) = nodes_of f + 1
 nodes_of (compose f g) = nodes_of f + nodes_of g + 1
-nodes_of (collect column sync rate f) = nodes_of f + 1
+nodes_of (collect chosen sync rate f) = nodes_of f + 1

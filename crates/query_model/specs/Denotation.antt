@@ -1,8 +1,7 @@
 -- Statement. What queries mean: the value of a query on a word of items. It looks at the whole word
 -- anew, and knows of no state.
 use Rattle.std.specs.Prelude.{◌≡◌, ◌⊎◌, ℕ, ◌||◌, true, List, [], ◌∷◌, ◌++◌, Option, Some, None}
-use Rattle.std.specs.Prelude.{filter, if◌then◌else◌, slice_get}
-use Rattle.std.specs.Option.{option_and_then, unwrap_or}
+use Rattle.std.specs.Prelude.{filter, if◌then◌else◌}
 use Rattle.std.specs.List.{list_any}
 use Rattle.std.specs.Str.{bytes_eq}
 use Rattle.value_ops.specs.declared.field.Field.{Field}
@@ -12,12 +11,12 @@ use Rattle.value_ops.specs.declared.value.Value.{Value}
 use Rattle.value_ops.specs.declared.value.Value.TheVariants as value
 use Rattle.value_ops.specs.Evaluation.{given, value_of}
 use Rattle.value_ops.specs.Expressions.{Expression}
-use Rattle.value_ops.specs.Fields.{text_of}
 use Rattle.item_schema.specs.Items.{fields_of_value}
 use Rattle.predicate_cells.specs.Predicates.{Predicate}
 use Rattle.predicate_cells.specs.Truth.{holds}
 use Rattle.rate_expr.specs.Language.{In}
 use Rattle.rate_expr.specs.Words.{Word, join}
+use Rattle.query_model.specs.Keys.{key_of}
 use Rattle.query_model.specs.Queries.{Qre, atom, eps, choice, split, iter, combine, apply, compose}
 use Rattle.query_model.specs.Queries.{collect}
 
@@ -48,14 +47,10 @@ Outputs D before (item ∷ word) items =
     (first : Word) × (others : Word) × Emits D before first
     × Outputs D (before ++ item ∷ []) word others × (items ≡ first ++ others)
 
--- the text in a column
-abbrev pub key_of : ℕ → List Field → List ℕ
-key_of column item = unwrap_or (option_and_then text_of (slice_get item column)) []
-
 -- the items of a key, and those that meet the predicate
-abbrev pub projection : ℕ → Predicate → List ℕ → Word → Word
-projection column sync key word =
-    filter (λ item. holds sync item || bytes_eq (key_of column item) key) word
+abbrev pub projection : List ℕ → Predicate → List ℕ → Word → Word
+projection columns sync key word =
+    filter (λ item. holds sync item || bytes_eq (key_of columns item) key) word
 
 -- a key after those that were seen, if it is a new one
 abbrev pub with_key : List (List ℕ) → List ℕ → List (List ℕ)
@@ -63,10 +58,10 @@ with_key keys key = if list_any (bytes_eq key) keys then keys else keys ++ key �
 
 -- the keys of the items that do not meet the predicate, in the order in which they
 -- appear, after others
-abbrev pub keys_after : ℕ → Predicate → List (List ℕ) → Word → List (List ℕ)
-keys_after column sync keys [] = keys
-keys_after column sync keys (item ∷ word) = keys_after column sync
-    (if holds sync item then keys else with_key keys (key_of column item)) word
+abbrev pub keys_after : List ℕ → Predicate → List (List ℕ) → Word → List (List ℕ)
+keys_after columns sync keys [] = keys
+keys_after columns sync keys (item ∷ word) = keys_after columns sync
+    (if holds sync item then keys else with_key keys (key_of columns item)) word
 
 -- the entries of keys: each that has a value, with this value
 abbrev pub AreEntries : (List ℕ → Value → Type 0) → List (List ℕ) → List (List ℕ × Scalar) → Type 0
@@ -94,7 +89,7 @@ Den (combine f g expression) word v =
 Den (apply f expression) word v = (x : Value) × Den f word x × (on_one expression x ≡ Some v)
 Den (compose f g) word v =
     (x : Value) × (out : Word) × Den f word x × Outputs (Den f) [] word out × Den g out v
-Den (collect column sync rate f) word v =
+Den (collect columns sync rate f) word v =
     (entries : List (List ℕ × Scalar)) × In rate word
-    × AreEntries (λ key value. Den f (projection column sync key word) value)
-    (keys_after column sync [] word) entries × (v ≡ value.Table entries)
+    × AreEntries (λ key value. Den f (projection columns sync key word) value)
+    (keys_after columns sync [] word) entries × (v ≡ value.Table entries)

@@ -32,7 +32,7 @@ composes_of (iter f number expression) = composes_of f
 composes_of (combine f g expression) = composes_of f + composes_of g
 composes_of (apply f expression) = composes_of f
 composes_of (compose f g) = composes_of f + composes_of g + 1
-composes_of (collect column sync rate f) = composes_of f
+composes_of (collect chosen sync rate f) = composes_of f
 
 -- One more item fits: it is one of the stream, and its position can be counted, also on the streams
 -- of values inside, each of which may have one item more than the stream that it is made of.

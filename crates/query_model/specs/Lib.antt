@@ -3,6 +3,7 @@ pub mod Checked
 pub mod Denotation
 pub mod Few
 pub mod Following
+pub mod Keys
 pub mod Members
 pub mod Monitors
 pub mod Queries

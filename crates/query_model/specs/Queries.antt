@@ -28,9 +28,9 @@ pub data Qre : Type 0 where
   apply : Qre → values.Expression → Qre
   -- a query on the values of another
   compose : Qre → Qre → Qre
-  -- For each key in a column the value on the items with this key and on those that meet the
-  -- predicate, on the words of the rate
-  collect : ℕ → Predicate → rate.Regex → Qre → Qre
+  -- For each key in one or several columns the value on the items with this key and on those that
+  -- meet the predicate, on the words of the rate
+  collect : List ℕ → Predicate → rate.Regex → Qre → Qre
 
 -- the query of a shape
 abbrev pub plain_of : Shape → Qre
@@ -44,8 +44,8 @@ plain_of (Combine' p first a q second b value) =
     combine (plain_of first) (plain_of second) (values.plain_of value)
 plain_of (Apply' p inner a value) = apply (plain_of inner) (values.plain_of value)
 plain_of (Compose' p first a q second b) = compose (plain_of first) (plain_of second)
-plain_of (Collect' key sync rate p inner a) =
-    collect key (predicates.plain_of sync) (rates.plain_of rate) (plain_of inner)
+plain_of (Collect' columns sync rate p inner a) =
+    collect columns (predicates.plain_of sync) (rates.plain_of rate) (plain_of inner)
 
 -- the places of the operands of a shape, each after those of its own operands
 abbrev pub spans_of : Shape → List Span
@@ -57,4 +57,4 @@ spans_of (Iter' p inner a number value) = spans_of inner ++ a ∷ []
 spans_of (Combine' p first a q second b value) = spans_of first ++ a ∷ spans_of second ++ b ∷ []
 spans_of (Apply' p inner a value) = spans_of inner ++ a ∷ []
 spans_of (Compose' p first a q second b) = spans_of first ++ a ∷ spans_of second ++ b ∷ []
-spans_of (Collect' key sync rate p inner a) = spans_of inner ++ a ∷ []
+spans_of (Collect' columns sync rate p inner a) = spans_of inner ++ a ∷ []

@@ -62,4 +62,4 @@ type_of columns (combine f g expression) =
     type_of_expression (of_two (type_of columns f) (type_of columns g)) expression
 type_of columns (apply f expression) = type_of_expression (of_one (type_of columns f)) expression
 type_of columns (compose f g) = type_of (derived_columns (type_of columns f)) g
-type_of columns (collect column sync rate f) = Table
+type_of columns (collect chosen sync rate f) = Table

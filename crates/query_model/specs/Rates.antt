@@ -13,4 +13,4 @@ rate_of (iter f number expression) = rate.star (rate_of f)
 rate_of (combine f g expression) = rate_of f
 rate_of (apply f expression) = rate_of f
 rate_of (compose f g) = rate_of f
-rate_of (collect column sync rate f) = rate
+rate_of (collect chosen sync rate f) = rate

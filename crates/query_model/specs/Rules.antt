@@ -1,8 +1,8 @@
 -- Statement. The rules that make queries mean one thing: types, one reading, and words on which
 -- operands agree. They are asked at every node, over all words of items of the node's stream.
-use Rattle.std.specs.Prelude.{◌≡◌, true, List, FitsSigned}
+use Rattle.std.specs.Prelude.{◌≡◌, ◌==◌, ◌≤◌, ℕ, true, List, FitsSigned, length}
 use Rattle.std.specs.Int.{w64}
-use Rattle.std.specs.List.{AllByRecursion}
+use Rattle.std.specs.List.{AllByRecursion, IsDistinct}
 use Rattle.value_ops.specs.declared.field.Field.{Field}
 use Rattle.value_ops.specs.declared.value.ValueType.TheVariants.{Number}
 use Rattle.value_ops.specs.Expressions.{Expression}
@@ -34,6 +34,12 @@ pub record CanBeMet (columns : List Column) (pred : Predicate) : Type 0 where
   pub is_item : IsItemOf columns item
   pub meets : holds pred item ≡ true
 
+-- the columns of a key: there is one, all have texts, and none stands twice
+pub record AreKeyColumns (columns : List Column) (chosen : List ℕ) : Type 0 where
+  pub some : 1 ≤ length chosen
+  pub texts : AllByRecursion (λ column. has_texts columns column ≡ true) chosen
+  pub distinct : IsDistinct ◌==◌ chosen
+
 -- the expression is well typed
 abbrev pub IsTyped : Types → Expression → Type 0
 IsTyped types expression = HasType types expression (type_of_expression types expression)
@@ -48,7 +54,7 @@ HasNoCollect (iter f number expression) = HasNoCollect f
 HasNoCollect (combine f g expression) = HasNoCollect f × HasNoCollect g
 HasNoCollect (apply f expression) = HasNoCollect f
 HasNoCollect (compose f g) = HasNoCollect f × HasNoCollect g
-HasNoCollect (collect column sync rate f) = ⊥
+HasNoCollect (collect chosen sync rate f) = ⊥
 
 -- a compose that is bound has a value on each word on which its left operand has one
 abbrev pub IsFedWell : Standing → List Column → Qre → Type 0
@@ -80,7 +86,7 @@ IsClear standing columns (apply f expression) =
 IsClear standing columns (compose f g) =
     IsClear standing columns f × IsClear standing (derived_columns (type_of columns f)) g
     × HasNoCollect g × IsFedWell standing (derived_columns (type_of columns f)) g
-IsClear standing columns (collect column sync rate f) =
+IsClear standing columns (collect chosen sync rate f) =
     IsClear bound columns f × (type_of columns f ≡ Number) × HasNoCollect f
-    × (has_texts columns column ≡ true) × (fits columns sync ≡ true)
+    × AreKeyColumns columns chosen × (fits columns sync ≡ true)
     × AllByRecursion (CanBeMet columns) (preds_of rate)

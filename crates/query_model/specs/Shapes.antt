@@ -12,4 +12,4 @@ HasPlainShapes (iter f number expression) = HasPlainShapes f
 HasPlainShapes (combine f g expression) = HasPlainShapes f × HasPlainShapes g
 HasPlainShapes (apply f expression) = HasPlainShapes f
 HasPlainShapes (compose f g) = ⊥
-HasPlainShapes (collect column sync rate f) = ⊥
+HasPlainShapes (collect chosen sync rate f) = ⊥

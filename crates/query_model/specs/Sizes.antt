@@ -26,7 +26,7 @@ predicates_of (iter f number expression) = predicates_of f
 predicates_of (combine f g expression) = predicates_of f ++ predicates_of g
 predicates_of (apply f expression) = predicates_of f
 predicates_of (compose f g) = predicates_of f
-predicates_of (collect column sync rate f) = sync ∷ preds_of rate ++ predicates_of f
+predicates_of (collect chosen sync rate f) = sync ∷ preds_of rate ++ predicates_of f
 
 -- the predicates of a query distinguish few items of its stream
 abbrev pub HasFewCells : List Column → Qre → Type 0
@@ -44,7 +44,7 @@ HaveFewCells columns (apply f expression) = HaveFewCells columns f
 HaveFewCells columns (compose f g) =
     HaveFewCells columns f × HasFewCells (derived_columns (type_of columns f)) g
     × HaveFewCells (derived_columns (type_of columns f)) g
-HaveFewCells columns (collect column sync rate f) = HaveFewCells columns f
+HaveFewCells columns (collect chosen sync rate f) = HaveFewCells columns f
 
 -- the rate of each node has few positions
 abbrev pub HasFewPositions : Qre → Type 0
@@ -60,7 +60,7 @@ HasFewPositions (iter f number expression) = HasFewPositions f
 HasFewPositions (combine f g expression) = HasFewPositions f × HasFewPositions g
 HasFewPositions (apply f expression) = HasFewPositions f
 HasFewPositions (compose f g) = HasFewPositions f × HasFewPositions g
-HasFewPositions (collect column sync rate f) = HasFewPositions f × (size_of rate ≤ max_positions)
+HasFewPositions (collect chosen sync rate f) = HasFewPositions f × (size_of rate ≤ max_positions)
 
 -- the limits, at every node
 pub record IsSmall (columns : List Column) (query : Qre) : Type 0 where

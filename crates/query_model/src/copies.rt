@@ -6,6 +6,7 @@ ghost use Rattle.query_model.specs.Queries.{combine, compose, iter, split};
 ghost use Rattle.rate_expr.specs.Plain as rates;
 ghost use Rattle.value_ops.specs.Expressions as values;
 
+use crate::KeyColumns;
 use crate::query::{Query, Shape};
 use predicate_cells::Pred;
 use rate_expr::Rate;
@@ -114,18 +115,19 @@ pub(crate) fn copy_of_compose(
 
 #[cycle(copy)]
 pub(crate) fn copy_of_collect(
-    key: u32,
+    columns: &KeyColumns,
     sync: &Pred,
     rate: &Rate,
     inner: &Query,
     alloc: Global,
 ) -> Result<Shape, AllocError>
-    ensures query { IfOk result (λ copy. plain_of copy ≡ collect key
+    ensures query { IfOk result (λ copy. plain_of copy ≡ collect columns.now
         (predicates.plain_of sync.now) (rates.plain_of rate.now) (plain_of inner.now.shape)) }
     ensures spans { IfOk result (λ copy.
         spans_of copy ≡ spans_of inner.now.shape ++ inner.now.span ∷ []) }
 {
     let inner = inner.boxed_copy(alloc)?;
+    let columns = columns.try_copy(alloc)?;
     let sync = sync.try_copy(alloc)?;
-    Ok(Shape::Collect(key, sync, rate.try_copy(alloc)?, inner))
+    Ok(Shape::Collect(columns, sync, rate.try_copy(alloc)?, inner))
 }

@@ -1,16 +1,24 @@
 //! What holds of every query that keeps the rules, at every node and on words of items of the
 //! node's stream.
-ghost use Rattle.std.specs.Prelude.{◌≡◌, ◌⊎◌, List};
+ghost use Rattle.std.specs.Prelude.{◌≡◌, ◌↔◌, ◌⊎◌, ℕ, List};
+ghost use Rattle.value_ops.specs.declared.field.Field.{Field};
 ghost use Rattle.value_ops.specs.Types.{IsValueOf};
 ghost use Rattle.value_ops.specs.declared.value.Value.{Value};
 ghost use Rattle.item_schema.specs.declared.column.Column.{Column};
 ghost use Rattle.rate_expr.specs.Language.{In};
 ghost use Rattle.rate_expr.specs.Words.{Word, IsWordOf};
 ghost use Rattle.query_model.specs.Denotation.{Den};
+ghost use Rattle.query_model.specs.Keys.{AgreeIn, key_of};
 ghost use Rattle.query_model.specs.Queries.{Qre};
 ghost use Rattle.query_model.specs.QueryTypes.{type_of};
 ghost use Rattle.query_model.specs.Rates.{rate_of};
 ghost use Rattle.query_model.specs.Rules.{Standing, bound, IsClear};
+
+/// Two items have the same key exactly where they have the same texts in all its columns.
+pub fn items_have_the_same_key_where_they_agree()
+    ensures { (chosen : List ℕ) (item other : List Field)
+        → (key_of chosen item ≡ key_of chosen other) ↔ AgreeIn chosen item other }
+{}
 
 /// A word has at most one value.
 pub fn a_word_has_at_most_one_value()

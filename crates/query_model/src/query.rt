@@ -1,12 +1,12 @@
 //! Queries: quantitative regular expressions over the items of a stream.
 ghost use Rattle.std.specs.Prelude.{◌≡◌, IfOk};
 
-use crate::Span;
 use crate::copies::{
     copy_of_apply, copy_of_atom, copy_of_choice, copy_of_collect, copy_of_combine, copy_of_compose,
     copy_of_iter, copy_of_split,
 };
 use crate::query_rates::{rate_of_choice, rate_of_iter, rate_of_split};
+use crate::{KeyColumns, Span};
 use predicate_cells::Pred;
 use rate_expr::Rate;
 use std::alloc::{AllocError, Global};
@@ -40,9 +40,9 @@ pub enum Shape {
     Apply(Box<Query>, Expr),
     /// The second on the stream of the values of the first.
     Compose(Box<Query>, Box<Query>),
-    /// A table with the value for each key in the column, where the items that meet the predicate
+    /// A table with the value for each key in the columns, where the items that meet the predicate
     /// belong to every key, on the words of the rate.
-    Collect(u32, Pred, Rate, Box<Query>),
+    Collect(KeyColumns, Pred, Rate, Box<Query>),
 }
 
 impl Query {
@@ -104,8 +104,8 @@ impl Query {
             Shape::Combine(left, right, value) => copy_of_combine(left, right, value, alloc),
             Shape::Apply(inner, value) => copy_of_apply(inner, value, alloc),
             Shape::Compose(left, right) => copy_of_compose(left, right, alloc),
-            Shape::Collect(key, sync, rate, inner) => {
-                copy_of_collect(*key, sync, rate, inner, alloc)
+            Shape::Collect(columns, sync, rate, inner) => {
+                copy_of_collect(columns, sync, rate, inner, alloc)
             }
         }
     }

@@ -1,5 +1,5 @@
 -- What a collection is resolved to.
-use Rattle.std.proofs.Common.{◌≡◌, ◌&&◌, ℕ, Bool, true, false, List, Some, None, Result, Ok, Err}
+use Rattle.std.proofs.Common.{◌≡◌, ◌&&◌, ℕ, Bool, true, false, List, Some, Result, Ok, Err}
 use Rattle.std.proofs.Common.{refl, sym, subst, ◌∙◌}
 use Rattle.std.specs.List.{list_all}
 use Rattle.std.specs.Result.{IfErr, IfOk}
@@ -8,20 +8,22 @@ use Rattle.std.proofs.lemmas.Result.{IfErr-weaker, IfOk-weaker}
 use Rattle.item_schema.specs.declared.column.Column.{Column}
 use Rattle.language_base.specs.declared.rule.Rule.TheVariants.{Name, Nested, Mismatch}
 use Rattle.language_base.specs.declared.span.Span.{Span}
-use Rattle.predicate_cells.specs.Fits.{fits, has_texts}
+use Rattle.predicate_cells.specs.Fits.{fits}
 use Rattle.predicate_cells.specs.Predicates as plain
 use Rattle.query_model.specs.Queries.{Qre, collect, plain_of}
+use Rattle.query_syntax.specs.Keys.{names_of}
 use Rattle.query_syntax.specs.Predicates as p
 use Rattle.query_syntax.specs.Queries as q
 use Rattle.query_syntax.specs.Rates as r
-use Rattle.query_syntax.specs.declared.leaf.Name as leaf
+use Rattle.query_syntax.specs.declared.key.Key.{Key}
 use Rattle.rate_expr.specs.Rates.{Regex, preds_of}
 use Rattle.query_resolver.specs.Findings.{IsUnresolved, places_at, places_in}
-use Rattle.query_resolver.specs.Names.{column_named}
+use Rattle.query_resolver.specs.Names.{key_named}
 use Rattle.query_resolver.specs.Nodes.{with_one}
 use Rattle.query_resolver.specs.Rates.{rate_over}
 use Rattle.query_resolver.specs.Resolutions.{IsMadeOfInner, IsMade, IsRefused, IsRefusedOverInner}
-use Rattle.query_resolver.specs.Resolved.{Nesting, inside, may_collect, resolved, same_type}
+use Rattle.query_resolver.specs.Resolved.{Nesting, have_texts, inside, may_collect, resolved}
+use Rattle.query_resolver.specs.Resolved.{same_type}
 use Rattle.query_resolver.specs.Steps.{◌>>=◌, found, provided, refusal}
 use Rattle.query_resolver.specs.Tests.{resolved_over}
 use Rattle.query_resolver.specs.declared.query_types.Typed.{Typed}
@@ -29,11 +31,12 @@ use Rattle.query_resolver.specs.declared.stop.CheckStop.{CheckStop}
 use Rattle.query_resolver.specs.declared.stop.CheckStop.TheVariants.{Refused, Memory}
 use Rattle.query_resolver.proofs.Composing.{made_inside}
 use Rattle.query_resolver.proofs.FromOperands.{made_of, one_place}
+use Rattle.query_resolver.proofs.KeyColumns.{key_columns_are}
 use Rattle.query_resolver.proofs.Shaping.{same_is}
 use Rattle.value_ops.specs.declared.value.ValueType.{ValueType}
 use Rattle.value_ops.specs.declared.value.ValueType.TheVariants as type
 
-module _ (nesting : Nesting) (columns : List Column) (key : leaf.Name)
+module _ (nesting : Nesting) (columns : List Column) (key : Key)
     (sync : p.Predicate) (rate : r.Rate) (f : q.Query) (span : Span) where
   -- a collection is refused where its operand is
   pub collect_first : (stop : CheckStop) → IsRefused inside columns f stop
@@ -43,13 +46,15 @@ module _ (nesting : Nesting) (columns : List Column) (key : leaf.Name)
   collect_first Memory first = tt
 
   module _ (operand : Typed) (is : IsMade inside columns f operand) where
-    -- the key is no column's name
-    pub unkeyed : None ≡ column_named columns key.bytes
-        → resolved nesting columns (q.collect key sync rate f span) ≡ Err (refusal Name span)
+    -- a name of the key is no column's, or that of one before
+    pub key_refused : (stop : CheckStop)
+        → IsUnresolved (found Name span (key_named columns (names_of key))) stop
+        → IsRefused nesting columns (q.collect key sync rate f span) stop
     unfolding resolved
-    unkeyed none = rw (is.resolved, ← none) refl
+    key_refused (Refused why) none = rw (is.resolved, none) refl
+    key_refused Memory none = tt
 
-    module _ (column : ℕ) (keyed : Some column ≡ column_named columns key.bytes) where
+    module _ (chosen : List ℕ) (keyed : Some chosen ≡ key_named columns (names_of key)) where
       -- or a name in the predicate is none
       pub sync_refused : (stop : CheckStop)
           → IsUnresolved (found Name span (resolved_over columns sync)) stop
@@ -70,7 +75,7 @@ module _ (nesting : Nesting) (columns : List Column) (key : leaf.Name)
         module _ (words : Regex) (rated : Some words ≡ rate_over columns rate) where
           abbrev parts_fit : ValueType → Bool
           parts_fit ty = same_type ty type.Number
-              && (has_texts columns column
+              && (have_texts columns chosen
               && (fits columns pred && list_all (fits columns) (preds_of words)))
 
           -- the test of what is collected, by the type that is known of it
@@ -78,7 +83,7 @@ module _ (nesting : Nesting) (columns : List Column) (key : leaf.Name)
           asked_of ty = resolved nesting columns (q.collect key sync rate f span)
               ≡ (provided Nested span (may_collect nesting) >>= (λ (nested : Unit {0}).
               provided Mismatch span (parts_fit ty) >>= (λ (typed : Unit {0}).
-              Ok (collect column pred words (plain_of operand.query.value.shape)))))
+              Ok (collect chosen pred words (plain_of operand.query.value.shape)))))
 
           asked : asked_of operand.ty
           unfolding resolved
@@ -100,30 +105,30 @@ module _ (nesting : Nesting) (columns : List Column) (key : leaf.Name)
 
             module _ (fit : parts_fit operand.ty ≡ true) where
               collect_step : resolved nesting columns (q.collect key sync rate f span)
-                  ≡ Ok (collect column pred words (plain_of operand.query.value.shape))
+                  ≡ Ok (collect chosen pred words (plain_of operand.query.value.shape))
               collect_step = asked ∙ (rw (may, fit) refl)
 
               pub collect_made : (made : Typed)
                   → plain_of made.query.value.shape
-                  ≡ collect column pred words (plain_of operand.query.value.shape)
+                  ≡ collect chosen pred words (plain_of operand.query.value.shape)
                   → places_at made.query.value.shape ≡ with_one (places_in operand.query.value)
                   → made.query.value.span ≡ span → made.ty ≡ type.Table
                   → IsMade nesting columns (q.collect key sync rate f span) made
               collect_made made shape places at ty =
                   let inner : Qre = plain_of operand.query.value.shape in
                   let all = and_parts (same_type operand.ty type.Number)
-                  (has_texts columns column
+                  (have_texts columns chosen
                   && (fits columns pred && list_all (fits columns) (preds_of words))) fit in
-                  let parts = and_parts (has_texts columns column)
+                  let parts = and_parts (have_texts columns chosen)
                   (fits columns pred && list_all (fits columns) (preds_of words)) all.1 in
                   let tests = and_parts (fits columns pred)
                   (list_all (fits columns) (preds_of words)) parts.1 in
                   made_of nesting columns (q.collect key sync rate f span) made
-                  (collect column pred words inner) shape collect_step ty (
+                  (collect chosen pred words inner) shape collect_step ty (
                     is.typed.keeps,
                     sym is.typed.type ∙ same_is operand.ty type.Number all.0,
                     made_inside columns f operand is,
-                    parts.0,
+                    key_columns_are columns (names_of key) chosen keyed parts.0,
                     tests.0,
                     tests.1,
                   )

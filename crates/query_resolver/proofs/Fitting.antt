@@ -32,7 +32,7 @@ all_fit columns (combine f g expression) fit =
     (all_fit columns g fit.1)
 all_fit columns (apply f expression) fit = all_fit columns f fit.0
 all_fit columns (compose f g) fit = all_fit columns f fit.0
-all_fit columns (collect column sync rate f) fit =
+all_fit columns (collect chosen sync rate f) fit =
     let words = fit_both columns (preds_of rate) (predicates_of f) fit.5
     (all_fit columns f fit.0) in
     rw (fit.4, words) refl

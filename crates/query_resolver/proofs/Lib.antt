@@ -7,8 +7,10 @@ mod Counted
 pub mod FieldTypes
 pub mod Fitting
 mod FromOperands
+mod KeyColumns
 pub mod ManyPositions
 pub mod Measuring
+mod NamedColumns
 pub mod Nested
 pub mod OfOperands
 mod Paired

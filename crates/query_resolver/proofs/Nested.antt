@@ -7,11 +7,12 @@ use Rattle.value_ops.specs.declared.value.ValueType.TheVariants.{Number}
 use Rattle.query_model.specs.QueryTypes as types
 use Rattle.query_model.specs.QueryTypes.{derived_columns, type_of}
 use Rattle.query_model.specs.Rules.{HasNoCollect}
+use Rattle.query_syntax.specs.Keys.{names_of}
 use Rattle.query_syntax.specs.Queries as q
 use Rattle.query_syntax.specs.Queries.{Query}
 use Rattle.query_resolver.specs.Expressions.{expression_over, is_number, is_typed, of_item, of_one}
 use Rattle.query_resolver.specs.Expressions.{of_two}
-use Rattle.query_resolver.specs.Names.{column_named}
+use Rattle.query_resolver.specs.Names.{key_named}
 use Rattle.query_resolver.specs.Rates.{rate_over}
 use Rattle.query_resolver.specs.Resolved.{inside, resolved, same_type}
 use Rattle.query_resolver.specs.Steps.{found, provided}
@@ -71,6 +72,6 @@ none_inside columns (q.compose left right span) =
     (none_inside (derived_columns (type_of columns f)) right) (λ g in_g. (in_f, in_g)))
 none_inside columns (q.collect key sync rate operand span) =
     after_any HasNoCollect (resolved inside columns operand) _ (λ f.
-    after_any HasNoCollect (found Name span (column_named columns key.bytes)) _ (λ column.
+    after_any HasNoCollect (found Name span (key_named columns (names_of key))) _ (λ chosen.
     after_any HasNoCollect (found Name span (resolved_over columns sync)) _ (λ pred.
     after_any HasNoCollect (found Name span (rate_over columns rate)) _ (λ words. tt))))

@@ -92,7 +92,7 @@ few_inside columns standing (compose f g) places few =
       few_decided values g (root_few fs gs last few),
       few_inside values standing g (second_places places) (right_few fs gs last few),
     )
-few_inside columns standing (collect column sync rate f) places few =
+few_inside columns standing (collect chosen sync rate f) places few =
     few_inside columns bound f (first_places places)
     (all_front DerivesFew (nodes_in columns bound f (first_places places)) _ few)
 

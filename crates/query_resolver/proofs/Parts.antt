@@ -3,7 +3,6 @@ use Rattle.std.proofs.Common.{◌≡◌, ◌<◌, ◌≤◌, ◌+◌, ◌∙◌,
 use Rattle.std.proofs.Common.{length, map, get_or, drop, refl, ap, sym, subst, arith}
 use Rattle.std.specs.Option.{option_map}
 use Rattle.std.proofs.lemmas.List.{drop_all, drop_more, length_push, map_push}
-use Rattle.query_syntax.specs.Expressions as e
 use Rattle.query_syntax.specs.Plain.{plain_expression, plain_expressions}
 use Rattle.query_syntax.specs.declared.expression.Expression as tree
 use Rattle.value_ops.specs.Expressions.{Expression, Expressions, all_of, count_of, more, none}

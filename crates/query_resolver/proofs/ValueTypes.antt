@@ -83,7 +83,7 @@ gives_values columns (apply f e) keeps =
     (one_value (type_of columns f) (gives_values columns f keeps.0)) e keeps.1
 gives_values columns (compose f g) keeps =
     gives_values (derived_columns (type_of columns f)) g keeps.1
-gives_values columns (collect column sync rate f) keeps = tt
+gives_values columns (collect chosen sync rate f) keeps = tt
 
 -- where it is known as another type, that is one too
 pub known_value : (columns : List Column) (query : Qre) (type : ValueType)

@@ -13,7 +13,7 @@ use Rattle.predicate_cells.specs.Cells.{AllFit, Partition}
 use Rattle.rate_expr.specs.Rates.{preds_of}
 use Rattle.query_model.specs.Few.{has_few_cells}
 use Rattle.query_model.specs.QueryTypes.{derived_columns, type_of, of_columns, of_one, of_two}
-use Rattle.query_model.specs.Rules.{HasNoCollect, Standing, IsTyped}
+use Rattle.query_model.specs.Rules.{AreKeyColumns, HasNoCollect, Standing, IsTyped}
 use Rattle.query_model.specs.Sizes.{HasFewPositions, HaveFewCells, predicates_of}
 use Rattle.query_model.specs.declared.query.Query.{Query}
 use Rattle.query_model.specs.declared.query.Shape.{Shape}
@@ -24,7 +24,7 @@ use Rattle.query_resolver.specs.Nodes.{with_one, with_two}
 use Rattle.query_resolver.specs.Sizes.{derives_many_cells}
 use Rattle.query_resolver.specs.Steps.{refusal}
 use Rattle.std.specs.Int.{w64}
-use Rattle.predicate_cells.specs.Fits.{fits, has_texts}
+use Rattle.predicate_cells.specs.Fits.{fits}
 use Rattle.query_resolver.specs.declared.query_types.Typed.{Typed}
 use Rattle.query_resolver.specs.declared.stop.CheckStop.{CheckStop}
 use Rattle.query_resolver.specs.declared.stop.CheckStop.TheVariants.{Refused, Memory}
@@ -105,9 +105,9 @@ KeepsTypes columns (apply f expression) =
     KeepsTypes columns f × IsTyped (of_one (type_of columns f)) expression
 KeepsTypes columns (compose f g) =
     KeepsTypes columns f × KeepsTypes (derived_columns (type_of columns f)) g × HasNoCollect g
-KeepsTypes columns (collect column sync rate f) =
+KeepsTypes columns (collect chosen sync rate f) =
     KeepsTypes columns f × (type_of columns f ≡ Number) × HasNoCollect f
-    × (has_texts columns column ≡ true) × (fits columns sync ≡ true)
+    × AreKeyColumns columns chosen × (fits columns sync ≡ true)
     × AllFit columns (preds_of rate)
 
 -- the same over some columns whose fields have these types

@@ -88,9 +88,9 @@ nodes_in columns standing (compose f g) places =
     nodes_in columns standing f (first_places places)
     ++ nodes_in (derived_columns (type_of columns f)) standing g (second_places places)
     ++ root columns standing (compose f g) places ∷ []
-nodes_in columns standing (collect column sync rate f) places =
+nodes_in columns standing (collect chosen sync rate f) places =
     nodes_in columns bound f (first_places places)
-    ++ root columns standing (collect column sync rate f) places ∷ []
+    ++ root columns standing (collect chosen sync rate f) places ∷ []
 
 -- the place of the first node that passes the test
 abbrev pub first_where : (Node → Bool) → List Node → Option Span

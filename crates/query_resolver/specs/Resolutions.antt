@@ -5,7 +5,7 @@ use Rattle.item_schema.specs.declared.column.Column.{Column}
 use Rattle.language_base.specs.declared.refusal.Refusal.{Refusal}
 use Rattle.language_base.specs.declared.rule.Rule.TheVariants.{Name, Mismatch}
 use Rattle.language_base.specs.declared.span.Span.{Span}
-use Rattle.predicate_cells.specs.Fits.{fits, has_texts}
+use Rattle.predicate_cells.specs.Fits.{fits}
 use Rattle.predicate_cells.specs.Plain as predicates
 use Rattle.predicate_cells.specs.Predicates.{Predicate}
 use Rattle.query_model.specs.Queries.{Qre, plain_of}
@@ -13,19 +13,20 @@ use Rattle.query_model.specs.QueryTypes.{derived_columns, of_columns, type_of_ex
 use Rattle.query_model.specs.Rules.{IsTyped}
 use Rattle.query_model.specs.declared.query.Shape.{Shape}
 use Rattle.query_syntax.specs.Expressions as e
+use Rattle.query_syntax.specs.Keys.{names_of}
 use Rattle.query_syntax.specs.Predicates as p
 use Rattle.query_syntax.specs.Queries as q
 use Rattle.query_syntax.specs.Rates as r
-use Rattle.query_syntax.specs.declared.leaf.Name as leaf
+use Rattle.query_syntax.specs.declared.key.Key.{Key}
 use Rattle.rate_expr.specs.Plain as rates
 use Rattle.rate_expr.specs.Rates.{preds_of}
 use Rattle.query_resolver.specs.Expressions.{Scope, expression_over, is_number, is_typed, of_item}
 use Rattle.query_resolver.specs.Findings.{IsResolved, IsUnresolved, places_in}
-use Rattle.query_resolver.specs.Names.{column_named}
+use Rattle.query_resolver.specs.Names.{key_named}
 use Rattle.query_resolver.specs.Nodes.{places_of}
 use Rattle.query_resolver.specs.Rates.{rate_over}
 use Rattle.query_resolver.specs.Resolved as whole
-use Rattle.query_resolver.specs.Resolved.{Nesting, inside, same_type}
+use Rattle.query_resolver.specs.Resolved.{Nesting, have_texts, inside, same_type}
 use Rattle.query_resolver.specs.Scopes.{HasFittingNumbers}
 use Rattle.query_resolver.specs.Steps.{◌>>=◌, found, provided}
 use Rattle.query_resolver.specs.Tests.{resolved_over}
@@ -69,17 +70,17 @@ pub record IsNamedAtom (columns : List Column) (predicate : p.Predicate) (tree :
   pub numbers : HasFittingNumbers value
 
 -- the parts of a collection are resolved to these
-pub record IsNamedCollection (columns : List Column) (key : leaf.Name) (sync : p.Predicate)
+pub record IsNamedCollection (columns : List Column) (key : Key) (sync : p.Predicate)
     (rate : r.Rate) (parts : Parts) : Type 0 where
-  pub keyed : Some parts.key ≡ column_named columns key.bytes
+  pub keyed : Some parts.key ≡ key_named columns (names_of key)
   pub tested : Some (predicates.plain_of parts.sync) ≡ resolved_over columns sync
   pub rated : Some (rates.plain_of parts.rate) ≡ rate_over columns rate
 
--- what is collected is a number, the key column has texts, and each test's column the test's kind
+-- what is collected is a number, the key columns have texts, and each test's column the test's kind
 abbrev pub parts_fit : List Column → ValueType → Parts → Bool
 parts_fit columns type parts =
     same_type type Number
-    && (has_texts columns parts.key && (fits columns (predicates.plain_of parts.sync)
+    && (have_texts columns parts.key && (fits columns (predicates.plain_of parts.sync)
     && list_all (fits columns) (preds_of (rates.plain_of parts.rate))))
 
 -- the query is refused with this stop

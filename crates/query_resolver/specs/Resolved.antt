@@ -2,7 +2,7 @@
 -- that breaks a rule of names, of nesting or of types. The operands of a node are checked from left
 -- to right, and then the node: first its names, then whether a collection may stand there, then its
 -- types.
-use Rattle.std.specs.Prelude.{◌==◌, Bool, ◌&&◌, true, false, List, Result, Ok, Err}
+use Rattle.std.specs.Prelude.{ℕ, ◌==◌, Bool, ◌&&◌, true, false, List, Result, Ok, Err}
 use Rattle.std.specs.List.{list_all}
 use Rattle.language_base.specs.declared.refusal.Refusal.{Refusal}
 use Rattle.language_base.specs.declared.rule.Rule.TheVariants.{Name, Nested, Mismatch}
@@ -15,11 +15,12 @@ use Rattle.query_model.specs.Queries.{Qre, atom, eps, choice, split, iter, combi
 use Rattle.query_model.specs.Queries.{collect}
 use Rattle.query_model.specs.QueryTypes as types
 use Rattle.query_model.specs.QueryTypes.{derived_columns, type_of}
+use Rattle.query_syntax.specs.Keys.{names_of}
 use Rattle.query_syntax.specs.Queries as q
 use Rattle.query_syntax.specs.Queries.{Query}
 use Rattle.query_resolver.specs.Expressions.{expression_over, is_number, is_typed, of_item, of_one}
 use Rattle.query_resolver.specs.Expressions.{of_two}
-use Rattle.query_resolver.specs.Names.{column_named}
+use Rattle.query_resolver.specs.Names.{key_named}
 use Rattle.query_resolver.specs.Rates.{rate_over}
 use Rattle.query_resolver.specs.Steps.{◌>>=◌, found, provided, refusal}
 use Rattle.query_resolver.specs.Tests.{resolved_over}
@@ -40,6 +41,10 @@ same_type Number Number = true
 same_type (Rec size) (Rec other) = size == other
 same_type Table Table = true
 same_type _ _ = false
+
+-- all of these columns have texts
+abbrev pub have_texts : List Column → List ℕ → Bool
+have_texts columns chosen = list_all (has_texts columns) chosen
 
 -- the query over these columns, or its refusal
 unfoldable pub resolved : Nesting → List Column → Query → Result Qre Refusal
@@ -86,11 +91,11 @@ resolved nesting columns (q.compose left right span) = do
   Ok (compose f g)
 resolved nesting columns (q.collect key sync rate operand span) = do
   f ← resolved inside columns operand
-  column ← found Name span (column_named columns key.bytes)
+  chosen ← found Name span (key_named columns (names_of key))
   pred ← found Name span (resolved_over columns sync)
   words ← found Name span (rate_over columns rate)
   nested ← provided Nested span (may_collect nesting)
   typed ← provided Mismatch span (same_type (type_of columns f) Number
-      && (has_texts columns column && (fits columns pred
+      && (have_texts columns chosen && (fits columns pred
       && list_all (fits columns) (preds_of words))))
-  Ok (collect column pred words f)
+  Ok (collect chosen pred words f)

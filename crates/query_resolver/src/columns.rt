@@ -2,6 +2,7 @@
 ghost use Rattle.std.specs.Prelude.{◌≡◌, ◌<◌, IfSome, length};
 ghost use Rattle.predicate_cells.specs.Fits.{has_texts};
 ghost use Rattle.query_resolver.specs.Names.{column_named};
+ghost use Rattle.query_resolver.specs.Resolved.{have_texts};
 
 use item_schema::{Kind, Schema};
 
@@ -22,8 +23,14 @@ fn place_named(columns: &[item_schema::Column], name: &[u8]) -> Option<usize>
         .position(|column| name == column.name.as_slice())
 }
 
-/// Whether the column exists and has texts.
-pub fn has_texts(schema: &Schema, column: u32) -> bool
+/// Whether all columns exist and have texts.
+pub fn have_texts(schema: &Schema, columns: &[u32]) -> bool
+    ensures { result ≡ have_texts schema.now.columns columns.now }
+{
+    columns.iter().all(|column| has_texts(schema, *column))
+}
+
+fn has_texts(schema: &Schema, column: u32) -> bool
     ensures { result ≡ has_texts schema.now.columns column }
 {
     schema

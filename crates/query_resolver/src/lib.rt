@@ -8,6 +8,7 @@ mod columns;
 mod composed_cells;
 mod expression;
 mod expression_names;
+mod key;
 mod measurement;
 mod nesting;
 mod predicate;

@@ -1,11 +1,11 @@
 //! The two nodes with a stream of their own below them: `compose(F, G)` has G on the values of F,
-//! and `collect(NAME, PRED, RATE, F)` has F, for each key, on the items of this key.
+//! and `collect(KEY, PRED, RATE, F)` has F, for each key, on the items of this key.
 ghost use Rattle.std.specs.Prelude.{◌≡◌, true, IfErr, IfOk, OnOk};
 ghost use Rattle.query_syntax.specs.Plain.{plain_predicate, plain_rate};
 ghost use Rattle.query_syntax.specs.Predicates as p;
 ghost use Rattle.query_syntax.specs.Queries as q;
 ghost use Rattle.query_syntax.specs.Rates as r;
-ghost use Rattle.query_syntax.specs.declared.leaf.Name as leaf;
+ghost use Rattle.query_syntax.specs.declared.key.Key as k;
 ghost use Rattle.query_resolver.specs.Nestings.{nesting_of};
 ghost use Rattle.query_resolver.specs.Resolutions.{IsComposed, IsMadeOfInner, IsNamedCollection};
 ghost use Rattle.query_resolver.specs.Resolutions.{IsRefusedOverInner, columns_of, parts_fit};
@@ -13,7 +13,8 @@ ghost use Rattle.query_resolver.specs.Resolved as placed;
 ghost use Rattle.query_resolver.specs.Resolved.{may_collect};
 
 use crate::CheckStop;
-use crate::columns::{column_named, has_texts};
+use crate::columns::have_texts;
+use crate::key::named_key;
 use crate::nesting::Nesting;
 use crate::predicate::named_pred;
 use crate::query_types::Typed;
@@ -22,16 +23,16 @@ use crate::shapes::{Items, same_type};
 use item_schema::Schema;
 use language_base::{Rule, Span};
 use predicate_cells::Pred;
-use query_model::Shape;
-use query_syntax::{Name, Predicate};
+use query_model::{KeyColumns, Shape};
+use query_syntax::{Key, Predicate};
 use rate_expr::Rate;
 use std::alloc::{AllocError, Global};
 use value_ops::ValueType;
 
-/// `collect(NAME, PRED, RATE, F)` as it is written, without F.
+/// `collect(KEY, PRED, RATE, F)` as it is written, without F.
 #[derive(Clone, Copy)]
 pub struct Collection<'t> {
-    pub key: &'t Name,
+    pub key: &'t Key,
     pub sync: &'t Predicate,
     pub rate: &'t query_syntax::Rate,
 }
@@ -39,7 +40,7 @@ pub struct Collection<'t> {
 /// The same with columns by number in place of their names.
 #[derive(Drop)]
 pub struct Parts {
-    pub key: u32,
+    pub key: KeyColumns,
     pub sync: Pred,
     pub rate: Rate,
 }
@@ -119,9 +120,7 @@ fn named_parts(
         (λ f. q.collect written.now.key.now (plain_predicate written.now.sync.now)
         (plain_rate written.now.rate.now) f span) operand stop) }
 {
-    let Some(key) = column_named(schema, written.key.bytes.as_slice()) else {
-        return Err(CheckStop::refused(Rule::Name, span));
-    };
+    let key = named_key(alloc, schema, written.key, span)?;
     let sync = named_pred(alloc, schema, written.sync, span)?;
     let rate = named_rate(alloc, schema, written.rate, span)?;
     Ok(Parts { key, sync, rate })
@@ -137,7 +136,7 @@ fn keep_parts(
 ) -> Result<(), CheckStop>
     ensures stands { OnOk result (may_collect (nesting_of nesting) ≡ true) }
     ensures fit { OnOk result (parts_fit schema.now.columns ty parts.now ≡ true) }
-    ensures refused { IfErr result (λ stop. (key : leaf.Name) (sync : p.Predicate) (rate : r.Rate)
+    ensures refused { IfErr result (λ stop. (key : k.Key) (sync : p.Predicate) (rate : r.Rate)
         (operand : Typed) → IsNamedCollection schema.now.columns key sync rate parts.now
         → operand.ty ≡ ty → IsRefusedOverInner (nesting_of nesting) schema.now.columns
         (λ f. q.collect key sync rate f span) operand stop) }
@@ -155,7 +154,7 @@ fn parts_fit(schema: &Schema, ty: ValueType, parts: &Parts) -> bool
     ensures { result ≡ parts_fit schema.now.columns ty parts.now }
 {
     same_type(ty, ValueType::Number)
-        && has_texts(schema, parts.key)
+        && have_texts(schema, parts.key.as_slice())
         && parts.sync.fits(schema)
         && all_fit(schema, &parts.rate)
 }

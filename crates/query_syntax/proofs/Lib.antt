@@ -1,6 +1,7 @@
 pub mod Fitting
 pub mod Heads
 pub mod Lists
+pub mod Names
 pub mod OneProgram
 pub mod Readings
 pub mod Records

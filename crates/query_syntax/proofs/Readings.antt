@@ -1,6 +1,7 @@
 -- What each term says at each place, so that no two trees are written alike.
 use Rattle.std.proofs.Common.{◌≡◌, ℕ, zero, suc, ◌==◌, ◌&&◌, ℤ, pos, negsuc, Bool, true, false}
-use Rattle.std.proofs.Common.{cond, List, [], ◌∷◌, length, codes, Option, Some, None, refl, sym, ap}
+use Rattle.std.proofs.Common.{cond, List, [], ◌∷◌, length, map, codes, Option, Some, None, refl}
+use Rattle.std.proofs.Common.{sym, ap}
 use Rattle.std.proofs.Common.{◌∙◌}
 use Rattle.std.specs.List.{AllByRecursion}
 use Rattle.std.specs.Str.{bytes_eq}
@@ -8,6 +9,8 @@ use Rattle.language_base.specs.declared.span.Span.{Span}
 use Rattle.query_forms.specs.Terms.{Terms, none, word, number, string, call}
 use Rattle.query_syntax.specs.declared.expression_head.ExpressionHead.{ExpressionHead}
 use Rattle.query_syntax.specs.declared.expression_head.ExpressionHead.TheVariants as expression
+use Rattle.query_syntax.specs.declared.key.Key.{Key}
+use Rattle.query_syntax.specs.declared.key.Key.TheVariants as key
 use Rattle.query_syntax.specs.declared.leaf.Index.{Index}
 use Rattle.query_syntax.specs.declared.leaf.Literal.{Literal}
 use Rattle.query_syntax.specs.declared.leaf.Literal.TheVariants as literal
@@ -56,13 +59,15 @@ use Rattle.query_syntax.specs.Words.{unary_word, binary_word, compare_word, summ
 use Rattle.query_syntax.specs.Words.{extremum_word, equality_word, order_word, connective_word}
 use Rattle.query_syntax.specs.Words.{join_word}
 use Rattle.query_syntax.specs.Written.{number_before, literal_before, expression_before}
-use Rattle.query_syntax.specs.Written.{expressions_terms, predicate_before, rate_before}
+use Rattle.query_syntax.specs.Written.{expressions_terms, key_before, names_terms}
+use Rattle.query_syntax.specs.Written.{predicate_before, rate_before}
 use Rattle.query_syntax.specs.Written.{query_before}
 use Rattle.query_syntax.proofs.SomeTrees.{Comparison}
 
 -- a term read at each place; where it has no form of one, anything
 pub record Reading : Type 0 where
   pub name : Name
+  pub key : Key
   pub number : Number
   pub index : Index
   pub text : Text
@@ -97,6 +102,7 @@ no_comparison =
 abbrev name_reading : Name → Reading
 name_reading n = record {
   name = n;
+  key = key.Column n;
   number = no_number;
   index = no_index;
   text = no_text;
@@ -128,6 +134,11 @@ abbrev at : ℕ → List Reading → Reading
 at n [] = name_reading no_name
 at zero (first ∷ others) = first
 at (suc n) (first ∷ others) = at n others
+
+-- all of the arguments as names
+abbrev all_names : List Reading → List Name
+all_names [] = []
+all_names (first ∷ others) = first.name ∷ all_names others
 
 -- all of the arguments as expressions
 abbrev all_expressions : List Reading → Expressions
@@ -193,11 +204,12 @@ query_from (Some query.Combine) rs span =
 query_from (Some query.Apply) rs span = q.apply (at 0 rs).query (at 1 rs).expression span
 query_from (Some query.Compose) rs span = q.compose (at 0 rs).query (at 1 rs).query span
 query_from (Some query.Collect) rs span =
-    q.collect (at 0 rs).name (at 1 rs).predicate (at 2 rs).rate (at 3 rs).query span
+    q.collect (at 0 rs).key (at 1 rs).predicate (at 2 rs).rate (at 3 rs).query span
 
 -- a call as it is read
 abbrev call_reading : List ℕ → List Reading → Span → Reading
 call_reading head rs span = record (name_reading no_name) {
+  key = key.Columns (all_names rs) span;
   comparison = comparison_from (head_in comparisons head (length rs)) rs span;
   expression = expression_from (head_in expressions head (length rs)) rs span;
   predicate = predicate_from (head_in predicates head (length rs)) rs span;
@@ -298,6 +310,21 @@ literal_back : (l : Literal) (rest : Terms)
     → Back (λ (x : Reading). x.literal) l (literal_before l rest) rest
 literal_back (literal.Number n) rest = record { reading = number_reading n; is = refl; says = refl }
 literal_back (literal.Text t) rest = record { reading = text_reading t; is = refl; says = refl }
+
+-- names read back, and so does a key
+names_read : (names : List Name) → readings (names_terms names) ≡ map name_reading names
+names_read [] = refl
+names_read (first ∷ others) = ap (λ (l : List Reading). name_reading first ∷ l) (names_read others)
+
+names_said : (names : List Name) → all_names (map name_reading names) ≡ names
+names_said [] = refl
+names_said (first ∷ others) = ap (λ (l : List Name). first ∷ l) (names_said others)
+
+key_back : (k : Key) (rest : Terms) → Back (λ (x : Reading). x.key) k (key_before k rest) rest
+key_back (key.Column n) rest = record { reading = name_reading n; is = refl; says = refl }
+key_back (key.Columns names span) rest =
+    call_back _ _ _ _ span rest (map name_reading names) (names_read names)
+    (ap (λ (l : List Name). key.Columns l span) (names_said names))
 
 -- the row is that of a record
 abbrev IsRecord : Row ExpressionHead → Type 0
@@ -499,12 +526,13 @@ query_back (q.compose a b span) rest =
     call_back _ _ _ _ span rest (x.reading ∷ y.reading ∷ []) (before _ _ _ _ _ x y.is)
     (λ i. q.compose (x.says i) (y.says i) span)
 query_back (q.collect k f t a span) rest =
+    let w = key_back k (predicate_before f (rate_before t (query_before a none))) in
     let x = predicate_back f (rate_before t (query_before a none)) in
     let y = rate_back t (query_before a none) in
     let z = query_back a none in
-    call_back _ _ _ _ span rest (name_reading k ∷ x.reading ∷ y.reading ∷ z.reading ∷ [])
-    (ap (λ (l : List Reading). name_reading k ∷ l) (before _ _ _ _ _ x (before _ _ _ _ _ y z.is)))
-    (λ i. q.collect k (x.says i) (y.says i) (z.says i) span)
+    call_back _ _ _ _ span rest (w.reading ∷ x.reading ∷ y.reading ∷ z.reading ∷ [])
+    (before _ _ _ _ _ w (before _ _ _ _ _ x (before _ _ _ _ _ y z.is)))
+    (λ i. q.collect (w.says i) (x.says i) (y.says i) (z.says i) span)
 
 -- no two queries are written alike
 pub one_query : (a b : Query) → query_before a none ≡ query_before b none → a ≡ b

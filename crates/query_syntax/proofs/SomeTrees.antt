@@ -14,6 +14,8 @@ use Rattle.query_forms.specs.Forms.{fits_word, fits_number, fits_string}
 use Rattle.query_parser.proofs.OptionCases.{chosen-none, first_of_two-none}
 use Rattle.query_syntax.specs.declared.expression_head.ExpressionHead.{ExpressionHead}
 use Rattle.query_syntax.specs.declared.expression_head.ExpressionHead.TheVariants as expression
+use Rattle.query_syntax.specs.declared.key.Key.{Key}
+use Rattle.query_syntax.specs.declared.key.Key.TheVariants as key
 use Rattle.query_syntax.specs.declared.leaf.Index.{Index}
 use Rattle.query_syntax.specs.declared.leaf.Literal.{Literal}
 use Rattle.query_syntax.specs.declared.leaf.Literal.TheVariants as literal
@@ -50,10 +52,12 @@ use Rattle.query_syntax.specs.Rates.{Rate}
 use Rattle.query_syntax.specs.Rows.{Row}
 use Rattle.query_syntax.specs.Words.{compare_word}
 use Rattle.query_syntax.specs.Written.{index_before, name_before, number_before, text_before}
+use Rattle.query_syntax.specs.Written.{key_before, names_terms}
 use Rattle.query_syntax.specs.Written.{literal_before, expression_before, expressions_terms}
 use Rattle.query_syntax.specs.Written.{predicate_before, rate_before, query_before}
 use Rattle.query_syntax.proofs.Fitting.{form_at, places_count}
 use Rattle.query_syntax.proofs.Heads.{form_of, IsOf, form_found}
+use Rattle.query_syntax.proofs.Names.{key_rows, names_at}
 use Rattle.query_syntax.proofs.TableRows.{expressions_are, comparisons_are, predicates_are}
 use Rattle.query_syntax.proofs.TableRows.{rates_are, queries_are}
 
@@ -75,6 +79,7 @@ IsTree place.Mode terms rest = (tree : Mode) × (terms ≡ mode_before tree rest
 IsTree place.Column terms rest = (tree : Column) × (terms ≡ column_before tree rest)
 IsTree place.Kind terms rest = (tree : Kind) × (terms ≡ kind_before tree rest)
 IsTree place.Query terms rest = (tree : Query) × (terms ≡ query_before tree rest)
+IsTree place.Key terms rest = (tree : Key) × (terms ≡ key_before tree rest)
 IsTree place.Rate terms rest = (tree : Rate) × (terms ≡ rate_before tree rest)
 IsTree place.Pred terms rest = (tree : Predicate) × (terms ≡ predicate_before tree rest)
 IsTree place.Literal terms rest = (tree : Literal) × (terms ≡ literal_before tree rest)
@@ -116,6 +121,8 @@ word_tree place.Kind bytes span rest fits = by_test (bytes_eq bytes (codes "int"
     by_test true is or_text = (kind.Int span, known bytes (codes "int") span rest is)
     by_test false is or_text = (kind.Text span, known bytes (codes "text") span rest or_text)
 word_tree place.Query bytes span rest fits = (q.name (record { bytes = bytes; span = span }), refl)
+word_tree place.Key bytes span rest fits =
+    (key.Column (record { bytes = bytes; span = span }), refl)
 word_tree place.Rate bytes span rest fits = (r.eps span, known bytes (codes "eps") span rest fits)
 word_tree place.Pred bytes span rest fits = (p.any span, known bytes (codes "any") span rest fits)
 word_tree place.Expr bytes span rest fits = (e.name (record { bytes = bytes; span = span }), refl)
@@ -161,6 +168,22 @@ some_expressions zero terms is = (e.none, is)
 some_expressions (suc n) terms (rest, (first, is-first), others) =
     let more = some_expressions n rest others in
     (e.more first more.0, is-first ∙ ap (expression_before first) more.1)
+
+-- names, one after the other
+some_names : (n : ℕ) (terms : Terms) → AreTrees (replicate n place.Name) terms
+    → (names : List Name) × (terms ≡ names_terms names)
+some_names zero terms is = ([], is)
+some_names (suc n) terms (rest, (first, is-first), others) =
+    let more = some_names n rest others in
+    (first ∷ more.0, is-first ∙ ap (name_before first) more.1)
+
+-- the calls that are keys
+key_tree : (count : ℕ) (arguments : Terms) (span : Span)
+    → AreTrees (replicate count place.Name) arguments
+    → Makes Key key_before (codes "key") arguments span
+key_tree count arguments span trees =
+    let names = some_names count arguments trees in
+    (key.Columns names.0 span, with _ span arguments _ names.1)
 
 -- the calls that are expressions
 expression_tree : (head : ExpressionHead) (arguments : Terms) (span : Span)
@@ -293,7 +316,7 @@ query_tree query.Compose arguments span (_, (a, is-a), (_, (b, is-b), end)) = (
 query_tree query.Collect arguments span
     (_, (k, is-k), (_, (f, is-f), (_, (t, is-t), (_, (a, is-a), end)))) = (
       q.collect k f t a span,
-      with _ span arguments _ (is-k ∙ ap (name_before k) (is-f
+      with _ span arguments _ (is-k ∙ ap (key_before k) (is-f
           ∙ ap (predicate_before f) (is-t ∙ ap (rate_before t) (is-a ∙ ap (query_before a) end)))),
     )
 
@@ -347,6 +370,10 @@ call_tree place.Rate head_word arguments span rest places found trees =
 call_tree place.Query head_word arguments span rest places found trees =
     row_tree _ _ query_word query_places query_before queries queries_are query_tree head_word
     arguments span rest places found trees
+call_tree place.Key head_word arguments span rest places found trees =
+    row_tree ℕ _ (λ _. codes "key") names_at key_before key_rows
+    ((refl, refl), ((refl, refl), ((refl, refl), tt)))
+    key_tree head_word arguments span rest places found trees
 call_tree place.Column head_word arguments span rest places found trees =
     row_tree (Unit {0}) _ (λ _. codes "col") (λ _. place.Name ∷ place.Kind ∷ []) column_before
     (record { is = tt; word = codes "col"; places = place.Name ∷ place.Kind ∷ [] } ∷ [])

@@ -1,8 +1,10 @@
 pub mod Calls
+pub mod Counts
 pub mod ExpressionHeads
 pub mod Expressions
 pub mod Files
 pub mod Fits
+pub mod Keys
 pub mod Limits
 pub mod Plain
 pub mod PredicateHeads

@@ -75,7 +75,7 @@ plain_query (query.Combine' _ a _ b v span) =
 plain_query (query.Apply' _ a v span) = q.apply (plain_query a) (plain_expression v.value) span
 plain_query (query.Compose' _ a _ b span) = q.compose (plain_query a) (plain_query b) span
 plain_query (query.Collect' key f t _ a span) =
-    q.collect key (plain_predicate f.value) (plain_rate t.value) (plain_query a) span
+    q.collect key.value (plain_predicate f.value) (plain_rate t.value) (plain_query a) span
 
 -- the parts of a file
 abbrev pub plain_stream : Stream → plain.Stream

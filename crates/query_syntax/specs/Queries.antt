@@ -1,5 +1,6 @@
 -- Statement. Queries without where they lie in memory.
 use Rattle.language_base.specs.declared.span.Span.{Span}
+use Rattle.query_syntax.specs.declared.key.Key.{Key}
 use Rattle.query_syntax.specs.declared.leaf.Name.{Name}
 use Rattle.query_syntax.specs.declared.leaf.Number.{Number}
 use Rattle.query_syntax.specs.Expressions.{Expression}
@@ -17,4 +18,4 @@ pub data Query : Type 0 where
   combine : Query → Query → Expression → Span → Query
   apply : Query → Expression → Span → Query
   compose : Query → Query → Span → Query
-  collect : Name → Predicate → Rate → Query → Span → Query
+  collect : Key → Predicate → Rate → Query → Span → Query

@@ -30,7 +30,7 @@ query_places Iter = place.Query ∷ place.Number ∷ place.Expr ∷ []
 query_places Combine = place.Query ∷ place.Query ∷ place.Expr ∷ []
 query_places Apply = place.Query ∷ place.Expr ∷ []
 query_places Compose = place.Query ∷ place.Query ∷ []
-query_places Collect = place.Name ∷ place.Pred ∷ place.Rate ∷ place.Query ∷ []
+query_places Collect = place.Key ∷ place.Pred ∷ place.Rate ∷ place.Query ∷ []
 
 -- one of the calls that are queries
 abbrev query : QueryHead → Row QueryHead

@@ -1,7 +1,9 @@
 -- Statement. The terms that expressions, predicates, rates and queries are written as.
-use Rattle.std.specs.Prelude.{pos, codes}
+use Rattle.std.specs.Prelude.{pos, codes, List, [], ◌∷◌}
 use Rattle.query_forms.specs.Terms.{Terms, none, word, string, call}
 use Rattle.query_forms.specs.Terms as terms
+use Rattle.query_syntax.specs.declared.key.Key.{Key}
+use Rattle.query_syntax.specs.declared.key.Key.TheVariants as key
 use Rattle.query_syntax.specs.declared.leaf.Index.{Index}
 use Rattle.query_syntax.specs.declared.leaf.Literal.{Literal}
 use Rattle.query_syntax.specs.declared.leaf.Literal.TheVariants as literal
@@ -89,6 +91,16 @@ rate_before (r.joined op a b span) rest =
     call (join_word op) (rate_before a (rate_before b none)) span rest
 rate_before (r.star a span) rest = call (codes "star") (rate_before a none) span rest
 
+-- names, one after the other
+abbrev pub names_terms : List Name → Terms
+names_terms [] = none
+names_terms (first ∷ others) = name_before first (names_terms others)
+
+-- the columns of a key before other terms
+abbrev pub key_before : Key → Terms → Terms
+key_before (key.Column n) rest = name_before n rest
+key_before (key.Columns names span) rest = call (codes "key") (names_terms names) span rest
+
 -- a query before other terms
 abbrev pub query_before : Query → Terms → Terms
 query_before (q.name n) rest = name_before n rest
@@ -107,6 +119,6 @@ query_before (q.apply a v span) rest =
     call (codes "apply") (query_before a (expression_before v none)) span rest
 query_before (q.compose a b span) rest =
     call (codes "compose") (query_before a (query_before b none)) span rest
-query_before (q.collect key f t a span) rest =
+query_before (q.collect k f t a span) rest =
     call (codes "collect")
-    (name_before key (predicate_before f (rate_before t (query_before a none)))) span rest
+    (key_before k (predicate_before f (rate_before t (query_before a none)))) span rest

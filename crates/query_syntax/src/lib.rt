@@ -6,6 +6,8 @@ mod expression;
 mod expression_calls;
 mod expression_head;
 mod expression_reading;
+mod key;
+mod key_reading;
 mod laws;
 mod leaf;
 mod leaf_reading;
@@ -28,6 +30,7 @@ mod stream_reading;
 mod syntax;
 
 pub use expression::{Comparison, Expression};
+pub use key::{Key, KeyNames};
 pub use language_base::{BinaryOp, Compare, UnaryOp};
 pub use laws::{one_program, streams_are_within_the_limits};
 pub use leaf::{Index, Literal, Name, Number, Text};

@@ -1,5 +1,5 @@
 //! Queries.
-use crate::{Expression, Name, Number, Predicate, Rate};
+use crate::{Expression, Key, Name, Number, Predicate, Rate};
 use language_base::Span;
 
 /// A query, with its names as they are written.
@@ -50,7 +50,7 @@ pub enum Query {
         span: Span,
     },
     Collect {
-        key: Name,
+        key: Box<Key>,
         sync: Box<Predicate>,
         rate: Box<Rate>,
         body: Box<Query>,

@@ -9,7 +9,8 @@ ghost use Rattle.query_syntax.specs.Plain.{plain_expression, plain_query};
 ghost use Rattle.query_syntax.specs.Written.{expression_before, query_before};
 
 use crate::expression_reading::boxed_expression;
-use crate::leaf_reading::{name_of, number_of};
+use crate::key_reading::boxed_key;
+use crate::leaf_reading::number_of;
 use crate::predicate_reading::boxed_predicate;
 use crate::query_reading::boxed_query;
 use crate::rate_reading::boxed_rate;
@@ -134,18 +135,19 @@ pub(crate) fn compose_of(alloc: Global, arguments: &[Term], span: Span) -> Resul
 
 #[cycle(read_query)]
 pub(crate) fn collect_of(alloc: Global, arguments: &[Term], span: Span) -> Result<Query, AllocError>
-    requires { AllFit (place.Name ∷ place.Pred ∷ place.Rate ∷ place.Query ∷ []) arguments.now }
+    requires { AllFit (place.Key ∷ place.Pred ∷ place.Rate ∷ place.Query ∷ []) arguments.now }
     ensures { IfOk result (λ query.
         IsCall (codes "collect") arguments.now span (query_before (plain_query query))) }
 {
     let [key, sync, rate, body] = arguments else {
         unreachable!();
     };
+    let key = boxed_key(alloc, key)?;
     let sync = boxed_predicate(alloc, sync)?;
     let rate = boxed_rate(alloc, rate)?;
     let body = boxed_query(alloc, body)?;
     Ok(Query::Collect {
-        key: name_of(alloc, key)?,
+        key,
         sync,
         rate,
         body,

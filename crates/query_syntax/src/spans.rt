@@ -1,5 +1,5 @@
 //! Where trees stand in the text.
-use crate::{Expression, Predicate, Query, Rate};
+use crate::{Expression, Key, Predicate, Query, Rate};
 use language_base::Span;
 
 impl Expression {
@@ -58,6 +58,20 @@ impl Rate {
             | Rate::Item { span, .. }
             | Rate::Joined { span, .. }
             | Rate::Star { span, .. } => *span,
+        }
+    }
+}
+
+impl Key {
+    ghost use Rattle.std.specs.Prelude.{◌≡◌};
+    ghost use Rattle.query_syntax.specs.Keys.{key_span};
+
+    pub fn span(&self) -> Span
+        ensures { result ≡ key_span self.now }
+    {
+        match self {
+            Key::Column(name) => name.span,
+            Key::Columns(_, span) => *span,
         }
     }
 }

@@ -14,27 +14,29 @@ use Rattle.predicate_cells.specs.Predicates.{Predicate}
 use Rattle.predicate_cells.specs.Truth.{holds}
 use Rattle.rate_expr.specs.Words.{Word}
 use Rattle.rate_expr.proofs.MaskSets.{below-more}
-use Rattle.query_model.specs.Denotation.{key_of, keys_after, projection, with_key}
+use Rattle.query_model.specs.Denotation.{keys_after, projection, with_key}
+use Rattle.query_model.specs.Keys.{key_of}
 use Rattle.slow_eval.specs.Projections.{AreKeysOf, IsOnItems}
 
 -- one more item
-abbrev pub keys_and : ℕ → Predicate → List (List ℕ) → List Field → List (List ℕ)
-keys_and column sync keys item = cond (holds sync item) keys (with_key keys (key_of column item))
+abbrev pub keys_and : List ℕ → Predicate → List (List ℕ) → List Field → List (List ℕ)
+keys_and chosen sync keys item = cond (holds sync item) keys (with_key keys (key_of chosen item))
 
-pub and_kept : (column : ℕ) (sync : Predicate) (keys : List (List ℕ)) (item : List Field)
-    → holds sync item ≡ true → keys_and column sync keys item ≡ keys
-and_kept column sync keys item is = ap (λ b. cond b keys (with_key keys (key_of column item))) is
+pub and_kept : (chosen : List ℕ) (sync : Predicate) (keys : List (List ℕ)) (item : List Field)
+    → holds sync item ≡ true → keys_and chosen sync keys item ≡ keys
+and_kept chosen sync keys item is = ap (λ b. cond b keys (with_key keys (key_of chosen item))) is
 
-pub and_added : (column : ℕ) (sync : Predicate) (keys : List (List ℕ)) (item : List Field)
-    → holds sync item ≡ false → keys_and column sync keys item ≡ with_key keys (key_of column item)
-and_added column sync keys item is = ap (λ b. cond b keys (with_key keys (key_of column item))) is
+pub and_added : (chosen : List ℕ) (sync : Predicate) (keys : List (List ℕ)) (item : List Field)
+    → holds sync item ≡ false → keys_and chosen sync keys item ≡ with_key keys (key_of chosen item)
+and_added chosen sync keys item is = ap (λ b. cond b keys (with_key keys (key_of chosen item))) is
 
-keys_more : (column : ℕ) (sync : Predicate) (keys : List (List ℕ)) (word : Word) (item : List Field)
-    → keys_after column sync keys (word ++ item ∷ [])
-    ≡ keys_and column sync (keys_after column sync keys word) item
-keys_more column sync keys [] item = refl
-keys_more column sync keys (first ∷ word) item =
-    keys_more column sync (keys_and column sync keys first) word item
+keys_more : (chosen : List ℕ) (sync : Predicate) (keys : List (List ℕ)) (word : Word)
+    (item : List Field)
+    → keys_after chosen sync keys (word ++ item ∷ [])
+    ≡ keys_and chosen sync (keys_after chosen sync keys word) item
+keys_more chosen sync keys [] item = refl
+keys_more chosen sync keys (first ∷ word) item =
+    keys_more chosen sync (keys_and chosen sync keys first) word item
 
 -- the keys that were there stand first
 record StandFirst (keys new : List (List ℕ)) : Type 0 where
@@ -54,27 +56,27 @@ key_first keys key = by (list_any (bytes_eq key) keys)
       front = λ n within. take-append-le n keys (key ∷ []) within;
     }
 
-and_first : (column : ℕ) (sync : Predicate) (keys : List (List ℕ)) (item : List Field)
-    → StandFirst keys (keys_and column sync keys item)
-and_first column sync keys item = by (holds sync item)
+and_first : (chosen : List ℕ) (sync : Predicate) (keys : List (List ℕ)) (item : List Field)
+    → StandFirst keys (keys_and chosen sync keys item)
+and_first chosen sync keys item = by (holds sync item)
   where
-    by : (of_all : Bool) → StandFirst keys (cond of_all keys (with_key keys (key_of column item)))
+    by : (of_all : Bool) → StandFirst keys (cond of_all keys (with_key keys (key_of chosen item)))
     by true = same_keys keys
-    by false = key_first keys (key_of column item)
+    by false = key_first keys (key_of chosen item)
 
 -- the keys of a front, and how many of them have appeared on each shorter one
-pub record AreKeysSoFar (column : ℕ) (sync : Predicate) (word : Word) (at : ℕ)
+pub record AreKeysSoFar (chosen : List ℕ) (sync : Predicate) (word : Word) (at : ℕ)
     (keys : List (List ℕ))
     (counts : List ℕ) : Type 0 where
-  pub of_front : keys ≡ keys_after column sync [] (take at word)
+  pub of_front : keys ≡ keys_after chosen sync [] (take at word)
   pub count : length counts ≡ at + 1
   pub within : (place : ℕ) → place ≤ at → get_or counts place 0 ≤ length keys
   pub each : (place : ℕ) → place ≤ at
-      → keys_after column sync [] (take place word) ≡ take (get_or counts place 0) keys
+      → keys_after chosen sync [] (take place word) ≡ take (get_or counts place 0) keys
 
-pub keys_begin : (column : ℕ) (sync : Predicate) (word : Word)
-    → AreKeysSoFar column sync word 0 [] (0 ∷ [])
-keys_begin column sync word = record {
+pub keys_begin : (chosen : List ℕ) (sync : Predicate) (word : Word)
+    → AreKeysSoFar chosen sync word 0 [] (0 ∷ [])
+keys_begin chosen sync word = record {
   of_front = refl;
   count = refl;
   within = λ place none. rw (first place none) (omega arith);
@@ -84,19 +86,20 @@ keys_begin column sync word = record {
     first : (place : ℕ) → place ≤ 0 → place ≡ 0
     first place none = omega arith
 
-pub keys_step : (column : ℕ) (sync : Predicate) (word : Word) (at : ℕ) (keys new : List (List ℕ))
-    (counts : List ℕ) (item : List Field) → AreKeysSoFar column sync word at keys counts
-    → at < length word → get_or word at item ≡ item → new ≡ keys_and column sync keys item
-    → AreKeysSoFar column sync word (at + 1) new (counts ++ length new ∷ [])
-keys_step column sync word at keys new counts item so_far inside read is =
+pub keys_step : (chosen : List ℕ) (sync : Predicate) (word : Word) (at : ℕ)
+    (keys new : List (List ℕ))
+    (counts : List ℕ) (item : List Field) → AreKeysSoFar chosen sync word at keys counts
+    → at < length word → get_or word at item ≡ item → new ≡ keys_and chosen sync keys item
+    → AreKeysSoFar chosen sync word (at + 1) new (counts ++ length new ∷ [])
+keys_step chosen sync word at keys new counts item so_far inside read is =
     let more : take (at + 1) word ≡ take at word ++ item ∷ [] =
     take_more word at item inside ∙ ap (λ x. take at word ++ x ∷ []) read in
-    let whole : new ≡ keys_after column sync [] (take (at + 1) word) =
-    is ∙ ap (λ ks. keys_and column sync ks item) so_far.of_front
-    ∙ sym (keys_more column sync [] (take at word) item)
-    ∙ ap (keys_after column sync []) (sym more) in
+    let whole : new ≡ keys_after chosen sync [] (take (at + 1) word) =
+    is ∙ ap (λ ks. keys_and chosen sync ks item) so_far.of_front
+    ∙ sym (keys_more chosen sync [] (take at word) item)
+    ∙ ap (keys_after chosen sync []) (sym more) in
     let first : StandFirst keys new =
-    subst (StandFirst keys) (sym is) (and_first column sync keys item) in
+    subst (StandFirst keys) (sym is) (and_first chosen sync keys item) in
     let long : length counts ≡ at + 1 = so_far.count in
     record {
       of_front = whole;
@@ -114,7 +117,7 @@ keys_step column sync word at keys new counts item so_far inside read is =
       ];
       each = λ place within. elim (below-more place (at + 1) (omega arith)) [
         | inl here ↦
-            subst (λ p. keys_after column sync [] (take p word)
+            subst (λ p. keys_after chosen sync [] (take p word)
             ≡ take (get_or (counts ++ length new ∷ []) p 0) new)
             (sym here)
             (sym whole ∙ sym (take_all (length new) new (omega arith))
@@ -127,90 +130,91 @@ keys_step column sync word at keys new counts item so_far inside read is =
       ];
     }
 
-pub keys_end : (column : ℕ) (sync : Predicate) (word : Word) (at : ℕ) (keys : List (List ℕ))
-    (counts : List ℕ) → AreKeysSoFar column sync word at keys counts → at ≡ length word
-    → AreKeysOf column sync word keys counts
-keys_end column sync word at keys counts all reached = record {
-  whole = all.of_front ∙ ap (keys_after column sync []) (take_all at word (omega arith));
+pub keys_end : (chosen : List ℕ) (sync : Predicate) (word : Word) (at : ℕ) (keys : List (List ℕ))
+    (counts : List ℕ) → AreKeysSoFar chosen sync word at keys counts → at ≡ length word
+    → AreKeysOf chosen sync word keys counts
+keys_end chosen sync word at keys counts all reached = record {
+  whole = all.of_front ∙ ap (keys_after chosen sync []) (take_all at word (omega arith));
   count = all.count ∙ ap (λ n. n + 1) reached;
   within = λ place inside. all.within place (omega arith);
   each = λ place inside. all.each place (omega arith);
 }
 
 -- whether an item is one of the key or of all keys
-abbrev pub is_of : ℕ → Predicate → List ℕ → List Field → Bool
-is_of column sync key item = holds sync item || bytes_eq (key_of column item) key
+abbrev pub is_of : List ℕ → Predicate → List ℕ → List Field → Bool
+is_of chosen sync key item = holds sync item || bytes_eq (key_of chosen item) key
 
 -- the projection of a word begins with that of a front
-pub projection_front : (column : ℕ) (sync : Predicate) (key : List ℕ) (word : Word) (place : ℕ)
-    → projection column sync key word
-    ≡ projection column sync key (take place word) ++ projection column sync key (drop place word)
-projection_front column sync key word place =
-    ap (projection column sync key) (sym (take-append-drop place word))
-    ∙ filter-append (is_of column sync key) (take place word) (drop place word)
+pub projection_front : (chosen : List ℕ) (sync : Predicate) (key : List ℕ) (word : Word) (place : ℕ)
+    → projection chosen sync key word
+    ≡ projection chosen sync key (take place word) ++ projection chosen sync key (drop place word)
+projection_front chosen sync key word place =
+    ap (projection chosen sync key) (sym (take-append-drop place word))
+    ∙ filter-append (is_of chosen sync key) (take place word) (drop place word)
 
-pub projection_shorter : (column : ℕ) (sync : Predicate) (key : List ℕ) (word : Word) (place : ℕ)
-    → length (projection column sync key (take place word))
-    ≤ length (projection column sync key word)
-projection_shorter column sync key word place =
-    let first = projection column sync key (take place word) in
-    let rest = projection column sync key (drop place word) in
-    let long : length (projection column sync key word) ≡ length first + length rest =
-    ap length (projection_front column sync key word place) ∙ length-append first rest in
+pub projection_shorter : (chosen : List ℕ) (sync : Predicate) (key : List ℕ)
+    (word : Word) (place : ℕ)
+    → length (projection chosen sync key (take place word))
+    ≤ length (projection chosen sync key word)
+projection_shorter chosen sync key word place =
+    let first = projection chosen sync key (take place word) in
+    let rest = projection chosen sync key (drop place word) in
+    let long : length (projection chosen sync key word) ≡ length first + length rest =
+    ap length (projection_front chosen sync key word place) ∙ length-append first rest in
     omega arith
 
-pub projection_taken : (column : ℕ) (sync : Predicate) (key : List ℕ) (word : Word) (place : ℕ)
-    → take (length (projection column sync key (take place word))) (projection column sync key word)
-    ≡ projection column sync key (take place word)
-projection_taken column sync key word place =
-    let first = projection column sync key (take place word) in
-    ap (take (length first)) (projection_front column sync key word place)
-    ∙ take_at first (projection column sync key (drop place word)) (length first) refl
+pub projection_taken : (chosen : List ℕ) (sync : Predicate) (key : List ℕ) (word : Word) (place : ℕ)
+    → take (length (projection chosen sync key (take place word))) (projection chosen sync key word)
+    ≡ projection chosen sync key (take place word)
+projection_taken chosen sync key word place =
+    let first = projection chosen sync key (take place word) in
+    ap (take (length first)) (projection_front chosen sync key word place)
+    ∙ take_at first (projection chosen sync key (drop place word)) (length first) refl
 
 -- one more item is one of the key, or is not
-pub projection_more : (column : ℕ) (sync : Predicate) (key : List ℕ) (word : Word) (at : ℕ)
+pub projection_more : (chosen : List ℕ) (sync : Predicate) (key : List ℕ) (word : Word) (at : ℕ)
     (item : List Field) → at < length word → get_or word at item ≡ item
-    → projection column sync key (take (at + 1) word)
-    ≡ projection column sync key (take at word) ++ cond (is_of column sync key item) (item ∷ []) []
-projection_more column sync key word at item inside read =
-    filter_more (is_of column sync key) word at item inside
+    → projection chosen sync key (take (at + 1) word)
+    ≡ projection chosen sync key (take at word) ++ cond (is_of chosen sync key item) (item ∷ []) []
+projection_more chosen sync key word at item inside read =
+    filter_more (is_of chosen sync key) word at item inside
     ∙ ap
-    (λ x. projection column sync key (take at word) ++ cond (is_of column sync key x) (x ∷ []) [])
+    (λ x. projection chosen sync key (take at word) ++ cond (is_of chosen sync key x) (x ∷ []) [])
     read
 
-pub counted : (column : ℕ) (sync : Predicate) (key : List ℕ) (word : Word) (at items : ℕ)
-    (item : List Field) → items ≡ length (projection column sync key (take at word))
-    → at < length word → get_or word at item ≡ item → is_of column sync key item ≡ true
-    → items + 1 ≡ length (projection column sync key (take (at + 1) word))
-counted column sync key word at items item so_far inside read is =
+pub counted : (chosen : List ℕ) (sync : Predicate) (key : List ℕ) (word : Word) (at items : ℕ)
+    (item : List Field) → items ≡ length (projection chosen sync key (take at word))
+    → at < length word → get_or word at item ≡ item → is_of chosen sync key item ≡ true
+    → items + 1 ≡ length (projection chosen sync key (take (at + 1) word))
+counted chosen sync key word at items item so_far inside read is =
     ap (λ n. n + 1) so_far
-    ∙ sym (length_push (projection column sync key (take at word)) item)
-    ∙ ap (λ b. length (projection column sync key (take at word) ++ cond b (item ∷ []) [])) (sym is)
-    ∙ ap length (sym (projection_more column sync key word at item inside read))
+    ∙ sym (length_push (projection chosen sync key (take at word)) item)
+    ∙ ap (λ b. length (projection chosen sync key (take at word) ++ cond b (item ∷ []) [])) (sym is)
+    ∙ ap length (sym (projection_more chosen sync key word at item inside read))
 
-pub passed : (column : ℕ) (sync : Predicate) (key : List ℕ) (word : Word) (at items : ℕ)
-    (item : List Field) → items ≡ length (projection column sync key (take at word))
-    → at < length word → get_or word at item ≡ item → is_of column sync key item ≡ false
-    → items ≡ length (projection column sync key (take (at + 1) word))
-passed column sync key word at items item so_far inside read is =
+pub passed : (chosen : List ℕ) (sync : Predicate) (key : List ℕ) (word : Word) (at items : ℕ)
+    (item : List Field) → items ≡ length (projection chosen sync key (take at word))
+    → at < length word → get_or word at item ≡ item → is_of chosen sync key item ≡ false
+    → items ≡ length (projection chosen sync key (take (at + 1) word))
+passed chosen sync key word at items item so_far inside read is =
     so_far
-    ∙ ap length (sym (append-nil (projection column sync key (take at word))))
-    ∙ ap (λ b. length (projection column sync key (take at word) ++ cond b (item ∷ []) [])) (sym is)
-    ∙ ap length (sym (projection_more column sync key word at item inside read))
+    ∙ ap length (sym (append-nil (projection chosen sync key (take at word))))
+    ∙ ap (λ b. length (projection chosen sync key (take at word) ++ cond b (item ∷ []) [])) (sym is)
+    ∙ ap length (sym (projection_more chosen sync key word at item inside read))
 
 -- the answers on the fronts so far, and how many items the longest has for the key
-pub record IsOnItemsSoFar (column : ℕ) (sync : Predicate) (key : List ℕ) (word : Word)
+pub record IsOnItemsSoFar (chosen : List ℕ) (sync : Predicate) (key : List ℕ) (word : Word)
     (answers row : List (Option Value)) (at items : ℕ) : Type 0 where
-  pub items_are : items ≡ length (projection column sync key (take at word))
+  pub items_are : items ≡ length (projection chosen sync key (take at word))
   pub count : length row ≡ at + 1
   pub each : (place : ℕ) → place ≤ at
       → get_or row place None
-      ≡ get_or answers (length (projection column sync key (take place word))) None
+      ≡ get_or answers (length (projection chosen sync key (take place word))) None
 
-pub items_begin : (column : ℕ) (sync : Predicate) (key : List ℕ) (word : Word)
+pub items_begin : (chosen : List ℕ) (sync : Predicate) (key : List ℕ) (word : Word)
     (answers : List (Option Value)) (answer : Option Value) → answer ≡ get_or answers 0 None
-    → IsOnItemsSoFar column sync key word answers (answer ∷ []) 0 0
-items_begin column sync key word answers answer is = record {
+    → IsOnItemsSoFar chosen sync key word answers (answer ∷ []) 0 0
+items_begin chosen sync key word answers answer is = record {
   items_are = refl;
   count = refl;
   each = λ place none. rw (first place none) is;
@@ -219,13 +223,13 @@ items_begin column sync key word answers answer is = record {
     first : (place : ℕ) → place ≤ 0 → place ≡ 0
     first place none = omega arith
 
-pub items_step : (column : ℕ) (sync : Predicate) (key : List ℕ) (word : Word)
+pub items_step : (chosen : List ℕ) (sync : Predicate) (key : List ℕ) (word : Word)
     (answers row : List (Option Value)) (at items after : ℕ) (answer : Option Value)
-    → IsOnItemsSoFar column sync key word answers row at items
-    → after ≡ length (projection column sync key (take (at + 1) word))
+    → IsOnItemsSoFar chosen sync key word answers row at items
+    → after ≡ length (projection chosen sync key (take (at + 1) word))
     → answer ≡ get_or answers after None
-    → IsOnItemsSoFar column sync key word answers (row ++ answer ∷ []) (at + 1) after
-items_step column sync key word answers row at items after answer so_far are is =
+    → IsOnItemsSoFar chosen sync key word answers (row ++ answer ∷ []) (at + 1) after
+items_step chosen sync key word answers row at items after answer so_far are is =
     let long : length row ≡ at + 1 = so_far.count in
     record {
       items_are = are;
@@ -233,7 +237,7 @@ items_step column sync key word answers row at items after answer so_far are is 
       each = λ place within. elim (below-more place (at + 1) (omega arith)) [
         | inl here ↦
             subst (λ p. get_or (row ++ answer ∷ []) p None
-            ≡ get_or answers (length (projection column sync key (take p word))) None) (sym here)
+            ≡ get_or answers (length (projection chosen sync key (take p word))) None) (sym here)
             (get_or_push row answer None (at + 1) long ∙ is ∙ ap (λ n. get_or answers n None) are)
         | inr before ↦
             get_or_append_left row (answer ∷ []) None place (omega arith)
@@ -241,11 +245,11 @@ items_step column sync key word answers row at items after answer so_far are is 
       ];
     }
 
-pub items_end : (column : ℕ) (sync : Predicate) (key : List ℕ) (word : Word)
+pub items_end : (chosen : List ℕ) (sync : Predicate) (key : List ℕ) (word : Word)
     (answers row : List (Option Value)) (at items : ℕ)
-    → IsOnItemsSoFar column sync key word answers row at items → at ≡ length word
-    → IsOnItems column sync key word answers row
-items_end column sync key word answers row at items all whole = record {
+    → IsOnItemsSoFar chosen sync key word answers row at items → at ≡ length word
+    → IsOnItems chosen sync key word answers row
+items_end chosen sync key word answers row at items all whole = record {
   count = all.count ∙ ap (λ n. n + 1) whole;
   each = λ place inside. all.each place (omega arith);
 }

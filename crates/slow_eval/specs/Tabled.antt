@@ -14,11 +14,11 @@ use Rattle.slow_eval.specs.declared.keyed_answers.Keyed.{Keyed}
 use Rattle.slow_eval.specs.Rows.{answer_at}
 
 -- an answer of the query on the items that each front of the word has for the key
-pub record IsKeyed (query : Qre) (column : ℕ) (sync : Predicate) (word : Word)
+pub record IsKeyed (query : Qre) (chosen : List ℕ) (sync : Predicate) (word : Word)
     (one : Keyed) : Type 0 where
   pub count : length one.answers.items ≡ length word + 1
   pub each : (place : ℕ) → place ≤ length word
-      → IsAnswer query (projection column sync one.key (take place word))
+      → IsAnswer query (projection chosen sync one.key (take place word))
       (answer_at one.answers.items place)
 
 -- the scalar that the answer is, if it is one

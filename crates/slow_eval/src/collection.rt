@@ -22,21 +22,21 @@ use value_ops::{Bytes, Value};
 #[cycle(search)]
 pub(crate) fn collect_answers(
     alloc: Global,
-    column: u32,
+    columns: &[u32],
     sync: &Pred,
     rate: &Rate,
     inner: &Query,
     word: &[Item],
 ) -> Result<Vec<Option<Value>>, AllocError>
-    requires { let query = collect column (predicates.plain_of sync.now)
+    requires { let query = collect columns.now (predicates.plain_of sync.now)
         (rates.plain_of rate.now) (plain_of inner.now.shape) in CanBeRead query word.now }
-    ensures { let query = collect column (predicates.plain_of sync.now)
+    ensures { let query = collect columns.now (predicates.plain_of sync.now)
         (rates.plain_of rate.now) (plain_of inner.now.shape) in
         IfOk result (λ answers. AreAnswers query word.now answers.items) }
 {
     let in_rate = fronts_in(alloc, rate, word)?;
-    let found = keys_of(alloc, column, sync, word)?;
-    let all = answers_for_keys(alloc, column, sync, &found.keys, inner, word)?;
+    let found = keys_of(alloc, columns, sync, word)?;
+    let all = answers_for_keys(alloc, columns, sync, &found.keys, inner, word)?;
     tables(alloc, &in_rate, &found.counts, &all)
 }
 
@@ -44,22 +44,22 @@ pub(crate) fn collect_answers(
 #[cycle(search)]
 fn answers_for_keys(
     alloc: Global,
-    column: u32,
+    columns: &[u32],
     sync: &Pred,
     keys: &[Bytes],
     inner: &Query,
     word: &[Item],
 ) -> Result<Vec<Keyed>, AllocError>
     requires { (key : List ℕ) → CanBeRead (plain_of inner.now.shape)
-        (projection column (predicates.plain_of sync.now) key word.now) }
+        (projection columns.now (predicates.plain_of sync.now) key word.now) }
     ensures keys { IfOk result (λ all. keys_in all.items ≡ keys.now) }
     ensures answers { IfOk result (λ all. AllByRecursion
-        (IsKeyed (plain_of inner.now.shape) column (predicates.plain_of sync.now) word.now)
+        (IsKeyed (plain_of inner.now.shape) columns.now (predicates.plain_of sync.now) word.now)
         all.items) }
 {
     let mut all = Vec::new(alloc);
     'keys: for key in keys {
-        let one = answers_for_key(alloc, column, sync, key, inner, word)?;
+        let one = answers_for_key(alloc, columns, sync, key, inner, word)?;
         all.push(one)?;
     }
     Ok(all)
@@ -69,21 +69,21 @@ fn answers_for_keys(
 #[cycle(search)]
 fn answers_for_key(
     alloc: Global,
-    column: u32,
+    columns: &[u32],
     sync: &Pred,
     key: &Bytes,
     inner: &Query,
     word: &[Item],
 ) -> Result<Keyed, AllocError>
     requires { CanBeRead (plain_of inner.now.shape)
-        (projection column (predicates.plain_of sync.now) key.now word.now) }
+        (projection columns.now (predicates.plain_of sync.now) key.now word.now) }
     ensures key { IfOk result (λ one. one.key ≡ key.now) }
     ensures answers { IfOk result
-        (IsKeyed (plain_of inner.now.shape) column (predicates.plain_of sync.now) word.now) }
+        (IsKeyed (plain_of inner.now.shape) columns.now (predicates.plain_of sync.now) word.now) }
 {
-    let items = projection(alloc, column, sync, key.as_slice(), word)?;
+    let items = projection(alloc, columns, sync, key.as_slice(), word)?;
     let values = answers_on_fronts(alloc, inner, &items)?;
-    let answers = on_items(alloc, column, sync, key.as_slice(), word, &values)?;
+    let answers = on_items(alloc, columns, sync, key.as_slice(), word, &values)?;
     let key = key.try_copy(alloc)?;
     Ok(Keyed { key, answers })
 }

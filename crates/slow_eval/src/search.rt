@@ -43,8 +43,8 @@ pub fn answers_on_fronts(
         }
         Shape::Apply(inner, expression) => apply_answers(alloc, inner, expression, word),
         Shape::Compose(left, right) => compose_answers(alloc, left, right, word),
-        Shape::Collect(column, sync, rate, inner) => {
-            collect_answers(alloc, *column, sync, rate, inner, word)
+        Shape::Collect(columns, sync, rate, inner) => {
+            collect_answers(alloc, columns.as_slice(), sync, rate, inner, word)
         }
     }
 }

@@ -278,7 +278,7 @@ places_are_kept (combine f g expression) = let a = places_are_kept f in
     let b = places_are_kept g in omega arith
 places_are_kept (apply f expression) = let a = places_are_kept f in omega arith
 places_are_kept (compose f g) = let a = places_are_kept f in omega arith
-places_are_kept (collect column sync rate f) =
+places_are_kept (collect chosen sync rate f) =
     omega (
       arith,
       at_least (size_of rate + 1) (1 + size_of rate + (inner_of f + 1 + width_of f)) (omega arith),

@@ -22,7 +22,7 @@ composes_few (combine f g expression) = let a = composes_few f in
     let b = composes_few g in omega arith
 composes_few (apply f expression) = let a = composes_few f in omega arith
 composes_few (compose f g) = let a = composes_few f in let b = composes_few g in omega arith
-composes_few (collect column sync rate f) = let a = composes_few f in omega arith
+composes_few (collect chosen sync rate f) = let a = composes_few f in omega arith
 
 -- one more item fits after fewer than 2^63 of them
 pub fits_next : (on : CheckedQuery) → IsChecked on

@@ -1,7 +1,8 @@
 -- The query of the test on a collect keeps the rules.
-use Rattle.std.proofs.Common.{◌≡◌, List, [], ◌∷◌, arith, refl, rules, subst, sym}
+use Rattle.std.proofs.Common.{◌≡◌, ◌==◌, true, List, [], ◌∷◌, arith, refl, rules, subst, sym}
 use Rattle.std.specs.Prelude.{IsTrue, codes, pos}
-use Rattle.std.specs.List.{list_all}
+use Rattle.std.specs.List.{IsDistinct, list_all}
+use Rattle.std.proofs.lemmas.Map.Keys.{IsDistinct-cons}
 use Rattle.value_ops.specs.declared.field.Field.{Field}
 use Rattle.value_ops.specs.declared.field.Field.TheVariants as field
 use Rattle.value_ops.specs.Expressions.{read}
@@ -9,10 +10,11 @@ use Rattle.value_ops.specs.Texts.{IsText}
 use Rattle.item_schema.specs.declared.column.Column.{Column}
 use Rattle.item_schema.specs.declared.column.Kind.TheVariants as kind
 use Rattle.item_schema.specs.Layout.{is_read}
+use Rattle.predicate_cells.specs.Fits.{has_texts}
 use Rattle.predicate_cells.specs.Predicates.{any}
 use Rattle.query_model.specs.Checked.{IsChecked, CheckedQuery}
 use Rattle.query_model.specs.Queries.{plain_of}
-use Rattle.query_model.specs.Rules.{CanBeMet, IsClear, free}
+use Rattle.query_model.specs.Rules.{AreKeyColumns, CanBeMet, IsClear, free}
 use Rattle.query_model.specs.Sizes.{IsSmall}
 use Rattle.test_engines.specs.TestedQueries.{keyed, tick, totals_by_key}
 use Rattle.test_engines.proofs.TestedFolds.{one_factoring, zero_fits}
@@ -29,12 +31,25 @@ met = record { fit = refl; item = ticks; is_item = (text, (zero_fits, tt)); meet
 met_by_tick : CanBeMet keyed tick
 met_by_tick = record { fit = refl; item = ticks; is_item = (text, (zero_fits, tt)); meets = refl }
 
+none_differ : IsDistinct ◌==◌ []
+unfolding IsDistinct
+none_differ = tt
+
+-- a key of the first column, which has texts
+pub first_column : (columns : List Column) → has_texts columns 0 ≡ true
+    → AreKeyColumns columns (0 ∷ [])
+first_column columns texts = record {
+  some = omega arith;
+  texts = (texts, tt);
+  distinct = IsDistinct-cons ◌==◌ 0 [] tt none_differ;
+}
+
 clear : IsClear free keyed totals_by_key
 clear = (
   ((met, refl), zero_fits, (refl, refl), one_factoring keyed),
   refl,
   tt,
-  refl,
+  first_column keyed refl,
   refl,
   (met, (met_by_tick, tt)),
 )

@@ -42,4 +42,5 @@ tick = eq_text 0 (codes "tick")
 
 -- at each tick the sum of the numbers, by key
 abbrev pub totals_by_key : Qre
-totals_by_key = collect 0 tick (sequence (star (one any)) (one tick)) (total (read (var.Field 1)))
+totals_by_key =
+    collect (0 ∷ []) tick (sequence (star (one any)) (one tick)) (total (read (var.Field 1)))

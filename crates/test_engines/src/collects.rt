@@ -11,7 +11,7 @@ ghost use Rattle.test_engines.specs.Feeding.{TakesItems};
 ghost use Rattle.test_engines.specs.TestedQueries as tested;
 
 use crate::assertions::same;
-use crate::fixtures::{query, total};
+use crate::fixtures::{key_column, query, total};
 use eval_runner::Runner;
 use item_schema::{Column, Item, Kind, Schema};
 use predicate_cells::Pred;
@@ -66,7 +66,8 @@ fn totals_by_key(alloc: Global) -> Result<Box<Query>, AllocError>
     let inner = total(alloc, Expr::Read(Var::Field(1)))?;
     let sync = tick(alloc)?;
     let rate = ticked(alloc)?;
-    query(alloc, Shape::Collect(0, sync, rate, inner))
+    let column = key_column(alloc)?;
+    query(alloc, Shape::Collect(column, sync, rate, inner))
 }
 
 fn checked(alloc: Global) -> Result<Box<Checked>, AllocError>

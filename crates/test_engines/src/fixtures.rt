@@ -8,7 +8,7 @@ ghost use Rattle.test_engines.specs.TestedQueries as tested;
 
 use item_schema::{Column, Item, Kind, Schema};
 use predicate_cells::Pred;
-use query_model::{Query, Shape, Span};
+use query_model::{KeyColumns, Query, Shape, Span};
 use std::alloc::{AllocError, Global};
 use value_ops::{BinaryOp, Bytes, Expr, Field, Var};
 
@@ -17,6 +17,15 @@ pub fn query(alloc: Global, shape: Shape) -> Result<Box<Query>, AllocError>
 {
     let span = Span { from: 0, to: 1 };
     Ok(Box::new(alloc, Query { shape, span })?)
+}
+
+// The first column as a key.
+pub fn key_column(alloc: Global) -> Result<KeyColumns, AllocError>
+    ensures { IfOk result (λ columns. columns ≡ 0 ∷ []) }
+{
+    let mut at = Vec::new(alloc);
+    at.push(0)?;
+    Ok(KeyColumns::of(at))
 }
 
 // atom(any, EXPRESSION)

@@ -13,6 +13,8 @@ mod copies;
 #[cfg(test)]
 mod fixtures;
 #[cfg(test)]
+mod keys;
+#[cfg(test)]
 mod nodes;
 #[cfg(test)]
 mod queries;

@@ -2,6 +2,7 @@
 ghost use Rattle.std.specs.Prelude.{◌<◌};
 
 use crate::assertions::same;
+use crate::fixtures::key_column;
 use predicate_cells::Pred;
 use query_model::{
     Query, Shape, Span, a_word_has_at_most_one_value, each_word_has_a_value_or_none,
@@ -107,7 +108,8 @@ fn an_expression_on_a_value_keeps_the_rate(rt: HostRuntime) -> Result<(), Fail> 
 #[test]
 fn a_collect_has_the_rate_that_it_names(rt: HostRuntime) -> Result<(), Fail> {
     let inner = item(rt.alloc(), 2)?;
-    let shape = Shape::Collect(0, Pred::Any, Rate::Empty, inner);
+    let column = key_column(rt.alloc())?;
+    let shape = Shape::Collect(column, Pred::Any, Rate::Empty, inner);
     assert!(rt; has_empty_rate(rt.alloc(), shape)?);
     Ok(())
 }

@@ -7,7 +7,7 @@ ghost use Rattle.query_model.specs.Queries.{atom, collect, compose, eps, plain_o
 ghost use Rattle.slow_eval.specs.Answers.{CanBeRead};
 
 use crate::assertions::same;
-use crate::fixtures::{both, each, query};
+use crate::fixtures::{both, each, key_column, query};
 use item_schema::Item;
 use predicate_cells::Pred;
 use query_model::{Query, Shape};
@@ -84,12 +84,13 @@ fn the_value_of_the_empty_word_comes_out(rt: HostRuntime) -> Result<(), Fail> {
 // collect(name, name == "", star(true), atom(true, 1))
 fn collection(alloc: Global) -> Result<Box<Query>, AllocError>
     ensures { IfOk result (λ query. plain_of query.value.shape
-        ≡ collect 0 (eq_text 0 []) (star (one any)) (atom any (literal (pos 1)))) }
+        ≡ collect (0 ∷ []) (eq_text 0 []) (star (one any)) (atom any (literal (pos 1)))) }
 {
     let any = Box::new(alloc, Rate::One(Pred::Any))?;
     let inner = each(alloc, Expr::Literal(1))?;
     let sync = Pred::EqText(0, Bytes::from_slice(alloc, b"")?);
-    query(alloc, Shape::Collect(0, sync, Rate::Star(any), inner))
+    let column = key_column(alloc)?;
+    query(alloc, Shape::Collect(column, sync, Rate::Star(any), inner))
 }
 
 fn item(alloc: Global, name: &[u8]) -> Result<Item<'static>, AllocError>

@@ -166,17 +166,17 @@ const FORMS: &[(&str, (u32, u32), &str)] = &[
     (
         "main(sum(n))",
         (5, 11),
-        "This term has none of the forms of its place.\nA sum is iter(atom(any, NAME), 0, add(x, y)).\nA query is atom(PRED, EXPR), eps(NUM), or(QUERY, QUERY), split(QUERY, QUERY, EXPR), iter(QUERY, NUM, EXPR), combine(QUERY, QUERY, EXPR), apply(QUERY, EXPR), compose(QUERY, QUERY), collect(NAME, PRED, RATE, QUERY) or the NAME of a let.",
+        "This term has none of the forms of its place.\nA sum is iter(atom(any, NAME), 0, add(x, y)).\nA query is atom(PRED, EXPR), eps(NUM), or(QUERY, QUERY), split(QUERY, QUERY, EXPR), iter(QUERY, NUM, EXPR), combine(QUERY, QUERY, EXPR), apply(QUERY, EXPR), compose(QUERY, QUERY), collect(KEY, PRED, RATE, QUERY) or the NAME of a let.",
     ),
     (
         "let(a, iter(a, 0))",
         (7, 17),
-        "This term has none of the forms of its place.\niter(F, NUM, EXPR) goes from a number on, as iter(F, 0, add(x, y)).\nA query is atom(PRED, EXPR), eps(NUM), or(QUERY, QUERY), split(QUERY, QUERY, EXPR), iter(QUERY, NUM, EXPR), combine(QUERY, QUERY, EXPR), apply(QUERY, EXPR), compose(QUERY, QUERY), collect(NAME, PRED, RATE, QUERY) or the NAME of a let.",
+        "This term has none of the forms of its place.\niter(F, NUM, EXPR) goes from a number on, as iter(F, 0, add(x, y)).\nA query is atom(PRED, EXPR), eps(NUM), or(QUERY, QUERY), split(QUERY, QUERY, EXPR), iter(QUERY, NUM, EXPR), combine(QUERY, QUERY, EXPR), apply(QUERY, EXPR), compose(QUERY, QUERY), collect(KEY, PRED, RATE, QUERY) or the NAME of a let.",
     ),
     (
         "main(iter(or(a, Atom(n)), 0, x))",
         (16, 23),
-        "This term has none of the forms of its place.\nThe words of all forms are written in lower case.\nA query is atom(PRED, EXPR), eps(NUM), or(QUERY, QUERY), split(QUERY, QUERY, EXPR), iter(QUERY, NUM, EXPR), combine(QUERY, QUERY, EXPR), apply(QUERY, EXPR), compose(QUERY, QUERY), collect(NAME, PRED, RATE, QUERY) or the NAME of a let.",
+        "This term has none of the forms of its place.\nThe words of all forms are written in lower case.\nA query is atom(PRED, EXPR), eps(NUM), or(QUERY, QUERY), split(QUERY, QUERY, EXPR), iter(QUERY, NUM, EXPR), combine(QUERY, QUERY, EXPR), apply(QUERY, EXPR), compose(QUERY, QUERY), collect(KEY, PRED, RATE, QUERY) or the NAME of a let.",
     ),
     (
         "main(collect(k, any, any, a))",
@@ -226,7 +226,7 @@ const FORMS: &[(&str, (u32, u32), &str)] = &[
     (
         "main( # ((\nor (atom(eq(n, \"),\\\"(\"), 0), count(any)))",
         (40, 50),
-        "This term has none of the forms of its place.\nA count is iter(atom(any, 1), 0, add(x, y)).\nA query is atom(PRED, EXPR), eps(NUM), or(QUERY, QUERY), split(QUERY, QUERY, EXPR), iter(QUERY, NUM, EXPR), combine(QUERY, QUERY, EXPR), apply(QUERY, EXPR), compose(QUERY, QUERY), collect(NAME, PRED, RATE, QUERY) or the NAME of a let.",
+        "This term has none of the forms of its place.\nA count is iter(atom(any, 1), 0, add(x, y)).\nA query is atom(PRED, EXPR), eps(NUM), or(QUERY, QUERY), split(QUERY, QUERY, EXPR), iter(QUERY, NUM, EXPR), combine(QUERY, QUERY, EXPR), apply(QUERY, EXPR), compose(QUERY, QUERY), collect(KEY, PRED, RATE, QUERY) or the NAME of a let.",
     ),
 ];
 
@@ -447,7 +447,7 @@ const SECOND_PLACES: &[(Rule, &str, (u32, u32), &str)] = &[
         Rule::Nested,
         "stream(plain, col(t, text), col(n, int))\nmain(collect(t, any, item(any), collect(t, any, item(any), eps(1))))",
         (73, 107),
-        "Join several keys in one column of the items; a compose may collect on its left side.",
+        "Several columns make one key by key(NAME, ..); a compose may collect on its left side.",
     ),
     (
         Rule::Compose,

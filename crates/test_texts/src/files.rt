@@ -70,6 +70,34 @@ fn records_have_two_to_eight_parts_which_are_counted_from_1(rt: HostRuntime) -> 
     Ok(())
 }
 
+// The file of a collect with this key.
+fn with_key(alloc: Global, key: &[u8]) -> Result<Vec<u8>, AllocError> {
+    let mut text = Vec::from_slice(alloc, b"stream(plain,col(k,text))main(collect(")?;
+    text.extend_from_slice(key)?;
+    text.extend_from_slice(b",any,eps,eps(0)))")?;
+    Ok(text)
+}
+
+#[test]
+fn keys_have_one_to_four_names(rt: HostRuntime) -> Result<(), Fail> {
+    let alloc = rt.alloc();
+    for (key, refusal) in [
+        (b"k".as_slice(), None),
+        (b"key", None),
+        (b"key(k,l)", None),
+        (b"key(k,l,m,n)", None),
+        (b"key(k)", Some((5, 38, 44))),
+        (b"key(k,l,m,n,o)", Some((5, 38, 52))),
+        (b"key(k,1)", Some((5, 44, 45))),
+        (b"key(k,key(l,m))", Some((5, 44, 52))),
+        (b"1", Some((5, 38, 39))),
+    ] {
+        let text = with_key(alloc, key)?;
+        same(&rt, refusal_of(alloc, &text), refusal);
+    }
+    Ok(())
+}
+
 /// The canonical text of what the text is read to.
 fn canonical(alloc: Global, text: &[u8]) -> Result<Option<Bytes>, AllocError> {
     match read_file(alloc, text) {
@@ -102,6 +130,10 @@ fn prints_the_canonical_text(rt: HostRuntime) -> Result<(), Fail> {
         (
             b"stream(plain,col(a,int))main(apply(atom(any,rec(a,+1)),part(x,02)))",
             b"stream(plain, col(a, int))\nmain(apply(atom(any, rec(a, 1)), part(x, 2)))\n",
+        ),
+        (
+            b"stream(plain,col(k,text))main(collect(key(k,m ,n),any,eps,eps(0)))",
+            b"stream(plain, col(k, text))\nmain(collect(key(k, m, n), any, eps, eps(0)))\n",
         ),
     ];
     for (text, wanted) in cases {

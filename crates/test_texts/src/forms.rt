@@ -75,7 +75,7 @@ const CALLS: &[(TermPlace, &[u8], &[TermPlace])] = &[
     (Query, b"combine", &[Query, Query, Expr]),
     (Query, b"apply", &[Query, Expr]),
     (Query, b"compose", &[Query, Query]),
-    (Query, b"collect", &[Name, Pred, Rate, Query]),
+    (Query, b"collect", &[Key, Pred, Rate, Query]),
     (Rate, b"item", &[Pred]),
     (Rate, b"seq", &[Rate, Rate]),
     (Rate, b"alt", &[Rate, Rate]),
@@ -128,6 +128,8 @@ fn each_call_has_a_form_at_its_place_alone(rt: HostRuntime) {
 
 const PARTS: [TermPlace; 8] = [Expr; 8];
 
+const NAMES: [TermPlace; 4] = [Name; 4];
+
 #[test]
 fn a_record_has_two_to_eight_parts(rt: HostRuntime) {
     for count in 2..9 {
@@ -137,6 +139,18 @@ fn a_record_has_two_to_eight_parts(rt: HostRuntime) {
         same(&rt, places_of(Expr, b"rec", count), None);
     }
     same(&rt, places_of(Query, b"rec", 2), None);
+}
+
+#[test]
+fn a_key_has_two_to_four_names(rt: HostRuntime) {
+    for count in 2..5 {
+        same(&rt, places_of(Key, b"key", count), Some(&NAMES[..count]));
+    }
+    for count in [0, 1, 5, 6] {
+        same(&rt, places_of(Key, b"key", count), None);
+    }
+    same(&rt, places_of(Query, b"key", 2), None);
+    same(&rt, fits_word(Key, b"fixed"), true);
 }
 
 fn have_words(rt: &impl Abort) {

@@ -130,18 +130,18 @@ module _ (cells : Partition) where
       all_fit layout.columns g (subst (λ (l : Layout). KeepsTypes l.columns g) (sym is) can.types.1)
 
   -- of the operand of a collection, and of its rate
-  pub asked_collect : (column : ℕ) (sync : Predicate) (rate : rates.Regex) (f : Qre)
-      → CanBeAsked cells (q.collect column sync rate f) → CanBeAsked cells f
-  asked_collect column sync rate f can = record {
+  pub asked_collect : (chosen : List ℕ) (sync : Predicate) (rate : rates.Regex) (f : Qre)
+      → CanBeAsked cells (q.collect chosen sync rate f) → CanBeAsked cells f
+  asked_collect chosen sync rate f can = record {
     types = can.types.0;
     few = can.few.0;
     derived = can.derived;
     members = among_back (sync ∷ preds_of rate) (predicates_of f) can.members;
   }
 
-  pub asked_rate : (column : ℕ) (sync : Predicate) (rate : rates.Regex) (f : Qre)
-      → CanBeAsked cells (q.collect column sync rate f) → AreAmong cells (preds_of rate)
-  asked_rate column sync rate f can =
+  pub asked_rate : (chosen : List ℕ) (sync : Predicate) (rate : rates.Regex) (f : Qre)
+      → CanBeAsked cells (q.collect chosen sync rate f) → AreAmong cells (preds_of rate)
+  asked_rate chosen sync rate f can =
       among_back (sync ∷ []) (preds_of rate)
       (among_front (sync ∷ preds_of rate) (predicates_of f) can.members)
 
@@ -184,7 +184,7 @@ module _ (cells : Partition) where
       rate_among f (among_front (predicates_of f) (predicates_of g) among)
   rate_among (q.apply f value) among = rate_among f among
   rate_among (q.compose f g) among = rate_among f among
-  rate_among (q.collect column sync rate f) among =
+  rate_among (q.collect chosen sync rate f) among =
       among_back (sync ∷ []) (preds_of rate)
       (among_front (sync ∷ preds_of rate) (predicates_of f) among)
 

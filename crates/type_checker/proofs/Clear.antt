@@ -120,10 +120,10 @@ clear_of columns standing (compose f g) places (left, right, single) kept =
       single,
       fed_well standing values g (root_kept fs gs last kept),
     )
-clear_of columns standing (collect column sync rate f) places
+clear_of columns standing (collect chosen sync rate f) places
     (inner, number, single, texts, test, words) kept =
     let fs = nodes_in columns bound f (first_places places) in
-    let last = root columns standing (collect column sync rate f) places in (
+    let last = root columns standing (collect chosen sync rate f) places in (
       clear_of columns bound f (first_places places) inner (operand_kept fs last kept),
       number,
       single,

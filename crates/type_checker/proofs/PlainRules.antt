@@ -10,7 +10,7 @@ use Rattle.language_base.specs.declared.rule.Rule.TheVariants.{Rates, Reach, Siz
 use Rattle.language_base.specs.declared.span.Span.{Span}
 use Rattle.item_schema.specs.Layout.{Layout}
 use Rattle.item_schema.specs.declared.column.Column.{Column}
-use Rattle.predicate_cells.specs.Fits.{fits, has_texts}
+use Rattle.predicate_cells.specs.Fits.{fits}
 use Rattle.predicate_cells.specs.Predicates.{Predicate}
 use Rattle.query_lets.specs.Unfolded.{unfolded}
 use Rattle.query_lets.specs.Words.{wrong_name}
@@ -22,6 +22,7 @@ use Rattle.query_model.specs.QueryTypes.{derived_columns, type_of}
 use Rattle.query_model.specs.Rates.{rate_of}
 use Rattle.query_model.specs.Rules.{Standing, bound, free}
 use Rattle.query_syntax.specs.Programs.{Program, Stream}
+use Rattle.query_syntax.specs.Keys.{names_of}
 use Rattle.query_syntax.specs.Queries as q
 use Rattle.query_syntax.specs.Queries.{Query}
 use Rattle.query_syntax.specs.Spans.{query_span}
@@ -32,11 +33,11 @@ use Rattle.query_resolver.specs.Expressions.{expression_over, is_number, is_type
 use Rattle.query_resolver.specs.Expressions.{of_two}
 use Rattle.query_resolver.specs.Measures.{limited, measured, parted}
 use Rattle.query_resolver.specs.Layouts.{layout_of}
-use Rattle.query_resolver.specs.Names.{column_named}
+use Rattle.query_resolver.specs.Names.{key_named}
 use Rattle.query_resolver.specs.Nodes.{places_of}
 use Rattle.query_resolver.specs.Rates.{rate_over}
-use Rattle.query_resolver.specs.Resolved.{Nesting, inside, may_collect, outside, resolved}
-use Rattle.query_resolver.specs.Resolved.{same_type}
+use Rattle.query_resolver.specs.Resolved.{Nesting, have_texts, inside, may_collect, outside}
+use Rattle.query_resolver.specs.Resolved.{resolved, same_type}
 use Rattle.query_resolver.specs.Sizes.{derives_many_cells, first_node, has_few_nodes, has_few_slots}
 use Rattle.query_resolver.specs.Sizes.{has_many_positions}
 use Rattle.query_resolver.specs.Steps.{◌>>=◌, because, found, provided, unless}
@@ -121,12 +122,12 @@ resolved_plain nesting columns (q.compose left right span) =
     (resolved_plain inside (derived_columns (type_of columns f)) right) (λ g. tt))
 resolved_plain nesting columns (q.collect key sync rate operand span) =
     after (resolved inside columns operand) _ (resolved_plain inside columns operand) (λ f.
-    after_name span (column_named columns key.bytes) _ (λ column.
+    after_name span (key_named columns (names_of key)) _ (λ chosen.
     after_name span (resolved_over columns sync) _ (λ pred.
     after_name span (rate_over columns rate) _ (λ words.
     after_test Nested (λ forbids. forbids) span (may_collect nesting) _ (λ nested.
     after_type span (same_type (type_of columns f) Number
-    && (has_texts columns column
+    && (have_texts columns chosen
     && (fits columns pred && list_all (fits columns) (preds_of words)))) _
     (λ typed. tt))))))
 
@@ -205,5 +206,5 @@ plain_at columns standing (combine f g e) rule none broken =
 plain_at columns standing (apply f e) rule none broken = absurd broken
 plain_at columns standing (compose f g) rule none broken =
     fed_plain standing (derived_columns (type_of columns f)) (rate_of g) rule broken
-plain_at columns standing (collect column sync rate f) rule none broken =
+plain_at columns standing (collect chosen sync rate f) rule none broken =
     met_plain columns (preds_of rate) rule broken

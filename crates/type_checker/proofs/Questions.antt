@@ -34,7 +34,7 @@ module _ (columns : List Column) (standing : Standing) (question : Question) whe
   broken_at (combine f g e) rule asked broken = absurd (cc)
   broken_at (apply f e) rule asked broken = absurd (cc)
   broken_at (compose f g) rule asked broken = absurd (cc)
-  broken_at (collect column sync rate f) rule asked broken = absurd (cc)
+  broken_at (collect chosen sync rate f) rule asked broken = absurd (cc)
 
   -- where none has, it is not
   kept_at : (query : Qre) → question_of query ≡ Some question → IsKept columns question
@@ -52,7 +52,7 @@ module _ (columns : List Column) (standing : Standing) (question : Question) whe
   kept_at (combine f g e) asked kept = absurd (cc)
   kept_at (apply f e) asked kept = absurd (cc)
   kept_at (compose f g) asked kept = absurd (cc)
-  kept_at (collect column sync rate f) asked kept = absurd (cc)
+  kept_at (collect chosen sync rate f) asked kept = absurd (cc)
 
 -- some word has two readings, and it cannot be that none has
 pub two_readings : (node : Node) (rule : Rule) (question : Question)

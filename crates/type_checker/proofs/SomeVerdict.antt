@@ -210,7 +210,7 @@ module _ (columns : List Column) (standing : Standing) where
   decided_at (apply f e) never = never (inr tt)
   decided_at (compose f g) never =
       fed_decided standing (derived_columns (type_of columns f)) (rate_of g) never
-  decided_at (collect column sync rate f) never = met_decided columns (preds_of rate) never
+  decided_at (collect chosen sync rate f) never = met_decided columns (preds_of rate) never
 
 -- the first node that breaks a rule is refused, or none is
 some_refusal : (nodes : List Node) → ((why : Option Refusal) → FirstBroken nodes why → ⊥) → ⊥

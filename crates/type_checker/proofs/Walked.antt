@@ -46,7 +46,7 @@ root_last columns standing (q.iter f number value) places = refl
 root_last columns standing (q.combine f g value) places = refl
 root_last columns standing (q.apply f value) places = refl
 root_last columns standing (q.compose f g) places = refl
-root_last columns standing (q.collect column sync rate f) places = refl
+root_last columns standing (q.collect chosen sync rate f) places = refl
 
 module _ (columns : List Column) (standing : Standing) (query : Qre) (places : Places) where
   -- a node of an operand breaks a rule

@@ -129,7 +129,7 @@ module _ (columns : List Column) (standing : Standing) where
   one_rule (apply f e) rule other broken broken' = absurd broken
   one_rule (compose f g) rule other broken broken' =
       fed_once standing (derived_columns (type_of columns f)) (rate_of g) rule other broken broken'
-  one_rule (collect column sync rate f) rule other broken broken' =
+  one_rule (collect chosen sync rate f) rule other broken broken' =
       met_rule columns (preds_of rate) other broken'
       ∙ sym (met_rule columns (preds_of rate) rule broken)
 
@@ -153,7 +153,7 @@ module _ (columns : List Column) (standing : Standing) where
   broken_or_kept (apply f e) rule broken kept = broken
   broken_or_kept (compose f g) rule broken kept =
       fed_or standing (derived_columns (type_of columns f)) (rate_of g) rule broken kept
-  broken_or_kept (collect column sync rate f) rule broken kept =
+  broken_or_kept (collect chosen sync rate f) rule broken kept =
       met_or columns (preds_of rate) rule broken kept
 
 -- the first node that breaks a rule of words is refused in one way

@@ -75,7 +75,7 @@ BreaksAt columns standing (combine f g expression) broken =
 BreaksAt columns standing (apply f expression) None = Unit {0}
 BreaksAt columns standing (compose f g) broken =
     BreaksFed standing (derived_columns (type_of columns f)) (rate_of g) broken
-BreaksAt columns standing (collect column sync rate f) broken =
+BreaksAt columns standing (collect chosen sync rate f) broken =
     BreaksMet columns (preds_of rate) broken
 BreaksAt columns standing _ _ = ⊥
 

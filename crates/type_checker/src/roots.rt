@@ -1,6 +1,7 @@
 //! The root of a query: its rule of words is checked, and its positions are made from those of its
 //! operands.
 ghost use Rattle.std.specs.Prelude.{◌≡◌, ◌+◌, ◌≤◌, ℕ, ℤ, None, Some, IfErr, IfOk, OnOk, length};
+ghost use Rattle.std.specs.Prelude.{List};
 ghost use Rattle.std.specs.List.{Contains};
 ghost use Rattle.language_base.specs.Limits.{max_positions};
 ghost use Rattle.language_base.specs.declared.rule.Rule.{Rule};
@@ -164,10 +165,10 @@ pub(crate) fn collected(
 ) -> Result<Positions, WordStop>
     requires few { size_of (rates.plain_of rate.now) ≤ max_positions }
     requires members { AreAmong cells.now.value (preds_of (rates.plain_of rate.now)) }
-    ensures kept { IfOk result (λ sets. (key : ℕ) (sync : Predicate) (f : Qre)
+    ensures kept { IfOk result (λ sets. (key : List ℕ) (sync : Predicate) (f : Qre)
         → IsKept cells.now.value.layout.columns
         (collect key sync (rates.plain_of rate.now) f) sets) }
-    ensures refused { IfErr result (λ stop. (key : ℕ) (sync : Predicate) (f : Qre)
+    ensures refused { IfErr result (λ stop. (key : List ℕ) (sync : Predicate) (f : Qre)
         → IsBrokenAt cells.now.value.layout.columns
         (collect key sync (rates.plain_of rate.now) f) span stop) }
 {

@@ -1,5 +1,5 @@
 //! The rules of words, at each node of a query.
-ghost use Rattle.std.specs.Prelude.{◌≡◌, ◌≤◌, ◌+◌, ◌++◌, ℕ, ℤ, IfErr, IfOk, None, OnOk};
+ghost use Rattle.std.specs.Prelude.{◌≡◌, ◌≤◌, ◌+◌, ◌++◌, ℕ, ℤ, IfErr, IfOk, None, OnOk, List};
 ghost use Rattle.item_schema.specs.Layout.{derived_layout};
 ghost use Rattle.language_base.specs.Limits.{max_positions};
 ghost use Rattle.predicate_cells.specs.Predicates.{Predicate};
@@ -215,12 +215,12 @@ fn keep_collection(
     requires asked { CanBeAsked cells.now.value (plain_of operand.now.shape) }
     requires few { size_of (rates.plain_of rate.now) ≤ max_positions }
     requires members { AreAmong cells.now.value (preds_of (rates.plain_of rate.now)) }
-    ensures kept { (standing : model.Standing) (key : ℕ) (sync : Predicate)
+    ensures kept { (standing : model.Standing) (key : List ℕ) (sync : Predicate)
         → OnOk result (FirstBroken (nodes_in cells.now.value.layout.columns standing
         (collect key sync (rates.plain_of rate.now) (plain_of operand.now.shape))
         (with_one (places_in operand.now) span)) None) }
     ensures positions { IfOk result (λ sets. AreSetsOf sets (rates.plain_of rate.now)) }
-    ensures refused { (standing : model.Standing) (key : ℕ) (sync : Predicate)
+    ensures refused { (standing : model.Standing) (key : List ℕ) (sync : Predicate)
         → IfErr result (IsBrokenBy (nodes_in cells.now.value.layout.columns standing
         (collect key sync (rates.plain_of rate.now) (plain_of operand.now.shape))
         (with_one (places_in operand.now) span))) }

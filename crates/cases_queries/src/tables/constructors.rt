@@ -3,13 +3,13 @@
 use crate::tables::refusal::refused;
 use query_parser::ReadStop;
 use query_syntax::{
-    BinaryOp, Compare, Connective, Equality, Expression, Extremum, Join, Literal, Order, Predicate,
-    Query, Rate, Summary, UnaryOp, read_syntax,
+    BinaryOp, Compare, Connective, Equality, Expression, Extremum, Join, Key, Literal, Order,
+    Predicate, Query, Rate, Summary, UnaryOp, read_syntax,
 };
 use std::alloc::{AllocError, Global};
 
-/// The constructor of the query, with those of the predicate and the value of an atom or of the
-/// rate of a collection, or the refusal if the query is not read.
+/// The constructor of the query, with those of the predicate and the value of an atom or of the key
+/// and the rate of a collection, or the refusal if the query is not read.
 pub(crate) fn constructors(alloc: Global, query: &[u8]) -> Result<String, AllocError> {
     match read_syntax(alloc, query) {
         Ok(program) => query_constructors(alloc, &program.main.query),
@@ -31,8 +31,9 @@ fn query_constructors(alloc: Global, query: &Query) -> Result<String, AllocError
             );
             format!(in alloc; "atom of {test} and {value}")
         }
-        Query::Collect { rate, .. } => {
-            format!(in alloc; "collect of {}", rate_constructor(rate))
+        Query::Collect { key, rate, .. } => {
+            let (key, rate) = (key_constructor(key), rate_constructor(rate));
+            format!(in alloc; "collect of {key} and {rate}")
         }
         Query::Name(_) => String::from_str(alloc, "name"),
         Query::Eps { .. } => String::from_str(alloc, "eps"),
@@ -42,6 +43,13 @@ fn query_constructors(alloc: Global, query: &Query) -> Result<String, AllocError
         Query::Combine { .. } => String::from_str(alloc, "combine"),
         Query::Apply { .. } => String::from_str(alloc, "apply"),
         Query::Compose { .. } => String::from_str(alloc, "compose"),
+    }
+}
+
+fn key_constructor(key: &Key) -> &'static str {
+    match key {
+        Key::Column(_) => "column",
+        Key::Columns(..) => "columns",
     }
 }
 

@@ -1,11 +1,11 @@
 //! Queries with the runner and with the search side by side, and where the answers differ.
 
 use crate::acceptance::checked;
+use crate::tables::keys_met::keys_met;
 use crate::tables::pair::{Seen, side_by_side};
 use crate::tables::stop::Stop;
 use query_model::Checked;
 use std::alloc::{AllocError, Global};
-use std::collections::BTreeSet;
 
 /// How much was compared.
 #[derive(Clone, Copy, Default)]
@@ -71,7 +71,7 @@ fn seen_or_none(alloc: Global, stream: &str, line: &str) -> Result<Seen, Stop> {
 fn seen_of(alloc: Global, stream: &str, line: &str) -> Result<Seen, Stop> {
     let (query, items) = line.split_once(" | ").ok_or(Stop::Line)?;
     let checked = query_over(alloc, stream, query)?;
-    side_by_side(alloc, &checked, items, keys_of(alloc, items)?)
+    side_by_side(alloc, &checked, items, keys_met(alloc, &checked, items)?)
 }
 
 fn query_over(alloc: Global, stream: &str, query: &str) -> Result<Box<Checked>, Stop> {
@@ -81,15 +81,4 @@ fn query_over(alloc: Global, stream: &str, query: &str) -> Result<Box<Checked>, 
 
 fn boxed(alloc: Global, checked: Checked) -> Result<Box<Checked>, AllocError> {
     Ok(Box::new(alloc, checked)?)
-}
-
-/// How many different texts stand first in items of more than one field.
-fn keys_of(alloc: Global, items: &str) -> Result<u32, AllocError> {
-    let mut keys = BTreeSet::new(alloc);
-    for item in items.split_whitespace() {
-        if let Some((key, _)) = item.split_once(',') {
-            keys.insert(key)?;
-        }
-    }
-    Ok(u32::try_from(keys.len()).unwrap_or(u32::MAX))
 }

@@ -135,10 +135,10 @@ node_counts::size_of_compose-returns-in-Compose t c =
 
 pub node_counts::size_of_collect-returns-in-Collect :
     goal.node_counts::size_of_collect-returns-in-Collect
-node_counts::size_of_collect-returns-in-Collect t c = λ column sync rate.
+node_counts::size_of_collect-returns-in-Collect t c = λ chosen sync rate.
     let s = c.in-Collect in
     let f = plain_of c.args.inner.now.shape in
     c.size_of_tracks.ensures
     ∙ ap
-    (λ (h : Holding Progress). min (stored_in seen_of (collect column sync rate f) h) (2 ^ 64 - 1))
-    (sym (ap holding_of s.is ∙ tracked_is s.tracks))
+    (λ (h : Holding Progress). min (stored_in seen_of (collect chosen sync rate f) h) (2 ^ 64 - 1))
+    (sym (ap holding_of s.is ∙ tracked_is s.tracks _))

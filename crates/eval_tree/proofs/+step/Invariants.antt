@@ -20,7 +20,8 @@ invariant-keys::push_to_each-keys l =
 -- the item has gone by at the starts below the index
 abbrev pub invariant-collect::push_all-starts : goal.invariant-collect::push_all-starts
 invariant-collect::push_all-starts l =
-    ArePushedBelow seen_of (plain_of l.query.shape) l.column (predicates.plain_of l.sync) l.item l.i
+    ArePushedBelow seen_of (plain_of l.query.shape) l.columns (predicates.plain_of l.sync)
+    l.item l.i
     l.fn.tracks.tracks l.tracks.tracks
     × (l.tracks.nfa ≡ l.fn.tracks.nfa) × (l.i-end ≡ length l.fn.tracks.tracks)
     × (length l.tracks.tracks ≡ length l.fn.tracks.tracks)
@@ -72,13 +73,16 @@ abbrev pub decreases-keys::push_to_each : goal.decreases-keys::push_to_each
 decreases-keys::push_to_each l = 8 * size-Query l.query.now + 2
 
 abbrev pub decreases-keys::keys_push : goal.decreases-keys::keys_push
-decreases-keys::keys_push l = 8 * size-Query l.query.now + 3
+decreases-keys::keys_push l = 8 * size-Query l.query.now + 4
+
+abbrev pub decreases-keys::push_to_own : goal.decreases-keys::push_to_own
+decreases-keys::push_to_own l = 8 * size-Query l.query.now + 3
 
 abbrev pub decreases-collect::push_all : goal.decreases-collect::push_all
-decreases-collect::push_all l = 8 * size-Query l.query.now + 4
+decreases-collect::push_all l = 8 * size-Query l.query.now + 5
 
 abbrev pub decreases-collect::pass_by : goal.decreases-collect::pass_by
-decreases-collect::pass_by l = 8 * size-Query l.query.now + 5
+decreases-collect::pass_by l = 8 * size-Query l.query.now + 6
 
 abbrev pub decreases-collect::new_runner : goal.decreases-collect::new_runner
 decreases-collect::new_runner l = 8 * size-Query l.query.now + 1

@@ -75,8 +75,8 @@ pub query_calls::apply_of-boxed_expression-requires :
 query_calls::apply_of-boxed_expression-requires t c =
     item_fits _ _ _ 1 _ c.requires (omega (arith, c.requires.as_many)) c.value-item.is refl
 
-pub query_calls::collect_of-name_of-requires : goal.query_calls::collect_of-name_of-requires
-query_calls::collect_of-name_of-requires t c =
+pub query_calls::collect_of-boxed_key-requires : goal.query_calls::collect_of-boxed_key-requires
+query_calls::collect_of-boxed_key-requires t c =
     item_fits _ _ _ 0 _ c.requires (omega (arith, c.requires.as_many)) c.key-item.is refl
 
 pub query_calls::collect_of-boxed_predicate-requires :
@@ -100,7 +100,7 @@ query_calls::collect_of-returns t c =
     (four_terms _ _ _ _ _ c.requires.as_many c.key-item.is c.sync-item.is
     c.rate-item.is c.body-item.is
     ∙ (rw (
-      c.in_ok-name_of.ensures,
+      c.in_ok-key.ensures,
       c.in_ok-sync.ensures,
       c.in_ok-rate.ensures,
       c.in_ok-body.ensures,

@@ -77,28 +77,29 @@ pub collection::answers_for_key-returns-clause-answers :
     goal.collection::answers_for_key-returns-clause-answers
 collection::answers_for_key-returns-clause-answers t c =
     let f = plain_of c.args.inner.now.shape in
-    let column = c.args.column in
+    let chosen = c.args.columns.now in
     let sync = predicates.plain_of c.args.sync.now in
     let word = c.args.word.now in
     let row = c.in_ok-answers.answers in
     let found = c.in_ok-values.values.items in
     let one : Keyed = record { key = c.in_ok-key.key; answers = row } in
     let same = c.in_ok-key.ensures in
-    keyed f column sync word one found
+    keyed f chosen sync word one found
     (subst (λ w. AreAnswers f w found)
     (c.deref.ensures.value ∙ c.in_ok-items.ensures
-    ∙ ap (λ k. projection column sync k word) (c.as_slice.ensures ∙ sym same))
+    ∙ ap (λ k. projection chosen sync k word) (c.as_slice.ensures ∙ sym same))
     c.in_ok-values.ensures)
-    (subst (λ k. IsOnItems column sync k word found row.items) (c.as_slice-2.ensures ∙ sym same)
-    (subst (λ fs. IsOnItems column sync c.as_slice-2.result.now word fs row.items)
+    (subst (λ k. IsOnItems chosen sync k word found row.items) (c.as_slice-2.ensures ∙ sym same)
+    (subst (λ fs. IsOnItems chosen sync c.as_slice-2.result.now word fs row.items)
     c.deref-2.ensures.value c.in_ok-answers.ensures))
 
 pub collection::answers_for_keys-keys-init : goal.collection::answers_for_keys-keys-init
 collection::answers_for_keys-keys-init t c =
     let f = plain_of c.args.inner.now.shape in
     let sync = predicates.plain_of c.args.sync.now in
-    subst (AreKeyed f c.args.column sync c.args.word.now c.args.keys.now 0)
-    (sym c.new-all.ensures.items) (keyed_begin f c.args.column sync c.args.word.now c.args.keys.now)
+    subst (AreKeyed f c.args.columns.now sync c.args.word.now c.args.keys.now 0)
+    (sym c.new-all.ensures.items) (keyed_begin f c.args.columns.now sync
+    c.args.word.now c.args.keys.now)
 
 pub collection::answers_for_keys-keys-preserved : goal.collection::answers_for_keys-keys-preserved
 collection::answers_for_keys-keys-preserved t c =
@@ -107,9 +108,9 @@ collection::answers_for_keys-keys-preserved t c =
     let keys = c.args.keys.now in
     let at = c.keys.key-index in
     let one = c.in_ok-one.one in
-    subst (AreKeyed f c.args.column sync c.args.word.now keys (at + 1))
+    subst (AreKeyed f c.args.columns.now sync c.args.word.now keys (at + 1))
     (sym c.in_ok-push.ensures.items)
-    (keyed_more f c.args.column sync c.args.word.now keys at c.keys.all.items one
+    (keyed_more f c.args.columns.now sync c.args.word.now keys at c.keys.all.items one
     c.keys.invariant (omega arith)
     (subst (λ k. get_or keys at k ≡ k) (sym c.in_ok-one.ensures.key) (sym c.key-item.is))
     c.in_ok-one.ensures.answers)
@@ -117,7 +118,7 @@ collection::answers_for_keys-keys-preserved t c =
 pub collection::answers_for_keys-returns-clause-keys :
     goal.collection::answers_for_keys-returns-clause-keys
 collection::answers_for_keys-returns-clause-keys t c =
-    keyed_all (plain_of c.args.inner.now.shape) c.args.column
+    keyed_all (plain_of c.args.inner.now.shape) c.args.columns.now
     (predicates.plain_of c.args.sync.now) c.args.word.now
     c.args.keys.now c.keys.key-index c.keys.all.items c.keys.invariant c.keys-test.false
 
@@ -129,7 +130,8 @@ pub collection::collect_answers-answers_for_keys-requires :
     goal.collection::collect_answers-answers_for_keys-requires
 collection::collect_answers-answers_for_keys-requires t c = (
   search rules,
-  λ key. of_key c.args.column (predicates.plain_of c.args.sync.now) (rates.plain_of c.args.rate.now)
+  λ key. of_key c.args.columns.now (predicates.plain_of c.args.sync.now)
+      (rates.plain_of c.args.rate.now)
       (plain_of c.args.inner.now.shape) key c.args.word.now c.requires,
 )
 
@@ -137,55 +139,55 @@ pub collection::collect_answers-tables-requires-clause-distinct :
     goal.collection::collect_answers-tables-requires-clause-distinct
 collection::collect_answers-tables-requires-clause-distinct t c =
     let f = plain_of c.args.inner.now.shape in
-    let column = c.args.column in
+    let chosen = c.args.columns.now in
     let sync = predicates.plain_of c.args.sync.now in
     let r = rates.plain_of c.args.rate.now in
     let word = c.args.word.now in
     let keys = c.deref.result.now in
     let counts = c.in_ok-found.found.counts.items in
-    let are : AreKeysOf column sync word keys counts =
-    subst (λ ks. AreKeysOf column sync word ks counts) (sym c.deref.ensures.value)
+    let are : AreKeysOf chosen sync word keys counts =
+    subst (λ ks. AreKeysOf chosen sync word ks counts) (sym c.deref.ensures.value)
     c.in_ok-found.ensures in
     subst (λ xs. IsDistinct bytes_eq (keys_in xs)) (sym c.deref-4.ensures.value)
-    (keys_differ f column sync r word keys counts c.in_ok-all.all.items c.requires are
+    (keys_differ f chosen sync r word keys counts c.in_ok-all.all.items c.requires are
     c.in_ok-all.ensures.keys c.in_ok-all.ensures.answers)
 
 pub collection::collect_answers-tables-requires-clause-answers :
     goal.collection::collect_answers-tables-requires-clause-answers
 collection::collect_answers-tables-requires-clause-answers t c = λ place inside.
     let f = plain_of c.args.inner.now.shape in
-    let column = c.args.column in
+    let chosen = c.args.columns.now in
     let sync = predicates.plain_of c.args.sync.now in
     let r = rates.plain_of c.args.rate.now in
     let word = c.args.word.now in
     let keys = c.deref.result.now in
     let counts = c.in_ok-found.found.counts.items in
-    let are : AreKeysOf column sync word keys counts =
-    subst (λ ks. AreKeysOf column sync word ks counts) (sym c.deref.ensures.value)
+    let are : AreKeysOf chosen sync word keys counts =
+    subst (λ ks. AreKeysOf chosen sync word ks counts) (sym c.deref.ensures.value)
     c.in_ok-found.ensures in
     let in_rate = c.in_ok-in_rate.in_rate.items in
     let same : length c.deref-2.result.now ≡ length in_rate = ap length c.deref-2.ensures.value in
     let count : length in_rate ≡ length word + 1 = c.in_ok-in_rate.ensures.count in
     subst (HaveAnswersAt place) (sym c.deref-4.ensures.value)
-    (answers_there f column sync r word keys counts c.in_ok-all.all.items c.requires are
+    (answers_there f chosen sync r word keys counts c.in_ok-all.all.items c.requires are
     c.in_ok-all.ensures.keys c.in_ok-all.ensures.answers place (omega arith))
 
 pub collection::collect_answers-returns : goal.collection::collect_answers-returns
 collection::collect_answers-returns t c =
     let f = plain_of c.args.inner.now.shape in
-    let column = c.args.column in
+    let chosen = c.args.columns.now in
     let sync = predicates.plain_of c.args.sync.now in
     let r = rates.plain_of c.args.rate.now in
     let word = c.args.word.now in
     let keys = c.deref.result.now in
     let counts = c.in_ok-found.found.counts.items in
     let all = c.in_ok-all.all.items in
-    let are : AreKeysOf column sync word keys counts =
-    subst (λ ks. AreKeysOf column sync word ks counts) (sym c.deref.ensures.value)
+    let are : AreKeysOf chosen sync word keys counts =
+    subst (λ ks. AreKeysOf chosen sync word ks counts) (sym c.deref.ensures.value)
     c.in_ok-found.ensures in
     let in_rate = c.in_ok-in_rate.in_rate.items in
     where_ok c.tables.result _ _ (λ answers tables.
-    collected f column sync r word keys counts all c.requires are c.in_ok-all.ensures.keys
+    collected f chosen sync r word keys counts all c.requires are c.in_ok-all.ensures.keys
     c.in_ok-all.ensures.answers in_rate answers.items c.in_ok-in_rate.ensures
     (tables_by in_rate c.deref-2.result.now counts c.deref-3.result.now all c.deref-4.result.now
     answers.items tables

@@ -21,7 +21,7 @@ invariant-pieces::split_answers-places l =
 abbrev pub invariant-collection::answers_for_keys-keys :
     goal.invariant-collection::answers_for_keys-keys
 invariant-collection::answers_for_keys-keys l =
-    AreKeyed (plain_of l.inner.shape) l.column (predicates.plain_of l.sync) l.word l.keys
+    AreKeyed (plain_of l.inner.shape) l.columns (predicates.plain_of l.sync) l.word l.keys
     l.key-index l.all.items
 
 -- how deep the query is; at one query those that call others stand above them

@@ -32,25 +32,27 @@ collect::start_collect-begin_at-requires t c =
       (
         c.requires.none,
         make_allowed seen_of _ _ _ (plain_of c.args.inner.now.shape) s.tracks c.args.at
-            (can_start_as _ _ _ _ c.args.at refl (sym (ap holding_of s.is ∙ tracked_is s.tracks))
-            c.requires.can.3),
+            (can_start_as _ _ _ _ c.args.at refl
+            (sym (ap holding_of s.is ∙ tracked_is s.tracks s.field-1)) c.requires.can.3),
       ),
     )
 
 pub collect::start_collect-returns : goal.collect::start_collect-returns
 unfolding roll-State out-State denote.Hole.Carrier.roll denote.Hole.Carrier.out
-collect::start_collect-returns t c = λ column sync rate.
+collect::start_collect-returns t c = λ chosen sync rate.
     let s = c.in-Collect in
     let f = plain_of c.args.inner.now.shape in
     when_started _ _ _ c.args.at c.begin_at.result c.begin_at.new.hit
-    (BeginsAt seen_of f (tracks_of (out-State (Collect s.tracks))) c.args.at c.begin_at.new.tracks
+    (BeginsAt seen_of f (tracks_of (out-State (Collect s.tracks s.field-1)))
+    c.args.at c.begin_at.new.tracks
     c.begin_at.new.hit)
     (λ begins. started_as _ _ _ _ (collect_held c.begin_at.new.tracks) _ c.args.at _ _ refl
-    (ap holding_of s.is ∙ tracked_is s.tracks) (rw s.is (tracked_is c.begin_at.new.tracks)) refl
-    (collect_starts column sync rate f s.tracks c.begin_at.new.tracks c.args.at c.begin_at.new.hit
+    (ap holding_of s.is ∙ tracked_is s.tracks s.field-1)
+    (rw s.is (tracked_is c.begin_at.new.tracks s.field-1)) refl
+    (collect_starts chosen sync rate f s.tracks c.begin_at.new.tracks c.args.at c.begin_at.new.hit
     (subst
     (λ (all : Tracks). BeginsAt seen_of f all c.args.at c.begin_at.new.tracks c.begin_at.new.hit)
-    (tracks_are s.tracks) begins))) (rw s.is at c.begin_at.ensures)
+    (tracks_are s.tracks s.field-1) begins))) (rw s.is at c.begin_at.ensures)
     (λ free. absurd free.1.no_collect)
 
 pub collect::begin_at-returns : goal.collect::begin_at-returns
@@ -117,9 +119,10 @@ collect::step_collect-pass_by-requires t c =
       (
         c.requires.none,
         rw s.is (subst (λ (all : Tracks). CanPassBy seen_of f all c.args.item.now)
-            (sym (tracks_are s.tracks)) (pass_allowed seen_of _ _ _ f s.tracks now c.args.item.now
+            (sym (tracks_are s.tracks s.joined))
+            (pass_allowed seen_of _ _ _ f s.tracks now c.args.item.now
             (can_step_as _ _ _ _ now c.args.item.now refl
-            (sym (ap holding_of s.is ∙ tracked_is s.tracks)) c.requires.can.2))),
+            (sym (ap holding_of s.is ∙ tracked_is s.tracks s.joined)) c.requires.can.2))),
       ),
     )
 
@@ -130,15 +133,16 @@ collect::step_collect-returns t c = λ rate now.
     let f = plain_of c.args.inner.now.shape in
     let sync = predicates.plain_of c.args.sync.now in
     when_stepped _ _ _ now c.args.item.now c.pass_by.result c.pass_by.new.hit
-    (PassesBy seen_of f c.args.column sync c.args.item.now
-    (tracks_of (out-State (Collect s.tracks))) c.pass_by.new.tracks c.pass_by.new.hit)
+    (PassesBy seen_of f c.args.columns.now sync c.args.item.now
+    (tracks_of (out-State (Collect s.tracks s.joined))) c.pass_by.new.tracks c.pass_by.new.hit)
     (λ passes. stepped_as _ _ _ _ (collect_held c.pass_by.new.tracks) _ now c.args.item.now _ _ refl
-    (ap holding_of s.is ∙ tracked_is s.tracks) (rw s.is (tracked_is c.pass_by.new.tracks)) refl
-    (collect_steps c.args.column sync rate f s.tracks c.pass_by.new.tracks now c.args.item.now
+    (ap holding_of s.is ∙ tracked_is s.tracks s.joined)
+    (tracked_is c.pass_by.new.tracks c.pass_by.new.joined) refl
+    (collect_steps c.args.columns.now sync rate f s.tracks c.pass_by.new.tracks now c.args.item.now
     c.pass_by.new.hit
-    (subst (λ (all : Tracks). PassesBy seen_of f c.args.column sync c.args.item.now all
+    (subst (λ (all : Tracks). PassesBy seen_of f c.args.columns.now sync c.args.item.now all
     c.pass_by.new.tracks c.pass_by.new.hit)
-    (tracks_are s.tracks) passes))) (rw s.is at c.pass_by.ensures)
+    (tracks_are s.tracks s.joined) passes))) (rw s.is at c.pass_by.ensures)
     (λ free. absurd free.1.no_collect)
 
 pub collect::pass_by-push_all-requires : goal.collect::pass_by-push_all-requires
@@ -169,7 +173,7 @@ collect::pass_by-returns t c =
 pub collect::push_all-keys_push-requires : goal.collect::push_all-keys_push-requires
 collect::push_all-keys_push-requires t c = (
   search rules,
-  push_allowed seen_of (plain_of c.args.query.now.shape) c.args.column
+  push_allowed seen_of (plain_of c.args.query.now.shape) c.args.columns.now
       (predicates.plain_of c.args.sync.now) c.args.item.now c.starts.i c.args.tracks.now.tracks
       c.starts.tracks.tracks c.keys_mut.result.now c.requires
       c.starts.invariant.0 c.keys_mut.ensures.value,
@@ -178,7 +182,7 @@ collect::push_all-keys_push-requires t c = (
 pub collect::push_all-starts-preserved : goal.collect::push_all-starts-preserved
 collect::push_all-starts-preserved t c =
     let before = c.starts.invariant in (
-      pushed_next seen_of (plain_of c.args.query.now.shape) c.args.column
+      pushed_next seen_of (plain_of c.args.query.now.shape) c.args.columns.now
           (predicates.plain_of c.args.sync.now) c.args.item.now c.starts.i c.args.tracks.now.tracks
           c.starts.tracks.tracks c.keys_mut.result.now c.keys_push.new.keys before.0
           c.keys_mut.ensures.value c.in_ok-keys_push.ensures.pushed,
@@ -193,7 +197,7 @@ collect::push_all-returns-clause-pushed t c =
     let over = c.starts-test.false in
     let end = before.2 in
     let many = before.3 in
-    pushed_end seen_of (plain_of c.args.query.now.shape) c.args.column
+    pushed_end seen_of (plain_of c.args.query.now.shape) c.args.columns.now
     (predicates.plain_of c.args.sync.now) c.args.item.now c.starts.i c.args.tracks.now.tracks
     c.starts.tracks.tracks before.0 (omega (arith, over, end, many))
 

@@ -1,6 +1,5 @@
 -- Runners for keys.
-use Rattle.std.proofs.Common.{List, arith, inr, refl, rules, subst, sym, ℕ, ◌∙◌}
-use Rattle.std.specs.Prelude.{IfOk}
+use Rattle.std.proofs.Common.{arith, inr, refl, rules, subst, sym, ◌∙◌}
 use Rattle.query_model.specs.Queries.{plain_of}
 use Rattle.eval_nodes.specs.Plain.{seen_of}
 use Rattle.eval_nodes.proofs.Same.{where_ok}
@@ -8,7 +7,6 @@ use Rattle.eval_nodes.specs.declared.progress.Progress.{Progress}
 use Rattle.predicate_cells.specs.Plain as predicates
 use Rattle.eval_tree.proofs.Arms.{on_err}
 use Rattle.eval_tree.specs.Feeds.{CanCarry}
-use Rattle.eval_tree.specs.Pushes.{IsKeyPushed}
 use Rattle.eval_tree.proofs.CollectAllowed.{carried_end, carried_next, fallback_allowed}
 use Rattle.eval_tree.proofs.CollectAllowed.{follower_allowed, next_carried, with_allowed}
 use Rattle.std.proofs.lemmas.List.{length-set}
@@ -22,7 +20,7 @@ pub keys::keys_push-returns-then-holds-clause-pushed :
     goal.keys::keys_push-returns-then-holds-clause-pushed
 keys::keys_push-returns-then-holds-clause-pushed t c =
     where_ok c.push_to_each.result _ _
-    (λ done takes. pushed_all seen_of (plain_of c.args.query.now.shape) c.args.column
+    (λ done takes. pushed_all seen_of (plain_of c.args.query.now.shape) c.args.columns.now
     (predicates.plain_of c.args.sync.now) c.args.item.now c.args.keys.now c.push_to_each.new.keys
     (sym c.holds.ensures ∙ c.if-holds.true) takes)
     c.push_to_each.ensures
@@ -30,14 +28,11 @@ keys::keys_push-returns-then-holds-clause-pushed t c =
 pub keys::keys_push-returns-else-holds-clause-pushed :
     goal.keys::keys_push-returns-else-holds-clause-pushed
 keys::keys_push-returns-else-holds-clause-pushed t c =
-    where_ok c.push_to_key.result _ _
-    (λ done pushed. pushed_key seen_of (plain_of c.args.query.now.shape) c.args.column
+    where_ok c.push_to_own.result _ _
+    (λ done pushed. pushed_key seen_of (plain_of c.args.query.now.shape) c.args.columns.now
     (predicates.plain_of c.args.sync.now) c.args.item.now c.args.keys.now pushed.mid
-    c.push_to_key.new.keys pushed.place
-    (sym c.holds.ensures ∙ c.if-holds.false) pushed.has pushed.takes) (subst (λ (key : List ℕ).
-    IfOk c.push_to_key.result (λ done. IsKeyPushed seen_of (plain_of c.args.query.now.shape) key
-    c.args.item.now c.args.keys.now c.push_to_key.new.keys)) c.key_of.ensures
-    c.push_to_key.ensures.pushed)
+    c.push_to_own.new.keys pushed.place
+    (sym c.holds.ensures ∙ c.if-holds.false) pushed.has pushed.takes) c.push_to_own.ensures.pushed
 
 pub keys::push_to_key-follower_mut-requires : goal.keys::push_to_key-follower_mut-requires
 keys::push_to_key-follower_mut-requires t c =

@@ -144,7 +144,9 @@ steps::step_into-step_collect-requires t c =
     let sync = predicates.plain_of s.sync in
     let rate = rates.plain_of s.field-2 in
     let same = ap plain_of s.is
-    ∙ ap (λ f. collect s.column sync rate f) (same_query _ _ c.deref-in-Collect.ensures) in
+    ∙ ap (λ f. collect s.columns sync rate f) (same_query _ _ c.deref-in-Collect.ensures)
+    ∙ ap (λ chosen. collect chosen sync rate (plain_of c.deref-in-Collect.result.now.shape))
+    (sym c.as_slice.ensures.columns) in
     let can = can_step_as _ _ _ _ c.args.now c.args.item.now (sym same) refl c.requires.can in
     (search (rules, the_lemmas), (c.requires.none, (rate, c.args.now, can)))
 
@@ -154,7 +156,9 @@ steps::step_into-returns-in-Collect t c =
     let sync = predicates.plain_of s.sync in
     let rate = rates.plain_of s.field-2 in
     let same = ap plain_of s.is
-    ∙ ap (λ f. collect s.column sync rate f) (same_query _ _ c.deref-in-Collect.ensures) in
+    ∙ ap (λ f. collect s.columns sync rate f) (same_query _ _ c.deref-in-Collect.ensures)
+    ∙ ap (λ chosen. collect chosen sync rate (plain_of c.deref-in-Collect.result.now.shape))
+    (sym c.as_slice.ensures.columns) in
     stepped_from _ _ _ _ _ c.args.now c.args.item.now _ same refl
     (c.step_collect.ensures rate c.args.now)
 

@@ -1,4 +1,4 @@
-use Rattle.std.proofs.Common.{◌≡◌, ◌≤◌, ◌+◌, ◌∙◌, List, IfOk, Option, Some, None, length}
+use Rattle.std.proofs.Common.{◌≡◌, ◌≤◌, ◌+◌, ◌∙◌, List, IfOk, Option, Some, length}
 use Rattle.std.proofs.Common.{ap, subst, sym, arith}
 use Rattle.std.specs.Option.{option_map}
 use Rattle.few_parts.specs.Sizes.{IsRecordSize}
@@ -10,7 +10,7 @@ use Rattle.query_resolver.proofs.Chosen.{all_chosen, no_branches, no_test}
 use Rattle.query_resolver.proofs.Parts.{AreResolved, all_left, as_many_left, more_resolved}
 use Rattle.query_resolver.proofs.Parts.{none_left}
 use Rattle.query_resolver.proofs.Parts.{none_resolved}
-use Rattle.value_ops.specs.Expressions.{Expression, Expressions, choice, plain_of, rec}
+use Rattle.value_ops.specs.Expressions.{Expressions, choice, plain_of, rec}
 use Rattle.value_ops.specs.declared.expr.Expr.{Expr, Rec}
 use Rattle.value_ops.proofs.RecordParts.{rec_of}
 use Rattle.query_resolver.proofs.expression.+resolve.Goals as goal

@@ -181,9 +181,10 @@ resolve_collection-returns-clause-made t c =
     rw c.in-Collect.is (inner_made (nesting_of c.args.nesting) (columns_of c.args.items.now)
     (unfolded_at c.args.scope (plain_query c.in-Collect.body.value)) c.in_ok-inner.inner
     (rw c.deref.ensures at c.in_ok-inner.ensures.made)
-    (λ (f : q.Query). q.collect c.in-Collect.key (plain_predicate c.in-Collect.sync.value)
+    (λ (f : q.Query). q.collect c.in-Collect.key.value (plain_predicate c.in-Collect.sync.value)
     (plain_rate c.in-Collect.rate.value) f c.in-Collect.span)
-    c.collect.result (rw (c.deref-2.ensures, c.deref-3.ensures) at c.collect.ensures.made))
+    c.collect.result
+    (rw (c.deref-2.ensures, c.deref-3.ensures, c.deref-4.ensures) at c.collect.ensures.made))
 
 pub resolve_collection-returns-clause-refused :
     goal.resolve_collection-returns-clause-refused
@@ -191,9 +192,10 @@ resolve_collection-returns-clause-refused t c =
     rw c.in-Collect.is (inner_refused (nesting_of c.args.nesting) (columns_of c.args.items.now)
     (unfolded_at c.args.scope (plain_query c.in-Collect.body.value)) c.in_ok-inner.inner
     (rw c.deref.ensures at c.in_ok-inner.ensures.made)
-    (λ (f : q.Query). q.collect c.in-Collect.key (plain_predicate c.in-Collect.sync.value)
+    (λ (f : q.Query). q.collect c.in-Collect.key.value (plain_predicate c.in-Collect.sync.value)
     (plain_rate c.in-Collect.rate.value) f c.in-Collect.span)
-    c.collect.result (rw (c.deref-2.ensures, c.deref-3.ensures) at c.collect.ensures.refused))
+    c.collect.result
+    (rw (c.deref-2.ensures, c.deref-3.ensures, c.deref-4.ensures) at c.collect.ensures.refused))
 
 -- a composition
 pub resolve_fed-resolve_on_values-requires : goal.resolve_fed-resolve_on_values-requires

@@ -4,4 +4,4 @@ use Rattle.slow_eval.proofs.keys.keys_of.Given as goal
 
 abbrev pub invariant-items : goal.invariant-items
 invariant-items l =
-    AreKeysSoFar l.column (plain_of l.sync) l.word l.item-index l.keys.items l.counts.items
+    AreKeysSoFar l.columns (plain_of l.sync) l.word l.item-index l.keys.items l.counts.items

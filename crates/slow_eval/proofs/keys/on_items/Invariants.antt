@@ -4,5 +4,5 @@ use Rattle.slow_eval.proofs.keys.on_items.Given as goal
 
 abbrev pub invariant-items : goal.invariant-items
 invariant-items l =
-    IsOnItemsSoFar l.column (plain_of l.sync) l.key l.word l.answers l.row.items
+    IsOnItemsSoFar l.columns (plain_of l.sync) l.key l.word l.answers l.row.items
     l.item-index l.items

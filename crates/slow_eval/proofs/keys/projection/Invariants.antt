@@ -5,4 +5,4 @@ use Rattle.slow_eval.proofs.keys.projection.Given as goal
 
 abbrev pub invariant-items : goal.invariant-items
 invariant-items l =
-    l.items.items ≡ projection l.column (plain_of l.sync) l.key (take l.item-index l.word)
+    l.items.items ≡ projection l.columns (plain_of l.sync) l.key (take l.item-index l.word)

@@ -12,6 +12,7 @@ use Rattle.query_model.specs.declared.query.Query.{Query}
 use Rattle.query_model.specs.Queries.{atom, collect, plain_of}
 use Rattle.query_model.specs.Rules.{CanBeMet, bound}
 use Rattle.slow_eval.specs.Answers.{CanBeRead}
+use Rattle.test_engines.proofs.TestedCollects.{first_column}
 use Rattle.test_engines.proofs.slow.keys_stand_in_the_order_in_which_they_appear.Goals as goal
 
 one_number : FitsSigned w64 (pos 1)
@@ -26,19 +27,19 @@ met = record { fit = refl; item = field.Text [] ∷ []; is_item = (refl, tt); me
 abbrev item_of : List ℕ → List Field
 item_of name = field.Text name ∷ []
 
-can : CanBeRead (collect 0 (eq_text 0 []) (star (one any)) (atom any (literal (pos 1))))
+can : CanBeRead (collect (0 ∷ []) (eq_text 0 []) (star (one any)) (atom any (literal (pos 1))))
     (item_of (codes "b") ∷ item_of (codes "a") ∷ [])
 can = record {
   standing = bound;
   columns = names;
-  clear = ((met, one_number), refl, tt, refl, refl, (met, tt));
+  clear = ((met, one_number), refl, tt, first_column names refl, refl, (met, tt));
   is_word = ((refl, tt), ((refl, tt), tt));
   positions = (tt, omega arith);
 }
 
 pub has_keys-requires : goal.has_keys-requires
 has_keys-requires g c =
-    let query = collect 0 (eq_text 0 []) (star (one any)) (atom any (literal (pos 1))) in
+    let query = collect (0 ∷ []) (eq_text 0 []) (star (one any)) (atom any (literal (pos 1))) in
     let read : CanBeRead query c.in_ok-items.items.items =
     subst (CanBeRead query) (sym c.in_ok-items.ensures) can in
     let on_items : CanBeRead query c.deref-2.result.now =

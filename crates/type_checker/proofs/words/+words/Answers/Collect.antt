@@ -1,5 +1,5 @@
 -- A collection: its operand, then its root.
-use Rattle.std.proofs.Common.{rules}
+use Rattle.std.proofs.Common.{rules, []}
 use Rattle.std.proofs.lemmas.Result.{err_from_is_err_and}
 use Rattle.predicate_cells.specs.Plain as predicates
 use Rattle.predicate_cells.specs.Predicates.{any}
@@ -68,7 +68,7 @@ keep_collection-returns-clause-kept t c = λ standing key sync.
 pub keep_collection-returns-clause-positions : goal.keep_collection-returns-clause-positions
 keep_collection-returns-clause-positions t c =
     answered_ok c.collected.result _ _ c.collected.ensures.kept
-    (λ sets given. (given 0 any (plain_of c.args.operand.now.shape)).sets)
+    (λ sets given. (given [] any (plain_of c.args.operand.now.shape)).sets)
 
 pub keep_collection-returns-clause-refused : goal.keep_collection-returns-clause-refused
 keep_collection-returns-clause-refused t c = λ standing key sync.
