@@ -1,5 +1,5 @@
-//! Goes through tables of queries and of lines, and through a table of queries that are refused since
-//! a word has two readings, and reports what is found in each.
+//! Goes through tables of queries and of lines, and through a table of queries that are refused
+//! since a word has two readings, and reports what is found in each.
 #![tactic(auto)]
 
 mod acceptance;

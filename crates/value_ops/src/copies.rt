@@ -1,6 +1,7 @@
 //! Copies of expressions.
 ghost use Rattle.std.specs.Prelude.{◌≡◌, IfOk, length};
-ghost use Rattle.value_ops.specs.Expressions.{binary, choice, entry, least, most, plain_of, plain_parts, rec, unary};
+ghost use Rattle.value_ops.specs.Expressions.{binary, choice, entry, least, most, plain_of};
+ghost use Rattle.value_ops.specs.Expressions.{plain_parts, rec, unary};
 ghost use Rattle.few_parts.specs.Sizes.{IsRecordSize};
 
 use crate::{BinaryOp, Bytes, Compare, Expr, Exprs, UnaryOp, Var};

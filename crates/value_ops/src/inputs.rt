@@ -86,8 +86,8 @@ impl<'a> Inputs<'a> {
     /// The part at a place of the record that a name stands for.
     pub(crate) fn known_part(&self, name: Var, place: u32) -> Scalar
         requires { HasPart (type_named (types_of (inputs_of self.now)) name) place }
-        ensures { option_and_then (part_at place) (record_in (value_named (inputs_of self.now) name))
-            ≡ Some result }
+        ensures { option_and_then (part_at place)
+            (record_in (value_named (inputs_of self.now) name)) ≡ Some result }
     {
         match self.record(name) {
             Some(record) => record.part(place as usize - 1),
@@ -97,7 +97,8 @@ impl<'a> Inputs<'a> {
 
     /// A copy of what the name stands for. Only a table takes memory.
     pub(crate) fn copy_of(&self, alloc: Global, name: Var) -> Result<Value, AllocError>
-        requires { (type : ValueType) × (type_named (types_of (inputs_of self.now)) name ≡ Some type) }
+        requires { (type : ValueType)
+            × (type_named (types_of (inputs_of self.now)) name ≡ Some type) }
         ensures value { IfOk result (λ value. value_named (inputs_of self.now) name ≡ Some value) }
         ensures no_memory { type_named (types_of (inputs_of self.now)) name ≢ Some type.Table
             → IsOk result }

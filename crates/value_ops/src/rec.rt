@@ -44,8 +44,8 @@ impl Part {
     }
 }
 
-/// Two to eight scalars, seen as their list. A value is moved often, so they are kept in 72 bytes, what
-/// each is apart from its number. As a slice, which could be lent, eight scalars take 128.
+/// Two to eight scalars, seen as their list. A value is moved often, so they are kept in 72 bytes,
+/// what each is apart from its number. As a slice, which could be lent, eight scalars take 128.
 #[derive(Clone, Copy, Debug, PartialEq, Eq)]
 pub struct Rec {
     // Zero where the part is no number.
@@ -67,7 +67,10 @@ impl Model for Rec {
 
     ghost invariant = { λ r. IsKept r.parts r.numbers };
 
-    ghost inverse = { λ scalars. record { numbers = numbers_of scalars; parts = parts_of scalars } };
+    ghost inverse = { λ scalars. record {
+      numbers = numbers_of scalars;
+      parts = parts_of scalars;
+    } };
 
     ghost inverse_ok = { λ r kept i. record {
       numbers = kept.same_numbers i;

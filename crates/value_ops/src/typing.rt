@@ -3,7 +3,8 @@ ghost use Rattle.std.specs.Prelude.{◌≡◌, ◌↔◌, IsTrue, IfSome, IfNone
 ghost use Rattle.value_ops.specs.Expressions.{plain_of, plain_parts, rec};
 ghost use Rattle.value_ops.specs.Shown.{shown_types};
 ghost use Rattle.few_parts.specs.Sizes.{IsRecordSize};
-ghost use Rattle.value_ops.specs.Typing.{AreNumbers, HasPart, HasType, IsNumber, type_named, type_of_field};
+ghost use Rattle.value_ops.specs.Typing.{AreNumbers, HasPart, HasType, IsNumber, type_named};
+ghost use Rattle.value_ops.specs.Typing.{type_of_field};
 ghost use Rattle.value_ops.specs.declared.value.ValueType.{ValueType};
 
 use crate::{Expr, Field, ValueType, Var};
