@@ -1,0 +1,14 @@
+pub mod Added
+pub mod Headed
+pub mod KeyReads
+pub mod Readers
+pub mod ReadNumbers
+pub mod ReadValues
+pub mod ReadNodes
+pub mod NodeReads
+pub mod ReadSnapshots
+pub mod Repeating
+pub mod Rows
+pub mod Stopped
+pub mod Taken
+pub mod Written

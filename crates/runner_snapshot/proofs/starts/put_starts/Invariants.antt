@@ -1,0 +1,8 @@
+use Rattle.std.proofs.Common.{◌≡◌, ◌++◌, take}
+use Rattle.std.specs.List.{flat_map}
+use Rattle.runner_snapshot.specs.Bytes.{in_eight}
+use Rattle.runner_snapshot.proofs.starts.put_starts.Given as goal
+
+abbrev pub invariant-starts : goal.invariant-starts
+invariant-starts l =
+    l.out.items ≡ l.initial.out.items ++ flat_map in_eight (take l.start-index l.starts)

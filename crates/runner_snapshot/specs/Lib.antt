@@ -1,0 +1,10 @@
+pub mod Adding
+pub mod Dumps
+pub mod Plain
+pub mod Bytes
+pub mod Ranges
+pub mod Tags
+pub mod Reading
+pub mod Saved
+pub mod Stops
+pub mod Written
