@@ -1,0 +1,10 @@
+pub mod Applies
+pub mod Counting
+pub mod Filling
+pub mod Levels
+pub mod Literals
+pub mod Meanings
+pub mod Plainness
+pub mod Reducing
+pub mod Rewriting
+pub mod Steps
